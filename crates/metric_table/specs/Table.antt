@@ -1,0 +1,38 @@
+-- The table of metrics: their decimals, their direction and their default penalty.
+use Rattle.std.specs.Prelude.{◌≡◌, ◌≢◌, ℕ, ℤ, Bool, true, false, List, [], ◌∷◌, codes, pos}
+
+-- a metric's name, how many decimals its values are scaled by, whether larger is better, and the penalty of a cut in
+-- squared scaled units where none was set
+pub record Row : Type 0 where
+  pub metric : List ℕ
+  pub decimals : ℕ
+  pub larger_is_better : Bool
+  pub default_penalty : ℤ
+
+abbrev pub row : List ℕ → ℕ → Bool → ℤ → Row
+row metric decimals larger penalty = record { metric = metric; decimals = decimals; larger_is_better = larger; default_penalty = penalty }
+
+-- the metrics that have a row of their own
+abbrev pub known : List Row
+known =
+    row (codes "ns/op") 4 false (pos 2_500_000_000)
+    ∷ row (codes "MB/s") 4 true (pos 2_500_000_000)
+    ∷ row (codes "B/op") 0 false (pos 25)
+    ∷ row (codes "allocs/op") 0 false (pos 25)
+    ∷ row (codes "execution_time") 9 false (pos 10_000_000_000_000_000)
+    ∷ row (codes "compile_time") 9 false (pos 10_000_000_000_000_000)
+    ∷ row (codes "code_size") 0 false (pos 25)
+    ∷ []
+
+-- the row of every other metric
+abbrev pub other : List ℕ → Row
+other metric = row metric 4 false (pos 2_500_000_000)
+
+-- the fact holds of the row of that name, or of the row of others where none has it
+abbrev pub HoldsOf : (Row → Type 0) → List ℕ → List Row → Type 0
+HoldsOf P metric [] = P (other metric)
+HoldsOf P metric (r ∷ rows) = (metric ≡ r.metric → P r) × (metric ≢ r.metric → HoldsOf P metric rows)
+
+-- the fact holds of the metric's row
+abbrev pub OfRow : List ℕ → (Row → Type 0) → Type 0
+OfRow metric P = HoldsOf P metric known

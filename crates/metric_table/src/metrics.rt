@@ -1,0 +1,89 @@
+ghost use Rattle.std.specs.Prelude.{◌≡◌, ◌↔◌, IsTrue};
+ghost use Rattle.metric_table.specs.Table.{OfRow};
+
+/// What the table says of a metric.
+#[derive(Clone, Copy)]
+struct Columns {
+    decimals: u8,
+    larger_is_better: bool,
+    default_penalty: i128,
+}
+
+/// Most metrics: times and rates of a few digits behind the point.
+const COMMON: Columns = Columns {
+    decimals: 4,
+    larger_is_better: false,
+    default_penalty: 2_500_000_000,
+};
+
+/// Counts of bytes and allocations.
+const COUNT: Columns = Columns {
+    decimals: 0,
+    larger_is_better: false,
+    default_penalty: 25,
+};
+
+/// Seconds, to the nanosecond.
+const SECONDS: Columns = Columns {
+    decimals: 9,
+    larger_is_better: false,
+    default_penalty: 10_000_000_000_000_000,
+};
+
+/// A rate, of which more is better.
+const RATE: Columns = Columns {
+    decimals: 4,
+    larger_is_better: true,
+    default_penalty: 2_500_000_000,
+};
+
+fn is_same(metric: &[u8], name: &[u8]) -> bool
+    ensures { IsTrue result ↔ (metric.now ≡ name.now) }
+{
+    metric == name
+}
+
+// The metric's row.
+fn columns_of(metric: &[u8]) -> Columns
+    ensures decimals { OfRow metric.now (λ row. result.decimals ≡ row.decimals) }
+    ensures direction { OfRow metric.now (λ row. result.larger_is_better ≡ row.larger_is_better) }
+    ensures penalty { OfRow metric.now (λ row. result.default_penalty ≡ row.default_penalty) }
+{
+    if is_same(metric, b"ns/op") {
+        COMMON
+    } else if is_same(metric, b"MB/s") {
+        RATE
+    } else if is_same(metric, b"B/op") || is_same(metric, b"allocs/op") {
+        COUNT
+    } else if is_same(metric, b"execution_time") || is_same(metric, b"compile_time") {
+        SECONDS
+    } else if is_same(metric, b"code_size") {
+        COUNT
+    } else {
+        COMMON
+    }
+}
+
+/// How many decimals the values of a metric are scaled by: a value is kept as a whole number of 10^-d units.
+/// The rule is the table of metrics in docs/FORMATS.md. O(length of the name); takes no memory.
+pub fn decimals(metric: &[u8]) -> u8
+    ensures { OfRow metric.now (λ row. result ≡ row.decimals) }
+{
+    columns_of(metric).decimals
+}
+
+/// Whether a larger value of the metric is a better one, as for a throughput.
+/// The rule is the table of metrics in docs/FORMATS.md. O(length of the name); takes no memory.
+pub fn larger_is_better(metric: &[u8]) -> bool
+    ensures { OfRow metric.now (λ row. result ≡ row.larger_is_better) }
+{
+    columns_of(metric).larger_is_better
+}
+
+/// The penalty of a cut where none was set for the metric, in squared scaled units.
+/// The rule is the table of metrics in docs/FORMATS.md. O(length of the name); takes no memory.
+pub fn default_penalty(metric: &[u8]) -> i128
+    ensures { OfRow metric.now (λ row. result ≡ row.default_penalty) }
+{
+    columns_of(metric).default_penalty
+}
