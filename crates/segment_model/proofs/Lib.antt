@@ -1,0 +1,9 @@
+pub mod Integers
+pub mod Segments
+pub mod Centres
+pub mod Bounds
+pub mod BestCuts
+pub mod Rows
+pub mod Existence
+pub mod Pruning
+pub mod Agree
