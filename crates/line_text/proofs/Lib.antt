@@ -1,0 +1,6 @@
+mod Spelled
+mod FirstWord
+mod LinesAppend
+mod Spelling
+mod Decimals
+mod Splits
