@@ -1,0 +1,166 @@
+use crate::part;
+use crate::sums::Sums;
+use segment_cost::{Points, with_last_law};
+use std::alloc::Global;
+use std::test::Fail;
+
+const BIG: i64 = 10_000_000_000_000_000;
+
+// The points of some commits and values, in order; none where they aren't in order or there is no memory.
+fn points_of(alloc: Global, lines: &[(u64, i64)]) -> Option<Points> {
+    let mut points = Points::new(alloc);
+    let mut last = 0;
+    for (i, (commit, value)) in lines.iter().enumerate() {
+        if *commit < last
+            || value.unsigned_abs() > BIG as u64
+            || i >= 1000
+            || points.len() >= 1000
+        {
+            return None;
+        }
+        with_last_law();
+        if points.push_last(*commit, i as u64, *value).is_err() {
+            return None;
+        }
+        last = *commit;
+    }
+    Some(points)
+}
+
+// What a certificate says of some lines and a penalty.
+#[derive(Drop)]
+struct Case<'a> {
+    name: &'a str,
+    lines: &'a [(u64, i64)],
+    penalty: i128,
+    cuts: &'a [u64],
+    total: i128,
+    least: &'a [i128],
+    back: &'a [u64],
+    pruned: &'a [u64],
+}
+
+fn holds(alloc: Global, case: &Case) -> bool {
+    if case.penalty < 0 || case.penalty > 1000 {
+        return false;
+    }
+    let Some(points) = points_of(alloc, case.lines) else {
+        return false;
+    };
+    let Ok(cert) = part(alloc, &points, case.penalty) else {
+        return false;
+    };
+    cert.points == points.len() as u64
+        && cert.penalty == case.penalty
+        && cert.cuts.as_slice() == case.cuts
+        && cert.total == case.total
+        && cert.least.as_slice() == case.least
+        && cert.back.as_slice() == case.back
+        && cert.pruned.as_slice() == case.pruned
+}
+
+#[test]
+fn certificates_are_those_of_the_worked_examples(rt: HostRuntime) {
+    let steps = [(1, 0), (2, 0), (3, 10), (4, 10)];
+    let cases = [
+        Case {
+            name: "one step",
+            lines: &steps,
+            penalty: 50,
+            cuts: &[2],
+            total: 50,
+            least: &[-50, 0, 0, 50, 50],
+            back: &[0, 0, 0, 2, 2],
+            pruned: &[0, 4, 0, 0, 0],
+        },
+        Case {
+            name: "a tie goes to no cut",
+            lines: &steps,
+            penalty: 100,
+            cuts: &[],
+            total: 100,
+            least: &[-100, 0, 0, 67, 100],
+            back: &[0; 5],
+            pruned: &[0; 5],
+        },
+        Case {
+            name: "three last cuts tie, and a candidate at equality stays",
+            lines: &[
+                (1, 0),
+                (2, 0),
+                (3, 4),
+                (4, 4),
+                (5, 2),
+                (6, 2),
+                (7, 2),
+                (8, 2),
+                (9, 2),
+                (10, 2),
+            ],
+            penalty: 8,
+            cuts: &[],
+            total: 16,
+            least: &[-8, 0, 0, 8, 8, 11, 12, 13, 14, 15, 16],
+            back: &[0, 0, 0, 2, 2, 2, 2, 2, 2, 2, 0],
+            pruned: &[0, 4, 0, 0, 0, 0, 0, 0, 0, 0, 0],
+        },
+        Case {
+            name: "no positions",
+            lines: &[],
+            penalty: 5,
+            cuts: &[],
+            total: 0,
+            least: &[-5],
+            back: &[0],
+            pruned: &[0],
+        },
+        Case {
+            name: "the greatest and the least value",
+            lines: &[(1, BIG), (2, -BIG)],
+            penalty: 1,
+            cuts: &[1],
+            total: 1,
+            least: &[-1, 0, 1],
+            back: &[0, 0, 1],
+            pruned: &[2, 0, 0],
+        },
+        Case {
+            name: "three values of one commit",
+            lines: &[(5, 0), (5, 100), (5, -100)],
+            penalty: 1,
+            cuts: &[],
+            total: 20_000,
+            least: &[-1, 20_000],
+            back: &[0, 0],
+            pruned: &[0, 0],
+        },
+    ];
+    for case in &cases {
+        assert!(rt; holds(rt.alloc(), case), "{}", case.name);
+    }
+}
+
+// The least sum of squares of some values, and their centre; none for no values.
+fn least_sum_and_centre(values: &[i64]) -> Option<(i128, i128)> {
+    let mut sums = Sums::NONE;
+    for value in values {
+        if value.unsigned_abs() > BIG as u64 || sums.count >= 1000 {
+            return None;
+        }
+        sums = sums.with_value(*value);
+    }
+    if sums.count == 0 {
+        return None;
+    }
+    Some((sums.least_sum(), sums.centre()))
+}
+
+// The centre is the whole number nearest to the mean, and the smaller of two that are as near.
+#[test]
+fn centres_are_those_of_the_worked_examples(rt: HostRuntime) {
+    assert_eq!(rt; least_sum_and_centre(&[0, 1]), Some((1, 0)));
+    assert_eq!(rt; least_sum_and_centre(&[-1, 0]), Some((1, -1)));
+    assert_eq!(rt; least_sum_and_centre(&[0, 0, 1]), Some((1, 0)));
+    assert_eq!(rt; least_sum_and_centre(&[0, 1, 1]), Some((1, 1)));
+    assert_eq!(rt; least_sum_and_centre(&[-1, 0, 0]), Some((1, 0)));
+}

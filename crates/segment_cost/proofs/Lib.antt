@@ -1,0 +1,4 @@
+pub mod Samples
+pub mod LastPosition
+pub mod KeptLimits
+pub mod OneCertificate
