@@ -1,0 +1,6 @@
+mod Powers
+mod Places
+mod Reading
+mod Grammar
+mod OneNumeral
+mod Back

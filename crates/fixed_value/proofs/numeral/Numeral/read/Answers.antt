@@ -1,0 +1,82 @@
+use Rattle.std.proofs.Common.{rules, ◌≡◌, Some, ◌+◌, ◌*◌, ◌^◌, ◌≤◌, length, take, sym, ap, ◌∙◌, subst, FitsSigned, arith}
+use Rattle.std.specs.Int.{w128, cast_signed, cast_unsigned}
+use Rattle.std.proofs.lemmas.Int.{to_z-of_z}
+use Rattle.std.proofs.lemmas.List.{length-take-le}
+use Rattle.std.specs.Str.Parse.{digits_value_after}
+use Rattle.fixed_value.specs.declared.numeral.Numeral.{Numeral}
+use Rattle.fixed_value.specs.Numerals.{IsNumeralText}
+use Rattle.fixed_value.proofs.Grammar.{if_none, Front, some_whole, too_many, numeral_split, numeral_made, numeral_only}
+use Rattle.fixed_value.proofs.Powers.{ten_grows}
+use Rattle.fixed_value.proofs.Reading.{fits_behind}
+use Rattle.fixed_value.proofs.numeral.Numeral.read.Goals as goal
+
+pub returns-then-whole-eq0-clause-none : goal.returns-then-whole-eq0-clause-none
+returns-then-whole-eq0-clause-none c numeral =
+    let front : Front c.args.text.now c.split_sign-negative.result.1.now c.split_sign-negative.result.0 c.leading_digits-whole.result =
+    record { splits = c.split_sign-negative.ensures.only; within = c.leading_digits-whole.ensures.within; digits = c.leading_digits-whole.ensures.digits; stops = c.leading_digits-whole.ensures.stops } in
+    some_whole c.args.text.now c.split_sign-negative.result.1.now c.split_sign-negative.result.0 c.leading_digits-whole.result numeral front c.if-whole-eq0.true
+
+pub returns-then-whole-eq0-clause-only : goal.returns-then-whole-eq0-clause-only
+returns-then-whole-eq0-clause-only c numeral is = absurd (returns-then-whole-eq0-clause-none c numeral is)
+
+-- there is no tail, so there is no numeral
+no_tail : (c : goal.After-from_residual) (numeral : Numeral) → ¬ IsNumeralText c.args.text.now numeral
+no_tail c numeral is =
+    let front : Front c.args.text.now c.split_sign-negative.result.1.now c.split_sign-negative.result.0 c.leading_digits-whole.result =
+    record { splits = c.split_sign-negative.ensures.only; within = c.leading_digits-whole.ensures.within; digits = c.leading_digits-whole.ensures.digits; stops = c.leading_digits-whole.ensures.stops } in
+    let split = numeral_split c.args.text.now c.split_sign-negative.result.1.now c.split_sign-negative.result.0 c.leading_digits-whole.result numeral front is in
+    c.in_err-fraction.ensures.only is.fraction is.power split.2
+
+pub returns-in_err-fraction-clause-none : goal.returns-in_err-fraction-clause-none
+returns-in_err-fraction-clause-none c = if_none c.from_residual.result (no_tail c)
+
+pub returns-in_err-fraction-clause-only : goal.returns-in_err-fraction-clause-only
+returns-in_err-fraction-clause-only c numeral is = absurd (no_tail c numeral is)
+
+pub returns-then-whole-fraction-gt38-clause-none : goal.returns-then-whole-fraction-gt38-clause-none
+returns-then-whole-fraction-gt38-clause-none c numeral =
+    let front : Front c.args.text.now c.split_sign-negative.result.1.now c.split_sign-negative.result.0 c.leading_digits-whole.result =
+    record { splits = c.split_sign-negative.ensures.only; within = c.leading_digits-whole.ensures.within; digits = c.leading_digits-whole.ensures.digits; stops = c.leading_digits-whole.ensures.stops } in
+    too_many c.args.text.now c.split_sign-negative.result.1.now c.in_ok-fraction.fraction.now c.in_ok-fraction.power c.split_sign-negative.result.0 c.leading_digits-whole.result numeral front
+    c.in_ok-fraction.ensures.only c.if-whole-fraction-gt38.true
+
+pub returns-then-whole-fraction-gt38-clause-only : goal.returns-then-whole-fraction-gt38-clause-only
+returns-then-whole-fraction-gt38-clause-only c numeral is = absurd (returns-then-whole-fraction-gt38-clause-none c numeral is)
+
+pub number_after-requires-clause-fits : goal.number_after-requires-clause-fits
+number_after-requires-clause-fits c =
+    let len : length (take c.leading_digits-whole.result c.split_sign-negative.result.1.now) ≡ c.leading_digits-whole.result =
+    length-take-le c.leading_digits-whole.result c.split_sign-negative.result.1.now c.leading_digits-whole.ensures.within in
+    let short : length (take c.leading_digits-whole.result c.split_sign-negative.result.1.now) ≤ 38 = omega (arith, len, c.if-whole-fraction-gt38.false) in
+    omega (arith, ten_grows (length (take c.leading_digits-whole.result c.split_sign-negative.result.1.now)) 38 short)
+
+pub number_after-digits-requires-clause-fits : goal.number_after-digits-requires-clause-fits
+number_after-digits-requires-clause-fits c =
+    let len : length (take c.leading_digits-whole.result c.split_sign-negative.result.1.now) ≡ c.leading_digits-whole.result =
+    length-take-le c.leading_digits-whole.result c.split_sign-negative.result.1.now c.leading_digits-whole.ensures.within in
+    subst (λ n. (n + 1) * 10 ^ length c.in_ok-fraction.fraction.now ≤ 10 ^ 38) (sym c.number_after.ensures)
+    (fits_behind (take c.leading_digits-whole.result c.split_sign-negative.result.1.now) c.in_ok-fraction.fraction.now c.leading_digits-whole.ensures.digits (omega (arith, len, c.if-whole-fraction-gt38.false)))
+
+pub returns-clause-some : goal.returns-clause-some
+returns-clause-some c =
+    let fits : FitsSigned w128 c.less_places.result = search rules in
+    let fits' : FitsSigned w128 c.in_ok-fraction.power = search rules in
+    let exponent = to_z-of_z w128 c.less_places.result fits ∙ (simp to_z-of_z at c.less_places.ensures) in
+    let value = c.number_after-digits.ensures ∙ ap (λ n. digits_value_after 10 n c.in_ok-fraction.fraction.now) c.number_after.ensures in
+    numeral_made c.args.text.now c.split_sign-negative.result.1.now c.in_ok-fraction.fraction.now c.in_ok-fraction.power c.leading_digits-whole.result
+    (record { negative = c.split_sign-negative.result.0; digits = c.number_after-digits.result; exponent = cast_signed w128 (cast_unsigned w128 c.less_places.result) })
+    c.split_sign-negative.ensures.joined c.leading_digits-whole.ensures.within c.leading_digits-whole.ensures.digits c.if-whole-eq0.false c.in_ok-fraction.ensures.some c.if-text-gt40.false
+    c.if-whole-fraction-gt38.false value exponent
+
+pub returns-clause-only : goal.returns-clause-only
+returns-clause-only c numeral is =
+    let fits : FitsSigned w128 c.less_places.result = search rules in
+    let fits' : FitsSigned w128 c.in_ok-fraction.power = search rules in
+    let exponent = to_z-of_z w128 c.less_places.result fits ∙ (simp to_z-of_z at c.less_places.ensures) in
+    let value = c.number_after-digits.ensures ∙ ap (λ n. digits_value_after 10 n c.in_ok-fraction.fraction.now) c.number_after.ensures in
+    let front : Front c.args.text.now c.split_sign-negative.result.1.now c.split_sign-negative.result.0 c.leading_digits-whole.result =
+    record { splits = c.split_sign-negative.ensures.only; within = c.leading_digits-whole.ensures.within; digits = c.leading_digits-whole.ensures.digits; stops = c.leading_digits-whole.ensures.stops } in
+    ap Some
+    (numeral_only c.args.text.now c.split_sign-negative.result.1.now c.in_ok-fraction.fraction.now c.in_ok-fraction.power c.leading_digits-whole.result
+    (record { negative = c.split_sign-negative.result.0; digits = c.number_after-digits.result; exponent = cast_signed w128 (cast_unsigned w128 c.less_places.result) }) numeral front
+    c.in_ok-fraction.ensures.only value exponent is)

@@ -1,0 +1,10 @@
+use Rattle.fixed_value.proofs.Grammar.{exponent_by_letter, exponent_behind_letter}
+use Rattle.fixed_value.proofs.numeral.read_exponent.Goals as goal
+
+pub returns-in-Some-clause-some : goal.returns-in-Some-clause-some
+returns-in-Some-clause-some c =
+    exponent_by_letter c.args.text.now c.in-Some.rest.now c.read_power.result c.in-Some.ensures.some c.in-Some.ensures.letter c.read_power.ensures.some
+
+pub returns-in-Some-clause-only : goal.returns-in-Some-clause-only
+returns-in-Some-clause-only c power is =
+    c.read_power.ensures.only power (exponent_behind_letter c.args.text.now c.in-Some.rest.now power c.in-Some.ensures.some is)

@@ -1,0 +1,3 @@
+pub mod Scaled
+pub mod Fixed
+pub mod Numerals
