@@ -1,0 +1,14 @@
+mod WordPairs
+mod SignedWords
+mod Refusals
+mod Splits
+mod LinePoints
+mod Blank
+mod Numerals
+mod OpenLines
+mod Kept
+mod Accepting
+mod ReaderSteps
+mod PieceSteps
+mod Exclusion
+mod Completeness

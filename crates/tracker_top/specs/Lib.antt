@@ -1,0 +1,11 @@
+pub mod Lines
+pub mod LineKinds
+pub mod Points
+pub mod Reading
+pub mod Commands
+pub mod Statuses
+pub mod Adding
+pub mod Text
+pub mod Answers
+pub mod HasRead
+pub mod Pieces
