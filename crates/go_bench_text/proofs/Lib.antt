@@ -1,0 +1,16 @@
+pub mod Cuts
+pub mod Cutting
+pub mod Digits
+pub mod LineParts
+pub mod OneSample
+pub mod Passed
+pub mod PkgInForce
+pub mod Progress
+pub mod PutFields
+pub mod PutPkg
+pub mod ReadBack
+pub mod Rows
+pub mod Settings
+pub mod Spelled
+pub mod Taken
+mod OneAnswer

@@ -1,0 +1,63 @@
+-- What was passed on the way through the characters of a text.
+use Rattle.std.proofs.Common.{◌≡◌, ℕ, Bool, true, false, ◌&&◌, not, List, [], ◌∷◌, ◌++◌, length, take, drop, ◌-◌, refl, sym, ◌∙◌, ap, subst, append_assoc, arith, length-append}
+use Rattle.std.specs.Char.{is_whitespace, encode_utf8, IsScalar}
+use Rattle.std.specs.List.{list_all}
+use Rattle.std.specs.Str.{chars, IsUtf8, IsCharBoundary}
+use Rattle.std.proofs.lemmas.Str.{IsUtf8-nil, IsUtf8-append, IsUtf8-encode, chars-append, chars_past_char, chars-nil, IsCharBoundary-at_seam}
+use Rattle.std.proofs.lemmas.List.{append-nil, take_at, drop_at}
+use Rattle.std.proofs.lemmas.List.Folds.{list_all-append}
+use Rattle.go_bench_text.specs.Characters.{is_black}
+
+-- the rest of the text behind characters other than white space
+pub record Passed (text rest : List ℕ) : Type 0 where
+  pub front : List ℕ
+  pub joined : text ≡ front ++ rest
+  pub is : IsUtf8 front
+  pub black : list_all is_black (chars front) ≡ true
+  pub more : IsUtf8 rest
+
+pub passed_none : (text : List ℕ) → IsUtf8 text → Passed text text
+passed_none text is = record { front = []; joined = refl; is = IsUtf8-nil; black = ap (list_all is_black) chars-nil; more = is }
+
+both : (a b : Bool) → a ≡ true → b ≡ true → (a && b) ≡ true
+both a b h k = ap (λ (x : Bool). x && b) h ∙ k
+
+pub passed_more : (text rest more : List ℕ) (c : ℕ) → IsScalar c → rest ≡ encode_utf8 c ++ more → IsUtf8 more → is_whitespace c ≡ false → Passed text rest → Passed text more
+passed_more text rest more c scalar e is white before =
+    let of_c : chars (encode_utf8 c) ≡ c ∷ [] = chars_past_char (encode_utf8 c) [] c (IsUtf8-encode c scalar) (sym (append-nil (encode_utf8 c))) ∙ ap (λ (cs : List ℕ). c ∷ cs) chars-nil in
+    let all : chars (before.front ++ encode_utf8 c) ≡ chars before.front ++ c ∷ [] = chars-append before.front (encode_utf8 c) before.is ∙ ap (λ (cs : List ℕ). chars before.front ++ cs) of_c in
+    let last : list_all is_black (c ∷ []) ≡ true = ap (λ (b : Bool). not b && true) white in
+    record {
+      front = before.front ++ encode_utf8 c;
+      joined = before.joined ∙ (ap (λ (xs : List ℕ). before.front ++ xs) e ∙ sym (append_assoc before.front (encode_utf8 c) more));
+      is = IsUtf8-append before.front (encode_utf8 c) before.is (IsUtf8-encode c scalar);
+      black = ap (list_all is_black) all ∙ (list_all-append is_black (chars before.front) (c ∷ []) ∙ both (list_all is_black (chars before.front)) (list_all is_black (c ∷ [])) before.black last);
+      more = is;
+    }
+
+-- where the rest begins, the text may be cut
+pub passed_seam : (text rest : List ℕ) → Passed text rest → IsCharBoundary text (length text - length rest)
+passed_seam text rest p =
+    let e : length text - length rest ≡ length p.front = omega (arith, ap length p.joined, length-append p.front rest) in
+    subst (IsCharBoundary text) (sym e) (IsCharBoundary-at_seam text p.front rest p.joined p.more)
+
+-- the two parts of that cut
+pub record Halves (text front back rest : List ℕ) : Type 0 where
+  pub joined : text ≡ front ++ back
+  pub black : list_all is_black (chars front) ≡ true
+  pub is : IsUtf8 front
+  pub same : back ≡ rest
+  pub more : IsUtf8 back
+
+pub passed_halves : (text rest front back : List ℕ) → Passed text rest → front ≡ take (length text - length rest) text → back ≡ drop (length text - length rest) text → Halves text front back rest
+passed_halves text rest front back p e f =
+    let n : length p.front ≡ length text - length rest = omega (arith, ap length p.joined, length-append p.front rest) in
+    let front_is : front ≡ p.front = e ∙ (ap (take (length text - length rest)) p.joined ∙ take_at p.front rest (length text - length rest) n) in
+    let back_is : back ≡ rest = f ∙ (ap (drop (length text - length rest)) p.joined ∙ drop_at p.front rest (length text - length rest) n) in
+    record {
+      joined = p.joined ∙ (ap (λ (xs : List ℕ). xs ++ rest) (sym front_is) ∙ ap (λ (xs : List ℕ). front ++ xs) (sym back_is));
+      black = ap (λ (xs : List ℕ). list_all is_black (chars xs)) front_is ∙ p.black;
+      is = subst IsUtf8 (sym front_is) p.is;
+      same = back_is;
+      more = subst IsUtf8 (sym back_is) p.more;
+    }

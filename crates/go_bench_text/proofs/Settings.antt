@@ -1,0 +1,47 @@
+-- The parts of a configuration line.
+use Rattle.std.proofs.Common.{◌≡◌, ◌≢◌, ℕ, suc, ◌+◌, ◌-◌, Bool, true, false, cond, not, ◌||◌, List, [], ◌∷◌, ◌++◌, length, take, drop, reverse, refl, sym, ◌∙◌, ap, arith, eqb, Option, Some, None, IfNone, lit<, Bor}
+use Rattle.std.specs.List.{list_any, prefix_len, suffix_len, position_or_len}
+use Rattle.std.proofs.lemmas.List.{take_all, reverse-append, reverse-reverse}
+use Rattle.std.proofs.lemmas.Str.Pattern.{IsSplitOnceResult, split_once_first}
+use Rattle.std.proofs.lemmas.Bool.Decides.{nat_tests}
+use Rattle.go_bench_text.specs.Characters.{is_blank}
+use Rattle.go_bench_text.specs.Lines.{is_colon, without_returns, without_blanks}
+
+-- no carriage return at the end: nothing is taken away
+last_stays : (bs back : List ℕ) → reverse bs ≡ back → ((front : List ℕ) → bs ≢ front ++ 13 ∷ []) → prefix_len (λ b. eqb b 13) back ≡ 0
+last_stays bs [] e h = refl
+last_stays bs (b ∷ back) e h = at_last (eqb b 13) refl where
+  at_last : (t : Bool) → eqb b 13 ≡ t → cond t (1 + prefix_len (λ b. eqb b 13) back) 0 ≡ 0
+  at_last false f = refl
+  at_last true f =
+      let is : b ≡ 13 = grind (arith, nat_tests) in
+      absurd (h (reverse back) (sym (reverse-reverse bs) ∙ (ap reverse (e ∙ ap (λ (x : ℕ). x ∷ back) is) ∙ reverse-append (13 ∷ []) back)))
+
+pub returns_none : (bs : List ℕ) → ((front : List ℕ) → bs ≢ front ++ 13 ∷ []) → without_returns bs ≡ bs
+returns_none bs h =
+    let none : suffix_len (λ b. eqb b 13) bs ≡ 0 = last_stays bs (reverse bs) refl h in
+    ap (λ (n : ℕ). take (length bs - n) bs) none ∙ take_all (length bs - 0) bs (omega arith)
+
+-- nothing blank in front
+pub blanks_none : (bs : List ℕ) → ((rest : List ℕ) → bs ≢ 32 ∷ rest) → ((rest : List ℕ) → bs ≢ 9 ∷ rest) → without_blanks bs ≡ bs
+blanks_none [] space tab = refl
+blanks_none (b ∷ bs) space tab = first (is_blank b) refl where
+  first : (t : Bool) → is_blank b ≡ t → drop (cond t (1 + prefix_len is_blank bs) 0) (b ∷ bs) ≡ b ∷ bs
+  first false f = refl
+  first true f = absurd (blank_is (eqb b 32) refl) where
+    blank_is : (s : Bool) → eqb b 32 ≡ s → ⊥
+    blank_is true e = space bs (ap (λ (x : ℕ). x ∷ bs) (let is : b ≡ 32 = grind (arith, nat_tests) in is))
+    blank_is false e = tab bs (ap (λ (x : ℕ). x ∷ bs) (let is : b ≡ 9 = grind (arith, nat_tests) in is))
+
+colon_first : (b : ℕ) (bs : List ℕ) (t : Bool) → (cond (not t) (1 + position_or_len is_colon bs) 0 ≡ suc (length bs)) → (position_or_len is_colon bs ≡ length bs → list_any is_colon bs ≡ false) → (t || list_any is_colon bs) ≡ false
+colon_first b bs true h rest = absurd (omega arith)
+colon_first b bs false h rest = rest (omega arith)
+
+-- no colon comes first, so there is none
+pub no_colon : (bs : List ℕ) → position_or_len is_colon bs ≡ length bs → list_any is_colon bs ≡ false
+no_colon [] h = refl
+no_colon (b ∷ bs) h = colon_first b bs (is_colon b) h (no_colon bs)
+
+pub split_none : (bs : List ℕ) (r : Option (Bor (List ℕ) × Bor (List ℕ))) → IsSplitOnceResult 58 bs r → IfNone r (list_any is_colon bs ≡ false)
+split_none bs None h = no_colon bs (split_once_first 58 bs None h (lit< tt))
+split_none bs (Some x) h = tt

@@ -1,0 +1,35 @@
+use Rattle.std.proofs.Common.{◌≡◌, ◌<◌, ◌+◌, ◌∷◌, ◌++◌, [], ℕ, List, length, take, get_or, ap, sym, ◌∙◌, subst, below_more}
+use Rattle.std.proofs.lemmas.List.{get_or_read, take_more}
+use Rattle.history_model.specs.Samples.{Measurement}
+use Rattle.go_bench_text.specs.Spellings.{HasSpelling, AreSpelled, nowhere}
+use Rattle.go_bench_text.proofs.Spelled.{spelled_more, all_spelled}
+use Rattle.go_bench_text.proofs.ReadBack.{spelled_text, spelled_gives, spelled_in_range}
+use Rattle.go_bench_text.proofs.put.put_go.Goals as goal
+
+pub loop-place-preserved : goal.loop-place-preserved
+loop-place-preserved c =
+    let less : c.loop-place.place < length c.as_slice-sample-items.result.now = c.loop-place-test.true in
+    let is : c.sample-item.result ≡ get_or c.as_slice-sample-items.result.now c.loop-place.place nowhere = get_or_read c.as_slice-sample-items.result.now c.loop-place.place c.sample-item.result less c.sample-item.is nowhere in
+    let longer : take (c.loop-place.place + 1) c.as_slice-sample-items.result.now ≡ take c.loop-place.place c.as_slice-sample-items.result.now ++ c.sample-item.result ∷ [] =
+    take_more c.as_slice-sample-items.result.now c.loop-place.place nowhere less ∙ ap (λ (s : Measurement). take c.loop-place.place c.as_slice-sample-items.result.now ++ s ∷ []) (sym is) in
+    let put = c.in_ok-put_sample.ensures in
+    let here : HasSpelling c.sample-item.result = record { pkg = c.in-Some.pkg.now; name = c.in-Some.name.now; written = c.in-Some.ensures.some; unit = c.in-Some.ensures.unit } in
+    record {
+      spelled = subst (λ (done : List Measurement). AreSpelled done c.put_sample.new.out.items) (sym longer) (subst (AreSpelled (take c.loop-place.place c.as_slice-sample-items.result.now ++ c.sample-item.result ∷ [])) (sym put.2) (spelled_more (take c.loop-place.place c.as_slice-sample-items.result.now) c.sample-item.result c.loop-place.out.items put.0 c.loop-place.invariant.spelled put.1));
+      written = below_more (λ (k : ℕ). HasSpelling (get_or c.as_slice-sample-items.result.now k nowhere)) c.loop-place.place c.loop-place.invariant.written (subst HasSpelling is here);
+    }
+
+pub returns-clause-text : goal.returns-clause-text
+returns-clause-text c =
+    spelled_text c.args.samples.now c.loop-place.out.items c.limits.ensures.each c.fixed_law.ensures
+    (all_spelled c.args.samples.now c.as_slice-sample-items.result.now c.loop-place.out.items c.loop-place.place c.as_slice-sample-items.ensures c.loop-place-test.false c.loop-place.invariant.spelled)
+
+pub returns-clause-back : goal.returns-clause-back
+returns-clause-back c =
+    spelled_gives [] c.args.samples.now c.loop-place.out.items c.limits.ensures.each c.fixed_law.ensures
+    (all_spelled c.args.samples.now c.as_slice-sample-items.result.now c.loop-place.out.items c.loop-place.place c.as_slice-sample-items.ensures c.loop-place-test.false c.loop-place.invariant.spelled)
+
+pub returns-clause-in_range : goal.returns-clause-in_range
+returns-clause-in_range c k less =
+    spelled_in_range [] c.args.samples.now c.loop-place.out.items c.limits.ensures.each c.fixed_law.ensures
+    (all_spelled c.args.samples.now c.as_slice-sample-items.result.now c.loop-place.out.items c.loop-place.place c.as_slice-sample-items.ensures c.loop-place-test.false c.loop-place.invariant.spelled) k

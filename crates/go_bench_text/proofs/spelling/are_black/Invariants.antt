@@ -1,0 +1,11 @@
+use Rattle.std.proofs.Common.{◌≡◌, length}
+use Rattle.std.specs.List.{list_all}
+use Rattle.std.specs.Str.{chars, IsUtf8}
+use Rattle.go_bench_text.specs.Characters.{is_black}
+use Rattle.go_bench_text.proofs.spelling.are_black.Given as goal
+
+abbrev pub invariant-loop-c : goal.invariant-loop-c
+invariant-loop-c l = record { text : IsUtf8 l.rest; same : list_all is_black (chars l.rest) ≡ list_all is_black (chars l.text) }
+
+abbrev pub decreases-loop-c : goal.decreases-loop-c
+decreases-loop-c l = length (chars l.rest)

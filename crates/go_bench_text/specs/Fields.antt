@@ -1,0 +1,16 @@
+-- The fields of a line.
+use Rattle.std.specs.Prelude.{ℕ, Bool, not, ◌==◌, List, map, filter, length}
+use Rattle.std.specs.Char.{is_whitespace}
+use Rattle.std.specs.List.{slice_split}
+use Rattle.std.specs.Str.{chars, encode_utf8_all}
+
+abbrev pub is_field : List ℕ → Bool
+is_field part = not (length part == 0)
+
+-- the longest runs of characters other than white space
+abbrev pub fields_of_chars : List ℕ → List (List ℕ)
+fields_of_chars cs = map encode_utf8_all (filter is_field (slice_split is_whitespace cs))
+
+-- the same of a text, each as its bytes
+abbrev pub fields_of : List ℕ → List (List ℕ)
+fields_of text = fields_of_chars (chars text)

@@ -1,0 +1,78 @@
+-- How samples are written, so that reading the text gives them back.
+use Rattle.std.specs.Prelude.{◌≡◌, ◌≢◌, ℕ, ◌-◌, ◌<◌, Bool, true, ◌&&◌, not, List, [], ◌∷◌, ◌++◌, length, codes, ◌==◌, slice_index, slice_index_or, ℤ, pos}
+use Rattle.std.specs.List.{list_all, list_any}
+use Rattle.std.specs.Str.{chars}
+use Rattle.metric_table.specs.Table.{OfRow, Row}
+use Rattle.fixed_value.specs.Fixed.{fixed_text}
+use Rattle.history_model.specs.Samples.{Measurement}
+use Rattle.go_bench_text.specs.Characters.{is_black, is_name, is_blank}
+
+-- what is written behind `Benchmark`: nothing, or an upper case character first; and no white space
+abbrev pub is_bare_name : List ℕ → Bool
+is_bare_name name = is_name (chars name) && list_all is_black (chars name)
+
+-- what a line can set `pkg` to: not nothing, no line feed, no space or tab first, no carriage return last
+abbrev pub may_set : List ℕ → Bool
+may_set pkg = (not (length pkg == 0) && not (list_any (λ b. b == 10) pkg)) && (not (is_blank (slice_index pkg 0)) && not (slice_index pkg (length pkg - 1) == 13))
+
+-- the test is cut at a `#` into what `pkg` is set to and a name
+pub record IsCut (test pkg name : List ℕ) : Type 0 where
+  pub joined : test ≡ pkg ++ 35 ∷ name
+  pub before : may_set pkg ≡ true
+  pub behind : is_bare_name name ≡ true
+
+-- the first of its cuts
+pub record IsFirstCut (test pkg name : List ℕ) : Type 0 where
+  pub cut : IsCut test pkg name
+  pub first : (other behind : List ℕ) → length other < length pkg → ¬ IsCut test other behind
+
+-- a test that is a name: an upper case character first, and no white space
+pub record IsOwnName (test : List ℕ) : Type 0 where
+  pub some : 0 < length test
+  pub bare : is_bare_name test ≡ true
+
+-- what `pkg` is set to and the name that a test is written by: a name stands for itself, `#` for nothing, and each other test is cut
+pub data IsWrittenBy (test pkg name : List ℕ) : Type 0 where
+  lone : test ≡ codes "#" → pkg ≡ [] → name ≡ [] → IsWrittenBy test pkg name
+  own : IsOwnName test → pkg ≡ [] → name ≡ test → IsWrittenBy test pkg name
+  parted : test ≢ codes "#" → ¬ IsOwnName test → IsFirstCut test pkg name → IsWrittenBy test pkg name
+
+-- the line that sets `pkg`
+abbrev pub pkg_line : List ℕ → List ℕ
+pkg_line [] = codes "pkg:"
+pkg_line (b ∷ pkg) = codes "pkg: " ++ b ∷ pkg
+
+-- the line of one value with its unit
+abbrev pub result_line : List ℕ → ℤ → ℕ → List ℕ → List ℕ
+result_line name value d metric = (codes "Benchmark" ++ name) ++ (codes " 1 " ++ (fixed_text value d ++ 32 ∷ metric))
+
+-- the text of a sample: a line that sets `pkg`, and a result line with the value by its metric's decimals
+pub record IsSpelling (sample : Measurement) (text : List ℕ) : Type 0 where
+  pub pkg : List ℕ
+  pub name : List ℕ
+  pub d : ℕ
+  pub written : IsWrittenBy sample.test pkg name
+  pub unit : list_all is_black (chars sample.metric) ≡ true
+  pub decimals : OfRow sample.metric (λ (row : Row). d ≡ row.decimals)
+  pub lines : text ≡ pkg_line pkg ++ 10 ∷ (result_line name sample.value d sample.metric ++ 10 ∷ [])
+
+-- the texts of the samples, one behind the other
+abbrev pub AreSpelled : List Measurement → List ℕ → Type 0
+AreSpelled [] text = text ≡ []
+AreSpelled (sample ∷ samples) text = (first : List ℕ) × (rest : List ℕ) × (text ≡ first ++ rest) × IsSpelling sample first × AreSpelled samples rest
+
+-- the sample has a text: its test is written by something, and its metric holds no white space
+pub record HasSpelling (sample : Measurement) : Type 0 where
+  pub pkg : List ℕ
+  pub name : List ℕ
+  pub written : IsWrittenBy sample.test pkg name
+  pub unit : list_all is_black (chars sample.metric) ≡ true
+
+abbrev pub nowhere : Measurement
+nowhere = record { test = []; metric = []; value = pos 0 }
+
+-- the sample at this place, from 0, is the first that has no spelling
+pub record IsFirstUnspelled (samples : List Measurement) (place : ℕ) : Type 0 where
+  pub within : place < length samples
+  pub has_none : ¬ HasSpelling (slice_index_or samples place nowhere)
+  pub first : (k : ℕ) → k < place → HasSpelling (slice_index_or samples k nowhere)

@@ -1,0 +1,84 @@
+ghost use Rattle.std.specs.Prelude.{◌≡◌, ◌<◌, ◌≤◌, ◌++◌, ◌∷◌, [], ◌↔◌, true, length, IfSome, IfNone, IsTrue};
+ghost use Rattle.std.specs.List.{list_all};
+ghost use Rattle.std.specs.Str.{chars, IsUtf8, trim_start};
+ghost use Rattle.fixed_value.specs.Numerals.{AreDigits};
+ghost use Rattle.go_bench_text.specs.Characters.{is_black};
+ghost use Rattle.go_bench_text.specs.Fields.{fields_of};
+ghost use Rattle.go_bench_text.specs.Lines.{IsNumeral, ArePairs};
+ghost use Rattle.go_bench_text.specs.Parts.{is_stopped};
+
+use crate::characters::split_first;
+use fixed_value::Numeral;
+
+// The characters before the first white space, and what follows them.
+fn split_black(text: &str) -> (&str, &str)
+    ensures joined { text.now ≡ result.0.now ++ result.1.now }
+    ensures black { list_all is_black (chars result.0.now) ≡ true }
+    ensures stopped { is_stopped (chars result.1.now) ≡ true }
+    ensures front { IsUtf8 result.0.now }
+    ensures back { IsUtf8 result.1.now }
+{
+    let mut rest = text;
+    while let Some((c, more)) = split_first(rest) {
+        if c.is_whitespace() {
+            return text.split_at(text.len() - rest.len());
+        }
+        rest = more;
+    }
+    (text, rest)
+}
+
+// The first field of a text, and what follows it; none where there is only white space.
+pub(crate) fn next_field(text: &str) -> Option<(&str, &str)>
+    ensures some { IfSome result (λ cut. fields_of text.now ≡ cut.0.now ∷ fields_of cut.1.now) }
+    ensures none { IfNone result (fields_of text.now ≡ []) }
+    ensures some_bytes { IfSome result (λ cut. 0 < length cut.0.now) }
+    ensures field { IfSome result (λ cut. IsUtf8 cut.0.now) }
+    ensures more { IfSome result (λ cut. IsUtf8 cut.1.now) }
+    ensures shorter { IfSome result (λ cut. length cut.1.now < length text.now) }
+{
+    let from = text.trim_start();
+    if from.is_empty() {
+        return None;
+    }
+    Some(split_black(from))
+}
+
+// Whether the field is decimal digits.
+pub(crate) fn are_digits(field: &str) -> bool
+    ensures { IsTrue result ↔ AreDigits field.now }
+{
+    for byte in field.as_bytes() {
+        if !byte.is_ascii_digit() {
+            return false;
+        }
+    }
+    !field.is_empty()
+}
+
+// Whether the field is a numeral.
+fn is_numeral(field: &str) -> bool
+    ensures { IsTrue result ↔ IsNumeral field.now }
+{
+    match Numeral::read(field.as_bytes()) {
+        Some(_) => true,
+        None => false,
+    }
+}
+
+// Whether the fields are pairs of a numeral and a unit.
+pub(crate) fn are_pairs(text: &str) -> bool
+    ensures { IsTrue result ↔ ArePairs (fields_of text.now) }
+{
+    let mut rest = text;
+    while let Some((value, behind)) = next_field(rest) {
+        let Some((unit, more)) = next_field(behind) else {
+            return false;
+        };
+        if unit.len() > 64 || !is_numeral(value) {
+            return false;
+        }
+        rest = more;
+    }
+    true
+}

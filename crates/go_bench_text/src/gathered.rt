@@ -1,0 +1,37 @@
+ghost use Rattle.std.specs.Prelude.{◌≡◌, ◌∷◌, [], OnOk};
+
+use history_model::{NoMemory, Sample, Samples};
+use std::alloc::Global;
+
+// The samples of a text so far, or the note that there are more than a run may have.
+#[derive(Drop)]
+pub(crate) struct Gathered {
+    pub(crate) samples: Samples,
+    pub(crate) full: bool,
+}
+
+// How many samples a run may have.
+const MOST: usize = 65_536;
+
+impl Gathered {
+    ghost use Rattle.go_bench_text.specs.Gathering.{Keeps, Gains};
+
+    pub(crate) fn new(alloc: Global) -> Gathered
+        ensures { Keeps result [] }
+    {
+        Gathered {
+            samples: Samples::new(alloc),
+            full: false,
+        }
+    }
+
+    pub(crate) fn add(&mut self, sample: Sample) -> Result<(), NoMemory>
+        ensures { OnOk result (Gains self.old self.new (sample ∷ [])) }
+    {
+        if self.full || self.samples.len() >= MOST {
+            self.full = true;
+            return Ok(());
+        }
+        self.samples.push(sample)
+    }
+}

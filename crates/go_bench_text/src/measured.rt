@@ -1,0 +1,93 @@
+ghost use Rattle.std.specs.Prelude.{◌≡◌, ◌<◌, ◌≤◌, ◌^◌, ℕ, List, length, unsigned_abs, IfOk, OnOk};
+ghost use Rattle.std.specs.Str.{IsUtf8};
+ghost use Rattle.history_model.specs.Samples.{Measurement};
+ghost use Rattle.go_bench_text.specs.Lines.{IsNumeral};
+ghost use Rattle.go_bench_text.specs.Readings.{test_of, IsOneSampleOf, IsLarge};
+
+use crate::memory::LineFault;
+use fixed_value::{Numeral, OutOfRange, scale, scaled_law};
+use history_model::Sample;
+use line_text::{Name, NameError};
+use metric_table::decimals;
+use std::alloc::Global;
+
+// The name that the bytes are, which are text and not empty.
+fn name_of(alloc: Global, text: &str) -> Result<Name, LineFault>
+    requires { 0 < length text.now }
+    ensures ok { IfOk result (λ name. name ≡ text.now) }
+    ensures over { result ≡ Err LineFault.OutOfRange → 256 < length text.now }
+    ensures short { OnOk result (length text.now ≤ 256) }
+{
+    match Name::of_text(alloc, text.as_bytes()) {
+        Ok(name) => Ok(name),
+        Err(NameError::BadName) => Err(LineFault::OutOfRange),
+        Err(NameError::NoMemory) => Err(LineFault::NoMemory),
+    }
+}
+
+// The test of a result line with this name where `pkg` has this value.
+pub(crate) fn test_name(alloc: Global, pkg: &str, name: &str) -> Result<Name, LineFault>
+    ensures ok { IfOk result (λ test. test ≡ test_of pkg.now name.now) }
+    ensures over { result ≡ Err LineFault.OutOfRange → 256 < length (test_of pkg.now name.now) }
+    ensures short { OnOk result (length (test_of pkg.now name.now) ≤ 256) }
+{
+    if pkg.is_empty() {
+        return if name.is_empty() {
+            name_of(alloc, "#")
+        } else {
+            name_of(alloc, name)
+        };
+    }
+    if pkg.len() > 256 || name.len() > 256 {
+        return Err(LineFault::OutOfRange);
+    }
+    let mut text = String::from_str(alloc, pkg)?;
+    text.push_str("#")?;
+    text.push_str(name)?;
+    name_of(alloc, text.as_str())
+}
+
+// The value, scaled by the decimals of its unit.
+fn scaled_value(value: &str, unit: &str) -> Result<i64, LineFault>
+    requires { IsNumeral value.now }
+    ensures ok { IfOk result (λ scaled. (test : List ℕ) → IsOneSampleOf test value.now unit.now (record { test = test; metric = unit.now; value = scaled })) }
+    ensures within { IfOk result (λ scaled. unsigned_abs scaled ≤ 10 ^ 16) }
+    ensures in_range { OnOk result (¬ IsLarge value.now unit.now) }
+    ensures over { result ≡ Err LineFault.OutOfRange → IsLarge value.now unit.now }
+{
+    let Some(numeral) = Numeral::read(value.as_bytes()) else {
+        unreachable!();
+    };
+    scaled_law();
+    match scale(&numeral, decimals(unit.as_bytes())) {
+        Ok(scaled) => Ok(scaled),
+        Err(OutOfRange) => Err(LineFault::OutOfRange),
+    }
+}
+
+// The sample of a value and its unit.
+pub(crate) fn sample_of(
+    alloc: Global,
+    test: &Name,
+    value: &str,
+    unit: &str,
+) -> Result<Sample, LineFault>
+    requires value { IsNumeral value.now }
+    requires unit { 0 < length unit.now }
+    requires short { length unit.now ≤ 64 }
+    ensures ok { IfOk result (λ sample. IsOneSampleOf test.now value.now unit.now sample) }
+    ensures in_range { OnOk result (¬ IsLarge value.now unit.now) }
+    ensures over { result ≡ Err LineFault.OutOfRange → IsLarge value.now unit.now }
+{
+    let scaled = scaled_value(value, unit)?;
+    let metric = match name_of(alloc, unit) {
+        Ok(metric) => metric,
+        Err(LineFault::OutOfRange) => unreachable!(),
+        Err(LineFault::NoMemory) => return Err(LineFault::NoMemory),
+    };
+    Ok(Sample {
+        test: test.copy(alloc)?,
+        metric,
+        value: scaled,
+    })
+}

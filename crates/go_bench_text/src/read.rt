@@ -1,0 +1,149 @@
+ghost use Rattle.std.specs.Prelude.{◌≡◌, ◌≢◌, ◌≤◌, ◌∷◌, ◌++◌, [], true, false, ℕ, List, length, IfOk, IfSome, IfNone, MatchResult};
+ghost use Rattle.std.specs.Str.{IsUtf8, IsValidUpTo};
+ghost use Rattle.line_text.specs.Lines.{lines_of};
+ghost use Rattle.history_model.specs.Samples.{Measurement};
+ghost use Rattle.metric_table.specs.Limits.{most};
+ghost use Rattle.metric_table.specs.declared.limits.Limit.{Limit};
+ghost use Rattle.metric_table.specs.declared.limits.Limit.TheVariants.{RunSamples};
+ghost use Rattle.go_bench_text.specs.Added.{AddsLine};
+ghost use Rattle.go_bench_text.specs.Gathering.{Keeps};
+ghost use Rattle.go_bench_text.specs.Lines.{value_of};
+ghost use Rattle.go_bench_text.specs.Readings.{sets_pkg, pkg_of, IsOver, IsRead, IsFirstOver, HasTooMany};
+
+use crate::added::add_measured;
+use crate::config::setting_of;
+use crate::gathered::Gathered;
+use crate::kinds::begins;
+use crate::memory::LineFault;
+use history_model::Samples;
+use metric_table::Limit;
+use std::alloc::Global;
+
+/// What a text of benchmark output has.
+#[derive(Debug, Drop)]
+pub struct GoRun {
+    /// The samples, in order of the text.
+    pub samples: Samples,
+    /// How many lines begin with `Benchmark` and are no result lines.
+    pub ignored: u64,
+}
+
+/// Why a text gives no samples.
+#[derive(Clone, Copy, Debug, PartialEq, Eq)]
+pub enum GoFault {
+    /// The bytes are no UTF-8 text: the length of the longest prefix that is.
+    NotText(u64),
+    /// The number, from 1, of the first result line with a value out of range or a test of more than 256 bytes.
+    OutOfRange(u64),
+    /// There are more samples than a run may have.
+    Full(Limit),
+    /// There was no memory for the samples.
+    NoMemory,
+}
+
+// The value that a configuration line with the key `pkg` sets.
+fn pkg_value(line: &str) -> Option<&str>
+    ensures some { IfSome result (λ value. sets_pkg line.now ≡ true) }
+    ensures value { IfSome result (λ value. value.now ≡ value_of line.now) }
+    ensures text { IfSome result (λ value. IsUtf8 value.now) }
+    ensures none { IfNone result (sets_pkg line.now ≡ false) }
+{
+    let (key, value) = setting_of(line)?;
+    if key == "pkg" { Some(value) } else { None }
+}
+
+// Reads a line behind lines that leave `pkg` at this value: the value of `pkg` behind it, and how many lines are
+// ignored there.
+fn read_line<'a>(
+    alloc: Global,
+    gathered: &mut Gathered,
+    pkg: &'a str,
+    line: &'a str,
+) -> Result<(&'a str, u64), LineFault>
+    ensures adds { IfOk result (λ read. (before : List (List ℕ)) → pkg_of before ≡ pkg.now → AddsLine gathered.old gathered.new before line.now read.1) }
+    ensures pkg { IfOk result (λ read. (before : List (List ℕ)) → pkg_of before ≡ pkg.now → pkg_of (before ++ line.now ∷ []) ≡ read.0.now) }
+    ensures over { result ≡ Err LineFault.OutOfRange → (before : List (List ℕ)) → pkg_of before ≡ pkg.now → IsOver before line.now }
+    ensures few { IfOk result (λ read. read.1 ≤ 1) }
+    ensures text { IfOk result (λ read. IsUtf8 read.0.now) }
+{
+    if begins(line) {
+        let ignored = add_measured(alloc, gathered, pkg, line)?;
+        return Ok((pkg, ignored));
+    }
+    match pkg_value(line) {
+        Some(value) => Ok((value, 0)),
+        None => Ok((pkg, 0)),
+    }
+}
+
+// The samples of a text, kept, and how many of its lines are ignored.
+fn gather(alloc: Global, text: &str) -> Result<(Gathered, u64), GoFault>
+    ensures ok { IfOk result (λ all. (given : List Measurement) × Keeps all.0 given × IsRead text.now given all.1) }
+    ensures over { (number : ℕ) → result ≡ Err (GoFault.OutOfRange number) → IsFirstOver (lines_of text.now) number }
+    ensures not_text { (offset : ℕ) → result ≢ Err (GoFault.NotText offset) }
+    ensures full { (limit : Limit) → result ≢ Err (GoFault.Full limit) }
+{
+    let mut gathered = Gathered::new(alloc);
+    let mut pkg = "";
+    let mut number = 0u64;
+    let mut ignored = 0u64;
+    for line in text.split('\n') {
+        number += 1;
+        match read_line(alloc, &mut gathered, pkg, line) {
+            Ok((value, count)) => {
+                pkg = value;
+                ignored += count;
+            }
+            Err(LineFault::OutOfRange) => return Err(GoFault::OutOfRange(number)),
+            Err(LineFault::NoMemory) => return Err(GoFault::NoMemory),
+        }
+    }
+    Ok((gathered, ignored))
+}
+
+// The answer of `read_go`, by its causes.
+fn read_text(alloc: Global, bytes: &[u8]) -> Result<GoRun, GoFault>
+    ensures ok { IfOk result (λ run. IsRead bytes.now run.samples run.ignored) }
+    ensures not_text { (offset : ℕ) → result ≡ Err (GoFault.NotText offset) → IsValidUpTo bytes.now offset }
+    ensures over_text { (number : ℕ) → result ≡ Err (GoFault.OutOfRange number) → IsUtf8 bytes.now }
+    ensures over { (number : ℕ) → result ≡ Err (GoFault.OutOfRange number) → IsFirstOver (lines_of bytes.now) number }
+    ensures full { (limit : Limit) → result ≡ Err (GoFault.Full limit) → limit ≡ Limit.RunSamples }
+    ensures many { (limit : Limit) → result ≡ Err (GoFault.Full limit) → HasTooMany bytes.now }
+{
+    let text = match str::from_utf8(bytes) {
+        Ok(text) => text,
+        Err(fault) => return Err(GoFault::NotText(fault.valid_up_to() as u64)),
+    };
+    let (gathered, ignored) = gather(alloc, text)?;
+    if gathered.full {
+        return Err(GoFault::Full(Limit::RunSamples));
+    }
+    Ok(GoRun {
+        samples: gathered.samples,
+        ignored,
+    })
+}
+
+/// The samples of a text of benchmark output: one for each pair of a value and a unit on its result lines, in order.
+///
+/// The test of a sample is the value of `pkg` on the last configuration line before it that sets it, `#`, and the name
+/// of the benchmark; its metric is the unit, and its value is scaled by the metric's decimals. Lines that begin with
+/// `Benchmark` and are no result lines are ignored and counted. The rules are those of docs/FORMATS.md.
+///
+/// Linear in the length of the text; takes memory for the samples alone.
+pub fn read_go(alloc: Global, bytes: &[u8]) -> Result<GoRun, GoFault>
+    // What is given are the text's samples, and where a text has samples within the limit they are given, unless memory
+    // runs out.
+    ensures ok { IfOk result (λ run. IsRead bytes.now run.samples run.ignored) }
+    ensures only { (samples : List Measurement) (ignored : ℕ) → IsRead bytes.now samples ignored → length samples ≤ most RunSamples
+        → MatchResult result (λ run. (run.samples ≡ samples) × (run.ignored ≡ ignored)) (λ fault. fault ≡ GoFault.NoMemory) }
+
+    // Each fault is at its place.
+    ensures not_text { (offset : ℕ) → result ≡ Err (GoFault.NotText offset) → IsValidUpTo bytes.now offset }
+    ensures over_text { (number : ℕ) → result ≡ Err (GoFault.OutOfRange number) → IsUtf8 bytes.now }
+    ensures over { (number : ℕ) → result ≡ Err (GoFault.OutOfRange number) → IsFirstOver (lines_of bytes.now) number }
+    ensures full { (limit : Limit) → result ≡ Err (GoFault.Full limit) → limit ≡ Limit.RunSamples }
+    ensures many { (limit : Limit) → result ≡ Err (GoFault.Full limit) → HasTooMany bytes.now }
+{
+    read_text(alloc, bytes)
+}
