@@ -1,0 +1,13 @@
+pub mod Answers
+pub mod Bytes
+pub mod Classes
+pub mod Depth
+pub mod Grammar
+pub mod Machine
+pub mod Outcome
+pub mod Parts
+pub mod Places
+pub mod Reached
+pub mod States
+pub mod Tree
+pub mod View
