@@ -11,3 +11,4 @@ pub mod Reached
 pub mod States
 pub mod Tree
 pub mod View
+pub mod Shape

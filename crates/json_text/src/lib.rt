@@ -9,6 +9,7 @@ mod lexeme;
 mod machine;
 mod memory;
 pub mod reading;
+pub mod shape;
 mod state;
 #[cfg(test)]
 mod tests;
@@ -17,4 +18,5 @@ pub mod tree;
 
 pub use memory::NoMemory;
 pub use reading::{JsonFault, one_answer_law, one_tree_law, read_json};
+pub use shape::Shape;
 pub use tree::{Json, JsonList, JsonMembers, Member};
