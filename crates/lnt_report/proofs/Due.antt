@@ -1,0 +1,160 @@
+-- One answer at most is due.
+use Rattle.std.proofs.Common.{◌≡◌, ℕ, ◌≤◌, ◌⊎◌, inl, inr, List, [], ◌∷◌, ◌++◌, Option, Some, None, Result, Ok, Err, length, refl, sym, ap, ◌∙◌, subst, arith, ℤ}
+use Rattle.json_text.specs.Tree.{Tree}
+use Rattle.json_text.specs.Places.{Reads}
+use Rattle.json_text.specs.Answers.{IsDue as IsTextDue, IsFault as IsTextFault}
+use Rattle.json_text.specs.declared.reading.JsonFault.{JsonFault}
+use Rattle.json_text.specs.declared.reading.JsonFault.TheVariants as json
+use Rattle.metric_table.specs.Limits.{most}
+use Rattle.metric_table.specs.declared.limits.Limit.{Limit}
+use Rattle.metric_table.specs.declared.limits.Limit.TheVariants.{RunSamples}
+use Rattle.history_model.specs.Samples.{Measurement}
+use Rattle.lnt_report.specs.Rules.{Break, break, first_break}
+use Rattle.lnt_report.specs.Readings.{Reading, readings, AreMeasured, none, one, IsOut, IsValue}
+use Rattle.lnt_report.specs.Runs.{Report, IsRun}
+use Rattle.lnt_report.specs.Outcomes.{IsOver, IsDue, IsDueOf, IsOnly, IsOfText}
+use Rattle.lnt_report.specs.declared.fault.ReportFault.{ReportFault}
+use Rattle.lnt_report.specs.declared.fault.ReportFault.TheVariants.{NotText, NotJson, TooDeep, NotReport, OutOfRange, Full, NoMemory}
+
+-- a number among those that are measured has a value
+no_out : (front : List Reading) (out : Reading) (back : List Reading) (ms : List Measurement) → AreMeasured (front ++ (out ∷ back)) ms
+    → ((value : ℤ) → IsValue out.metric out.spelling value → ⊥) → ⊥
+no_out [] out back ms (one {m = m} h more) never = never m.value h.value
+no_out (r ∷ front) out back ms (one {ms = rest} h more) never = no_out front out back rest more never
+
+unmeasured : (rs : List Reading) (test metric : List ℕ) (ms : List Measurement) → IsOut rs test metric → AreMeasured rs ms → ⊥
+unmeasured rs test metric ms h all = no_out h.front h.out h.back ms (subst (λ (xs : List Reading). AreMeasured xs ms) h.split all) h.none
+
+-- two numbers that are the first with no value are one
+same_out : (front : List Reading) (out : Reading) (back : List Reading) (other_front : List Reading) (other : Reading) (other_back : List Reading) (ms ns : List Measurement)
+    → front ++ (out ∷ back) ≡ other_front ++ (other ∷ other_back) → AreMeasured front ms → AreMeasured other_front ns
+    → ((value : ℤ) → IsValue out.metric out.spelling value → ⊥) → ((value : ℤ) → IsValue other.metric other.spelling value → ⊥) → out ≡ other
+same_out [] out back [] other other_back ms ns e h k never nor = cc
+same_out [] out back (r ∷ front) other other_back ms ns e h (one {m = m} k more) never nor =
+    let same : out ≡ r = cc in absurd (never m.value (subst (λ (x : Reading). IsValue x.metric x.spelling m.value) (sym same) k.value))
+same_out (r ∷ front) out back [] other other_back ms ns e (one {m = m} h more) k never nor =
+    let same : r ≡ other = cc in absurd (nor m.value (subst (λ (x : Reading). IsValue x.metric x.spelling m.value) same h.value))
+same_out (r ∷ front) out back (s ∷ other_front) other other_back ms ns e (one {ms = rest} h more) (one {ms = others} k most_of) never nor =
+    let tails : front ++ (out ∷ back) ≡ other_front ++ (other ∷ other_back) = cc in
+    same_out front out back other_front other other_back rest others tails more most_of never nor
+
+out_is_one : (rs : List Reading) (test metric other_test other_metric : List ℕ) → IsOut rs test metric → IsOut rs other_test other_metric
+    → OutOfRange test metric ≡ OutOfRange other_test other_metric
+out_is_one rs test metric other_test other_metric h k =
+    let same : h.out ≡ k.out = same_out h.front h.out h.back k.front k.out k.back h.samples k.samples (sym h.split ∙ k.split) h.before k.before h.none k.none in
+    let tests : test ≡ other_test = h.of_test ∙ ap (λ (r : Reading). r.test) same ∙ sym k.of_test in
+    let metrics : metric ≡ other_metric = h.of_metric ∙ ap (λ (r : Reading). r.metric) same ∙ sym k.of_metric in
+    ap (λ (t : List ℕ). OutOfRange t metric) tests ∙ ap (λ (m : List ℕ). OutOfRange other_test m) metrics
+
+lengths : {rs : List Reading} {ms : List Measurement} → AreMeasured rs ms → length ms ≡ length rs
+lengths none = refl
+lengths (one h more) = let e = lengths more in omega arith
+
+abbrev report : List ℕ → List ℕ → List Measurement → ℕ → Report
+report machine commit samples ignored = record { machine = machine; commit = commit; samples = samples; ignored = ignored }
+
+inside : {A : Type 0} (a b : A) → Some a ≡ Some b → a ≡ b
+inside a b e = cc
+
+run_is_one : (tree : Tree) (a b : Report) → IsRun tree a → IsRun tree b → ((ms : List Measurement) → AreMeasured (readings tree) ms → ms ≡ a.samples) → a ≡ b
+run_is_one tree a b h k only =
+    let machines : a.machine ≡ b.machine = inside a.machine b.machine (sym h.machine ∙ k.machine) in
+    let commits : a.commit ≡ b.commit = inside a.commit b.commit (sym h.commit ∙ k.commit) in
+    let counts : a.ignored ≡ b.ignored = h.ignored ∙ sym k.ignored in
+    ap (λ (m : List ℕ). report m a.commit a.samples a.ignored) machines
+    ∙ ap (λ (m : List ℕ). report b.machine m a.samples a.ignored) commits
+    ∙ ap (λ (ms : List Measurement). report b.machine b.commit ms a.ignored) (sym (only b.samples k.samples))
+    ∙ ap (report b.machine b.commit b.samples) counts
+
+clash : {A : Type 0} (o : Option A) (a : A) → o ≡ None → o ≡ Some a → ⊥
+clash o a e f = let g : None ≡ Some a = sym e ∙ f in cc
+
+too_many : (rs : List Reading) (ms : List Measurement) (limit : Limit) → AreMeasured rs ms → length ms ≤ most RunSamples → IsOver rs limit → ⊥
+too_many rs ms limit h few over = omega (arith, lengths h, lengths over.measured, over.over)
+
+due_is_one : (tree : Tree) (a b : Result Report ReportFault) → IsDueOf a tree → IsOnly a tree → IsDueOf b tree → a ≡ b
+due_is_one tree (Ok x) (Ok y) h only k = ap Ok (run_is_one tree x y h.1 k.1 only)
+due_is_one tree (Ok x) (Err (NotReport other_rule other_path)) h only k = absurd (clash (first_break tree) (break other_rule other_path) h.0 k)
+due_is_one tree (Ok x) (Err (OutOfRange other_test other_metric)) h only k = absurd (unmeasured (readings tree) other_test other_metric x.samples k.1 h.1.samples)
+due_is_one tree (Ok x) (Err (Full other_limit)) h only k = absurd (too_many (readings tree) x.samples other_limit h.1.samples h.1.few k.1)
+due_is_one tree (Ok x) (Err (NotText j)) h only k = absurd k
+due_is_one tree (Ok x) (Err (NotJson j)) h only k = absurd k
+due_is_one tree (Ok x) (Err (TooDeep j)) h only k = absurd k
+due_is_one tree (Ok x) (Err NoMemory) h only k = absurd k
+due_is_one tree (Err (NotReport rule path)) (Ok y) h only k = absurd (clash (first_break tree) (break rule path) k.0 h)
+due_is_one tree (Err (NotReport rule path)) (Err (NotReport other_rule other_path)) h only k = ap (λ (b : Break). Err (NotReport b.rule b.member)) (inside (break rule path) (break other_rule other_path) (sym h ∙ k))
+due_is_one tree (Err (NotReport rule path)) (Err (OutOfRange other_test other_metric)) h only k = absurd (clash (first_break tree) (break rule path) k.0 h)
+due_is_one tree (Err (NotReport rule path)) (Err (Full other_limit)) h only k = absurd (clash (first_break tree) (break rule path) k.0 h)
+due_is_one tree (Err (NotReport rule path)) (Err (NotText j)) h only k = absurd k
+due_is_one tree (Err (NotReport rule path)) (Err (NotJson j)) h only k = absurd k
+due_is_one tree (Err (NotReport rule path)) (Err (TooDeep j)) h only k = absurd k
+due_is_one tree (Err (NotReport rule path)) (Err NoMemory) h only k = absurd k
+due_is_one tree (Err (OutOfRange test metric)) (Ok y) h only k = absurd (unmeasured (readings tree) test metric y.samples h.1 k.1.samples)
+due_is_one tree (Err (OutOfRange test metric)) (Err (NotReport other_rule other_path)) h only k = absurd (clash (first_break tree) (break other_rule other_path) h.0 k)
+due_is_one tree (Err (OutOfRange test metric)) (Err (OutOfRange other_test other_metric)) h only k = ap Err (out_is_one (readings tree) test metric other_test other_metric h.1 k.1)
+due_is_one tree (Err (OutOfRange test metric)) (Err (Full other_limit)) h only k = absurd (unmeasured (readings tree) test metric k.1.samples h.1 k.1.measured)
+due_is_one tree (Err (OutOfRange test metric)) (Err (NotText j)) h only k = absurd k
+due_is_one tree (Err (OutOfRange test metric)) (Err (NotJson j)) h only k = absurd k
+due_is_one tree (Err (OutOfRange test metric)) (Err (TooDeep j)) h only k = absurd k
+due_is_one tree (Err (OutOfRange test metric)) (Err NoMemory) h only k = absurd k
+due_is_one tree (Err (Full limit)) (Ok y) h only k = absurd (too_many (readings tree) y.samples limit k.1.samples k.1.few h.1)
+due_is_one tree (Err (Full limit)) (Err (NotReport other_rule other_path)) h only k = absurd (clash (first_break tree) (break other_rule other_path) h.0 k)
+due_is_one tree (Err (Full limit)) (Err (OutOfRange other_test other_metric)) h only k = absurd (unmeasured (readings tree) other_test other_metric h.1.samples k.1 h.1.measured)
+due_is_one tree (Err (Full limit)) (Err (Full other_limit)) h only k = ap (λ (l : Limit). Err (Full l)) (h.1.of_samples ∙ sym k.1.of_samples)
+due_is_one tree (Err (Full limit)) (Err (NotText j)) h only k = absurd k
+due_is_one tree (Err (Full limit)) (Err (NotJson j)) h only k = absurd k
+due_is_one tree (Err (Full limit)) (Err (TooDeep j)) h only k = absurd k
+due_is_one tree (Err (Full limit)) (Err NoMemory) h only k = absurd k
+due_is_one tree (Err (NotText j)) b h only k = absurd h
+due_is_one tree (Err (NotJson j)) b h only k = absurd h
+due_is_one tree (Err (TooDeep j)) b h only k = absurd h
+due_is_one tree (Err NoMemory) b h only k = absurd h
+
+-- what a text's answer says of the answer of a run
+abbrev From : Result Tree JsonFault → Result Report ReportFault → Type 0
+From (Ok tree) due = IsDueOf due tree
+From (Err (json.NotText j)) due = due ≡ Err (NotText j)
+From (Err (json.NotJson j)) due = due ≡ Err (NotJson j)
+From (Err (json.TooDeep j)) due = due ≡ Err (TooDeep j)
+From (Err json.NoMemory) due = ⊥
+
+-- an answer that is due comes from a text's
+of_text : (bytes : List ℕ) (due : Result Report ReportFault) → IsDue due bytes → (answer : Result Tree JsonFault) × (IsTextDue answer bytes × From answer due)
+of_text bytes (Err (NotText j)) d = (Err (json.NotText j), (d, refl))
+of_text bytes (Err (NotJson j)) d = (Err (json.NotJson j), (d, refl))
+of_text bytes (Err (TooDeep j)) d = (Err (json.TooDeep j), (d, refl))
+of_text bytes (Ok y) d = (Ok d.0, (d.1, d.2))
+of_text bytes (Err (NotReport rule path)) d = (Ok d.0, (d.1, d.2))
+of_text bytes (Err (OutOfRange test metric)) d = (Ok d.0, (d.1, d.2))
+of_text bytes (Err (Full limit)) d = (Ok d.0, (d.1, d.2))
+of_text bytes (Err NoMemory) d = (Ok d.0, (d.1, d.2))
+
+abbrev pub OneText : List ℕ → Type 0
+OneText bytes = (one other : Result Tree JsonFault) → IsTextDue one bytes → IsTextDue other bytes → one ≡ other
+
+-- what a tree is due is what its bytes are due
+pub same_answer : (bytes : List ℕ) → OneText bytes → (tree : Tree) (answer : Result Report ReportFault) → Reads bytes tree → IsDueOf answer tree → IsOnly answer tree
+    → (due : Result Report ReportFault) → IsDue due bytes → answer ≡ due
+same_answer bytes law tree answer reads h only due d =
+    let f = of_text bytes due d in
+    due_is_one tree answer due h only (subst (λ (t : Result Tree JsonFault). From t due) (sym (law (Ok tree) f.0 reads f.1.0)) f.1.1)
+
+abbrev pub failed : ReportFault → Result Report ReportFault
+failed fault = Err fault
+
+-- a fault of the text is what its bytes are due
+pub same_fault : (bytes : List ℕ) → OneText bytes → (fault : JsonFault) (said : ReportFault) → IsOfText said fault → IsTextFault fault bytes
+    → (due : Result Report ReportFault) → IsDue due bytes → (failed said ≡ due) ⊎ (failed said ≡ failed NoMemory)
+same_fault bytes law json.NoMemory said e h due d = inr (ap failed e)
+same_fault bytes law (json.NotText j) said e h due d =
+    let f = of_text bytes due d in
+    let g : due ≡ Err (NotText j) = subst (λ (t : Result Tree JsonFault). From t due) (sym (law (Err (json.NotText j)) f.0 h f.1.0)) f.1.1 in
+    inl (ap failed e ∙ sym g)
+same_fault bytes law (json.NotJson j) said e h due d =
+    let f = of_text bytes due d in
+    let g : due ≡ Err (NotJson j) = subst (λ (t : Result Tree JsonFault). From t due) (sym (law (Err (json.NotJson j)) f.0 h f.1.0)) f.1.1 in
+    inl (ap failed e ∙ sym g)
+same_fault bytes law (json.TooDeep j) said e h due d =
+    let f = of_text bytes due d in
+    let g : due ≡ Err (TooDeep j) = subst (λ (t : Result Tree JsonFault). From t due) (sym (law (Err (json.TooDeep j)) f.0 h f.1.0)) f.1.1 in
+    inl (ap failed e ∙ sym g)

@@ -1,0 +1,11 @@
+pub mod Answers
+pub mod Compact
+pub mod Due
+pub mod FixedNumbers
+pub mod Keys
+pub mod Lists
+pub mod QuotedTexts
+pub mod Rows
+pub mod Steps
+pub mod Walks
+pub mod Written

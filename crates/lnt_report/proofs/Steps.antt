@@ -1,0 +1,110 @@
+-- One number more is gathered, or is no sample.
+use Rattle.std.proofs.Common.{◌≡◌, ◌≢◌, ℕ, ◌<◌, ◌≤◌, inl, inr, List, [], ◌∷◌, ◌++◌, Bool, true, false, All, length, refl, sym, ap, ◌∙◌, subst, append_assoc, append-nil, length-append, rules, arith, codes, ℤ}
+use Rattle.std.proofs.lemmas.Bool.{cases_lt}
+use Rattle.std.proofs.lemmas.List.Elements.{All-append}
+use Rattle.metric_table.specs.Limits.{most}
+use Rattle.metric_table.specs.declared.limits.Limit.TheVariants.{RunSamples}
+use Rattle.history_model.specs.Samples.{Measurement}
+use Rattle.lnt_report.specs.Runs.{IsGiven}
+use Rattle.lnt_report.specs.Readings.{Reading, reading, IsMeasured, IsValue, AreMeasured, none as nothing, one as next, is_metric}
+use Rattle.lnt_report.specs.Gathering.{AreSole, none, one, Leaves, AreBeyond, IsRefusal, IsNamed}
+use Rattle.lnt_report.specs.declared.gathered.Gathered.{Gathered}
+use Rattle.lnt_report.specs.declared.fault.ReportFault.{ReportFault}
+
+pub measured_end : {rs : List Reading} {ms : List Measurement} {r : Reading} {m : Measurement} → AreSole rs ms → IsMeasured r m
+    → ((value : ℤ) → IsValue r.metric r.spelling value → value ≡ m.value) → AreSole (rs ++ r ∷ []) (ms ++ m ∷ [])
+measured_end none h only = one h only none
+measured_end (one first sole more) h only = one first sole (measured_end more h only)
+
+pub are_measured : {rs : List Reading} {ms : List Measurement} → AreSole rs ms → AreMeasured rs ms
+are_measured none = nothing
+are_measured (one first sole more) = next first (are_measured more)
+
+abbrev sample : List ℕ → List ℕ → ℤ → Measurement
+sample test metric value = record { test = test; metric = metric; value = value }
+
+same_sample : (m n : Measurement) → m.test ≡ n.test → m.metric ≡ n.metric → m.value ≡ n.value → m ≡ n
+same_sample m n e f g = ap (λ (test : List ℕ). sample test m.metric m.value) e ∙ ap (λ (metric : List ℕ). sample n.test metric m.value) f ∙ ap (sample n.test n.metric) g
+
+-- the samples are the only ones
+pub are_only : {rs : List Reading} {ms ns : List Measurement} → AreSole rs ms → AreMeasured rs ns → ns ≡ ms
+are_only none nothing = refl
+are_only (one {r = r} {m = m} {ms = ms} first sole more) (next {m = n} {ms = ns} other others) =
+    ap (λ (x : Measurement). x ∷ ns) (same_sample n m (other.test ∙ sym first.test) (other.metric ∙ sym first.metric) (sole n.value other.value))
+    ∙ ap (λ xs. m ∷ xs) (are_only more others)
+
+all_one : (m : Measurement) → IsGiven m → All IsGiven (m ∷ [])
+all_one m given = search rules
+
+pub is_given : (metric : List ℕ) → is_metric metric ≡ true → metric ≢ codes "name"
+is_given metric h e = let k : is_metric (codes "name") ≡ true = subst (λ (key : List ℕ). is_metric key ≡ true) e h in let f : false ≡ true = k in cc
+
+no_beyond : (over : Bool) (kept beyond : List Measurement) → AreBeyond over kept beyond → length kept < most RunSamples → beyond ≡ []
+no_beyond false kept beyond h room = h
+no_beyond true kept beyond h room = absurd (omega (arith, h.0, room))
+
+still : (over : Bool) (kept after beyond : List Measurement) → AreBeyond over kept beyond → length kept < most RunSamples → AreBeyond over after []
+still false kept after beyond h room = refl
+still true kept after beyond h room = absurd (omega (arith, h.0, room))
+
+-- a sample that is kept, where there is room
+pub kept_one : (all left : List Reading) (total more : ℕ) (r : Reading) (m : Measurement) (old new : Gathered)
+    → Leaves all total (r ∷ left) more old → IsMeasured r m → ((value : ℤ) → IsValue r.metric r.spelling value → value ≡ m.value) → IsGiven m → length old.samples < most RunSamples
+    → new.samples ≡ old.samples ++ m ∷ [] → new.over ≡ old.over → new.ignored ≡ old.ignored → Leaves all total left more new
+kept_one all left total more r m old new h measured sole given room e f g =
+    let nothing : h.beyond ≡ [] = no_beyond old.over old.samples h.beyond h.over room in
+    let listed : (old.samples ++ h.beyond) ++ m ∷ [] ≡ new.samples ++ [] =
+    ap (λ xs. (old.samples ++ xs) ++ m ∷ []) nothing ∙ ap (λ xs. xs ++ m ∷ []) (append-nil old.samples) ∙ sym e ∙ sym (append-nil new.samples) in
+    record {
+      past = h.past ++ r ∷ [];
+      beyond = [];
+      count = h.count;
+      split = append_assoc h.past (r ∷ []) left ∙ h.split;
+      measured = subst (λ (ms : List Measurement). AreSole (h.past ++ r ∷ []) ms) listed (measured_end h.measured measured sole);
+      over = subst (λ (over : Bool). AreBeyond over new.samples []) (sym f) (still old.over old.samples new.samples h.beyond h.over room);
+      counted = h.counted;
+      ignored = g ∙ h.ignored;
+      given = subst (λ (ms : List Measurement). All IsGiven ms) (sym e) (All-append IsGiven old.samples (m ∷ []) h.given (all_one m given));
+    }
+
+-- a sample beyond those that are kept
+pub beyond_one : (all left : List Reading) (total more : ℕ) (r : Reading) (m : Measurement) (old new : Gathered)
+    → Leaves all total (r ∷ left) more old → IsMeasured r m → ((value : ℤ) → IsValue r.metric r.spelling value → value ≡ m.value) → most RunSamples ≤ length old.samples
+    → new.samples ≡ old.samples → new.over ≡ true → new.ignored ≡ old.ignored → Leaves all total left more new
+beyond_one all left total more r m old new h measured sole full e f g =
+    let listed : (old.samples ++ h.beyond) ++ m ∷ [] ≡ new.samples ++ (h.beyond ++ m ∷ []) =
+    append_assoc old.samples h.beyond (m ∷ []) ∙ ap (λ xs. xs ++ (h.beyond ++ m ∷ [])) (sym e) in
+    let some : 0 < length (h.beyond ++ m ∷ []) = omega (arith, length-append h.beyond (m ∷ [])) in
+    let still_full : most RunSamples ≤ length new.samples = omega (arith, full, ap length e) in
+    record {
+      past = h.past ++ r ∷ [];
+      beyond = h.beyond ++ m ∷ [];
+      count = h.count;
+      split = append_assoc h.past (r ∷ []) left ∙ h.split;
+      measured = subst (λ (ms : List Measurement). AreSole (h.past ++ r ∷ []) ms) listed (measured_end h.measured measured sole);
+      over = subst (λ (over : Bool). AreBeyond over new.samples (h.beyond ++ m ∷ [])) (sym f) (still_full, some);
+      counted = h.counted;
+      ignored = g ∙ h.ignored;
+      given = subst (λ (ms : List Measurement). All IsGiven ms) (sym e) h.given;
+    }
+
+-- a number that is no sample
+pub out_one : (all left : List Reading) (total more : ℕ) (test metric spelling : List ℕ) (g : Gathered) (fault : ReportFault)
+    → Leaves all total (reading test metric spelling ∷ left) more g → ((value : ℤ) → IsValue metric spelling value → ⊥) → IsNamed fault test metric → IsRefusal all fault
+out_one all left total more test metric spelling g fault h never (inl e) =
+    subst (λ (f : ReportFault). IsRefusal all f) (sym e) (record {
+      front = h.past;
+      out = reading test metric spelling;
+      back = left;
+      split = sym h.split;
+      samples = g.samples ++ h.beyond;
+      before = are_measured h.measured;
+      none = never;
+      of_test = refl;
+      of_metric = refl;
+    })
+out_one all left total more test metric spelling g fault h never (inr e) = subst (λ (f : ReportFault). IsRefusal all f) (sym e) tt
+
+-- by whether there is room
+pub by_room : {C : Type 0} (a b : ℕ) → (a < b → C) → (b ≤ a → C) → C
+by_room a b room full = elim (cases_lt a b) [ inl h ↦ room h | inr h ↦ full h ]

@@ -1,0 +1,286 @@
+-- The tree that is written of a run is the run's, and breaks no rule.
+use Rattle.std.proofs.Common.{◌≡◌, ◌≢◌, ℤ, ℕ, ◌+◌, ◌≤◌, ◌<◌, ◌-◌, List, [], ◌∷◌, ◌++◌, Bool, true, false, ◌&&◌, map, length, get_or, drop, take, refl, sym, ap, ◌∙◌, subst, arith, None, Ok, nat_lt, nat_le, codes, All, if◌then◌else◌, append_assoc, append-nil}
+use Rattle.std.specs.List.{flat_map, sum_by, AllByRecursion}
+use Rattle.std.specs.Str.{bytes_eq, is_utf8}
+use Rattle.std.proofs.lemmas.Str.{is_utf8-from_IsUtf8}
+use Rattle.std.proofs.lemmas.Bool.{lt-ltb, le-leb, and_from}
+use Rattle.std.proofs.lemmas.List.{drop_more, drop_all, take_rest}
+use Rattle.std.proofs.lemmas.List.Sums.{sum_by-cons}
+use Rattle.std.proofs.lemmas.List.Elements.{All-head, All-tail}
+use Rattle.std.proofs.lemmas.Slice.Eq.{bytes_eq-Decides}
+use Rattle.json_text.specs.Tree.{nesting, items_nesting}
+use Rattle.json_text.specs.View.{items_of}
+use Rattle.line_text.specs.Names.{IsName}
+use Rattle.line_text.specs.Numbers.{NumbersAreSpelled}
+use Rattle.fixed_value.specs.Fixed.{fixed_text, FixedIsReadBack}
+use Rattle.fixed_value.specs.Scaled.{IsScaled}
+use Rattle.metric_table.specs.Table.{Row, HoldsOf, OfRow, known}
+use Rattle.metric_table.specs.Limits.{most}
+use Rattle.metric_table.specs.declared.limits.Limit.TheVariants.{RunSamples}
+use Rattle.history_model.specs.Samples.{Measurement, IsSample, AreSamples}
+use Rattle.lnt_report.specs.Look.{trees, is_name, has_metric_length}
+use Rattle.lnt_report.specs.Rules.{first_break, second_key, second_in_items, tests_break, test_break}
+use Rattle.lnt_report.specs.Readings.{Reading, reading, test_readings, test_ignored, IsMeasured, AreMeasured, none, one}
+use Rattle.lnt_report.specs.Runs.{Report, IsGiven, IsRun}
+use Rattle.lnt_report.specs.Outcomes.{IsDue}
+use Rattle.lnt_report.specs.Quoted.{quoted}
+use Rattle.lnt_report.specs.Written.{compact, compact_items, more_items, places, places_in, test_tree, run_tree}
+use Rattle.lnt_report.proofs.Rows.{row_map, row_both}
+use Rattle.lnt_report.proofs.FixedNumbers.{fixed-number, fixed-utf8}
+use Rattle.lnt_report.proofs.Compact.{IsFine, AreFine, ascii, compact-text, compact-utf8}
+
+is_false : (b : Bool) → (b ≡ true → ⊥) → b ≡ false
+is_false true h = absurd (h refl)
+is_false false h = refl
+
+different : (a b : List ℕ) → a ≢ b → bytes_eq a b ≡ false
+different a b n = is_false (bytes_eq a b) (λ e. n ((bytes_eq-Decides a b).0 e))
+
+-- The decimals are those of the metric's row, and at most nine.
+row_says : (n : ℕ) (metric : List ℕ) (rows : List Row) → n ≡ places_in rows metric → HoldsOf (λ r. n ≡ r.decimals) metric rows
+row_says n metric [] e = e
+row_says n metric (r ∷ rows) e = (
+  (λ same. let test : bytes_eq metric r.metric ≡ true = (bytes_eq-Decides metric r.metric).1 same in rw test at e),
+  (λ other. let test : bytes_eq metric r.metric ≡ false = different metric r.metric other in row_says n metric rows (rw test at e)),
+)
+
+pub of_places : (metric : List ℕ) → OfRow metric (λ r. places metric ≡ r.decimals)
+of_places metric = row_says (places metric) metric known refl
+
+pub places_are : (n : ℕ) (metric : List ℕ) → OfRow metric (λ r. n ≡ r.decimals) → n ≡ places metric
+places_are n metric h = row_both {P = λ r. n ≡ r.decimals} {Q = λ r. places metric ≡ r.decimals} (λ r p q. p ∙ sym q) metric known h (of_places metric)
+
+at_most : (b : Bool) (m n : ℕ) → m ≤ 9 → n ≤ 9 → (if b then m else n) ≤ 9
+at_most true m n h k = h
+at_most false m n h k = k
+
+few_in : (metric : List ℕ) (rows : List Row) → AllByRecursion (λ r. r.decimals ≤ 9) rows → places_in rows metric ≤ 9
+few_in metric [] h = omega arith
+few_in metric (r ∷ rows) h = at_most (bytes_eq metric r.metric) r.decimals (places_in rows metric) h.0 (few_in metric rows h.1)
+
+few : (metric : List ℕ) → places metric ≤ 9
+few metric = few_in metric known (omega arith, (omega arith, (omega arith, (omega arith, (omega arith, (omega arith, (omega arith, tt)))))))
+
+-- What is known of a sample that is written, as tests.
+record Fit (m : Measurement) : Type 0 where
+  sample : IsSample m
+  test : is_name m.test ≡ true
+  new : bytes_eq (codes "name") m.metric ≡ false
+  metric : bytes_eq m.metric (codes "name") ≡ false
+  length : has_metric_length m.metric ≡ true
+  few : places m.metric ≤ 9
+
+pub named_test : (bytes : List ℕ) → IsName bytes → is_name bytes ≡ true
+named_test bytes h =
+    and_from (is_utf8 bytes) (nat_lt 0 (length bytes) && nat_le (length bytes) 256) (is_utf8-from_IsUtf8 bytes h.text)
+    (and_from (nat_lt 0 (length bytes)) (nat_le (length bytes) 256) (lt-ltb 0 (length bytes) h.some) (le-leb (length bytes) 256 h.short))
+
+fits : (m : Measurement) → IsSample m → IsGiven m → Fit m
+fits m s g = record {
+  sample = s;
+  test = named_test m.test s.test;
+  new = different (codes "name") m.metric (λ e. g (sym e));
+  metric = different m.metric (codes "name") g;
+  length = and_from (nat_lt 0 (length m.metric)) (nat_le (length m.metric) 64) (lt-ltb 0 (length m.metric) s.metric.some) (le-leb (length m.metric) 64 s.short);
+  few = few m.metric;
+}
+
+EachFit : List Measurement → Type 0
+EachFit [] = Unit {0}
+EachFit (m ∷ ms) = Fit m × EachFit ms
+
+each_fits : (ms : List Measurement) → All IsSample ms → All IsGiven ms → EachFit ms
+unfolding EachFit
+each_fits [] s g = tt
+each_fits (m ∷ ms) s g =
+    (fits m (All-head IsSample m ms s) (All-head IsGiven m ms g), each_fits ms (All-tail IsSample m ms s) (All-tail IsGiven m ms g))
+
+-- No key of a sample comes twice.
+second_test : (m : Measurement) → Fit m → second_key (test_tree m) ≡ None
+second_test m h = rw h.new refl
+
+no_second : (place : ℕ) (ms : List Measurement) → EachFit ms → second_in_items place (items_of (map test_tree ms)) ≡ None
+unfolding EachFit
+no_second place [] h = refl
+no_second place (m ∷ ms) h = rw (second_test m h.0, no_second (place + 1) ms h.1) refl
+
+-- A sample breaks no rule.
+test_sound : (path : List ℕ) (m : Measurement) → Fit m → test_break path (test_tree m) ≡ None
+test_sound path m h = rw (h.test, h.metric, h.length) refl
+
+no_break : (place : ℕ) (ms : List Measurement) → EachFit ms → tests_break place (trees (items_of (map test_tree ms))) ≡ None
+unfolding EachFit
+no_break place [] h = refl
+no_break place (m ∷ ms) h = rw (test_sound _ m h.0, no_break (place + 1) ms h.1) refl
+
+-- The numbers are the samples.
+test_reads : (m : Measurement) → Fit m → test_readings (test_tree m) ≡ reading m.test m.metric (fixed_text m.value (places m.metric)) ∷ []
+test_reads m h = rw (h.test, h.metric, h.length) refl
+
+test_measured : FixedIsReadBack → (m : Measurement) → Fit m → IsMeasured (reading m.test m.metric (fixed_text m.value (places m.metric))) m
+test_measured law m h =
+    let back = law m.value (places m.metric) h.sample.in_range h.few in
+    record {
+      test = refl;
+      metric = refl;
+      value = record {
+        numeral = back.numeral;
+        spells = back.reads;
+        scales = row_map {P = λ r. places m.metric ≡ r.decimals} {Q = λ r. IsScaled back.numeral r.decimals m.value}
+            (λ r e. subst (λ (d : ℕ). IsScaled back.numeral d m.value) e back.scales) m.metric known (of_places m.metric);
+        in_range = h.sample.in_range;
+      };
+    }
+
+measured : FixedIsReadBack → (ms : List Measurement) → EachFit ms → AreMeasured (flat_map test_readings (trees (items_of (map test_tree ms)))) ms
+unfolding EachFit
+measured law [] h = none
+measured law (m ∷ ms) h =
+    subst (λ (rs : List Reading). AreMeasured (rs ++ flat_map test_readings (trees (items_of (map test_tree ms)))) (m ∷ ms)) (sym (test_reads m h.0))
+    (one (test_measured law m h.0) (measured law ms h.1))
+
+-- No member is ignored.
+test_counts : (m : Measurement) → Fit m → test_ignored (test_tree m) ≡ 0
+test_counts m h = rw (h.test, h.metric, h.length) refl
+
+none_ignored : (ms : List Measurement) → EachFit ms → sum_by test_ignored (trees (items_of (map test_tree ms))) ≡ 0
+unfolding EachFit
+none_ignored [] h = refl
+none_ignored (m ∷ ms) h =
+    let first : test_ignored (test_tree m) ≡ 0 = test_counts m h.0 in
+    let more : sum_by test_ignored (trees (items_of (map test_tree ms))) ≡ 0 = none_ignored ms h.1 in
+    omega (arith, first, more, sum_by-cons test_ignored (test_tree m) (trees (items_of (map test_tree ms))))
+
+-- How deep samples lie.
+depth : (ms : List Measurement) → items_nesting (items_of (map test_tree ms)) ≤ 1
+depth [] = omega arith
+depth (m ∷ ms) = omega (arith, depth ms)
+
+-- What is in a sample is spelled as it may be.
+test_fine : NumbersAreSpelled → FixedIsReadBack → (m : Measurement) → Fit m → IsFine (test_tree m)
+test_fine numbers law m h = (
+  ascii (codes "name") refl,
+  h.sample.test.text,
+  (
+    h.sample.metric.text,
+    (fixed-number numbers m.value (places m.metric) h.sample.in_range h.few, fixed-utf8 law m.value (places m.metric) h.sample.in_range h.few),
+    tt,
+  ),
+)
+
+all_fine : NumbersAreSpelled → FixedIsReadBack → (ms : List Measurement) → EachFit ms → AreFine (items_of (map test_tree ms))
+unfolding EachFit
+all_fine numbers law [] h = tt
+all_fine numbers law (m ∷ ms) h = (test_fine numbers law m h.0, all_fine numbers law ms h.1)
+
+fine : NumbersAreSpelled → FixedIsReadBack → (machine commit : List ℕ) (ms : List Measurement) → IsName machine → IsName commit → EachFit ms
+    → IsFine (run_tree machine commit ms)
+fine numbers law machine commit ms a b h = (
+  ascii (codes "format_version") refl,
+  ascii (codes "2") refl,
+  (
+    ascii (codes "machine") refl,
+    (ascii (codes "name") refl, a.text, tt),
+    (
+      ascii (codes "run") refl,
+      (ascii (codes "llvm_project_revision") refl, b.text, tt),
+      (ascii (codes "tests") refl, all_fine numbers law ms h, tt),
+    ),
+  ),
+)
+
+sound : (machine commit : List ℕ) (ms : List Measurement) → is_name machine ≡ true → is_name commit ≡ true → EachFit ms
+    → first_break (run_tree machine commit ms) ≡ None
+sound machine commit ms a b h = rw (no_second 0 ms h, a, b, no_break 0 ms h) refl
+
+is_run : FixedIsReadBack → (machine commit : List ℕ) (ms : List Measurement) → is_name machine ≡ true → is_name commit ≡ true → EachFit ms
+    → length ms ≤ most RunSamples
+    → IsRun (run_tree machine commit ms) (record { machine = machine; commit = commit; samples = ms; ignored = 0 })
+is_run law machine commit ms a b h small = record {
+  machine = rw a refl;
+  commit = rw b refl;
+  samples = measured law ms h;
+  few = small;
+  ignored = rw (none_ignored ms h) refl;
+}
+
+within : (machine commit : List ℕ) (ms : List Measurement) → nesting (run_tree machine commit ms) ≤ 32
+within machine commit ms = omega (arith, depth ms)
+
+-- what is written of a run is due to be read as the run
+pub is_due : NumbersAreSpelled → FixedIsReadBack → (machine commit : List ℕ) (ms : List Measurement)
+    → IsName machine → IsName commit → AreSamples ms → All IsGiven ms
+    → IsDue (Ok (record { machine = machine; commit = commit; samples = ms; ignored = 0 })) (compact (run_tree machine commit ms))
+is_due numbers law machine commit ms a b s g =
+    let h : EachFit ms = each_fits ms s.each g in
+    let spelled : IsFine (run_tree machine commit ms) = fine numbers law machine commit ms a b h in (
+      run_tree machine commit ms,
+      record { utf8 = compact-utf8 (run_tree machine commit ms) spelled; text = compact-text (run_tree machine commit ms) spelled; within = within machine commit ms },
+      (
+        sound machine commit ms (named_test machine a) (named_test commit b) h,
+        is_run law machine commit ms (named_test machine a) (named_test commit b) h s.few,
+      ),
+    )
+
+-- The pieces that are written make the texts.
+test_joined : (old : List ℕ) (m : Measurement)
+    → ((((((old ++ (123 ∷ quoted (codes "name") ++ 58 ∷ [])) ++ quoted m.test) ++ 44 ∷ []) ++ quoted m.metric) ++ 58 ∷ []) ++ fixed_text m.value (places m.metric)) ++ 125 ∷ []
+    ≡ old ++ compact (test_tree m)
+test_joined old m = simp (append_assoc, append-nil)
+
+pub test_written : (m : Measurement) (test metric : List ℕ) (value : ℤ) (d : ℕ) (a b c e f g h i : List ℕ)
+    → test ≡ m.test → metric ≡ m.metric → value ≡ m.value → OfRow m.metric (λ r. d ≡ r.decimals)
+    → b ≡ a ++ (123 ∷ quoted (codes "name") ++ 58 ∷ []) → c ≡ b ++ quoted test → e ≡ c ++ 44 ∷ [] → f ≡ e ++ quoted metric → g ≡ f ++ 58 ∷ []
+    → h ≡ g ++ fixed_text value d → i ≡ h ++ 125 ∷ [] → i ≡ a ++ compact (test_tree m)
+test_written m test metric value d a b c e f g h i et en ev row p q r s t u w =
+    let few : d ≡ places m.metric = places_are d m.metric row in
+    cc (test_joined a m)
+
+-- a sample behind a comma
+pub behind : Measurement → List ℕ
+behind m = 44 ∷ compact (test_tree m)
+
+more_are : (ms : List Measurement) → more_items (items_of (map test_tree ms)) ≡ flat_map behind ms
+unfolding behind
+more_are [] = refl
+more_are (m ∷ ms) = ap (λ (rest : List ℕ). 44 ∷ (compact (test_tree m) ++ rest)) (more_are ms)
+
+pub tests_begin : (o p : List ℕ) (first : Measurement) (rest samples : List Measurement) → samples ≡ first ∷ rest → p ≡ o ++ compact (test_tree first)
+    → p ++ flat_map behind rest ≡ o ++ compact_items (items_of (map test_tree samples))
+tests_begin o p first rest samples e h = rw (e, h, more_are rest) (append_assoc o (compact (test_tree first)) (flat_map behind rest))
+
+-- a list of one or more, as its first and the rest
+pub first_and_rest : (xs : List Measurement) (x : Measurement) → 0 < length xs → x ≡ get_or xs 0 x → xs ≡ x ∷ take (length xs - 1) (drop 1 xs)
+first_and_rest xs x h e =
+    let whole : xs ≡ get_or xs 0 x ∷ drop 1 xs = drop_more xs 0 x h in
+    whole ∙ (ap (λ (y : Measurement). y ∷ drop 1 xs) (sym e) ∙ ap (λ (rest : List Measurement). x ∷ rest) (sym (take_rest xs 1)))
+
+regroup : (a c r : List ℕ) → ((a ++ 44 ∷ []) ++ c) ++ r ≡ a ++ (44 ∷ (c ++ r))
+regroup a c r = simp append_assoc
+
+pub tests_step : (whole o p q : List ℕ) (xs : List Measurement) (i : ℕ) (x : Measurement) → i < length xs → x ≡ get_or xs i x
+    → p ≡ o ++ 44 ∷ [] → q ≡ p ++ compact (test_tree x) → o ++ flat_map behind (drop i xs) ≡ whole → q ++ flat_map behind (drop (i + 1) xs) ≡ whole
+unfolding behind
+tests_step whole o p q xs i x h e f g k =
+    let d : drop i xs ≡ x ∷ drop (i + 1) xs = drop_more xs i x h ∙ ap (λ (y : Measurement). y ∷ drop (i + 1) xs) (sym e) in
+    rw (g, f, regroup o (compact (test_tree x)) (flat_map behind (drop (i + 1) xs))) (rw d at k)
+
+pub tests_end : (whole o : List ℕ) (xs : List Measurement) (i : ℕ) → length xs ≤ i → o ++ flat_map behind (drop i xs) ≡ whole → o ≡ whole
+tests_end whole o xs i h k =
+    let d : drop i xs ≡ [] = drop_all i xs h in
+    sym (append-nil o) ∙ (rw d at k)
+
+run_joined : (old machine commit : List ℕ) (samples : List Measurement)
+    → ((((((old ++ (123 ∷ quoted (codes "format_version") ++ 58 ∷ quoted (codes "2") ++ 44 ∷ quoted (codes "machine") ++ 58 ∷ 123 ∷ quoted (codes "name") ++ 58 ∷ []))
+    ++ quoted machine) ++ (125 ∷ 44 ∷ quoted (codes "run") ++ 58 ∷ 123 ∷ quoted (codes "llvm_project_revision") ++ 58 ∷ []))
+    ++ quoted commit) ++ (125 ∷ 44 ∷ quoted (codes "tests") ++ 58 ∷ 91 ∷ [])) ++ compact_items (items_of (map test_tree samples))) ++ 93 ∷ 125 ∷ []
+    ≡ old ++ compact (run_tree machine commit samples)
+run_joined old machine commit samples = simp (append_assoc, append-nil)
+
+pub run_written : (r : Report) (machine commit : List ℕ) (samples : List Measurement) (a b c d e f g h : List ℕ)
+    → machine ≡ r.machine → commit ≡ r.commit → samples ≡ r.samples
+    → b ≡ a ++ (123 ∷ quoted (codes "format_version") ++ 58 ∷ quoted (codes "2") ++ 44 ∷ quoted (codes "machine") ++ 58 ∷ 123 ∷ quoted (codes "name") ++ 58 ∷ [])
+    → c ≡ b ++ quoted machine → d ≡ c ++ (125 ∷ 44 ∷ quoted (codes "run") ++ 58 ∷ 123 ∷ quoted (codes "llvm_project_revision") ++ 58 ∷ [])
+    → e ≡ d ++ quoted commit → f ≡ e ++ (125 ∷ 44 ∷ quoted (codes "tests") ++ 58 ∷ 91 ∷ []) → g ≡ f ++ compact_items (items_of (map test_tree samples))
+    → h ≡ g ++ 93 ∷ 125 ∷ [] → h ≡ a ++ compact (run_tree r.machine r.commit r.samples)
+run_written r machine commit samples a b c d e f g h l m n p q s t u v w = cc (run_joined a r.machine r.commit r.samples)

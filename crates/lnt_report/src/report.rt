@@ -1,0 +1,123 @@
+ghost use Rattle.std.specs.Prelude.{◌≡◌, ◌⊎◌, ◌≤◌, Result, Err, map, length, None, true, false, All, IfOk, IfErr};
+ghost use Rattle.json_text.specs.Tree.{Tree, object};
+ghost use Rattle.json_text.specs.View.{tree_of, members_of};
+ghost use Rattle.json_text.specs.View.{entry_of};
+ghost use Rattle.metric_table.specs.Limits.{most};
+ghost use Rattle.metric_table.specs.declared.limits.Limit.TheVariants.{RunSamples};
+ghost use Rattle.lnt_report.specs.Rules.{machine_name, commit_name, first_break, IsSound};
+ghost use Rattle.lnt_report.specs.Runs.{Report, IsGiven};
+ghost use Rattle.lnt_report.specs.Outcomes.{IsDue, IsAnswerOf, IsAnswer, IsOfText};
+
+use crate::fault::ReportFault;
+use crate::gather::read_tests;
+use crate::gathered::Gathered;
+use crate::look::{list_at, name_at, object_at};
+use crate::memory::NoMemory;
+use crate::rules::check_rules;
+use crate::run::LntRun;
+use json_text::{Json, JsonFault, Member, Shape, one_answer_law, read_json};
+use line_text::Name;
+use metric_table::Limit;
+use std::alloc::Global;
+
+// The name of the machine.
+fn machine_of(alloc: Global, top: &[Member]) -> Result<Option<Name>, NoMemory>
+    ensures { IfOk result (λ name. name ≡ machine_name (map entry_of top.now)) }
+{
+    match object_at(top, "machine") {
+        Some(machine) => name_at(alloc, machine, "name"),
+        None => Ok(None),
+    }
+}
+
+// The name of the commit.
+fn commit_of(alloc: Global, top: &[Member]) -> Result<Option<Name>, NoMemory>
+    ensures { IfOk result (λ name. name ≡ commit_name (map entry_of top.now)) }
+{
+    match object_at(top, "run") {
+        Some(run) => name_at(alloc, run, "llvm_project_revision"),
+        None => Ok(None),
+    }
+}
+
+// The run of these names and samples, unless there are too many.
+fn run_of(machine: Name, commit: Name, gathered: Gathered) -> Result<LntRun, ReportFault>
+    requires { All IsGiven gathered.samples }
+    ensures run { IfOk result (λ run. run ≡ record { machine = machine; commit = commit; samples = gathered.samples; ignored = gathered.ignored }) }
+    ensures all { IfOk result (λ _. gathered.over ≡ false) }
+    ensures few { IfOk result (λ _. length gathered.samples ≤ most RunSamples) }
+    ensures full { IfErr result (λ fault. fault ≡ ReportFault.Full RunSamples) }
+    ensures over { IfErr result (λ _. gathered.over ≡ true) }
+{
+    let Gathered {
+        samples,
+        over,
+        ignored,
+    } = gathered;
+    samples.limits();
+    if over {
+        return Err(ReportFault::Full(Limit::RunSamples));
+    }
+    Ok(LntRun {
+        machine,
+        commit,
+        samples,
+        ignored,
+    })
+}
+
+// The run of the members at the top of a tree for which no rule is broken.
+fn read_top(alloc: Global, top: &[Member]) -> Result<LntRun, ReportFault>
+    requires { IsSound (map entry_of top.now) }
+    ensures { (tree : Tree) → tree ≡ object (members_of (map entry_of top.now)) → first_break tree ≡ None → IsAnswerOf result tree }
+{
+    let Some(machine) = machine_of(alloc, top)? else {
+        unreachable!()
+    };
+    let Some(commit) = commit_of(alloc, top)? else {
+        unreachable!()
+    };
+    let Some(tests) = list_at(top, "tests") else {
+        unreachable!()
+    };
+    let gathered = read_tests(alloc, tests)?;
+    run_of(machine, commit, gathered)
+}
+
+// The run of a tree.
+fn read_tree(alloc: Global, value: &Json) -> Result<LntRun, ReportFault>
+    ensures { IsAnswerOf result (tree_of value.now) }
+{
+    check_rules(alloc, value)?;
+    let Shape::Object(top) = value.shape() else {
+        unreachable!()
+    };
+    read_top(alloc, top)
+}
+
+// A fault of the text.
+fn of_json(fault: JsonFault) -> ReportFault
+    ensures { IsOfText result fault }
+{
+    match fault {
+        JsonFault::NotText(place) => ReportFault::NotText(place),
+        JsonFault::NotJson(place) => ReportFault::NotJson(place),
+        JsonFault::TooDeep(place) => ReportFault::TooDeep(place),
+        JsonFault::NoMemory => ReportFault::NoMemory,
+    }
+}
+
+/// The LNT run of the bytes, by the profile of docs/FORMATS.md. Linear in the bytes, but for the search for a key that comes twice, which
+/// takes the logarithm of an object's members for each; takes memory for the tree, the keys of the objects that are open, and the run.
+pub fn read_report(alloc: Global, bytes: &[u8]) -> Result<LntRun, ReportFault>
+    // The answer is the one that the bytes are due, unless memory runs out.
+    ensures due { IsAnswer result bytes.now }
+    // And what the bytes are due is the answer, unless memory runs out.
+    ensures only { (due : Result Report ReportFault) → IsDue due bytes.now → (result ≡ due) ⊎ (result ≡ Err ReportFault.NoMemory) }
+{
+    one_answer_law(bytes);
+    match read_json(alloc, bytes) {
+        Ok(value) => read_tree(alloc, &value),
+        Err(fault) => Err(of_json(fault)),
+    }
+}
