@@ -3,4 +3,6 @@ mod FirstWord
 mod LinesAppend
 mod Spelling
 mod Decimals
+mod Signed
+mod DigitByDigit
 mod Splits
