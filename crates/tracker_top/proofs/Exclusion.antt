@@ -333,7 +333,7 @@ open_refused P refutes bytes k long open' refused more line = at (cases_order (l
         absurd (omega arith)
 
 too_long_not_bad : (bytes : List ℕ) (k : ℕ) → IsTooLong bytes → Refuses IsBad bytes k → ⊥
-too_long_not_bad bytes k (long, open') refused = at (ends_well open'.rest open'.more open'.good)
+too_long_not_bad bytes k (long, open') refused = at (ends_well open'.rest open'.may.0 open'.may.2)
   where
     at : EndsWell open'.rest → ⊥
     at (inl good) = (open_refused IsBad no_bad bytes k long open' refused [] refl).1 (subst IsGood (sym (append-nil open'.rest)) good)

@@ -1,11 +1,11 @@
 -- Which lines more bytes may make good: those that are good, or are so with one of two ends.
-use Rattle.std.proofs.Common.{◌≡◌, ℕ, ℤ, pos, negsuc, ◌+◌, ◌^◌, ◌≤◌, ◌⊎◌, inl, inr, List, [], ◌∷◌, ◌++◌, length, Bool, true, false, cond, eqb, filter, decimal, unsigned_abs, refl, sym, ap, ap₂, subst, ◌∙◌, arith, append-nil, length-append, Result, Ok, Err, IfOk, IsTrue}
+use Rattle.std.proofs.Common.{◌≡◌, ℕ, ℤ, pos, negsuc, ◌+◌, ◌^◌, ◌≤◌, ◌⊎◌, inl, inr, List, [], ◌∷◌, ◌++◌, length, Bool, true, false, cond, eqb, filter, decimal, unsigned_abs, zero, suc, refl, sym, ap, ap₂, subst, ◌∙◌, arith, append-nil, length-append, Result, Ok, Err, IfOk, IsTrue}
 use Rattle.std.specs.Fmt.{signed_decimal}
 use Rattle.std.specs.List.{slice_split}
 use Rattle.std.proofs.lemmas.Fmt.{decimal_digit}
 use Rattle.std.proofs.lemmas.List.Elements.{filter-append}
 use Rattle.line_text.specs.Lines.{words_of, is_word}
-use Rattle.tracker_top.specs.Lines.{IsCutLine, IsGood}
+use Rattle.tracker_top.specs.Lines.{IsCutLine, IsGood, HasNoLineFeed, MayBecomeGood}
 use Rattle.tracker_top.proofs.Splits.{first_part, last_part, goes_on}
 use Rattle.tracker_top.proofs.Blank.{is_space, word_first, blank_parts}
 use Rattle.tracker_top.proofs.Numerals.{decimal_front, signed_front, no_minus_alone}
@@ -219,10 +219,14 @@ ends_well (b ∷ line) more (inr (order, value, cut)) =
 
 -- ---- over an answer that memory may be wanting for
 
-pub ends_some : {E : Type 0} (r : Result Bool E) (line other end : List ℕ) → other ≡ line → IfOk r (λ good. IsTrue good → IsGood (other ++ end))
-    → IfOk r (λ good. IsTrue good → (more : List ℕ) × IsGood (line ++ more))
-ends_some (Ok good) line other end same told = λ yes. (end, subst (λ bytes. IsGood (bytes ++ end)) same (told yes))
-ends_some (Err e) line other end same told = tt
+pub digit_within : HasNoLineFeed (49 ∷ [])
+digit_within zero d one = omega arith
+digit_within (suc k) d one = absurd (omega arith)
+
+pub ends_some : {E : Type 0} (r : Result Bool E) (line other end : List ℕ) → HasNoLineFeed end → other ≡ line → IfOk r (λ good. IsTrue good → IsGood (other ++ end))
+    → IfOk r (λ good. IsTrue good → MayBecomeGood line)
+ends_some (Ok good) line other end within same told = λ yes. (end, within, subst (λ bytes. IsGood (bytes ++ end)) same (told yes))
+ends_some (Err e) line other end within same told = tt
 
 not_well : (line : List ℕ) → ¬ IsGood line → (length (line ++ 32 ∷ 48 ∷ []) ≤ 4_096 → ¬ IsGood (line ++ 32 ∷ 48 ∷ [])) → (length (line ++ 49 ∷ []) ≤ 4_096 → ¬ IsGood (line ++ 49 ∷ [])) → ¬ EndsWell line
 not_well line none no_digits no_digit (inl good) = none good

@@ -41,9 +41,6 @@ parted rest end few told =
     let is : get_or rest end 0 ≡ 10 = eqb-true (get_or rest end 0) 10 told in
     ap (λ bs. take end rest ++ bs) (ap (λ b. b ∷ drop (end + 1) rest) (sym is) ∙ sym split) ∙ take-append-drop end rest
 
-pub regrouped : (read done part : List ℕ) → ((read ++ done) ++ part) ++ 10 ∷ [] ≡ read ++ (done ++ (part ++ 10 ∷ []))
-regrouped read done part = append_assoc (read ++ done) part (10 ∷ []) ∙ append_assoc read done (part ++ 10 ∷ [])
-
 pub joined : (done part back rest bytes : List ℕ) → part ++ 10 ∷ back ≡ rest → done ++ rest ≡ bytes → (done ++ (part ++ 10 ∷ [])) ++ back ≡ bytes
 joined done part back rest bytes split whole =
     append_assoc done (part ++ 10 ∷ []) back ∙ ap (λ bs. done ++ bs) (append_assoc part (10 ∷ []) back ∙ split) ∙ whole

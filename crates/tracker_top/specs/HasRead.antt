@@ -1,5 +1,5 @@
 -- What a reader keeps of the bytes that it has read.
-use Rattle.std.specs.Prelude.{◌≡◌, ◌≢◌, ℕ, ◌-◌, ◌<◌, List, [], ◌∷◌, ◌++◌, All, length, take, slice_index_or}
+use Rattle.std.specs.Prelude.{◌≡◌, ℕ, ◌-◌, ◌<◌, List, [], ◌∷◌, ◌++◌, length, take, slice_index_or}
 use Rattle.segment_model.specs.Segments.{Position, values_of}
 use Rattle.segment_cost.specs.Positions.{last_commit}
 use Rattle.line_text.specs.Lines.{lines_of}
@@ -16,25 +16,35 @@ pub record AreSeriesOf (cuts : List CutLine) (points : List Position) : Type 0 w
   pub counted : length (values_of points) ≡ length cuts
   pub last : (d : CutLine) → 0 < length cuts → (slice_index_or cuts (length cuts - 1) d).order ≡ last_commit points
 
+-- what is kept of bytes: the positions of their whole lines, how many those are, and the first bytes of the line that has begun
+pub record Kept : Type 0 where
+  pub series : List Position
+  pub whole_lines : ℕ
+  pub line : List ℕ
+
 -- the bytes are whole lines, which are accepted, and a line that has begun
-pub record HasRead (bytes : List ℕ) (reader : Reader) : Type 0 where
+pub record HasKept (bytes : List ℕ) (kept : Kept) : Type 0 where
   pub lines : List (List ℕ)
   pub rest : List ℕ
   pub cuts : List CutLine
   pub split : lines_of bytes ≡ lines ++ rest ∷ []
   pub accepted : AreAccepted lines cuts
-  pub series : AreSeriesOf cuts reader.series
-  pub whole : reader.whole_lines ≡ length lines
-  pub kept : reader.line.items ≡ take 4_097 rest
+  pub series : AreSeriesOf cuts kept.series
+  pub whole : kept.whole_lines ≡ length lines
+  pub begun : kept.line ≡ take 4_097 rest
   pub skipped : 4_096 < length rest → IsSkipped rest
+
+-- what a reader keeps
+abbrev pub kept_by : Reader → Kept
+kept_by reader = record { series = reader.series; whole_lines = reader.whole_lines; line = reader.line.items }
+
+-- the reader has read the bytes
+abbrev pub HasRead : List ℕ → Reader → Type 0
+HasRead bytes reader = HasKept bytes (kept_by reader)
 
 -- all lines of the bytes are accepted, and these are their points
 abbrev pub AreLinesPoints : List ℕ → List Position → Type 0
 AreLinesPoints bytes points = (cuts : List CutLine) × AreAccepted (lines_of bytes) cuts × (points ≡ points_of cuts)
-
--- a part of a line
-abbrev pub HasNoLineFeed : List ℕ → Type 0
-HasNoLineFeed bytes = All (λ b. b ≢ 10) bytes
 
 -- the bytes show that a line is refused, whatever comes behind them
 abbrev pub ShowsRefused : List ℕ → Status → Type 0

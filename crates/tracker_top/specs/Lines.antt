@@ -1,5 +1,5 @@
 -- What a line says to the command `cut`.
-use Rattle.std.specs.Prelude.{◌≡◌, ℕ, ℤ, ◌+◌, ◌^◌, ◌<◌, ◌≤◌, List, [], ◌∷◌, ◌⊎◌, length, decimal, unsigned_abs}
+use Rattle.std.specs.Prelude.{◌≡◌, ◌≢◌, ℕ, ℤ, ◌+◌, ◌^◌, ◌<◌, ◌≤◌, List, [], ◌∷◌, ◌++◌, ◌⊎◌, All, length, decimal, unsigned_abs}
 use Rattle.std.specs.Fmt.{signed_decimal}
 use Rattle.line_text.specs.Lines.{words_of}
 
@@ -23,6 +23,14 @@ pub record IsCutLine (line : List ℕ) (order : ℕ) (value : ℤ) : Type 0 wher
 -- a line that is skipped or a cut line
 abbrev pub IsGood : List ℕ → Type 0
 IsGood line = IsSkipped line ⊎ ((order : ℕ) × (value : ℤ) × IsCutLine line order value)
+
+-- bytes within a line
+abbrev pub HasNoLineFeed : List ℕ → Type 0
+HasNoLineFeed bytes = All (λ b. b ≢ 10) bytes
+
+-- with bytes that go on with it, the line is good
+abbrev pub MayBecomeGood : List ℕ → Type 0
+MayBecomeGood line = (more : List ℕ) × HasNoLineFeed more × IsGood (line ++ more)
 
 -- each of the lines is skipped or a cut line, and these are the cut lines; the first line has this number
 abbrev pub AreCutLines : ℕ → List (List ℕ) → List CutLine → Type 0

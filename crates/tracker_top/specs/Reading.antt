@@ -3,7 +3,7 @@ use Rattle.std.specs.Prelude.{◌≡◌, ℕ, ℤ, ◌+◌, ◌^◌, ◌<◌, �
 use Rattle.std.specs.Io.KnownBytes.{prepend_known}
 use Rattle.segment_model.specs.Segments.{Position}
 use Rattle.line_text.specs.Lines.{lines_of}
-use Rattle.tracker_top.specs.Lines.{CutLine, IsCutLine, IsGood, AreCutLines}
+use Rattle.tracker_top.specs.Lines.{CutLine, IsCutLine, IsGood, MayBecomeGood, AreCutLines}
 use Rattle.tracker_top.specs.Points.{points_of, IsInOrder, FitsSeries}
 
 -- the lines are read, and these are their cut lines
@@ -58,8 +58,7 @@ pub record IsOpen (bytes : List ℕ) : Type 0 where
   pub cuts : List CutLine
   pub split : lines_of bytes ≡ lines ++ rest ∷ []
   pub accepted : AreAccepted lines cuts
-  pub more : List ℕ
-  pub good : IsGood (rest ++ more)
+  pub may : MayBecomeGood rest
 
 -- the bytes that an input gave, where it tells those that are left before and after, may go on
 pub record GivesOpen (before after : Option (List ℕ)) : Type 0 where

@@ -1,7 +1,7 @@
 ghost use Rattle.std.specs.Prelude.{◌≡◌, ◌≢◌, ℕ, ℤ, ◌^◌, ◌<◌, ◌≤◌, ◌⊎◌, List, [], ◌∷◌, length, drop, slice_range, decimal, unsigned_abs, IfSome, IfNone, IfOk, IsTrue, ◌++◌};
 ghost use Rattle.std.specs.Fmt.{signed_decimal};
 ghost use Rattle.line_text.specs.Lines.{words_of};
-ghost use Rattle.tracker_top.specs.Lines.{IsGood};
+ghost use Rattle.tracker_top.specs.Lines.{IsGood, MayBecomeGood};
 ghost use Rattle.tracker_top.specs.LineKinds.{IsKind};
 
 use line_text::{next_word, read_i64, read_u64};
@@ -61,12 +61,12 @@ fn two_numbers(line: &[u8], first: (usize, usize)) -> Option<(u64, i64)>
     Some((order, value))
 }
 
-/// Whether a line that begins so may still be skipped or a cut line. Where its numbers aren't whole, one of two ends
+/// Whether a line that begins so may still become a skipped or a cut line. Where its numbers aren't whole, one of two ends
 /// makes it good. The line is left as it was.
 pub fn may_become_good(line: &mut Vec<u8>) -> Result<bool, AllocError>
     requires { length line.old.items ≤ 4_096 }
     ensures same { line.new.items ≡ line.old.items }
-    ensures some { IfOk result (λ good. IsTrue good → (more : List ℕ) × IsGood (line.old.items ++ more)) }
+    ensures some { IfOk result (λ good. IsTrue good → MayBecomeGood line.old.items) }
     ensures none { IfOk result (λ good. (¬ IsTrue good) → (more : List ℕ) → ¬ IsGood (line.old.items ++ more)) }
 {
     if is_good(line) {

@@ -3,7 +3,7 @@ ghost use Rattle.line_text.specs.Lines.{words_of};
 ghost use Rattle.segment_cost.specs.Positions.{last_step};
 ghost use Rattle.tracker_top.specs.LineKinds.{StaysSkipped, HasWord};
 
-use crate::cut_line::{LINE_LIMIT, LineKind, line_kind, may_become_good};
+use crate::cut_line::{LINE_LIMIT, may_become_good};
 use crate::series::Series;
 use crate::status::Status;
 use line_text::next_word;
@@ -25,9 +25,9 @@ pub struct Reader {
 }
 
 impl Reader {
+    ghost use Rattle.tracker_top.specs.Lines.{HasNoLineFeed};
     ghost use Rattle.tracker_top.specs.Reading.{IsOpen};
-    ghost use Rattle.tracker_top.specs.Adding.{TakesLine, RefusesLine};
-    ghost use Rattle.tracker_top.specs.HasRead.{HasRead, AreLinesPoints, HasNoLineFeed, ShowsRefused, EndsRefused};
+    ghost use Rattle.tracker_top.specs.HasRead.{HasRead, AreLinesPoints, ShowsRefused, EndsRefused};
 
     /// A reader of no bytes.
     pub fn new(alloc: Global) -> Reader
@@ -50,11 +50,28 @@ impl Reader {
     {
         let mut rest = bytes;
         while let Some(end) = memchr(b'\n', rest) {
-            self.extend_line(&rest[..end])?;
-            self.end_line()?;
+            self.take_line(&rest[..end])?;
             rest = &rest[end + 1..];
         }
         self.extend_line(rest)
+    }
+
+    // Takes the bytes up to the line feed, and the line feed. A line of which nothing came before is read where it
+    // stands, without a copy.
+    fn take_line(&mut self, part: &[u8]) -> Result<(), Status>
+        requires number { self.old.whole_lines < 2 ^ 32 }
+        requires part { HasNoLineFeed part.now }
+        ensures lines { self.new.whole_lines ≤ self.old.whole_lines + 1 }
+        ensures ok { OnOk result ((read : List ℕ) → HasRead read self.old → HasRead (read ++ (part.now ++ 10 ∷ [])) self.new) }
+        ensures err { IfErr result (λ status. (read : List ℕ) → HasRead read self.old → ShowsRefused (read ++ (part.now ++ 10 ∷ [])) status) }
+    {
+        if !self.line.is_empty() || part.len() > LINE_LIMIT {
+            self.extend_line(part)?;
+            return self.end_line();
+        }
+        self.whole_lines += 1;
+        self.series.add_line(self.whole_lines, part)?;
+        Ok(())
     }
 
     // Takes the next bytes of the line. It is refused at the first byte behind the most that it may have, unless it is
@@ -87,26 +104,9 @@ impl Reader {
         ensures err { IfErr result (λ status. (read : List ℕ) → HasRead read self.old → EndsRefused read status × ShowsRefused (read ++ 10 ∷ []) status) }
     {
         self.whole_lines += 1;
-        self.add_line()?;
+        self.series.add_line(self.whole_lines, &self.line)?;
         self.line.clear();
         Ok(())
-    }
-
-    // Adds what the line says, whose number is that of the whole lines. A line that is longer than a line may be is
-    // skipped.
-    fn add_line(&mut self) -> Result<(), Status>
-        ensures lines { self.new.whole_lines ≡ self.old.whole_lines }
-        ensures ok { OnOk result (TakesLine self.old.line.items self.old.whole_lines self.old.series self.new.series) }
-        ensures err { IfErr result (RefusesLine self.old.line.items self.old.whole_lines self.old.series) }
-    {
-        if self.line.len() > LINE_LIMIT {
-            return Ok(());
-        }
-        match line_kind(&self.line) {
-            LineKind::Skipped => Ok(()),
-            LineKind::Cut(order, value) => self.series.add(self.whole_lines, order, value),
-            LineKind::Bad => Err(Status::BadLine(self.whole_lines)),
-        }
     }
 
     /// Whether bytes behind those that were read may make the line good; else how it is refused.

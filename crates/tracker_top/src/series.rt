@@ -2,8 +2,9 @@ ghost use Rattle.std.specs.Prelude.{◌≡◌, ◌+◌, ◌≤◌, [], length, O
 ghost use Rattle.segment_model.specs.Segments.{values_of};
 ghost use Rattle.segment_model.specs.Limits.{IsSmall, WithinLimits};
 ghost use Rattle.segment_cost.specs.Positions.{with_last, last_commit, last_step};
-ghost use Rattle.tracker_top.specs.Adding.{IsNotAdded};
+ghost use Rattle.tracker_top.specs.Adding.{IsNotAdded, TakesLine, RefusesLine};
 
+use crate::cut_line::{LINE_LIMIT, LineKind, line_kind};
 use crate::status::Status;
 use segment_cost::{Points, with_last_law};
 use std::alloc::Global;
@@ -44,8 +45,25 @@ impl Series {
         }
     }
 
-    /// Adds the value of the cut line of this number, where the line is in order and passes no limit.
-    pub fn add(&mut self, number: u64, order: u64, value: i64) -> Result<(), Status>
+    /// Adds what the line of this number says. A line that is longer than a line may be is skipped.
+    pub fn add_line(&mut self, number: u64, line: &[u8]) -> Result<(), Status>
+        requires { last_step self.old ≤ number }
+        ensures ok { OnOk result (TakesLine line.now number self.old self.new) }
+        ensures err { IfErr result (RefusesLine line.now number self.old) }
+        ensures steps { last_step self.new ≤ number }
+    {
+        if line.len() > LINE_LIMIT {
+            return Ok(());
+        }
+        match line_kind(line) {
+            LineKind::Skipped => Ok(()),
+            LineKind::Cut(order, value) => self.add(number, order, value),
+            LineKind::Bad => Err(Status::BadLine(number)),
+        }
+    }
+
+    // Adds the value of the cut line of this number, where the line is in order and passes no limit.
+    fn add(&mut self, number: u64, order: u64, value: i64) -> Result<(), Status>
         requires step { last_step self.old ≤ number }
         requires small { IsSmall value }
         ensures ok { OnOk result (self.new ≡ with_last self.old order (record { step = number; value = value })) }

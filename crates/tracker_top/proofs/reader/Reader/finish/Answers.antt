@@ -1,6 +1,6 @@
 use Rattle.std.proofs.Common.{sym, subst}
 use Rattle.std.proofs.lemmas.Result.{err_from_is_err_and}
-use Rattle.tracker_top.specs.HasRead.{AreLinesPoints}
+use Rattle.tracker_top.specs.HasRead.{AreLinesPoints, kept_by}
 use Rattle.tracker_top.proofs.ReaderSteps.{accepted_whole}
 use Rattle.tracker_top.proofs.reader.Reader.finish.Goals as goal
 
@@ -11,4 +11,4 @@ returns-in_err-end_line-clause-err c =
 
 pub returns-clause-ok : goal.returns-clause-ok
 returns-clause-ok c read has =
-    subst (AreLinesPoints read) (sym c.into_points.ensures) (accepted_whole read c.end_line.new.self (c.in_ok-end_line.ensures.ok read has))
+    subst (AreLinesPoints read) (sym c.into_points.ensures) (accepted_whole read (kept_by c.end_line.new.self) (c.in_ok-end_line.ensures.ok read has))
