@@ -222,3 +222,9 @@ module _ {S E L : Type 0} (history : S → List E) (label : S → L) (name : L) 
   closes_whole ws xs id v t n end out whole at_t at_n = let s : St = end.0 in let r : Rule s = end.1.0 in let at = end.1.1 in let words : s.words ≡ ws = end.2 in
       let drawn : r.drawn % 2 ^ 64 ≡ t = sym r.ticket_is ∙ (ap (λ l. get_or l 1 0) words ∙ at_get ws 1 t 0 at_t) in let served : r.served % 2 ^ 64 ≡ n = sym r.serving_is ∙ (ap (λ l. get_or l 2 0) words ∙ at_get ws 2 n 0 at_n) in
       let idle = whole_alone s r id v at out whole in let turns = r.turns in let same : r.drawn ≡ r.served = omega arith in sym drawn ∙ (ap (λ (z : ℕ). z % 2 ^ 64) same ∙ served)
+
+  -- a turn is out where the pass that closes is inside
+  pub closes_inside : (ws : List ℕ) (xs : List (Option S)) (id : ℕ) (v : D) (t n : ℕ) → Final (Seen Rule id v) ws xs → ((u : ℕ) × (v.stage ≡ Inside u)) → get_elem? ws 1 ≡ some t → get_elem? ws 2 ≡ some n → t ≢ n
+  closes_inside ws xs id v t n end inside at_t at_n same = let s : St = end.0 in let r : Rule s = end.1.0 in let at = end.1.1 in let words : s.words ≡ ws = end.2 in
+      let drawn : r.drawn % 2 ^ 64 ≡ t = sym r.ticket_is ∙ (ap (λ l. get_or l 1 0) words ∙ at_get ws 1 t 0 at_t) in let served : r.served % 2 ^ 64 ≡ n = sym r.serving_is ∙ (ap (λ l. get_or l 2 0) words ∙ at_get ws 2 n 0 at_n) in
+      let idle = served_all s r (drawn ∙ (same ∙ sym served)) in let b = busy_waiting s.views id v at in let c : busy v.stage ≡ 1 = ap busy inside.1 in absurd (omega arith)

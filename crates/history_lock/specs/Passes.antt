@@ -31,7 +31,7 @@ module _ {S E L : Type 0} where
   abbrev pub label : Pass S E L → Option L
   label p = p.seat.me.0.label
 
-  -- it is a pass of this lock
+  -- it is a pass of this lock, and its count of splits is right
   abbrev pub IsPassOf : HistoryLock S E L → Pass S E L → Type 0
   IsPassOf lock p = (p.seat.table_id ≡ lock.table.shared.table_id) × (p.splits ≡ given p)
 

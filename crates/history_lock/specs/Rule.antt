@@ -46,15 +46,19 @@ Holds (Inside t) = Unit {0}
 Holds (Meeting met) = ⊥
 
 module _ {E L : Type 0} where
+  -- what a pass knows, made of its parts
   abbrev pub view : Stage E → List (Marked E) → ℕ → ℕ → List ℕ → Option L → View E L
   view st seen mark given joined label = record { stage = st; seen = seen; mark = mark; given = given; joined = joined; label = label }
 
+  -- the view of the first pass of a new lock
   abbrev pub first_view : List E → L → View E L
   first_view es label = view Outside (unmarked es) 0 0 [] (Some label)
 
+  -- the view at another stage
   abbrev pub at_stage : View E L → Stage E → View E L
   at_stage v st = view st v.seen v.mark v.given v.joined v.label
 
+  -- the view at another stage, where it has seen this history
   abbrev pub seeing : View E L → Stage E → List (Marked E) → View E L
   seeing v st log = view st log v.mark v.given v.joined v.label
 
@@ -62,10 +66,11 @@ module _ {E L : Type 0} where
   abbrev pub IsWholeView : View E L → Type 0
   IsWholeView v = (v.mark ≡ 0) × ((k : ℕ) → 0 < k → k ≤ v.given → ¬ IsNoneOf k v.joined)
 
-  -- the view of the first pass after a split, and that of the pass that is split off
+  -- the view of the first pass after a split
   abbrev pub split_left : View E L → View E L
   split_left v = view v.stage v.seen v.mark (v.given + 1) v.joined v.label
 
+  -- the view of the pass that is split off
   abbrev pub split_right : View E L → View E L
   split_right v = view Outside v.seen (v.given + 1) 0 [] v.label
 
@@ -73,17 +78,21 @@ module _ {E L : Type 0} where
   abbrev pub join_both : View E L → View E L → View E L
   join_both v w = view (Meeting w.seen) v.seen v.mark v.given (w.mark ∷ v.joined) v.label
 
+  -- the view of a pass that was joined
   abbrev pub spent_view : View E L
   spent_view = view Spent [] 0 0 [] None
 
+  -- how many turns are out with these passes
   abbrev pub waiting : List (View E L) → ℕ
   waiting [] = 0
   waiting (v ∷ vs) = busy v.stage + waiting vs
 
+  -- how many of these passes were not joined
   abbrev pub living : List (View E L) → ℕ
   living [] = 0
   living (v ∷ vs) = alive v.stage + living vs
 
+  -- the history goes on from what the pass has seen, by others than its own marks
   abbrev pub Sees : List (Marked E) → View E L → Type 0
   Sees log v = Follows (v.mark ∷ v.joined) v.seen log
 
@@ -119,6 +128,7 @@ listed (Inside t) = []
 listed (Meeting met) = []
 
 module _ {S E L : Type 0} (history : S → List E) (label : S → L) (name : L) where
+  -- what the words, the slot and the passes of a lock keep: one history, its length, and the turns drawn and served
   pub record Kept (s : State (Option S) (View E L)) : Type 0 where
     pub log : List (Marked E)
     pub drawn : ℕ

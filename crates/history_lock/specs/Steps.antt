@@ -8,6 +8,7 @@ use Rattle.history_lock.specs.declared.view.Stage.TheVariants.{Spent, Outside, W
 use Rattle.history_lock.specs.Marks.{marked, entries, HaveMarksUpTo, Follows, IsLongerOf}
 use Rattle.history_lock.specs.Rule.{at_stage, seeing, turn_of, listed}
 
+-- a pass at its seat: what it knows, and what it took from the slot
 abbrev Sat : Type 0 → Type 0 → Type 0 → Type 0
 Sat S E L = Me (Option S) (View E L)
 
@@ -16,6 +17,7 @@ abbrev pub in_slot : {S E : Type 0} → (S → List E) → List (ℕ × Option S
 in_slot history [] = []
 in_slot history (x ∷ xs) = elim x.1 [ Some y ↦ history y | None ↦ [] ]
 
+-- what the pass that was joined has seen
 abbrev pub heard : {E : Type 0} → Stage E → List (Marked E)
 heard Spent = []
 heard Outside = []
@@ -24,10 +26,12 @@ heard (Turn t es) = []
 heard (Inside t) = []
 heard (Meeting met) = met
 
+-- the mark that was joined last
 abbrev pub last_joined : List ℕ → ℕ
 last_joined [] = 0
 last_joined (k ∷ ks) = k
 
+-- the marks that were joined before the last
 abbrev pub joined_before : List ℕ → List ℕ
 joined_before [] = []
 joined_before (k ∷ ks) = ks

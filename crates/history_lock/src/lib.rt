@@ -7,7 +7,8 @@
 //!
 //! Promised, by the clauses of [`HistoryLock`] and whatever order threads run in: one history; a pass finds what it
 //! saw, unchanged, at the front of it; what came behind bears no mark of its own; a pass into which all others were
-//! joined closes the lock with exactly what it has seen.
+//! joined, and that is outside, closes the lock with exactly what it has seen, and never finds it in use. A pass that is
+//! inside always does.
 //!
 //! Not promised: that a pass which waits is ever served, in what order passes are served where they don't wait at the
 //! same time, or how long it takes. A pass that is dropped while its caller holds the value keeps the lock taken.

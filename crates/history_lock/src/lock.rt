@@ -1,5 +1,5 @@
 //! The lock and its passes.
-ghost use Rattle.std.specs.Prelude.{◌≡◌, ◌≢◌, ◌+◌, ◌⊎◌, [], IfOk, IfErr, OnOk, OnErr, IsOkAnd, Some};
+ghost use Rattle.std.specs.Prelude.{◌≡◌, ◌≢◌, ◌+◌, ◌-◌, ◌^◌, ◌≤◌, ◌⊎◌, ◌↔◌, [], IfOk, IfErr, OnOk, OnErr, IsErr, IsOkAnd, Some};
 
 use crate::historied::Historied;
 use crate::law::Law;
@@ -196,14 +196,15 @@ impl<S: Historied> HistoryLock<S> {
         self.pass_on(&mut pass.seat);
     }
 
-    /// Splits a pass off the first one. It has seen as much, and no entry of what it has seen has its mark. O(1). No
-    /// memory is wanted; it answers `NoMemory` where 2^64 - 2 passes were split off.
+    /// Splits a pass off the first one. It has seen as much, and no entry that it has seen bears its mark. O(1). No memory
+    /// is wanted: it answers `NoMemory` exactly where 2^64 - 2 passes were split off, and changes nothing then.
     pub fn split(&self, alloc: Global, pass: &mut Pass<S>) -> Result<Pass<S>, NoMemory>
         requires lock { IsPassOf self.now pass.old }
         requires first { IsFirst pass.old × IsOutside pass.old }
         ensures ok { IfOk result (λ p. IsPassOf self.now p × IsOutside p × (seen p ≡ seen pass.old) × (label p ≡ label pass.old) × (mark p ≡ given pass.old + 1) × (joined p ≡ [])) }
         ensures pass { OnOk result (IsPassOf self.now pass.new × IsOutside pass.new × (seen pass.new ≡ seen pass.old) × (label pass.new ≡ label pass.old) × (mark pass.new ≡ mark pass.old) × (given pass.new ≡ given pass.old + 1) × (joined pass.new ≡ joined pass.old)) }
         ensures new { IfOk result (λ p. HaveMarksUpTo (given pass.old) (seen p)) }
+        ensures full { IsErr result ↔ (2 ^ 64 - 2 ≤ given pass.old) }
         ensures err { OnErr result (pass.new ≡ pass.old) }
     {
         let _ = alloc;
@@ -233,13 +234,15 @@ impl<S: Historied> HistoryLock<S> {
         shared.load::<Meet>(&mut pass.seat, COUNT);
     }
 
-    /// Ends the lock, and gives the state; `InUse` exactly where a turn was drawn and not served. That can't be where all
-    /// passes were joined into this one, and it is outside. O(1); takes no memory and waits for nobody.
+    /// Ends the lock, and gives the state, or answers `InUse`: only where a turn was drawn and not served. A pass that is
+    /// inside always gets `InUse`; one that is outside never does where all passes were joined into it. O(1); takes no
+    /// memory and waits for nobody. With `InUse` the lock is gone too, and a state that lies in it is dropped.
     pub fn close(self, pass: Pass<S>) -> Result<S, InUse>
         requires lock { IsPassOf self pass }
         requires pass { IsOutside pass ⊎ IsInside pass }
         ensures ok { IfOk result (Extends S.history S.label pass) }
         ensures err { IfErr result (λ r. r.ticket ≢ r.serving) }
+        ensures inside { IsInside pass → IsErr result }
         ensures whole { IsWhole pass → IsOutside pass → IsOkAnd result (λ y. (S.history y ≡ entries (seen pass)) × AreBy (own_marks pass) (seen pass)) }
     {
         let HistoryLock { table } = self;

@@ -119,7 +119,7 @@ fn add_side_by_side<R: Threads + Wait + Sync>(
     let (one, two) = join(
         rt,
         || add_many(rt, lock, first, 0),
-        || add_many(rt, lock, second, 1000),
+        || add_many(rt, lock, second, 5000),
     );
     (one.0, two.0, one.1 && two.1)
 }
@@ -138,7 +138,7 @@ fn two_threads_add_to_one_history(rt: HostRuntime) -> Result<(), Fail> {
     let Ok(state) = lock.close(first) else {
         panic!(rt; "in use")
     };
-    let (mut low, mut high) = (0u64, 1000u64);
+    let (mut low, mut high) = (0u64, 5000u64);
     for x in state.items.as_slice() {
         if *x == low {
             low = low.wrapping_add(1);
@@ -147,7 +147,7 @@ fn two_threads_add_to_one_history(rt: HostRuntime) -> Result<(), Fail> {
             high = high.wrapping_add(1);
         }
     }
-    assert!(rt; low == 1000 && high == 2000);
+    assert!(rt; low == 1000 && high == 6000);
     Ok(())
 }
 
