@@ -59,83 +59,44 @@ fn holds(alloc: Global, case: &Case) -> bool {
         && cert.pruned.as_slice() == case.pruned
 }
 
+// Points, and what their certificate says.
+const CASES: [Case; 2] = [
+    Case {
+        name: "three last cuts tie, and a candidate at equality stays",
+        lines: &[
+            (1, 0),
+            (2, 0),
+            (3, 4),
+            (4, 4),
+            (5, 2),
+            (6, 2),
+            (7, 2),
+            (8, 2),
+            (9, 2),
+            (10, 2),
+        ],
+        penalty: 8,
+        cuts: &[],
+        total: 16,
+        least: &[-8, 0, 0, 8, 8, 11, 12, 13, 14, 15, 16],
+        back: &[0, 0, 0, 2, 2, 2, 2, 2, 2, 2, 0],
+        pruned: &[0, 4, 0, 0, 0, 0, 0, 0, 0, 0, 0],
+    },
+    Case {
+        name: "the greatest and the least value",
+        lines: &[(1, BIG), (2, -BIG)],
+        penalty: 1,
+        cuts: &[1],
+        total: 1,
+        least: &[-1, 0, 1],
+        back: &[0, 0, 1],
+        pruned: &[2, 0, 0],
+    },
+];
+
 #[test]
-fn certificates_are_those_of_the_worked_examples(rt: HostRuntime) {
-    let steps = [(1, 0), (2, 0), (3, 10), (4, 10)];
-    let cases = [
-        Case {
-            name: "one step",
-            lines: &steps,
-            penalty: 50,
-            cuts: &[2],
-            total: 50,
-            least: &[-50, 0, 0, 50, 50],
-            back: &[0, 0, 0, 2, 2],
-            pruned: &[0, 4, 0, 0, 0],
-        },
-        Case {
-            name: "a tie goes to no cut",
-            lines: &steps,
-            penalty: 100,
-            cuts: &[],
-            total: 100,
-            least: &[-100, 0, 0, 67, 100],
-            back: &[0; 5],
-            pruned: &[0; 5],
-        },
-        Case {
-            name: "three last cuts tie, and a candidate at equality stays",
-            lines: &[
-                (1, 0),
-                (2, 0),
-                (3, 4),
-                (4, 4),
-                (5, 2),
-                (6, 2),
-                (7, 2),
-                (8, 2),
-                (9, 2),
-                (10, 2),
-            ],
-            penalty: 8,
-            cuts: &[],
-            total: 16,
-            least: &[-8, 0, 0, 8, 8, 11, 12, 13, 14, 15, 16],
-            back: &[0, 0, 0, 2, 2, 2, 2, 2, 2, 2, 0],
-            pruned: &[0, 4, 0, 0, 0, 0, 0, 0, 0, 0, 0],
-        },
-        Case {
-            name: "no positions",
-            lines: &[],
-            penalty: 5,
-            cuts: &[],
-            total: 0,
-            least: &[-5],
-            back: &[0],
-            pruned: &[0],
-        },
-        Case {
-            name: "the greatest and the least value",
-            lines: &[(1, BIG), (2, -BIG)],
-            penalty: 1,
-            cuts: &[1],
-            total: 1,
-            least: &[-1, 0, 1],
-            back: &[0, 0, 1],
-            pruned: &[2, 0, 0],
-        },
-        Case {
-            name: "three values of one commit",
-            lines: &[(5, 0), (5, 100), (5, -100)],
-            penalty: 1,
-            cuts: &[],
-            total: 20_000,
-            least: &[-1, 20_000],
-            back: &[0, 0],
-            pruned: &[0, 0],
-        },
-    ];
-    for case in &cases {
+fn ties_and_the_greatest_values(rt: HostRuntime) {
+    for case in &CASES {
         assert!(rt; holds(rt.alloc(), case), "{}", case.name);
     }
 }
@@ -157,7 +118,7 @@ fn least_sum_and_centre(values: &[i64]) -> Option<(i128, i128)> {
 
 // The centre is the whole number nearest to the mean, and the smaller of two that are as near.
 #[test]
-fn centres_are_those_of_the_worked_examples(rt: HostRuntime) {
+fn centres_are_nearest_to_the_mean(rt: HostRuntime) {
     assert_eq!(rt; least_sum_and_centre(&[0, 1]), Some((1, 0)));
     assert_eq!(rt; least_sum_and_centre(&[-1, 0]), Some((1, -1)));
     assert_eq!(rt; least_sum_and_centre(&[0, 0, 1]), Some((1, 0)));
