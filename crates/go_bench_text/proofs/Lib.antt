@@ -2,6 +2,7 @@ pub mod Cuts
 pub mod Cutting
 pub mod Digits
 pub mod LineParts
+pub mod OneReading
 pub mod OneSample
 pub mod Passed
 pub mod PkgInForce
@@ -9,7 +10,6 @@ pub mod Progress
 pub mod PutFields
 pub mod PutPkg
 pub mod ReadBack
-pub mod Rows
 pub mod Settings
 pub mod Spelled
 pub mod Taken

@@ -14,7 +14,6 @@ pub record Progress (lines : List (List ℕ)) (n : ℕ) (gathered : Gathered) (p
   pub given : List Measurement
   pub keeps : Keeps gathered given
   pub on : (rest : List Measurement) (later : ℕ) → LinesGive (take n lines) (drop n lines) rest later → LinesGive [] lines (given ++ rest) (ignored + later)
-  pub only : (all : List Measurement) (count : ℕ) → LinesGive [] lines all count → (rest : List Measurement) × (later : ℕ) × (all ≡ given ++ rest) × (count ≡ ignored + later) × LinesGive (take n lines) (drop n lines) rest later
   pub in_range : NoneOverBelow lines n
   pub pkg_is : pkg_of (take n lines) ≡ pkg
   pub few : ignored ≤ n
@@ -24,7 +23,6 @@ progress_none lines gathered keeps = record {
   given = [];
   keeps = keeps;
   on = λ rest later gives. subst (λ (n : ℕ). LinesGive [] lines rest n) (sym (zero-add later)) gives;
-  only = λ all count gives. (all, count, refl, sym (zero-add count), gives);
   in_range = λ k l. absurd (omega arith);
   pkg_is = refl;
   few = omega arith;
@@ -47,25 +45,14 @@ progress_more lines n line old new pkg next ignored here l e adds one set before
       keeps = adds.gains before.given before.keeps;
       on = λ rest later gives.
           let behind : LinesGive (take n lines ++ line ∷ []) (drop (n + 1) lines) rest later = subst (λ (done : List (List ℕ)). LinesGive done (drop (n + 1) lines) rest later) front gives in
-          let there : LinesGive (take n lines) (line ∷ drop (n + 1) lines) (adds.samples ++ rest) (here + later) = (adds.samples, rest, here, later, refl, refl, adds.gives.gives, behind) in
+          let there : LinesGive (take n lines) (line ∷ drop (n + 1) lines) (adds.samples ++ rest) (here + later) = (adds.samples, rest, here, later, refl, refl, adds.gives, behind) in
           let whole = before.on (adds.samples ++ rest) (here + later) (subst (λ (left : List (List ℕ)). LinesGive (take n lines) left (adds.samples ++ rest) (here + later)) (sym back) there) in
           subst (λ (xs : List Measurement). LinesGive [] lines xs ((ignored + here) + later)) (sym (append_assoc before.given adds.samples rest))
           (subst (λ (m : ℕ). LinesGive [] lines (before.given ++ (adds.samples ++ rest)) m) (sym (add_assoc ignored here later)) whole);
-      only = λ all count gives.
-          let first = before.only all count gives in
-          let parts : LinesGive (take n lines) (line ∷ drop (n + 1) lines) first.0 first.1 = subst (λ (left : List (List ℕ)). LinesGive (take n lines) left first.0 first.1) back first.4 in
-          let same = adds.gives.only parts.0 parts.2 parts.6 in
-          let samples : all ≡ (before.given ++ adds.samples) ++ parts.1 =
-          first.2 ∙ (ap (λ (xs : List Measurement). before.given ++ xs) (parts.4 ∙ ap (λ (xs : List Measurement). xs ++ parts.1) same.0) ∙ sym (append_assoc before.given adds.samples parts.1)) in
-          let counts : count ≡ (ignored + here) + parts.3 = omega (arith, first.3, parts.5, same.1) in
-          (parts.1, parts.3, samples, counts, subst (λ (done : List (List ℕ)). LinesGive done (drop (n + 1) lines) parts.1 parts.3) (sym front) parts.7);
       in_range = below_next lines n before.in_range (over_here lines n line e adds.in_range);
       pkg_is = ap pkg_of front ∙ set;
       few = omega (arith, before.few);
     }
-
-none_left : (before : List (List ℕ)) (rest : List Measurement) (later : ℕ) → LinesGive before [] rest later → (rest ≡ []) × (later ≡ 0)
-none_left before rest later gives = gives
 
 pub progress_all : (text : List ℕ) (n : ℕ) (gathered : Gathered) (pkg : List ℕ) (ignored : ℕ) → IsUtf8 text → length (lines_of text) ≤ n → Progress (lines_of text) n gathered pkg ignored
     → (given : List Measurement) × Keeps gathered given × IsRead text given ignored
@@ -78,10 +65,6 @@ progress_all text n gathered pkg ignored is l done =
       record {
         text = is;
         gives = subst (λ (xs : List Measurement). LinesGive [] (lines_of text) xs ignored) (append-nil done.given) (subst (λ (m : ℕ). LinesGive [] (lines_of text) (done.given ++ []) m) (add-zero ignored) whole);
-        only = λ all count gives.
-            let front = done.only all count gives in
-            let left = none_left (take n (lines_of text)) front.0 front.1 (subst (λ (lines : List (List ℕ)). LinesGive (take n (lines_of text)) lines front.0 front.1) none front.4) in
-            (front.2 ∙ (ap (λ (xs : List Measurement). done.given ++ xs) left.0 ∙ append-nil done.given), omega (arith, front.3, left.1));
         in_range = λ k less. done.in_range k (omega arith);
       },
     )

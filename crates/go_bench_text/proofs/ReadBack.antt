@@ -1,5 +1,5 @@
 -- Reading what was put gives the samples.
-use Rattle.std.proofs.Common.{◌≡◌, ℕ, zero, suc, ◌+◌, ◌-◌, ◌^◌, ◌<◌, ◌≤◌, inl, inr, unsigned_abs, Bool, true, false, not, ◌&&◌, ◌||◌, List, [], ◌∷◌, ◌++◌, length, take, get_or, ℤ, refl, sym, ◌∙◌, ap, subst, arith, eqb, lit<, length-append, append_assoc}
+use Rattle.std.proofs.Common.{◌≡◌, ℕ, zero, suc, ◌+◌, ◌-◌, ◌^◌, ◌<◌, ◌≤◌, inl, inr, unsigned_abs, Bool, true, false, not, ◌&&◌, ◌||◌, List, [], ◌∷◌, ◌++◌, length, take, get_or, refl, sym, ◌∙◌, ap, subst, arith, eqb, lit<, length-append, append_assoc}
 use Rattle.std.specs.Prelude.{codes, nat_lt}
 use Rattle.std.specs.Char.{is_whitespace}
 use Rattle.std.specs.List.{list_all, list_any, All}
@@ -11,22 +11,22 @@ use Rattle.std.proofs.lemmas.List.Splits.{slice_split_at}
 use Rattle.std.proofs.lemmas.List.Sums.{AllPass-from_list_all}
 use Rattle.std.proofs.lemmas.Bool.Decides.{nat_tests}
 use Rattle.line_text.specs.Lines.{lines_of}
+use Rattle.metric_table.specs.Table.{row_of}
 use Rattle.fixed_value.specs.Numerals.{IsNumeralText}
 use Rattle.fixed_value.specs.declared.numeral.Numeral.{Numeral}
-use Rattle.fixed_value.specs.Fixed.{fixed_text, MayStand, IsReadBack, FixedIsReadBack}
+use Rattle.fixed_value.specs.Fixed.{MayStand, IsReadBack, FixedIsReadBack}
 use Rattle.history_model.specs.Samples.{Measurement, IsSample}
 use Rattle.go_bench_text.specs.Characters.{is_black, is_name, is_blank}
 use Rattle.go_bench_text.specs.Lines.{begins, IsResult}
-use Rattle.go_bench_text.specs.Readings.{pkg_of, test_of, IsSampleOf, HasLarge, IsOver, LineGives, LinesGive}
+use Rattle.go_bench_text.specs.Readings.{pkg_of, test_of, IsSampleOf, HasLarge, IsOver, IsRead, LineGives, LinesGive}
 use Rattle.go_bench_text.specs.Readings.LineGives.{measured, silent}
-use Rattle.go_bench_text.specs.Spellings.{is_bare_name, IsCut, IsWrittenBy, IsSpelling, AreSpelled, pkg_line, result_line}
+use Rattle.go_bench_text.specs.Spellings.{is_bare_name, IsCut, IsWrittenBy, IsSpelling, AreSpelled, pkg_line, value_text, result_line}
 use Rattle.go_bench_text.specs.Spellings.IsWrittenBy.{lone, own, parted}
 use Rattle.go_bench_text.proofs.Cuts.{cut_there}
 use Rattle.go_bench_text.proofs.PkgInForce.{pkg_set}
 use Rattle.go_bench_text.proofs.PutFields.{MayPut, put_fields, ascii_of, ascii_word, bench_utf8}
 use Rattle.go_bench_text.proofs.PutPkg.{Sets, sets_none, sets_some}
 use Rattle.go_bench_text.proofs.LineParts.{over_parts, none_over, silent_in_range}
-use Rattle.go_bench_text.proofs.Rows.{row_few, row_scaled}
 
 -- ---- no line feed
 
@@ -181,36 +181,40 @@ some_joined text sign whole tail e h = omega (arith, ap length e, length-append 
 at_length : (text : List ℕ) (numeral : Numeral) → IsNumeralText text numeral → 0 < length text
 at_length text numeral is = some_joined text is.sign is.whole is.tail is.joined is.whole_is.0
 
-some_fixed : (value : ℤ) (d : ℕ) → IsReadBack value d → 0 < length (fixed_text value d)
-some_fixed value d back = at_length (fixed_text value d) back.numeral back.reads
+-- a sample's value is read back from its text
+abbrev ValueIsReadBack : Measurement → Type 0
+ValueIsReadBack sample = IsReadBack sample.value (row_of sample.metric).decimals
 
-is_result : (name metric : List ℕ) (value : ℤ) (d : ℕ) → MayPut name (fixed_text value d) metric → is_name (chars name) ≡ true → IsReadBack value d → length metric ≤ 64
-    → IsResult (result_line name value d metric) name (fixed_text value d ∷ metric ∷ [])
-is_result name metric value d may named back short = record {
+some_value : (sample : Measurement) → ValueIsReadBack sample → 0 < length (value_text sample)
+some_value sample back = at_length (value_text sample) back.numeral back.reads
+
+is_result : (name : List ℕ) (sample : Measurement) → MayPut name (value_text sample) sample.metric → is_name (chars name) ≡ true → ValueIsReadBack sample → length sample.metric ≤ 64
+    → IsResult (result_line name sample) name (value_text sample ∷ sample.metric ∷ [])
+is_result name sample may named back short = record {
   count = 49 ∷ [];
   first = refl;
-  fields = put_fields name (fixed_text value d) metric may;
+  fields = put_fields name (value_text sample) sample.metric may;
   named = named;
   counted = (omega arith, (lit< tt, tt));
   some = omega arith;
   paired = ((back.numeral, back.reads), short, tt);
 }
 
-result_clean : (name metric : List ℕ) (value : ℤ) (d : ℕ) → MayPut name (fixed_text value d) metric → IsClean (result_line name value d metric)
-result_clean name metric value d may =
-    clean_join (codes "Benchmark" ++ name) (codes " 1 " ++ (fixed_text value d ++ 32 ∷ metric))
+result_clean : (name : List ℕ) (sample : Measurement) → MayPut name (value_text sample) sample.metric → IsClean (result_line name sample)
+result_clean name sample may =
+    clean_join (codes "Benchmark" ++ name) (codes " 1 " ++ (value_text sample ++ 32 ∷ sample.metric))
     (clean_join (codes "Benchmark") name (clean_word (codes "Benchmark") refl) (clean_black name may.name_is may.name_black))
-    (clean_join (codes " 1 ") (fixed_text value d ++ 32 ∷ metric) (clean_word (codes " 1 ") refl)
-    (clean_join (fixed_text value d) (32 ∷ metric) (clean_digits (fixed_text value d) may.fixed_is) (clean_join (32 ∷ []) metric (clean_word (32 ∷ []) refl) (clean_black metric may.metric_is may.metric_black))))
+    (clean_join (codes " 1 ") (value_text sample ++ 32 ∷ sample.metric) (clean_word (codes " 1 ") refl)
+    (clean_join (value_text sample) (32 ∷ sample.metric) (clean_digits (value_text sample) may.fixed_is) (clean_join (32 ∷ []) sample.metric (clean_word (32 ∷ []) refl) (clean_black sample.metric may.metric_is may.metric_black))))
 
 utf8_word : (xs : List ℕ) → list_all (λ b. nat_lt b 128) xs ≡ true → IsUtf8 xs
 utf8_word xs e = IsUtf8-from_ascii xs (ascii_word xs e)
 
-result_utf8 : (name metric : List ℕ) (value : ℤ) (d : ℕ) → MayPut name (fixed_text value d) metric → IsUtf8 (result_line name value d metric)
-result_utf8 name metric value d may =
-    IsUtf8-append (codes "Benchmark" ++ name) (codes " 1 " ++ (fixed_text value d ++ 32 ∷ metric)) (IsUtf8-append (codes "Benchmark") name bench_utf8 may.name_is)
-    (IsUtf8-append (codes " 1 ") (fixed_text value d ++ 32 ∷ metric) (utf8_word (codes " 1 ") refl)
-    (IsUtf8-append (fixed_text value d) (32 ∷ metric) (IsUtf8-from_ascii (fixed_text value d) (ascii_of (fixed_text value d) may.fixed_is)) (IsUtf8-append (32 ∷ []) metric (utf8_word (32 ∷ []) refl) may.metric_is)))
+result_utf8 : (name : List ℕ) (sample : Measurement) → MayPut name (value_text sample) sample.metric → IsUtf8 (result_line name sample)
+result_utf8 name sample may =
+    IsUtf8-append (codes "Benchmark" ++ name) (codes " 1 " ++ (value_text sample ++ 32 ∷ sample.metric)) (IsUtf8-append (codes "Benchmark") name bench_utf8 may.name_is)
+    (IsUtf8-append (codes " 1 ") (value_text sample ++ 32 ∷ sample.metric) (utf8_word (codes " 1 ") refl)
+    (IsUtf8-append (value_text sample) (32 ∷ sample.metric) (IsUtf8-from_ascii (value_text sample) (ascii_of (value_text sample) may.fixed_is)) (IsUtf8-append (32 ∷ []) sample.metric (utf8_word (32 ∷ []) refl) may.metric_is)))
 
 pkg_utf8 : (pkg : List ℕ) → IsUtf8 pkg → IsUtf8 (pkg_line pkg)
 pkg_utf8 [] is = utf8_word (codes "pkg:") refl
@@ -224,6 +228,14 @@ lines_utf8 one two is also =
 pkg_then : (before : List (List ℕ)) (pkg : List ℕ) → Sets (pkg_line pkg) pkg → pkg_of (before ++ pkg_line pkg ∷ []) ≡ pkg
 pkg_then before pkg sets = pkg_set before (pkg_line pkg) sets.sets ∙ sets.value
 
+-- the test of a name behind that line
+test_back : (test pkg name : List ℕ) (before : List (List ℕ)) → Parts test pkg name → test_of (pkg_of (before ++ pkg_line pkg ∷ [])) name ≡ test
+test_back test pkg name before parts = ap (λ (p : List ℕ). test_of p name) (pkg_then before pkg parts.sets) ∙ parts.back
+
+-- no metric has more than nine decimals
+few_decimals : (metric : List ℕ) → (row_of metric).decimals ≤ 9
+few_decimals metric = grind (arith, nat_tests)
+
 -- the value of a pair that has a sample in range is in range
 small_pair : (value unit : List ℕ) (sample : Measurement) → IsSampleOf [] value unit sample → unsigned_abs sample.value ≤ 10 ^ 16 → ¬ HasLarge (value ∷ unit ∷ [])
 small_pair value unit sample is small (inl large) = absurd (omega (arith, large sample is, small))
@@ -232,36 +244,34 @@ small_pair value unit sample is small (inr none) = none
 pub two_of : (sample : Measurement) (text : List ℕ) → IsSample sample → FixedIsReadBack → IsSpelling sample text → Two sample text
 two_of sample text is law spelled =
     let parts = parts_of sample.test spelled.pkg spelled.name is.test.text spelled.written in
-    let back = law sample.value spelled.d is.in_range (row_few sample.metric spelled.d spelled.decimals) in
-    let may : MayPut spelled.name (fixed_text sample.value spelled.d) sample.metric = record {
+    let back : ValueIsReadBack sample = law sample.value (row_of sample.metric).decimals is.in_range (few_decimals sample.metric) in
+    let may : MayPut spelled.name (value_text sample) sample.metric = record {
       name_is = parts.name_is;
       name_black = parts.black;
       fixed_is = back.bytes;
-      fixed_some = some_fixed sample.value spelled.d back;
+      fixed_some = some_value sample back;
       metric_is = is.metric.text;
       metric_black = spelled.unit;
       metric_some = is.metric.some;
     } in
+    let result : IsResult (result_line spelled.name sample) spelled.name (value_text sample ∷ sample.metric ∷ []) = is_result spelled.name sample may parts.named back is.short in
     record {
       pkg = spelled.pkg;
-      line = result_line spelled.name sample.value spelled.d sample.metric;
+      line = result_line spelled.name sample;
       joined = spelled.lines;
       pkg_clean = parts.pkg_clean;
-      clean = result_clean spelled.name sample.metric sample.value spelled.d may;
+      clean = result_clean spelled.name sample may;
       off = parts.sets.off;
       gives = λ before.
-          let test : sample.test ≡ test_of (pkg_of (before ++ pkg_line spelled.pkg ∷ [])) spelled.name = sym (ap (λ (pkg : List ℕ). test_of pkg spelled.name) (pkg_then before spelled.pkg parts.sets) ∙ parts.back) in
-          measured spelled.name (fixed_text sample.value spelled.d ∷ sample.metric ∷ []) (is_result spelled.name sample.metric sample.value spelled.d may parts.named back is.short)
-          (record { numeral = back.numeral; reads = back.reads; scales = row_scaled sample.metric spelled.d back.numeral sample.value spelled.decimals back.scales; of_test = test; by_metric = refl }, tt) refl;
+          measured spelled.name (value_text sample ∷ sample.metric ∷ []) result
+          (record { numeral = back.numeral; reads = back.reads; scales = back.scales; of_test = sym (test_back sample.test spelled.pkg spelled.name before parts); by_metric = refl }, tt) refl;
       in_range = λ before over.
-          let test : test_of (pkg_of (before ++ pkg_line spelled.pkg ∷ [])) spelled.name ≡ sample.test = ap (λ (pkg : List ℕ). test_of pkg spelled.name) (pkg_then before spelled.pkg parts.sets) ∙ parts.back in
           let plain : Measurement = record { test = []; metric = sample.metric; value = sample.value } in
-          let pair : IsSampleOf [] (fixed_text sample.value spelled.d) sample.metric plain = record { numeral = back.numeral; reads = back.reads; scales = row_scaled sample.metric spelled.d back.numeral sample.value spelled.decimals back.scales; of_test = refl; by_metric = refl } in
-          none_over (test_of (pkg_of (before ++ pkg_line spelled.pkg ∷ [])) spelled.name) (fixed_text sample.value spelled.d ∷ sample.metric ∷ [])
-          (subst (λ (t : List ℕ). length t ≤ 256) (sym test) is.test.short) (small_pair (fixed_text sample.value spelled.d) sample.metric plain pair is.in_range)
-          (over_parts (before ++ pkg_line spelled.pkg ∷ []) (result_line spelled.name sample.value spelled.d sample.metric) spelled.name (fixed_text sample.value spelled.d ∷ sample.metric ∷ [])
-          (is_result spelled.name sample.metric sample.value spelled.d may parts.named back is.short) over);
-      text_is = subst IsUtf8 (sym spelled.lines) (lines_utf8 (pkg_line spelled.pkg) (result_line spelled.name sample.value spelled.d sample.metric) (pkg_utf8 spelled.pkg parts.pkg_is) (result_utf8 spelled.name sample.metric sample.value spelled.d may));
+          let pair : IsSampleOf [] (value_text sample) sample.metric plain = record { numeral = back.numeral; reads = back.reads; scales = back.scales; of_test = refl; by_metric = refl } in
+          none_over (test_of (pkg_of (before ++ pkg_line spelled.pkg ∷ [])) spelled.name) (value_text sample ∷ sample.metric ∷ [])
+          (subst (λ (t : List ℕ). length t ≤ 256) (sym (test_back sample.test spelled.pkg spelled.name before parts)) is.test.short) (small_pair (value_text sample) sample.metric plain pair is.in_range)
+          (over_parts (before ++ pkg_line spelled.pkg ∷ []) (result_line spelled.name sample) spelled.name (value_text sample ∷ sample.metric ∷ []) result over);
+      text_is = subst IsUtf8 (sym spelled.lines) (lines_utf8 (pkg_line spelled.pkg) (result_line spelled.name sample) (pkg_utf8 spelled.pkg parts.pkg_is) (result_utf8 spelled.name sample may));
     }
 
 -- ---- the whole text
@@ -269,7 +279,7 @@ two_of sample text is law spelled =
 rest_of : (sample : Measurement) (samples : List Measurement) → All IsSample (sample ∷ samples) → All IsSample samples
 rest_of sample samples h k d l = h (suc k) d (omega arith)
 
-pub spelled_gives : (before : List (List ℕ)) (samples : List Measurement) (text : List ℕ) → All IsSample samples → FixedIsReadBack → AreSpelled samples text → LinesGive before (lines_of text) samples 0
+spelled_gives : (before : List (List ℕ)) (samples : List Measurement) (text : List ℕ) → All IsSample samples → FixedIsReadBack → AreSpelled samples text → LinesGive before (lines_of text) samples 0
 spelled_gives before [] text all law e =
     subst (λ (xs : List ℕ). LinesGive before (lines_of xs) [] 0) (sym e) ([], [], 0, 0, refl, refl, silent refl refl refl, (refl, refl))
 spelled_gives before (sample ∷ samples) text all law spelled =
@@ -280,7 +290,7 @@ spelled_gives before (sample ∷ samples) text all law spelled =
     (sample ∷ [], samples, 0, 0, refl, refl, two.gives before, spelled_gives ((before ++ pkg_line two.pkg ∷ []) ++ two.line ∷ []) samples spelled.1 (rest_of sample samples all) law spelled.4) in
     subst (λ (ls : List (List ℕ)). LinesGive before ls (sample ∷ samples) 0) (sym lines) ([], sample ∷ samples, 0, 0, refl, refl, silent two.off refl refl, behind)
 
-pub spelled_text : (samples : List Measurement) (text : List ℕ) → All IsSample samples → FixedIsReadBack → AreSpelled samples text → IsUtf8 text
+spelled_text : (samples : List Measurement) (text : List ℕ) → All IsSample samples → FixedIsReadBack → AreSpelled samples text → IsUtf8 text
 spelled_text [] text all law e = subst IsUtf8 (sym e) IsUtf8-nil
 spelled_text (sample ∷ samples) text all law spelled =
     let two = two_of sample spelled.0 (all zero sample (omega arith)) law spelled.3 in
@@ -297,7 +307,7 @@ none_empty : (before : List (List ℕ)) (k : ℕ) → ¬ IsOver (before ++ take 
 none_empty before zero over = silent_in_range (before ++ []) [] refl over
 none_empty before (suc k) over = silent_in_range (before ++ take (suc k) ([] ∷ [])) (get_or ([] ∷ []) (suc k) []) (ap begins (get_or_past ([] ∷ []) (suc k) [] (omega arith))) over
 
-pub spelled_in_range : (before : List (List ℕ)) (samples : List Measurement) (text : List ℕ) → All IsSample samples → FixedIsReadBack → AreSpelled samples text
+spelled_in_range : (before : List (List ℕ)) (samples : List Measurement) (text : List ℕ) → All IsSample samples → FixedIsReadBack → AreSpelled samples text
     → (k : ℕ) → ¬ IsOver (before ++ take k (lines_of text)) (get_or (lines_of text) k [])
 spelled_in_range before [] text all law e k =
     subst (λ (xs : List ℕ). ¬ IsOver (before ++ take k (lines_of xs)) (get_or (lines_of xs) k [])) (sym e) (none_empty before k)
@@ -308,3 +318,11 @@ spelled_in_range before (sample ∷ samples) text all law spelled k =
     subst (λ (ls : List (List ℕ)). ¬ IsOver (before ++ take k ls) (get_or ls k [])) (sym lines)
     (none_there before (pkg_line two.pkg) two.line (lines_of spelled.1) two.off (two.in_range before)
     (spelled_in_range ((before ++ pkg_line two.pkg ∷ []) ++ two.line ∷ []) samples spelled.1 (rest_of sample samples all) law spelled.4) k)
+
+-- the text of samples is read as these samples
+pub spelled_read : (samples : List Measurement) (text : List ℕ) → All IsSample samples → FixedIsReadBack → AreSpelled samples text → IsRead text samples 0
+spelled_read samples text all law spelled = record {
+  text = spelled_text samples text all law spelled;
+  gives = spelled_gives [] samples text all law spelled;
+  in_range = λ k less. spelled_in_range [] samples text all law spelled k;
+}

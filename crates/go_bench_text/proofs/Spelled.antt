@@ -3,20 +3,19 @@ use Rattle.std.proofs.Common.{◌≡◌, ℕ, List, [], ◌∷◌, ◌++◌, ◌
 use Rattle.std.specs.List.{list_all}
 use Rattle.std.specs.Str.{chars}
 use Rattle.std.proofs.lemmas.List.{append-nil, take_all}
-use Rattle.metric_table.specs.Table.{Row, OfRow}
 use Rattle.history_model.specs.Samples.{Measurement}
 use Rattle.go_bench_text.specs.Characters.{is_black}
 use Rattle.go_bench_text.specs.Spellings.{IsWrittenBy, IsSpelling, AreSpelled, pkg_line, result_line}
 
 -- what was appended is the sample's text
-pub appended_is : (sample : Measurement) (pkg name old between new : List ℕ) (d : ℕ) → IsWrittenBy sample.test pkg name → list_all is_black (chars sample.metric) ≡ true
-    → OfRow sample.metric (λ (row : Row). d ≡ row.decimals) → between ≡ old ++ (pkg_line pkg ++ 10 ∷ []) → new ≡ between ++ (result_line name sample.value d sample.metric ++ 10 ∷ [])
+pub appended_is : (sample : Measurement) (pkg name old between new : List ℕ) → IsWrittenBy sample.test pkg name → list_all is_black (chars sample.metric) ≡ true
+    → between ≡ old ++ (pkg_line pkg ++ 10 ∷ []) → new ≡ between ++ (result_line name sample ++ 10 ∷ [])
     → (text : List ℕ) × IsSpelling sample text × (new ≡ old ++ text)
-appended_is sample pkg name old between new d written unit decimals e f =
-    let second : List ℕ = result_line name sample.value d sample.metric ++ 10 ∷ [] in
+appended_is sample pkg name old between new written unit e f =
+    let second : List ℕ = result_line name sample ++ 10 ∷ [] in
     let whole : new ≡ old ++ (pkg_line pkg ++ 10 ∷ second) =
     f ∙ (ap (λ (xs : List ℕ). xs ++ second) e ∙ (append_assoc old (pkg_line pkg ++ 10 ∷ []) second ∙ ap (λ (xs : List ℕ). old ++ xs) (append_assoc (pkg_line pkg) (10 ∷ []) second))) in
-    (pkg_line pkg ++ 10 ∷ second, record { pkg = pkg; name = name; d = d; written = written; unit = unit; decimals = decimals; lines = refl }, whole)
+    (pkg_line pkg ++ 10 ∷ second, record { pkg = pkg; name = name; written = written; unit = unit; lines = refl }, whole)
 
 pub spelled_more : (samples : List Measurement) (sample : Measurement) (text more : List ℕ) → AreSpelled samples text → IsSpelling sample more → AreSpelled (samples ++ sample ∷ []) (text ++ more)
 spelled_more [] sample text more before is = (more, [], ap (λ (xs : List ℕ). xs ++ more) before ∙ sym (append-nil more), is, refl)

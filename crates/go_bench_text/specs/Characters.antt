@@ -5,12 +5,15 @@ use Rattle.std.specs.List.{list_all}
 use Rattle.unicode.specs.GeneralCategory.{general_category, general_category_eq}
 use Rattle.ucd_category.specs.declared.GeneralCategory.TheVariants.{UppercaseLetter, LowercaseLetter}
 
+-- an upper case letter
 abbrev pub is_upper : ℕ → Bool
 is_upper c = general_category_eq (general_category c) UppercaseLetter
 
+-- a lower case letter
 abbrev pub is_lower : ℕ → Bool
 is_lower c = general_category_eq (general_category c) LowercaseLetter
 
+-- a character that is not white space
 abbrev pub is_black : ℕ → Bool
 is_black c = not (is_whitespace c)
 

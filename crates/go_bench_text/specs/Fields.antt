@@ -4,6 +4,7 @@ use Rattle.std.specs.Char.{is_whitespace}
 use Rattle.std.specs.List.{slice_split}
 use Rattle.std.specs.Str.{chars, encode_utf8_all}
 
+-- not empty
 abbrev pub is_field : List ℕ → Bool
 is_field part = not (length part == 0)
 

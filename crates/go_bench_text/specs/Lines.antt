@@ -13,13 +13,15 @@ use Rattle.go_bench_text.specs.declared.kind.LineKind.TheVariants.{Config, Resul
 abbrev pub without_returns : List ℕ → List ℕ
 without_returns line = take (length line - suffix_len (λ b. b == 13) line) line
 
+-- the colon that ends a key
 abbrev pub is_colon : ℕ → Bool
 is_colon b = b == 58
 
--- what stands before the first colon, and behind it
+-- what stands before the first colon
 abbrev pub key_of : List ℕ → List ℕ
 key_of line = before_first is_colon (without_returns line)
 
+-- what stands behind the first colon
 abbrev pub behind_key : List ℕ → List ℕ
 behind_key line = after_first is_colon (without_returns line)
 
@@ -28,6 +30,7 @@ abbrev pub is_set_off : List ℕ → Bool
 is_set_off [] = true
 is_set_off (b ∷ bs) = is_blank b
 
+-- the bytes without the spaces and tabs that they begin with
 abbrev pub without_blanks : List ℕ → List ℕ
 without_blanks bs = drop (prefix_len is_blank bs) bs
 
@@ -43,6 +46,7 @@ value_of line = without_blanks (behind_key line)
 abbrev pub begins : List ℕ → Bool
 begins line = starts_with nat_eq line (codes "Benchmark")
 
+-- the field is a numeral's text
 abbrev pub IsNumeral : List ℕ → Type 0
 IsNumeral field = (numeral : Numeral) × IsNumeralText field numeral
 

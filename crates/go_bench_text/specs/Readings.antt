@@ -5,7 +5,7 @@ use Rattle.std.specs.Str.{IsUtf8}
 use Rattle.line_text.specs.Lines.{lines_of}
 use Rattle.metric_table.specs.Limits.{most}
 use Rattle.metric_table.specs.declared.limits.Limit.TheVariants.{RunSamples}
-use Rattle.metric_table.specs.Table.{OfRow, Row}
+use Rattle.metric_table.specs.Table.{row_of}
 use Rattle.fixed_value.specs.Numerals.{IsNumeralText}
 use Rattle.fixed_value.specs.Scaled.{IsScaled}
 use Rattle.fixed_value.specs.declared.numeral.Numeral.{Numeral}
@@ -30,14 +30,9 @@ test_of (b ∷ pkg) name = (b ∷ pkg) ++ 35 ∷ name
 pub record IsSampleOf (test value unit : List ℕ) (sample : Measurement) : Type 0 where
   pub numeral : Numeral
   pub reads : IsNumeralText value numeral
-  pub scales : OfRow unit (λ (row : Row). IsScaled numeral row.decimals sample.value)
+  pub scales : IsScaled numeral (row_of unit).decimals sample.value
   pub of_test : sample.test ≡ test
   pub by_metric : sample.metric ≡ unit
-
--- this is the sample of the pair, and no other is
-pub record IsOneSampleOf (test value unit : List ℕ) (sample : Measurement) : Type 0 where
-  pub is : IsSampleOf test value unit sample
-  pub only : (other : Measurement) → IsSampleOf test value unit other → other ≡ sample
 
 -- one sample for each pair of a value and a unit, in order
 abbrev pub Gives : List ℕ → List (List ℕ) → List Measurement → Type 0
@@ -45,31 +40,26 @@ Gives test [] [] = Unit {0}
 Gives test (value ∷ unit ∷ more) (sample ∷ samples) = IsSampleOf test value unit sample × Gives test more samples
 Gives test _ _ = ⊥
 
--- these are the samples of the pairs, and no others are
-pub record GivesOnly (test : List ℕ) (pairs : List (List ℕ)) (samples : List Measurement) : Type 0 where
-  pub gives : Gives test pairs samples
-  pub only : (others : List Measurement) → Gives test pairs others → others ≡ samples
-
 -- the samples that a line gives behind other lines, and how many lines are ignored and counted there
 pub data LineGives (before : List (List ℕ)) (line : List ℕ) (samples : List Measurement) (ignored : ℕ) : Type 0 where
   measured : (name : List ℕ) (pairs : List (List ℕ)) → IsResult line name pairs → Gives (test_of (pkg_of before) name) pairs samples → ignored ≡ 0 → LineGives before line samples ignored
   broken : IsBroken line → samples ≡ [] → ignored ≡ 1 → LineGives before line samples ignored
   silent : begins line ≡ false → samples ≡ [] → ignored ≡ 0 → LineGives before line samples ignored
 
--- the line gives these and no others
-pub record LineGivesOnly (before : List (List ℕ)) (line : List ℕ) (samples : List Measurement) (ignored : ℕ) : Type 0 where
-  pub gives : LineGives before line samples ignored
-  pub only : (others : List Measurement) (count : ℕ) → LineGives before line others count → (others ≡ samples) × (count ≡ ignored)
-
 -- the same of lines in a row: their samples are joined, their ignored lines summed
 abbrev pub LinesGive : List (List ℕ) → List (List ℕ) → List Measurement → ℕ → Type 0
 LinesGive before [] samples ignored = (samples ≡ []) × (ignored ≡ 0)
 LinesGive before (line ∷ lines) samples ignored = (first : List Measurement) × (rest : List Measurement) × (here : ℕ) × (later : ℕ) × (samples ≡ first ++ rest) × (ignored ≡ here + later) × LineGives before line first here × LinesGive (before ++ line ∷ []) lines rest later
 
+-- whatever lines stand before, lines have one list of samples and one number of ignored lines
+abbrev pub OneReading : Type 0
+OneReading = (before lines : List (List ℕ)) (samples others : List Measurement) (ignored count : ℕ) → LinesGive before lines samples ignored → LinesGive before lines others count → (samples ≡ others) × (ignored ≡ count)
+
 -- a value that is out of range: the magnitude of its scaled value, whichever sample of the pair has it, is above 10^16
 abbrev pub IsLarge : List ℕ → List ℕ → Type 0
 IsLarge value unit = (sample : Measurement) → IsSampleOf [] value unit sample → 10 ^ 16 < unsigned_abs sample.value
 
+-- one of the pairs has a value that is out of range
 abbrev pub HasLarge : List (List ℕ) → Type 0
 HasLarge [] = ⊥
 HasLarge (value ∷ []) = ⊥
@@ -93,6 +83,7 @@ pub record IsFirstOver (lines : List (List ℕ)) (number : ℕ) : Type 0 where
   pub over : IsOverAt lines (number - 1)
   pub first : (k : ℕ) → k < number - 1 → ¬ IsOverAt lines k
 
+-- none of the first n lines is out of range
 abbrev pub NoneOverBelow : List (List ℕ) → ℕ → Type 0
 NoneOverBelow lines n = (k : ℕ) → k < n → ¬ IsOverAt lines k
 
@@ -100,7 +91,6 @@ NoneOverBelow lines n = (k : ℕ) → k < n → ¬ IsOverAt lines k
 pub record IsRead (bytes : List ℕ) (samples : List Measurement) (ignored : ℕ) : Type 0 where
   pub text : IsUtf8 bytes
   pub gives : LinesGive [] (lines_of bytes) samples ignored
-  pub only : (others : List Measurement) (count : ℕ) → LinesGive [] (lines_of bytes) others count → (others ≡ samples) × (count ≡ ignored)
   pub in_range : NoneOverBelow (lines_of bytes) (length (lines_of bytes))
 
 -- no line is out of range, and there are more samples than a run may have

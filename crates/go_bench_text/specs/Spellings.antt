@@ -1,8 +1,8 @@
 -- How samples are written, so that reading the text gives them back.
-use Rattle.std.specs.Prelude.{◌≡◌, ◌≢◌, ℕ, ◌-◌, ◌<◌, Bool, true, ◌&&◌, not, List, [], ◌∷◌, ◌++◌, length, codes, ◌==◌, slice_index, slice_index_or, ℤ, pos}
+use Rattle.std.specs.Prelude.{◌≡◌, ◌≢◌, ℕ, ◌-◌, ◌<◌, Bool, true, ◌&&◌, not, List, [], ◌∷◌, ◌++◌, length, codes, ◌==◌, slice_index, slice_index_or, pos}
 use Rattle.std.specs.List.{list_all, list_any}
 use Rattle.std.specs.Str.{chars}
-use Rattle.metric_table.specs.Table.{OfRow, Row}
+use Rattle.metric_table.specs.Table.{row_of}
 use Rattle.fixed_value.specs.Fixed.{fixed_text}
 use Rattle.history_model.specs.Samples.{Measurement}
 use Rattle.go_bench_text.specs.Characters.{is_black, is_name, is_blank}
@@ -42,19 +42,21 @@ abbrev pub pkg_line : List ℕ → List ℕ
 pkg_line [] = codes "pkg:"
 pkg_line (b ∷ pkg) = codes "pkg: " ++ b ∷ pkg
 
--- the line of one value with its unit
-abbrev pub result_line : List ℕ → ℤ → ℕ → List ℕ → List ℕ
-result_line name value d metric = (codes "Benchmark" ++ name) ++ (codes " 1 " ++ (fixed_text value d ++ 32 ∷ metric))
+-- the text of a sample's value, with the decimals of its metric
+abbrev pub value_text : Measurement → List ℕ
+value_text sample = fixed_text sample.value (row_of sample.metric).decimals
+
+-- the line of a sample: the name, the value, and the metric as its unit
+abbrev pub result_line : List ℕ → Measurement → List ℕ
+result_line name sample = (codes "Benchmark" ++ name) ++ (codes " 1 " ++ (value_text sample ++ 32 ∷ sample.metric))
 
 -- the text of a sample: a line that sets `pkg`, and a result line with the value by its metric's decimals
 pub record IsSpelling (sample : Measurement) (text : List ℕ) : Type 0 where
   pub pkg : List ℕ
   pub name : List ℕ
-  pub d : ℕ
   pub written : IsWrittenBy sample.test pkg name
   pub unit : list_all is_black (chars sample.metric) ≡ true
-  pub decimals : OfRow sample.metric (λ (row : Row). d ≡ row.decimals)
-  pub lines : text ≡ pkg_line pkg ++ 10 ∷ (result_line name sample.value d sample.metric ++ 10 ∷ [])
+  pub lines : text ≡ pkg_line pkg ++ 10 ∷ (result_line name sample ++ 10 ∷ [])
 
 -- the texts of the samples, one behind the other
 abbrev pub AreSpelled : List Measurement → List ℕ → Type 0
@@ -68,6 +70,7 @@ pub record HasSpelling (sample : Measurement) : Type 0 where
   pub written : IsWrittenBy sample.test pkg name
   pub unit : list_all is_black (chars sample.metric) ≡ true
 
+-- what stands at a place behind the last sample
 abbrev pub nowhere : Measurement
 nowhere = record { test = []; metric = []; value = pos 0 }
 

@@ -1,6 +1,7 @@
 ghost use Rattle.std.specs.Prelude.{◌≡◌, ◌∷◌, [], OnOk};
 
 use history_model::{NoMemory, Sample, Samples};
+use metric_table::Limit;
 use std::alloc::Global;
 
 // The samples of a text so far, or the note that there are more than a run may have.
@@ -9,9 +10,6 @@ pub(crate) struct Gathered {
     pub(crate) samples: Samples,
     pub(crate) full: bool,
 }
-
-// How many samples a run may have.
-const MOST: usize = 65_536;
 
 impl Gathered {
     ghost use Rattle.go_bench_text.specs.Gathering.{Keeps, Gains};
@@ -28,7 +26,7 @@ impl Gathered {
     pub(crate) fn add(&mut self, sample: Sample) -> Result<(), NoMemory>
         ensures { OnOk result (Gains self.old self.new (sample ∷ [])) }
     {
-        if self.full || self.samples.len() >= MOST {
+        if self.full || self.samples.len() as u64 >= Limit::RunSamples.most() {
             self.full = true;
             return Ok(());
         }

@@ -2,10 +2,10 @@ ghost use Rattle.std.specs.Prelude.{◌≡◌, ◌<◌, ◌≤◌, ◌^◌, ℕ,
 ghost use Rattle.std.specs.Str.{IsUtf8};
 ghost use Rattle.history_model.specs.Samples.{Measurement};
 ghost use Rattle.go_bench_text.specs.Lines.{IsNumeral};
-ghost use Rattle.go_bench_text.specs.Readings.{test_of, IsOneSampleOf, IsLarge};
+ghost use Rattle.go_bench_text.specs.Readings.{test_of, IsSampleOf, IsLarge};
 
 use crate::memory::LineFault;
-use fixed_value::{Numeral, OutOfRange, scale, scaled_law};
+use fixed_value::{Numeral, OutOfRange, numeral_law, scale, scaled_law};
 use history_model::Sample;
 use line_text::{Name, NameError};
 use metric_table::decimals;
@@ -50,7 +50,7 @@ pub(crate) fn test_name(alloc: Global, pkg: &str, name: &str) -> Result<Name, Li
 // The value, scaled by the decimals of its unit.
 fn scaled_value(value: &str, unit: &str) -> Result<i64, LineFault>
     requires { IsNumeral value.now }
-    ensures ok { IfOk result (λ scaled. (test : List ℕ) → IsOneSampleOf test value.now unit.now (record { test = test; metric = unit.now; value = scaled })) }
+    ensures ok { IfOk result (λ scaled. (test : List ℕ) → IsSampleOf test value.now unit.now (record { test = test; metric = unit.now; value = scaled })) }
     ensures within { IfOk result (λ scaled. unsigned_abs scaled ≤ 10 ^ 16) }
     ensures in_range { OnOk result (¬ IsLarge value.now unit.now) }
     ensures over { result ≡ Err LineFault.OutOfRange → IsLarge value.now unit.now }
@@ -58,6 +58,7 @@ fn scaled_value(value: &str, unit: &str) -> Result<i64, LineFault>
     let Some(numeral) = Numeral::read(value.as_bytes()) else {
         unreachable!();
     };
+    numeral_law();
     scaled_law();
     match scale(&numeral, decimals(unit.as_bytes())) {
         Ok(scaled) => Ok(scaled),
@@ -75,7 +76,7 @@ pub(crate) fn sample_of(
     requires value { IsNumeral value.now }
     requires unit { 0 < length unit.now }
     requires short { length unit.now ≤ 64 }
-    ensures ok { IfOk result (λ sample. IsOneSampleOf test.now value.now unit.now sample) }
+    ensures ok { IfOk result (λ sample. IsSampleOf test.now value.now unit.now sample) }
     ensures in_range { OnOk result (¬ IsLarge value.now unit.now) }
     ensures over { result ≡ Err LineFault.OutOfRange → IsLarge value.now unit.now }
 {

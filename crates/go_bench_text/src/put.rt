@@ -1,10 +1,10 @@
-ghost use Rattle.std.specs.Prelude.{◌≡◌, length, ◌++◌, ◌∷◌, [], true, ℕ, List, IfOk, OnOk, IfSome, IfNone};
+ghost use Rattle.std.specs.Prelude.{◌≡◌, ◌++◌, ◌∷◌, [], true, ℕ, List, IfOk, OnOk, IfSome, IfNone};
 ghost use Rattle.std.specs.List.{list_all};
-ghost use Rattle.std.specs.Str.{chars, IsUtf8};
-ghost use Rattle.line_text.specs.Lines.{lines_of};
+ghost use Rattle.std.specs.Str.{chars};
+ghost use Rattle.metric_table.specs.Table.{row_of};
 ghost use Rattle.go_bench_text.specs.Characters.{is_black};
-ghost use Rattle.go_bench_text.specs.Readings.{LinesGive, NoneOverBelow};
-ghost use Rattle.go_bench_text.specs.Spellings.{IsWrittenBy, HasSpelling, IsSpelling, AreSpelled, IsFirstUnspelled, pkg_line, result_line};
+ghost use Rattle.go_bench_text.specs.Readings.{IsRead};
+ghost use Rattle.go_bench_text.specs.Spellings.{IsWrittenBy, HasSpelling, IsSpelling, AreSpelled, IsFirstUnspelled, pkg_line, value_text, result_line};
 
 use crate::memory::NoMemory;
 use crate::spelling::{are_black, written_by};
@@ -61,20 +61,29 @@ fn put_pkg(out: &mut Vec<u8>, pkg: &str) -> Result<(), NoMemory>
     Ok(())
 }
 
+// How many decimals the value of a sample is written with.
+fn places_of(sample: &Sample) -> u8
+    ensures { result ≡ (row_of sample.now.metric).decimals }
+{
+    decimals(sample.metric.as_str().as_bytes())
+}
+
+// Appends the value of a sample, with the decimals of its metric.
+fn put_value(alloc: Global, out: &mut Vec<u8>, sample: &Sample) -> Result<(), NoMemory>
+    ensures { OnOk result (out.new.items ≡ out.old.items ++ value_text sample.now) }
+{
+    put_fixed(alloc, out, sample.value, places_of(sample))?;
+    Ok(())
+}
+
 // Appends the result line of a sample.
-fn put_result(
-    alloc: Global,
-    out: &mut Vec<u8>,
-    name: &str,
-    sample: &Sample,
-    d: u8,
-) -> Result<(), NoMemory>
-    ensures { OnOk result (out.new.items ≡ out.old.items ++ (result_line name.now sample.now.value d sample.now.metric ++ 10 ∷ [])) }
+fn put_result(alloc: Global, out: &mut Vec<u8>, name: &str, sample: &Sample) -> Result<(), NoMemory>
+    ensures { OnOk result (out.new.items ≡ out.old.items ++ (result_line name.now sample.now ++ 10 ∷ [])) }
 {
     out.extend_from_slice(b"Benchmark")?;
     out.extend_from_slice(name.as_bytes())?;
     out.extend_from_slice(b" 1 ")?;
-    put_fixed(alloc, out, sample.value, d)?;
+    put_value(alloc, out, sample)?;
     out.push(b' ')?;
     out.extend_from_slice(sample.metric.as_str().as_bytes())?;
     out.push(b'\n')?;
@@ -94,13 +103,7 @@ fn put_sample(
     ensures { OnOk result ((text : List ℕ) × IsSpelling sample.now text × (out.new.items ≡ out.old.items ++ text)) }
 {
     put_pkg(out, pkg)?;
-    put_result(
-        alloc,
-        out,
-        name,
-        sample,
-        decimals(sample.metric.as_str().as_bytes()),
-    )?;
+    put_result(alloc, out, name, sample)?;
     Ok(())
 }
 
@@ -111,9 +114,7 @@ fn put_sample(
 /// Linear in the samples; takes memory for the text alone.
 pub fn put_go(alloc: Global, samples: &Samples) -> Result<Vec<u8>, PutFault>
     ensures ok { IfOk result (λ text. AreSpelled samples.now text.items) }
-    ensures text { IfOk result (λ text. IsUtf8 text.items) }
-    ensures back { IfOk result (λ text. LinesGive [] (lines_of text.items) samples.now 0) }
-    ensures in_range { IfOk result (λ text. NoneOverBelow (lines_of text.items) (length (lines_of text.items))) }
+    ensures back { IfOk result (λ text. IsRead text.items samples.now 0) }
     ensures cannot { (place : ℕ) → result ≡ Err (PutFault.CannotWrite place) → IsFirstUnspelled samples.now place }
 {
     samples.limits();

@@ -8,14 +8,15 @@ ghost use Rattle.metric_table.specs.declared.limits.Limit.TheVariants.{RunSample
 ghost use Rattle.go_bench_text.specs.Added.{AddsLine};
 ghost use Rattle.go_bench_text.specs.Gathering.{Keeps};
 ghost use Rattle.go_bench_text.specs.Lines.{value_of};
-ghost use Rattle.go_bench_text.specs.Readings.{sets_pkg, pkg_of, IsOver, IsRead, IsFirstOver, HasTooMany};
+ghost use Rattle.go_bench_text.specs.Readings.{sets_pkg, pkg_of, IsOver, IsRead, IsFirstOver, HasTooMany, OneReading};
 
 use crate::added::add_measured;
 use crate::config::setting_of;
 use crate::gathered::Gathered;
 use crate::kinds::begins;
 use crate::memory::LineFault;
-use history_model::Samples;
+use fixed_value::{numeral_law, scaled_law};
+use history_model::{NoMemory, Samples};
 use metric_table::Limit;
 use std::alloc::Global;
 
@@ -26,6 +27,18 @@ pub struct GoRun {
     pub samples: Samples,
     /// How many lines begin with `Benchmark` and are no result lines.
     pub ignored: u64,
+}
+
+impl GoRun {
+    /// An equal run of its own. Linear in the number of samples.
+    pub fn copy(&self, alloc: Global) -> Result<GoRun, NoMemory>
+        ensures { IfOk result (λ made. made ≡ self.now) }
+    {
+        Ok(GoRun {
+            samples: self.samples.copy(alloc)?,
+            ignored: self.ignored,
+        })
+    }
 }
 
 /// Why a text gives no samples.
@@ -124,6 +137,16 @@ fn read_text(alloc: Global, bytes: &[u8]) -> Result<GoRun, GoFault>
     })
 }
 
+/// Lines behind the same lines have one list of samples and one number of ignored lines. Does nothing: its contract is
+/// what it is for. With it, what is read as some samples is read as no others: neither the text that `put_go` gives nor
+/// a text that `read_go` reads has a second reading.
+pub fn one_reading_law()
+    ensures { OneReading }
+{
+    numeral_law();
+    scaled_law();
+}
+
 /// The samples of a text of benchmark output: one for each pair of a value and a unit on its result lines, in order.
 ///
 /// The test of a sample is the value of `pkg` on the last configuration line before it that sets it, `#`, and the name
@@ -145,5 +168,6 @@ pub fn read_go(alloc: Global, bytes: &[u8]) -> Result<GoRun, GoFault>
     ensures full { (limit : Limit) → result ≡ Err (GoFault.Full limit) → limit ≡ Limit.RunSamples }
     ensures many { (limit : Limit) → result ≡ Err (GoFault.Full limit) → HasTooMany bytes.now }
 {
+    one_reading_law();
     read_text(alloc, bytes)
 }

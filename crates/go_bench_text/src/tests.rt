@@ -1,4 +1,4 @@
-use crate::{GoFault, LineKind, line_kind, put_go, read_go};
+use crate::{GoFault, GoRun, LineKind, line_kind, put_go, read_go};
 use history_model::{Sample, Samples};
 use line_text::{Name, NameError};
 use metric_table::Limit;
@@ -8,10 +8,14 @@ use std::test::Fail;
 
 // What a text is read as, in words.
 fn told(alloc: Global, text: &[u8]) -> Result<String, AllocError> {
-    let run = match read_go(alloc, text) {
-        Ok(run) => run,
-        Err(fault) => return format!(in alloc; "{fault:?}"),
-    };
+    match read_go(alloc, text) {
+        Ok(run) => listed(alloc, &run),
+        Err(fault) => format!(in alloc; "{fault:?}"),
+    }
+}
+
+// What a text has, in words.
+fn listed(alloc: Global, run: &GoRun) -> Result<String, AllocError> {
     let mut out = String::new(alloc);
     for sample in run.samples.as_slice() {
         let line = format!(in alloc;
@@ -62,89 +66,92 @@ fn lines_have_the_kinds_of_the_rules(rt: HostRuntime) {
     }
 }
 
+// Texts, and what they are read as.
+const TEXTS: [(&str, &str); 21] = [
+    (
+        "goos: linux\ngoarch: amd64\npkg: example.com/fib\ncpu: Intel(R) Xeon(R) CPU\nBenchmarkFib10-8   5000000   325.4 ns/op   16 B/op   2 allocs/op\nBenchmarkFib20-8   50000   40537 ns/op\nPASS\nok  example.com/fib  3.412s\n",
+        "example.com/fib#Fib10-8 ns/op 3254000\nexample.com/fib#Fib10-8 B/op 16\nexample.com/fib#Fib10-8 allocs/op 2\nexample.com/fib#Fib20-8 ns/op 405370000\nignored 0\n",
+    ),
+    (
+        "BenchmarkA 1 5\nBenchmarkB 1 Inf ns/op\nBenchmark 1 7 B/op\nBenchmarkfoo 1 2 ns/op\n",
+        "# B/op 7\nignored 3\n",
+    ),
+    ("BenchmarkX 1 1000000000000.0001 ns/op", "OutOfRange(1)"),
+    (
+        "BenchmarkX 1 1000000000000 ns/op",
+        "X ns/op 10000000000000000\nignored 0\n",
+    ),
+    (
+        "\nPASS\nBenchmarkX 1 5 ns/op\nBenchmarkX 1 1e13 ns/op\nBenchmarkX 1 1e14 ns/op",
+        "OutOfRange(4)",
+    ),
+    ("", "ignored 0\n"),
+    (
+        "pkg: a\r\r\nBenchmarkX 1 5 B/op\r\n",
+        "a#X B/op 5\nignored 0\n",
+    ),
+    (
+        "pkg:\t \ta\tb \nBenchmarkX\t1\t 5  \t B/op",
+        "a\tb #X B/op 5\nignored 0\n",
+    ),
+    (
+        "pkg: a:b\nBenchmarkX 1 5 B/op\n",
+        "a:b#X B/op 5\nignored 0\n",
+    ),
+    (
+        "pkg: a\npkg:b\nBenchmarkX 1 5 B/op\npkg:\nBenchmarkX 1 6 B/op\nBenchmark 1 7 B/op\n",
+        "a#X B/op 5\nX B/op 6\n# B/op 7\nignored 0\n",
+    ),
+    (
+        "pkg: a\npkg: \r\nBenchmarkX 1 6 B/op\n",
+        "X B/op 6\nignored 0\n",
+    ),
+    (
+        "pkg: a\nPkg: b\n pkg: c\npkg : d\nBenchmark 1 6 B/op\n",
+        "a# B/op 6\nignored 0\n",
+    ),
+    (
+        "Benchmark\u{1c5} 1 2 B/op\nBenchmark\u{c9} 1 2 B/op\nBenchmark\u{e9} 1 2 B/op\n",
+        "\u{c9} B/op 2\nignored 2\n",
+    ),
+    (
+        "BenchmarkX\u{85}1\u{3000}3\u{2003}B/op\u{a0}4 c",
+        "X B/op 3\nX c 40000\nignored 0\n",
+    ),
+    (
+        "BenchmarkX\u{1c}1 3 B/op\nBenchmarkX 1 3 a\u{1f}b\n",
+        "X a\u{1f}b 30000\nignored 1\n",
+    ),
+    (
+        "BenchmarkX \u{663} 3 B/op\nBenchmarkX 3 \u{663} B/op\nBenchmarkX 1 2\nBenchmarkX 1 2 B/op 3\nBenchmarkX +1 2 B/op\n",
+        "ignored 5\n",
+    ),
+    (
+        "BenchmarkX 1 1e3 B/op 2.5E+2 B/op -15e-1 B/op +.5 B/op",
+        "ignored 1\n",
+    ),
+    (
+        "BenchmarkX 1 1e3 B/op 2.5E+2 B/op -15e-1 B/op +0.5 B/op",
+        "X B/op 1000\nX B/op 250\nX B/op -2\nX B/op 1\nignored 0\n",
+    ),
+    (
+        "BenchmarkX 1 1.000000000000000000000000000000000e+000 B/op\nBenchmarkX 1 1.0000000000000000000000000000000000e+000 B/op\n",
+        "X B/op 1\nignored 1\n",
+    ),
+    (
+        "BenchmarkX 1 1 uuuuuuuuuuuuuuuuuuuuuuuuuuuuuuuuuuuuuuuuuuuuuuuuuuuuuuuuuuuuuuuu\nBenchmarkX 1 1 uuuuuuuuuuuuuuuuuuuuuuuuuuuuuuuuuuuuuuuuuuuuuuuuuuuuuuuuuuuuuuuuu\n",
+        "X uuuuuuuuuuuuuuuuuuuuuuuuuuuuuuuuuuuuuuuuuuuuuuuuuuuuuuuuuuuuuuuu 10000\nignored 1\n",
+    ),
+    (
+        " BenchmarkX 1 2 B/op\nxBenchmarkX 1 2 B/op\nBenchmarking\n",
+        "ignored 1\n",
+    ),
+];
+
 #[test]
 fn texts_give_the_samples_of_the_rules(rt: HostRuntime) -> Result<(), Fail> {
     let alloc = rt.alloc();
-    for (text, wanted) in [
-        (
-            "goos: linux\ngoarch: amd64\npkg: example.com/fib\ncpu: Intel(R) Xeon(R) CPU\nBenchmarkFib10-8   5000000   325.4 ns/op   16 B/op   2 allocs/op\nBenchmarkFib20-8   50000   40537 ns/op\nPASS\nok  example.com/fib  3.412s\n",
-            "example.com/fib#Fib10-8 ns/op 3254000\nexample.com/fib#Fib10-8 B/op 16\nexample.com/fib#Fib10-8 allocs/op 2\nexample.com/fib#Fib20-8 ns/op 405370000\nignored 0\n",
-        ),
-        (
-            "BenchmarkA 1 5\nBenchmarkB 1 Inf ns/op\nBenchmark 1 7 B/op\nBenchmarkfoo 1 2 ns/op\n",
-            "# B/op 7\nignored 3\n",
-        ),
-        ("BenchmarkX 1 1000000000000.0001 ns/op", "OutOfRange(1)"),
-        (
-            "BenchmarkX 1 1000000000000 ns/op",
-            "X ns/op 10000000000000000\nignored 0\n",
-        ),
-        (
-            "\nPASS\nBenchmarkX 1 5 ns/op\nBenchmarkX 1 1e13 ns/op\nBenchmarkX 1 1e14 ns/op",
-            "OutOfRange(4)",
-        ),
-        ("", "ignored 0\n"),
-        (
-            "pkg: a\r\r\nBenchmarkX 1 5 B/op\r\n",
-            "a#X B/op 5\nignored 0\n",
-        ),
-        (
-            "pkg:\t \ta\tb \nBenchmarkX\t1\t 5  \t B/op",
-            "a\tb #X B/op 5\nignored 0\n",
-        ),
-        (
-            "pkg: a:b\nBenchmarkX 1 5 B/op\n",
-            "a:b#X B/op 5\nignored 0\n",
-        ),
-        (
-            "pkg: a\npkg:b\nBenchmarkX 1 5 B/op\npkg:\nBenchmarkX 1 6 B/op\nBenchmark 1 7 B/op\n",
-            "a#X B/op 5\nX B/op 6\n# B/op 7\nignored 0\n",
-        ),
-        (
-            "pkg: a\npkg: \r\nBenchmarkX 1 6 B/op\n",
-            "X B/op 6\nignored 0\n",
-        ),
-        (
-            "pkg: a\nPkg: b\n pkg: c\npkg : d\nBenchmark 1 6 B/op\n",
-            "a# B/op 6\nignored 0\n",
-        ),
-        (
-            "Benchmark\u{1c5} 1 2 B/op\nBenchmark\u{c9} 1 2 B/op\nBenchmark\u{e9} 1 2 B/op\n",
-            "\u{c9} B/op 2\nignored 2\n",
-        ),
-        (
-            "BenchmarkX\u{85}1\u{3000}3\u{2003}B/op\u{a0}4 c",
-            "X B/op 3\nX c 40000\nignored 0\n",
-        ),
-        (
-            "BenchmarkX\u{1c}1 3 B/op\nBenchmarkX 1 3 a\u{1f}b\n",
-            "X a\u{1f}b 30000\nignored 1\n",
-        ),
-        (
-            "BenchmarkX \u{663} 3 B/op\nBenchmarkX 3 \u{663} B/op\nBenchmarkX 1 2\nBenchmarkX 1 2 B/op 3\nBenchmarkX +1 2 B/op\n",
-            "ignored 5\n",
-        ),
-        (
-            "BenchmarkX 1 1e3 B/op 2.5E+2 B/op -15e-1 B/op +.5 B/op",
-            "ignored 1\n",
-        ),
-        (
-            "BenchmarkX 1 1e3 B/op 2.5E+2 B/op -15e-1 B/op +0.5 B/op",
-            "X B/op 1000\nX B/op 250\nX B/op -2\nX B/op 1\nignored 0\n",
-        ),
-        (
-            "BenchmarkX 1 1.000000000000000000000000000000000e+000 B/op\nBenchmarkX 1 1.0000000000000000000000000000000000e+000 B/op\n",
-            "X B/op 1\nignored 1\n",
-        ),
-        (
-            "BenchmarkX 1 1 uuuuuuuuuuuuuuuuuuuuuuuuuuuuuuuuuuuuuuuuuuuuuuuuuuuuuuuuuuuuuuuu\nBenchmarkX 1 1 uuuuuuuuuuuuuuuuuuuuuuuuuuuuuuuuuuuuuuuuuuuuuuuuuuuuuuuuuuuuuuuuu\n",
-            "X uuuuuuuuuuuuuuuuuuuuuuuuuuuuuuuuuuuuuuuuuuuuuuuuuuuuuuuuuuuuuuuu 10000\nignored 1\n",
-        ),
-        (
-            " BenchmarkX 1 2 B/op\nxBenchmarkX 1 2 B/op\nBenchmarking\n",
-            "ignored 1\n",
-        ),
-    ] {
+    for (text, wanted) in TEXTS {
         assert_eq!(rt;
             told(alloc, text.as_bytes())?.as_str(),
             wanted,
@@ -165,6 +172,18 @@ fn the_output_of_go_is_read(rt: HostRuntime) -> Result<(), Fail> {
     let wanted =
         "example.com/store/index#Lookup-8 ns/op 786100\nexample.com/store/index#Lookup-8 B/op 0\nexample.com/store/index#Lookup-8 allocs/op 0\nexample.com/store/index#Insert/keys=100-8 ns/op 65410000\nexample.com/store/index#Insert/keys=100-8 B/op 4096\nexample.com/store/index#Insert/keys=100-8 allocs/op 12\nexample.com/store/index#Insert/keys=10000-8 ns/op 7318420000\nexample.com/store/index#Insert/keys=10000-8 B/op 524288\nexample.com/store/index#Insert/keys=10000-8 allocs/op 145\nexample.com/store/index#Scan/sequential/warm-8 ns/op 23018775000\nexample.com/store/index#Scan/sequential/warm-8 MB/s 4555300\nexample.com/store/index#Scan/sequential/warm-8 B/op 128\nexample.com/store/index#Scan/sequential/warm-8 allocs/op 3\nexample.com/store/index#Merge-8 ns/op 5842100000\nexample.com/store/index#Merge-8 probes/op 172500\nexample.com/store/cache#Evict-8 ns/op 3127\nexample.com/store/cache#Fill-8 ns/op 15000000000000\nexample.com/store/cache#Fill-8 hit% 987000\nignored 1\n";
     assert_eq!(rt; told(rt.alloc(), PRINTED.as_bytes())?.as_str(), wanted);
+    Ok(())
+}
+
+#[test]
+fn what_was_read_is_copied_whole(rt: HostRuntime) -> Result<(), Fail> {
+    let alloc = rt.alloc();
+    let text = b"pkg: a\nBenchmarkX 1 5 B/op 6 ns/op\nBenchmarkY\n";
+    let run = read_go(alloc, text).map_err(|_| "two samples")?;
+    let made = run.copy(alloc)?;
+    let wanted = "a#X B/op 5\na#X ns/op 60000\nignored 1\n";
+    assert_eq!(rt; listed(alloc, &made)?.as_str(), wanted);
+    assert_eq!(rt; listed(alloc, &run)?.as_str(), wanted);
     Ok(())
 }
 
@@ -222,60 +241,63 @@ fn put_told(alloc: Global, test: &str, metric: &str, value: i32) -> Result<Vec<u
     }
 }
 
+// Samples, and what is put of them behind another one.
+const SAMPLES: [(&str, &str, i32, &str); 15] = [
+    (
+        "#",
+        "B/op",
+        7,
+        "pkg:\nBenchmarkA 1 0 B/op\npkg:\nBenchmark 1 7 B/op\n",
+    ),
+    (
+        "Fib-8",
+        "ns/op",
+        3254000,
+        "pkg:\nBenchmarkA 1 0 B/op\npkg:\nBenchmarkFib-8 1 325.4000 ns/op\n",
+    ),
+    (
+        "A#B",
+        "B/op",
+        -3,
+        "pkg:\nBenchmarkA 1 0 B/op\npkg:\nBenchmarkA#B 1 -3 B/op\n",
+    ),
+    (
+        "a#b#C",
+        "B/op",
+        1,
+        "pkg:\nBenchmarkA 1 0 B/op\npkg: a#b\nBenchmarkC 1 1 B/op\n",
+    ),
+    (
+        "a#B#C",
+        "B/op",
+        1,
+        "pkg:\nBenchmarkA 1 0 B/op\npkg: a\nBenchmarkB#C 1 1 B/op\n",
+    ),
+    (
+        "a#",
+        "execution_time",
+        5,
+        "pkg:\nBenchmarkA 1 0 B/op\npkg: a\nBenchmark 1 0.000000005 execution_time\n",
+    ),
+    (
+        "a b#\u{c9}t\u{e9}",
+        "u",
+        1,
+        "pkg:\nBenchmarkA 1 0 B/op\npkg: a b\nBenchmark\u{c9}t\u{e9} 1 0.0001 u\n",
+    ),
+    ("A b", "u", 1, "CannotWrite(1)"),
+    ("#A", "u", 1, "CannotWrite(1)"),
+    (" a#A", "u", 1, "CannotWrite(1)"),
+    ("a\r#A", "u", 1, "CannotWrite(1)"),
+    ("a\nb#A", "u", 1, "CannotWrite(1)"),
+    ("a#b", "u", 1, "CannotWrite(1)"),
+    ("A", "a b", 1, "CannotWrite(1)"),
+    ("A", "a\u{3000}", 1, "CannotWrite(1)"),
+];
+
 #[test]
 fn samples_are_put_by_the_rules(rt: HostRuntime) -> Result<(), Fail> {
-    for (test, metric, value, wanted) in [
-        (
-            "#",
-            "B/op",
-            7,
-            "pkg:\nBenchmarkA 1 0 B/op\npkg:\nBenchmark 1 7 B/op\n",
-        ),
-        (
-            "Fib-8",
-            "ns/op",
-            3254000,
-            "pkg:\nBenchmarkA 1 0 B/op\npkg:\nBenchmarkFib-8 1 325.4000 ns/op\n",
-        ),
-        (
-            "A#B",
-            "B/op",
-            -3,
-            "pkg:\nBenchmarkA 1 0 B/op\npkg:\nBenchmarkA#B 1 -3 B/op\n",
-        ),
-        (
-            "a#b#C",
-            "B/op",
-            1,
-            "pkg:\nBenchmarkA 1 0 B/op\npkg: a#b\nBenchmarkC 1 1 B/op\n",
-        ),
-        (
-            "a#B#C",
-            "B/op",
-            1,
-            "pkg:\nBenchmarkA 1 0 B/op\npkg: a\nBenchmarkB#C 1 1 B/op\n",
-        ),
-        (
-            "a#",
-            "execution_time",
-            5,
-            "pkg:\nBenchmarkA 1 0 B/op\npkg: a\nBenchmark 1 0.000000005 execution_time\n",
-        ),
-        (
-            "a b#\u{c9}t\u{e9}",
-            "u",
-            1,
-            "pkg:\nBenchmarkA 1 0 B/op\npkg: a b\nBenchmark\u{c9}t\u{e9} 1 0.0001 u\n",
-        ),
-        ("A b", "u", 1, "CannotWrite(1)"),
-        ("#A", "u", 1, "CannotWrite(1)"),
-        (" a#A", "u", 1, "CannotWrite(1)"),
-        ("a\r#A", "u", 1, "CannotWrite(1)"),
-        ("a\nb#A", "u", 1, "CannotWrite(1)"),
-        ("a#b", "u", 1, "CannotWrite(1)"),
-        ("A", "a b", 1, "CannotWrite(1)"),
-        ("A", "a\u{3000}", 1, "CannotWrite(1)"),
-    ] {
+    for (test, metric, value, wanted) in SAMPLES {
         let put = put_told(rt.alloc(), test, metric, value)?;
         assert_eq!(rt; put.as_slice(), wanted.as_bytes(), "at {test:?}");
     }

@@ -206,10 +206,10 @@ close_member_back b tree members key frames rest whole l = elim (chosen (λ (o :
     joined (equal b 44 is) (e ∙ sym (append_assoc one inside (125 ∷ more))),
     tt,
     (one, inside, refl, entry, all),
-    subst (λ all. Closes frames (object all) more whole) (then_and_members (then_member members key tree) other next further) k,
+    subst (λ all. Closes frames (object all) more whole) (then_and_members (then_member members (key, tree)) other next further) k,
   )
   | inr (is, l1) ↦ elim (chosen (λ (o : Option State). Leads o rest whole) (b == 125) _ _ l1) [
-    | inl (is, k) ↦ ([], [], rest, no_members, joined (equal b 125 is) refl, tt, refl, subst (λ all. Closes frames (object all) rest whole) (sym (and_no_members (then_member members key tree))) k)
+    | inl (is, k) ↦ ([], [], rest, no_members, joined (equal b 125 is) refl, tt, refl, subst (λ all. Closes frames (object all) rest whole) (sym (and_no_members (then_member members (key, tree)))) k)
     | inr (is, none) ↦ absurd none
   ]
 ]

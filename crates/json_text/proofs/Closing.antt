@@ -7,7 +7,7 @@ use Rattle.json_text.specs.View.{tree_of, items_view, members_view}
 use Rattle.json_text.specs.declared.tree.Json as json
 use Rattle.json_text.specs.declared.tree.JsonList.{JsonList}
 use Rattle.json_text.specs.declared.tree.JsonMembers.{JsonMembers}
-use Rattle.json_text.specs.View.{tree_of-list, tree_of-object}
+use Rattle.json_text.proofs.Variants.{tree_of-list, tree_of-object}
 
 pub list_closed : (b : ℕ) (tree : Tree) (frames outer : List Frame) (before after : JsonList) → frames ≡ in_list (items_view before) ∷ outer → b ≡ 93
     → items_view after ≡ then_item (items_view before) tree → close b tree frames ≡ Some (ended (tree_of (json.List after)), outer)
@@ -16,7 +16,7 @@ list_closed b tree frames outer before after e is all =
     ∙ ap (λ items. Some (ended (list items), outer)) (sym all) ∙ ap (λ (whole : Tree). Some (ended whole, outer)) (sym (tree_of-list after))
 
 pub object_closed : (b : ℕ) (tree : Tree) (frames outer : List Frame) (before after : JsonMembers) (key : List ℕ) → frames ≡ in_member (members_view before) key ∷ outer → b ≡ 125
-    → members_view after ≡ then_member (members_view before) key tree → close b tree frames ≡ Some (ended (tree_of (json.Object after)), outer)
+    → members_view after ≡ then_member (members_view before) (key, tree) → close b tree frames ≡ Some (ended (tree_of (json.Object after)), outer)
 object_closed b tree frames outer before after key e is all =
-    ap (close b tree) e ∙ subst (λ c. close c tree (in_member (members_view before) key ∷ outer) ≡ Some (ended (object (then_member (members_view before) key tree)), outer)) (sym is) refl
+    ap (close b tree) e ∙ subst (λ c. close c tree (in_member (members_view before) key ∷ outer) ≡ Some (ended (object (then_member (members_view before) (key, tree))), outer)) (sym is) refl
     ∙ ap (λ members. Some (ended (object members), outer)) (sym all) ∙ ap (λ (whole : Tree). Some (ended whole, outer)) (sym (tree_of-object after))

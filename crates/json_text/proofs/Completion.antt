@@ -28,7 +28,7 @@ Closes [] tree rest whole = IsBlank rest × (tree ≡ whole)
 Closes (in_list items ∷ frames) tree rest whole = (after inside more : List ℕ) × (others : Items) × (rest ≡ after ++ (inside ++ byte.close_list ∷ more))
     × IsBlank after × MoreItems inside others × Closes frames (list (and_items (then_item items tree) others)) more whole
 Closes (in_member members key ∷ frames) tree rest whole = (after inside more : List ℕ) × (others : Members) × (rest ≡ after ++ (inside ++ byte.close_object ∷ more))
-    × IsBlank after × MoreMembers inside others × Closes frames (object (and_members (then_member members key tree) others)) more whole
+    × IsBlank after × MoreMembers inside others × Closes frames (object (and_members (then_member members (key, tree)) others)) more whole
 
 -- what ends a number from a place on
 abbrev pub EndsNumber : Digits → List ℕ → Type 0
@@ -80,7 +80,7 @@ abbrev pub Follows : Role → List Frame → List ℕ → List ℕ → Tree → 
 Follows as_value frames bytes rest whole = Closes frames (text bytes) rest whole
 Follows (as_key members) frames key rest whole = (after inside others more : List ℕ) × (tree : Tree) × (further : Members)
     × (rest ≡ after ++ byte.colon ∷ (inside ++ (others ++ byte.close_object ∷ more)))
-    × IsBlank after × Spaced (λ bytes. IsValue bytes tree) inside × MoreMembers others further × Closes frames (object (and_members (then_member members key tree) further)) more whole
+    × IsBlank after × Spaced (λ bytes. IsValue bytes tree) inside × MoreMembers others further × Closes frames (object (and_members (then_member members (key, tree)) further)) more whole
 
 -- The rest of these bytes, read from the mode on, ends the text of the whole tree.
 abbrev pub Completes : Mode → List Frame → List ℕ → Tree → Type 0
@@ -88,7 +88,7 @@ Completes value frames rest whole = (before inside more : List ℕ) × (tree : T
 Completes first_item frames rest whole = (inside more : List ℕ) × (items : Items) × (rest ≡ inside ++ byte.close_list ∷ more) × IsItems inside items × Closes frames (list items) more whole
 Completes first_key frames rest whole = (inside more : List ℕ) × (members : Members) × (rest ≡ inside ++ byte.close_object ∷ more) × IsMembers inside members × Closes frames (object members) more whole
 Completes (next_key so_far) frames rest whole = (one inside more key : List ℕ) × (tree : Tree) × (further : Members) × (rest ≡ one ++ (inside ++ byte.close_object ∷ more))
-    × IsMember (λ bytes. IsValue bytes tree) key one × MoreMembers inside further × Closes frames (object (and_members (then_member so_far key tree) further)) more whole
+    × IsMember (λ bytes. IsValue bytes tree) key one × MoreMembers inside further × Closes frames (object (and_members (then_member so_far (key, tree)) further)) more whole
 Completes (colon members key) frames rest whole = Follows (as_key members) frames key rest whole
 Completes (letters [] tree) frames rest whole = ⊥
 Completes (letters (letter ∷ left) tree) frames rest whole = (more : List ℕ) × (rest ≡ letter ∷ (left ++ more)) × Closes frames tree more whole

@@ -36,9 +36,9 @@ close_items : (items : Items) (tree : Tree) (frames : List Frame) (most : ℕ) �
 close_items items tree frames most (rest, whole, k, less) =
     (93 ∷ rest, whole, ([], [], rest, no_items, refl, tt, refl, subst (λ all. Closes frames (list all) rest whole) (sym (and_no_items (then_item items tree))) k), less)
 
-close_members : (members : Members) (key : List ℕ) (tree : Tree) (frames : List Frame) (most : ℕ) → Closing frames (object (then_member members key tree)) most → Closing (in_member members key ∷ frames) tree most
+close_members : (members : Members) (key : List ℕ) (tree : Tree) (frames : List Frame) (most : ℕ) → Closing frames (object (then_member members (key, tree))) most → Closing (in_member members key ∷ frames) tree most
 close_members members key tree frames most (rest, whole, k, less) =
-    (125 ∷ rest, whole, ([], [], rest, no_members, refl, tt, refl, subst (λ all. Closes frames (object all) rest whole) (sym (and_no_members (then_member members key tree))) k), less)
+    (125 ∷ rest, whole, ([], [], rest, no_members, refl, tt, refl, subst (λ all. Closes frames (object all) rest whole) (sym (and_no_members (then_member members (key, tree)))) k), less)
 
 pub closing : (frames : List Frame) (tree : Tree) → Closing frames tree (around frames (nesting tree))
 closing [] tree = ([], tree, (tt, refl), omega arith)
@@ -48,16 +48,16 @@ closing (in_list items ∷ frames) tree =
     (around_grows frames (1 + items_nesting (then_item items tree)) (1 + max (items_nesting items) (nesting tree)) (omega (arith, all))) (closing frames (list (then_item items tree))))
 closing (in_member members key ∷ frames) tree =
     let all = then_member_nesting members key tree in
-    close_members members key tree frames _ (closing_less frames (object (then_member members key tree)) (around frames (1 + members_nesting (then_member members key tree))) (around frames (1 + max (members_nesting members) (nesting tree)))
-    (around_grows frames (1 + members_nesting (then_member members key tree)) (1 + max (members_nesting members) (nesting tree)) (omega (arith, all))) (closing frames (object (then_member members key tree))))
+    close_members members key tree frames _ (closing_less frames (object (then_member members (key, tree))) (around frames (1 + members_nesting (then_member members (key, tree)))) (around frames (1 + max (members_nesting members) (nesting tree)))
+    (around_grows frames (1 + members_nesting (then_member members (key, tree))) (1 + max (members_nesting members) (nesting tree)) (omega (arith, all))) (closing frames (object (then_member members (key, tree)))))
 
 -- the same within an object, behind a key
-member_closing : (members : Members) (key : List ℕ) (tree : Tree) (frames : List Frame) → nesting tree ≡ 0 → Closing frames (object (and_members (then_member members key tree) no_members)) (around frames (1 + members_nesting members))
+member_closing : (members : Members) (key : List ℕ) (tree : Tree) (frames : List Frame) → nesting tree ≡ 0 → Closing frames (object (and_members (then_member members (key, tree)) no_members)) (around frames (1 + members_nesting members))
 member_closing members key tree frames flat =
     let all = then_member_nesting members key tree in
-    subst (λ every. Closing frames (object every) (around frames (1 + members_nesting members))) (sym (and_no_members (then_member members key tree)))
-    (closing_less frames (object (then_member members key tree)) (around frames (1 + members_nesting (then_member members key tree))) (around frames (1 + members_nesting members))
-    (around_grows frames (1 + members_nesting (then_member members key tree)) (1 + members_nesting members) (omega (arith, all, flat))) (closing frames (object (then_member members key tree))))
+    subst (λ every. Closing frames (object every) (around frames (1 + members_nesting members))) (sym (and_no_members (then_member members (key, tree))))
+    (closing_less frames (object (then_member members (key, tree))) (around frames (1 + members_nesting (then_member members (key, tree)))) (around frames (1 + members_nesting members))
+    (around_grows frames (1 + members_nesting (then_member members (key, tree))) (1 + members_nesting members) (omega (arith, all, flat))) (closing frames (object (then_member members (key, tree)))))
 
 -- what ends a number
 number_ending : (place : Digits) → (tail : List ℕ) × EndsNumber place tail
@@ -207,10 +207,10 @@ closes_deep (in_list items ∷ frames) tree rest whole (after, inside, more, oth
     let grows = around_grows frames (1 + max (items_nesting items) (nesting tree)) (1 + items_nesting (and_items (then_item items tree) others)) (omega (arith, one, every)) in
     omega (arith, inner, grows)
 closes_deep (in_member members key ∷ frames) tree rest whole (after, inside, more, others, e, blank, all, k) =
-    let inner = closes_deep frames (object (and_members (then_member members key tree) others)) more whole k in
+    let inner = closes_deep frames (object (and_members (then_member members (key, tree)) others)) more whole k in
     let one = then_member_nesting members key tree in
-    let every = and_members_nesting (then_member members key tree) others in
-    let grows = around_grows frames (1 + max (members_nesting members) (nesting tree)) (1 + members_nesting (and_members (then_member members key tree) others)) (omega (arith, one, every)) in
+    let every = and_members_nesting (then_member members (key, tree)) others in
+    let grows = around_grows frames (1 + max (members_nesting members) (nesting tree)) (1 + members_nesting (and_members (then_member members (key, tree)) others)) (omega (arith, one, every)) in
     omega (arith, inner, grows)
 
 less_deep : (frames : List Frame) (n : ℕ) (tree : Tree) (rest : List ℕ) (whole : Tree) → n ≤ nesting tree → Closes frames tree rest whole → around frames n ≤ nesting whole
@@ -219,12 +219,12 @@ less_deep frames n tree rest whole h k =
     let grows = around_grows frames n (nesting tree) h in
     omega (arith, deep, grows)
 
-member_deep : (frames : List Frame) (members : Members) (key : List ℕ) (tree : Tree) (others : Members) (rest : List ℕ) (whole : Tree) → Closes frames (object (and_members (then_member members key tree) others)) rest whole
+member_deep : (frames : List Frame) (members : Members) (key : List ℕ) (tree : Tree) (others : Members) (rest : List ℕ) (whole : Tree) → Closes frames (object (and_members (then_member members (key, tree)) others)) rest whole
     → around frames (1 + members_nesting members) ≤ nesting whole
 member_deep frames members key tree others rest whole k =
     let one = then_member_nesting members key tree in
-    let every = and_members_nesting (then_member members key tree) others in
-    less_deep frames (1 + members_nesting members) (object (and_members (then_member members key tree) others)) rest whole (omega (arith, one, every)) k
+    let every = and_members_nesting (then_member members (key, tree)) others in
+    less_deep frames (1 + members_nesting members) (object (and_members (then_member members (key, tree)) others)) rest whole (omega (arith, one, every)) k
 
 follows_deep : (role : Role) (place : Within) (bytes held : List ℕ) (frames : List Frame) (rest : List ℕ) (whole : Tree) → Follows role frames bytes rest whole → around frames (inner_depth (content role place held)) ≤ nesting whole
 follows_deep as_value place bytes held frames rest whole k = closes_deep frames (text bytes) rest whole k

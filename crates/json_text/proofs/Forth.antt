@@ -173,7 +173,7 @@ pub and_no_members : (members : Members) → and_members members no_members ≡ 
 and_no_members no_members = refl
 and_no_members (member key tree members) = ap (member key tree) (and_no_members members)
 
-pub then_and_members : (members : Members) (key : List ℕ) (tree : Tree) (more : Members) → and_members (then_member members key tree) more ≡ and_members members (member key tree more)
+pub then_and_members : (members : Members) (key : List ℕ) (tree : Tree) (more : Members) → and_members (then_member members (key, tree)) more ≡ and_members members (member key tree more)
 then_and_members no_members key tree more = refl
 then_and_members (member first held members) key tree more = ap (member first held) (then_and_members members key tree more)
 
@@ -185,7 +185,7 @@ regroup_member before within after val rest = simp append_assoc
 -- a next key that may have white space before it
 pub next_key_forth : (before within after val others more key : List ℕ) (tree : Tree) (further so_far : Members) (b : ℕ) (rest : List ℕ) (frames : List Frame) (whole : Tree)
     → b ∷ rest ≡ before ++ (34 ∷ (within ++ 34 ∷ (after ++ 58 ∷ (val ++ (others ++ 125 ∷ more))))) → IsBlank before → Spells within key → IsBlank after
-    → Spaced (λ bytes. IsValue bytes tree) val → MoreMembers others further → Closes frames (object (and_members (then_member so_far key tree) further)) more whole
+    → Spaced (λ bytes. IsValue bytes tree) val → MoreMembers others further → Closes frames (object (and_members (then_member so_far (key, tree)) further)) more whole
     → Leads (step b (next_key so_far) frames) rest whole
 next_key_forth [] within after val others more key tree further so_far b rest frames whole e blank spells blank' v all k =
     along (λ c left. Leads (step c (next_key so_far) frames) left whole) e
@@ -238,7 +238,7 @@ member_parts one name before quoted within after val rest e f g =
 
 pub next_member_forth : (one others more key : List ℕ) (tree : Tree) (further so_far : Members) (b : ℕ) (rest : List ℕ) (frames : List Frame) (whole : Tree)
     → b ∷ rest ≡ one ++ (others ++ 125 ∷ more) → IsMember (λ bytes. IsValue bytes tree) key one → MoreMembers others further
-    → Closes frames (object (and_members (then_member so_far key tree) further)) more whole → Leads (step b (next_key so_far) frames) rest whole
+    → Closes frames (object (and_members (then_member so_far (key, tree)) further)) more whole → Leads (step b (next_key so_far) frames) rest whole
 next_member_forth one others more key tree further so_far b rest frames whole e (name, val, is, (before, quoted, after, is', blank, (within, is'', spells), blank'), v) all k =
     next_key_forth before within after val others more key tree further so_far b rest frames whole (e ∙ member_parts one name before quoted within after val (others ++ 125 ∷ more) is is' is'') blank spells blank' v all k
 
@@ -256,7 +256,7 @@ members_forth (member key tree further) inside more b rest frames whole e (one, 
 -- behind a key
 pub colon_forth : (after inside others more key : List ℕ) (tree : Tree) (further members : Members) (b : ℕ) (rest : List ℕ) (frames : List Frame) (whole : Tree)
     → b ∷ rest ≡ after ++ 58 ∷ (inside ++ (others ++ 125 ∷ more)) → IsBlank after → Spaced (λ bytes. IsValue bytes tree) inside → MoreMembers others further
-    → Closes frames (object (and_members (then_member members key tree) further)) more whole → Leads (step b (colon members key) frames) rest whole
+    → Closes frames (object (and_members (then_member members (key, tree)) further)) more whole → Leads (step b (colon members key) frames) rest whole
 colon_forth (w ∷ after) inside others more key tree further members b rest frames whole e blank v all k =
     along (λ c left. Leads (step c (colon members key) frames) left whole) e
     (when (λ (o : Option State). Leads o (after ++ 58 ∷ (inside ++ (others ++ 125 ∷ more))) whole) (is_blank w) _ _ blank.0 (after, inside, others, more, tree, further, refl, blank.1, v, all, k))
@@ -274,17 +274,17 @@ colon_forth [] inside others more key tree further members b rest frames whole e
 
 -- behind a value in an object
 pub in_member_forth : (after inside more key : List ℕ) (others members : Members) (tree : Tree) (b : ℕ) (rest : List ℕ) (frames : List Frame) (whole : Tree)
-    → b ∷ rest ≡ after ++ (inside ++ 125 ∷ more) → IsBlank after → MoreMembers inside others → Closes frames (object (and_members (then_member members key tree) others)) more whole
+    → b ∷ rest ≡ after ++ (inside ++ 125 ∷ more) → IsBlank after → MoreMembers inside others → Closes frames (object (and_members (then_member members (key, tree)) others)) more whole
     → Leads (after_value b tree (in_member members key ∷ frames)) rest whole
 in_member_forth (w ∷ after) inside more key others members tree b rest frames whole e blank all k =
     along (λ c left. Leads (after_value c tree (in_member members key ∷ frames)) left whole) e
     (when (λ (o : Option State). Leads o (after ++ (inside ++ 125 ∷ more)) whole) (is_blank w) _ _ blank.0 (after, inside, more, others, refl, blank.1, all, k))
 in_member_forth [] inside more key no_members members tree b rest frames whole e blank all k =
     along (λ c left. Leads (after_value c tree (in_member members key ∷ frames)) left whole) (e ∙ ap (λ bytes. bytes ++ 125 ∷ more) all)
-    (subst (λ all. Closes frames (object all) more whole) (and_no_members (then_member members key tree)) k)
+    (subst (λ all. Closes frames (object all) more whole) (and_no_members (then_member members (key, tree))) k)
 in_member_forth [] inside more key (member other next others) members tree b rest frames whole e blank (one, further, is, entry, all) k =
     along (λ c left. Leads (after_value c tree (in_member members key ∷ frames)) left whole) (e ∙ ap (λ bytes. bytes ++ 125 ∷ more) is ∙ ap (λ bytes. 44 ∷ bytes) (append_assoc one further (125 ∷ more)))
-    (one, further, more, other, next, others, refl, entry, all, subst (λ all. Closes frames (object all) more whole) (sym (then_and_members (then_member members key tree) other next others)) k)
+    (one, further, more, other, next, others, refl, entry, all, subst (λ all. Closes frames (object all) more whole) (sym (then_and_members (then_member members (key, tree)) other next others)) k)
 
 -- behind a value
 pub ended_forth : (frames : List Frame) (tree : Tree) (b : ℕ) (rest : List ℕ) (whole : Tree) → Closes frames tree (b ∷ rest) whole → Leads (after_value b tree frames) rest whole

@@ -11,10 +11,10 @@ pub mod Forth
 pub mod Numbers
 pub mod Parts
 pub mod Reach
-pub mod Repeats
 pub mod Runs
 pub mod Stack
 pub mod Steps
 pub mod Texts
 pub mod Units
+pub mod Variants
 pub mod Views

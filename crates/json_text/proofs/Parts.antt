@@ -1,19 +1,14 @@
 -- The items and members of a tree, as their vectors hold them.
-use Rattle.std.proofs.Common.{◌≡◌, true, false, ℕ, zero, suc, ◌+◌, ◌<◌, ◌≤◌, ◌⊎◌, inl, inr, List, [], ◌∷◌, ◌++◌, length, get_or, take, map, add-one, Option, Some, None, MatchOption, IfSome, Bor, arith, refl, sym, subst, ap, ◌∙◌}
-use Rattle.json_text.specs.Tree.{Tree, Members}
-use Rattle.json_text.specs.View.{items_of, members_of, tree_of, entry_of, entry_of-opened, items_view, members_view}
-use Rattle.json_text.specs.Parts.{item_count, item_at, member_count, member_at, HasKey, IsFirst}
+use Rattle.std.proofs.Common.{◌≡◌, ℕ, zero, suc, ◌+◌, ◌<◌, ◌≤◌, List, [], ◌∷◌, ◌++◌, length, get_or, take, map, add-one, Option, Some, None, MatchOption, IfSome, Bor, arith, refl, sym, ap, ◌∙◌}
+use Rattle.json_text.specs.View.{items_of, members_of, tree_of, entry_of, items_view, members_view}
+use Rattle.json_text.specs.Parts.{item_count, item_at, member_count, member_at, then_item, then_member}
 use Rattle.json_text.specs.declared.tree.Json.{Json}
 use Rattle.json_text.specs.declared.tree.JsonList.{JsonList, out-JsonList}
 use Rattle.json_text.specs.declared.tree.JsonMembers.{JsonMembers, out-JsonMembers}
-use Rattle.json_text.specs.declared.tree.Member.{Member, out-Member}
-use Rattle.json_text.specs.Parts.{then_item, then_member}
+use Rattle.json_text.specs.declared.tree.Member.{Member}
 use Rattle.std.proofs.Math.Seq.{take-suc}
 use Rattle.std.proofs.lemmas.List.{take_all}
 use Rattle.std.specs.List.{HoldsAt}
-use Rattle.std.specs.Str.{bytes_eq}
-use Rattle.std.proofs.lemmas.Slice.Eq.{bytes_eq-Decides}
-use Rattle.json_text.proofs.Runs.{below_or}
 use Rattle.json_text.proofs.Views.{items_of-end, members_of-end, map-end, items_view-opened, members_view-opened}
 
 count_items : (items : List Json) → item_count (items_of (map tree_of items)) ≡ length items
@@ -64,54 +59,6 @@ member_got made place None past here = ap (λ members. member_at members place) 
 member_got made place (Some entry) inside here =
     ap (λ members. member_at members place) (members_view-opened made) ∙ some_member (out-JsonMembers made).members.items place entry.now inside.0 ∙ ap (λ (x : Member). Some (entry_of x)) (sym here)
 
-pub member_here : (made : JsonMembers) (place : ℕ) (entry : Member) → place < length (out-JsonMembers made).members.items → entry ≡ get_or (out-JsonMembers made).members.items place entry
-    → member_at (members_view made) place ≡ Some ((out-Member entry).key, tree_of (out-Member entry).value)
-member_here made place entry inside here =
-    ap (λ members. member_at members place) (members_view-opened made) ∙ some_member (out-JsonMembers made).members.items place entry inside ∙ ap (λ (x : Member). Some (entry_of x)) (sym here)
-    ∙ ap (λ (x : List ℕ × Tree). Some x) (entry_of-opened entry)
-
-pub key_here : (made : JsonMembers) (place : ℕ) (entry : Member) → place < length (out-JsonMembers made).members.items → entry ≡ get_or (out-JsonMembers made).members.items place entry → HasKey (members_view made) place (out-Member entry).key
-key_here made place entry inside here = (tree_of (out-Member entry).value, member_here made place entry inside here)
-
--- a place has one key
-pub one_key : (members : Members) (place : ℕ) (key other : List ℕ) → HasKey members place key → HasKey members place other → key ≡ other
-one_key listed place key other (tree, e) (tree', e') =
-    let same : Some (key, tree) ≡ Some (other, tree') = sym e ∙ e' in
-    let pairs : (key, tree) ≡ (other, tree') = cc same in
-    ap (λ (entry : List ℕ × Tree). entry.0) pairs
-
--- and none past the end
-pub no_key : (made : JsonMembers) (place : ℕ) (key : List ℕ) → length (out-JsonMembers made).members.items ≤ place → HasKey (members_view made) place key → ⊥
-no_key made place key past (tree, e) =
-    let none : None ≡ Some (key, tree) = sym (ap (λ members. member_at members place) (members_view-opened made) ∙ no_member (out-JsonMembers made).members.items place past) ∙ e in cc none
-
--- The first place with a key, by the test of each place in turn.
-pub found_first : (made : JsonMembers) (place : ℕ) (entry : Member) (key : List ℕ) → place < length (out-JsonMembers made).members.items → entry ≡ get_or (out-JsonMembers made).members.items place entry
-    → bytes_eq (out-Member entry).key key ≡ true → ((k : ℕ) → k < place → HasKey (members_view made) k key → ⊥) → IsFirst (members_view made) key place
-found_first made place entry key inside here same before = record {
-  here = subst (HasKey (members_view made) place) ((bytes_eq-Decides (out-Member entry).key key).0 same) (key_here made place entry inside here);
-  before = before;
-}
-
-pub none_further : (made : JsonMembers) (place : ℕ) (entry : Member) (key : List ℕ) → place < length (out-JsonMembers made).members.items → entry ≡ get_or (out-JsonMembers made).members.items place entry
-    → bytes_eq (out-Member entry).key key ≡ false → ((k : ℕ) → k < place → HasKey (members_view made) k key → ⊥) → (k : ℕ) → k < place + 1 → HasKey (members_view made) k key → ⊥
-none_further made place entry key inside here other before k below has = elim (below_or k place (omega (arith, below))) [
-  | inl less ↦ before k less has
-  | inr same ↦
-      let key_is : (out-Member entry).key ≡ key =
-      one_key (members_view made) place (out-Member entry).key key (key_here made place entry inside here) (subst (λ n. HasKey (members_view made) n key) same has) in
-      let yes : true ≡ false = sym ((bytes_eq-Decides (out-Member entry).key key).1 key_is) ∙ other in
-      cc yes
-]
-
-pub below_or_past : (n m : ℕ) → (n < m) ⊎ (m ≤ n)
-below_or_past n zero = inr (omega arith)
-below_or_past zero (suc m) = inl (omega arith)
-below_or_past (suc n) (suc m) = elim (below_or_past n m) [ inl h ↦ inl (omega (arith, h)) | inr h ↦ inr (omega (arith, h)) ]
-
-pub none_at_all : (made : JsonMembers) (count : ℕ) (key : List ℕ) → length (out-JsonMembers made).members.items ≤ count → ((k : ℕ) → k < count → HasKey (members_view made) k key → ⊥) → (k : ℕ) → HasKey (members_view made) k key → ⊥
-none_at_all made count key all none k has = elim (below_or_past k count) [ inl less ↦ none k less has | inr past ↦ no_key made k key (omega (arith, all, past)) has ]
-
 -- Copies, item by item and member by member.
 taken_one : {A : Type 0} (xs : List A) (n : ℕ) (x : A) → n < length xs → x ≡ get_or xs n x → take (n + 1) xs ≡ take n xs ++ x ∷ []
 taken_one xs n x inside here = rw add-one (take-suc xs n x inside ∙ ap (λ y. take n xs ++ y ∷ []) (sym here))
@@ -122,14 +69,10 @@ item_copied items n one copy made new so_far inside here same pushed =
     pushed ∙ ap (λ listed. then_item listed (tree_of copy)) so_far ∙ ap (then_item (items_of (map tree_of (take n items)))) same ∙ sym (items_of-end (map tree_of (take n items)) (tree_of one))
     ∙ ap items_of (sym (map-end tree_of (take n items) one)) ∙ ap (λ xs. items_of (map tree_of xs)) (sym (taken_one items n one inside here))
 
-pub member_copied : (members : List Member) (n : ℕ) (one copy : Member) (key : List ℕ) (held : Json) (made new : JsonMembers) → members_view made ≡ members_of (map entry_of (take n members)) → n < length members → one ≡ get_or members n one
-    → entry_of copy ≡ entry_of one → key ≡ (out-Member copy).key → held ≡ (out-Member copy).value → members_view new ≡ then_member (members_view made) key (tree_of held)
-    → members_view new ≡ members_of (map entry_of (take (n + 1) members))
-member_copied members n one copy key held made new so_far inside here same key_is held_is pushed =
-    let entry : (key, tree_of held) ≡ entry_of one =
-    ap (λ (k : List ℕ). (k, tree_of held)) key_is ∙ ap (λ (v : Json). ((out-Member copy).key, tree_of v)) held_is ∙ sym (entry_of-opened copy) ∙ same in
-    pushed ∙ ap (λ listed. then_member listed key (tree_of held)) so_far ∙ sym (members_of-end (map entry_of (take n members)) key (tree_of held))
-    ∙ ap (λ (e : List ℕ × Tree). members_of (map entry_of (take n members) ++ e ∷ [])) entry
+pub member_copied : (members : List Member) (n : ℕ) (one copy : Member) (made new : JsonMembers) → members_view made ≡ members_of (map entry_of (take n members)) → n < length members → one ≡ get_or members n one → entry_of copy ≡ entry_of one
+    → members_view new ≡ then_member (members_view made) (entry_of copy) → members_view new ≡ members_of (map entry_of (take (n + 1) members))
+member_copied members n one copy made new so_far inside here same pushed =
+    pushed ∙ ap (λ listed. then_member listed (entry_of copy)) so_far ∙ ap (then_member (members_of (map entry_of (take n members)))) same ∙ sym (members_of-end (map entry_of (take n members)) (entry_of one))
     ∙ ap members_of (sym (map-end entry_of (take n members) one)) ∙ ap (λ xs. members_of (map entry_of xs)) (sym (taken_one members n one inside here))
 
 pub items_copied : (self made : JsonList) (n : ℕ) → items_view made ≡ items_of (map tree_of (take n (out-JsonList self).items.items)) → length (out-JsonList self).items.items ≤ n → items_view made ≡ items_view self

@@ -27,7 +27,7 @@ use Rattle.json_text.specs.declared.state.Open.{Open}
 use Rattle.json_text.specs.View.{tree_of}
 use Rattle.json_text.specs.declared.tree.Json.{Json}
 use Rattle.json_text.specs.declared.tree.Json as json
-use Rattle.json_text.specs.View.{tree_of-number, tree_of-text}
+use Rattle.json_text.proofs.Variants.{tree_of-number, tree_of-text}
 use Rattle.json_text.proofs.Stack.{length_frames}
 use Rattle.std.proofs.Math.Seq.{drop-cons}
 use Rattle.std.proofs.lemmas.List.{drop_all}

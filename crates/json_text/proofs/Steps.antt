@@ -171,7 +171,7 @@ pub then_item_nesting : (items : Items) (tree : Tree) → items_nesting (then_it
 then_item_nesting no_items tree = omega arith
 then_item_nesting (item first items) tree = let inner = then_item_nesting items tree in omega (arith, inner)
 
-pub then_member_nesting : (members : Members) (key : List ℕ) (tree : Tree) → members_nesting (then_member members key tree) ≡ max (members_nesting members) (nesting tree)
+pub then_member_nesting : (members : Members) (key : List ℕ) (tree : Tree) → members_nesting (then_member members (key, tree)) ≡ max (members_nesting members) (nesting tree)
 then_member_nesting no_members key tree = omega arith
 then_member_nesting (member first held members) key tree = let inner = then_member_nesting members key tree in omega (arith, inner)
 
@@ -213,8 +213,8 @@ close_keeps b tree (in_list items ∷ frames) =
 close_keeps b tree (in_member members key ∷ frames) =
     let P : Option State → Type 0 = λ o. Keeps (around frames (1 + max (members_nesting members) (nesting tree))) o in
     let all = then_member_nesting members key tree in
-    both P (b == 44) _ _ (λ h. same_depth _ (next_key (then_member members key tree)) frames tt (around_grows frames (1 + members_nesting (then_member members key tree)) (1 + max (members_nesting members) (nesting tree)) (omega (arith, all))))
-    (λ h. both P (b == 125) _ _ (λ h. same_depth _ (ended (object (then_member members key tree))) frames tt (around_grows frames (1 + members_nesting (then_member members key tree)) (1 + max (members_nesting members) (nesting tree)) (omega (arith, all)))) (λ h. tt))
+    both P (b == 44) _ _ (λ h. same_depth _ (next_key (then_member members (key, tree))) frames tt (around_grows frames (1 + members_nesting (then_member members (key, tree))) (1 + max (members_nesting members) (nesting tree)) (omega (arith, all))))
+    (λ h. both P (b == 125) _ _ (λ h. same_depth _ (ended (object (then_member members (key, tree)))) frames tt (around_grows frames (1 + members_nesting (then_member members (key, tree))) (1 + max (members_nesting members) (nesting tree)) (omega (arith, all)))) (λ h. tt))
 
 after_keeps : (b : ℕ) (tree : Tree) (frames : List Frame) → Keeps (around frames (nesting tree)) (after_value b tree frames)
 after_keeps b tree frames = both (λ o. Keeps (around frames (nesting tree)) o) (is_blank b) _ _ (λ h. same_depth _ (ended tree) frames tt (omega arith)) (λ h. close_keeps b tree frames)

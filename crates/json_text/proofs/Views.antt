@@ -16,9 +16,9 @@ items_of-end [] last = refl
 items_of-end (tree ∷ trees) last = ap (item tree) (items_of-end trees last)
 
 -- a member at the end
-pub members_of-end : (entries : List (List ℕ × Tree)) (key : List ℕ) (last : Tree) → members_of (entries ++ (key, last) ∷ []) ≡ then_member (members_of entries) key last
-members_of-end [] key last = refl
-members_of-end (entry ∷ entries) key last = ap (member entry.0 entry.1) (members_of-end entries key last)
+pub members_of-end : (entries : List (List ℕ × Tree)) (last : List ℕ × Tree) → members_of (entries ++ last ∷ []) ≡ then_member (members_of entries) last
+members_of-end [] last = refl
+members_of-end (entry ∷ entries) last = ap (member entry.0 entry.1) (members_of-end entries last)
 
 pub map-end : {A B : Type 0} (f : A → B) (xs : List A) (x : A) → map f (xs ++ x ∷ []) ≡ map f xs ++ f x ∷ []
 map-end f [] x = refl

@@ -36,7 +36,7 @@ pub data Mode : Type 0 where
 abbrev pub State : Type 0
 State = Mode × List Frame
 
--- the next place in a number, where the byte Goes on with it
+-- the next place in a number, where the byte goes on with it
 abbrev pub digits_after : ℕ → Digits → Option Digits
 digits_after b AfterMinus = cond (b == byte.zero_digit) (Some AfterZero) (cond (is_leading_digit b) (Some InWhole) None)
 digits_after b AfterZero = cond (b == byte.point) (Some AfterPoint) (cond (is_exponent_mark b) (Some AfterMark) None)
@@ -66,9 +66,11 @@ may_end InExponent = true
 abbrev pub begins_low : ℕ → Bool
 begins_low two = nat_le 0xdc two && nat_lt two 0xe0
 
+-- what a code unit does that stands first: a high surrogate waits for its low one
 abbrev pub after_unit : ℕ → Move
 after_unit unit = cond (is_high_surrogate unit) (Goes (AfterHigh unit)) (Spells unit)
 
+-- what a letter behind a backslash does
 abbrev pub escape_moves : Option ℕ → Move
 escape_moves (Some b) = Adds b
 escape_moves None = Refused
@@ -118,6 +120,7 @@ letter_moves b (AfterHighHex high) = Refused
 letter_moves b (AfterHighTwoHex high two) = Refused
 letter_moves b (AfterHighThreeHex high three) = Refused
 
+-- what a byte does at a place, by the number of the hex digits so far, where another has to come
 abbrev pub move_by : ℕ → Within → Option ℕ → Move
 move_by b place (Some before) = cond (is_hex b) (with_hex (before * 16 + digit_value b) place) Refused
 move_by b place None = letter_moves b place
@@ -126,6 +129,7 @@ move_by b place None = letter_moves b place
 abbrev pub moves : ℕ → Within → Move
 moves b place = move_by b place (so_far place)
 
+-- a state, by what is open and the mode
 abbrev pub with_frames : List Frame → Mode → State
 with_frames frames mode = (mode, frames)
 
@@ -137,6 +141,7 @@ begin b frames =
     (cond (b == 110) (Some (letters (117 ∷ 108 ∷ 108 ∷ []) null, frames)) (cond (b == 116) (Some (letters (114 ∷ 117 ∷ 101 ∷ []) (boolean true), frames)) (cond (b == 102) (Some (letters (97 ∷ 108 ∷ 115 ∷ 101 ∷ []) (boolean false), frames))
     (option_map (λ place. (digits place (b ∷ []), frames)) (first_digit b)))))))
 
+-- the state after the first byte of a key, with the members before it
 abbrev pub begin_key : ℕ → Members → List Frame → Option State
 begin_key b members frames = cond (b == byte.quote) (Some (content (as_key members) Plain [], frames)) None
 
@@ -146,16 +151,19 @@ close b tree [] = None
 close b tree (in_list items ∷ frames) =
     cond (b == byte.comma) (Some (value, in_list (then_item items tree) ∷ frames)) (cond (b == byte.close_list) (Some (ended (list (then_item items tree)), frames)) None)
 close b tree (in_member members key ∷ frames) =
-    cond (b == byte.comma) (Some (next_key (then_member members key tree), frames)) (cond (b == byte.close_object) (Some (ended (object (then_member members key tree)), frames)) None)
+    cond (b == byte.comma) (Some (next_key (then_member members (key, tree)), frames)) (cond (b == byte.close_object) (Some (ended (object (then_member members (key, tree))), frames)) None)
 
+-- what a byte does behind a value
 abbrev pub after_value : ℕ → Tree → List Frame → Option State
 after_value b tree frames = cond (is_blank b) (Some (ended tree, frames)) (close b tree frames)
 
+-- the mode after one more letter of a word with this value
 abbrev pub next_letter : ℕ → List ℕ → Tree → Option Mode
 next_letter b [] tree = None
 next_letter b (letter ∷ []) tree = cond (b == letter) (Some (ended tree)) None
 next_letter b (letter ∷ next ∷ more) tree = cond (b == letter) (Some (letters (next ∷ more) tree)) None
 
+-- the state after one more byte of a number, or behind it
 abbrev pub next_digit : ℕ → Digits → List ℕ → List Frame → Option Digits → Option State
 next_digit b place spelling frames (Some next) = Some (digits next (spelling ++ b ∷ []), frames)
 next_digit b place spelling frames None = cond (may_end place) (after_value b (number spelling) frames) None
@@ -165,6 +173,7 @@ abbrev pub text_ended : Role → List ℕ → Mode
 text_ended as_value bytes = ended (text bytes)
 text_ended (as_key members) bytes = colon members bytes
 
+-- the mode after a move in a text
 abbrev pub moved : Role → List ℕ → Move → Option Mode
 moved role bytes (Goes place) = Some (content role place bytes)
 moved role bytes (Adds b) = Some (content role Plain (bytes ++ b ∷ []))
@@ -172,7 +181,7 @@ moved role bytes (Spells code) = Some (content role Plain (bytes ++ encode_utf8 
 moved role bytes Ends = Some (text_ended role bytes)
 moved role bytes Refused = None
 
--- the state after one byte more, where some text Goes on with it
+-- the state after one byte more, where some text goes on with it
 abbrev pub step : ℕ → Mode → List Frame → Option State
 step b value frames = cond (is_blank b) (Some (value, frames)) (begin b frames)
 step b first_item frames = cond (is_blank b) (Some (first_item, frames)) (cond (b == byte.close_list) (Some (ended (list no_items), frames)) (begin b (in_list no_items ∷ frames)))
@@ -203,9 +212,11 @@ abbrev pub run : List ℕ → State → Option State
 run [] state = Some state
 run (b ∷ bytes) state = option_and_then (run bytes) (step b state.0 state.1)
 
+-- nothing is open, and a value has to come
 abbrev pub start : State
 start = (value, [])
 
+-- a high surrogate
 abbrev pub IsHigh : ℕ → Type 0
 IsHigh unit = (0xd800 ≤ unit) × (unit < 0xdc00)
 

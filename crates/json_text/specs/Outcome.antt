@@ -24,12 +24,14 @@ StopsAt bytes k = (state : State) × Reaches (take k bytes) state × (((k < leng
 abbrev pub DeepAt : List ℕ → ℕ → Type 0
 DeepAt bytes k = (before after : State) × (k < length bytes) × Reaches (take k bytes) before × (run (take (k + 1) bytes) start ≡ Some after) × (most_levels < levels after)
 
+-- what a fault says of the machine
 abbrev pub Fault : JsonFault → List ℕ → Type 0
 Fault (NotText k) bytes = ⊥
 Fault (NotJson k) bytes = StopsAt bytes k
 Fault (TooDeep k) bytes = DeepAt bytes k
 Fault NoMemory bytes = Unit {0}
 
+-- what an answer says of the machine: it ends with the tree, or stops with the fault
 abbrev pub Outcome : Result Json JsonFault → List ℕ → Type 0
 Outcome (Ok json) bytes = (state : State) × Reaches bytes state × (ended_tree state ≡ Some (tree_of json))
 Outcome (Err fault) bytes = Fault fault bytes

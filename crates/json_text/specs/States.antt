@@ -14,6 +14,7 @@ use Rattle.json_text.specs.Bytes as byte
 use Rattle.json_text.specs.Reached.{Stands, Carries, StopsDigits, ReadsText, StopsText}
 use Rattle.json_text.specs.Outcome.{Fault, fault_at}
 
+-- an entry of the stack, as the machine has it
 abbrev pub frame_of : Open → machine.Frame
 frame_of (open_frame.List items) = machine.in_list (items_view items)
 frame_of (open_frame.Member members key) = machine.in_member (members_view members) key
@@ -23,9 +24,11 @@ abbrev pub frames_onto : List Open → List machine.Frame → List machine.Frame
 frames_onto [] frames = frames
 frames_onto (outer ∷ inner) frames = frames_onto inner (frame_of outer ∷ frames)
 
+-- a stack, as the machine has it
 abbrev pub frames_of : List Open → List machine.Frame
 frames_of stack = frames_onto stack []
 
+-- what has to come, as the machine has it
 abbrev pub mode_of : Awaits → machine.Mode
 mode_of Value = machine.value
 mode_of FirstItem = machine.first_item
@@ -34,12 +37,14 @@ mode_of (NextKey members) = machine.next_key (members_view members)
 mode_of (Colon members key) = machine.colon (members_view members) key
 mode_of (Ended value) = machine.ended (tree_of value)
 
--- What a byte gave, with what it left open, is what the machine does, unless memory ran out. It stops where one level too many is open.
+-- The machine has no state after a byte that is refused, and one of more levels than the limit after one that goes too deep; where memory
+-- ran out nothing is said.
 abbrev pub Stops : Stop → Option machine.State → Type 0
 Stops Refused after = after ≡ None
 Stops TooDeep after = (state : machine.State) × (after ≡ Some state) × (most_levels < machine.levels state)
 Stops NoMemory after = Unit {0}
 
+-- what a byte gave, with what it left open, is what the machine does, and within the limit of levels
 abbrev pub Gives : Result Awaits Stop → List Open → Option machine.State → Type 0
 Gives (Ok awaits) stack after = (after ≡ Some (mode_of awaits, frames_of stack)) × (machine.own_level (mode_of awaits) + length stack ≤ most_levels)
 Gives (Err stop) stack after = Stops stop after

@@ -1,8 +1,9 @@
 //! JSON text (RFC 8259) read into a tree, with the place of each fault.
 //!
 //! `read_json` gives the tree exactly where the bytes are UTF-8 and a JSON text of at most 32 levels, and otherwise the one fault that is
-//! due, at its place. Numbers keep their spelling, objects the order of their members and the keys that come again. Reading is one pass,
-//! linear in the bytes, with no recursion. It stands on `line_text` for the type of a text.
+//! due, at its place. Numbers keep their spelling, objects the order of their members and the keys that come again. All bytes are first
+//! checked to be UTF-8, then read in one pass: both are linear in the bytes, with no recursion. It stands on `line_text` for the type of
+//! a text.
 #![tactic(auto)]
 
 mod lexeme;

@@ -10,7 +10,7 @@ ghost use Rattle.json_text.specs.View.{tree_of, members_view};
 use crate::lexeme::{first_digit, may_end};
 use crate::state::{Awaits, Open, Stop};
 use crate::token::{read_content, read_digits, read_word};
-use crate::tree::{Json, JsonList, JsonMembers};
+use crate::tree::{Json, JsonList, JsonMembers, Member};
 use line_text::Text;
 use std::alloc::Global;
 
@@ -178,7 +178,7 @@ fn close(stack: &mut Vec<Open>, value: Json, byte: u8) -> Result<Awaits, Stop>
             }
         }
         Some(Open::Member(mut members, key)) => {
-            members.push(key, value)?;
+            members.push(Member::new(key, value))?;
             match byte {
                 b',' => Ok(Awaits::NextKey(members)),
                 b'}' => Ok(Awaits::Ended(Json::Object(members))),

@@ -8,7 +8,9 @@ use crate::tree::{Json, Member};
 /// One level of a value. What is inside is borrowed from it.
 #[derive(Clone, Copy)]
 pub enum Shape<'a> {
+    /// The word `null`.
     Null,
+    /// One of the words `true` and `false`.
     Bool(bool),
     /// A number's spelling.
     Number(&'a str),

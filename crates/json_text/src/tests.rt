@@ -1,7 +1,7 @@
 //! Cases from the standard and from outside: what is read, and where each fault stands.
 use crate::memory::NoMemory;
 use crate::reading::{JsonFault, read_json};
-use crate::tree::{Json, JsonList, JsonMembers};
+use crate::tree::{Json, JsonList, JsonMembers, Member};
 use line_text::Text;
 use std::alloc::{AllocError, Global};
 
@@ -253,22 +253,17 @@ fn a_text_cut_anywhere_begins_a_text(rt: HostRuntime) -> Result<(), AllocError> 
 }
 
 #[test]
-fn a_tree_is_built_copied_and_looked_up(rt: HostRuntime) -> Result<(), NoMemory> {
+fn a_tree_is_built_and_copied(rt: HostRuntime) -> Result<(), NoMemory> {
     let alloc = rt.alloc();
     let mut items = JsonList::new(alloc);
     items.push(Json::Bool(true))?;
     items.push(Json::Number(Text::of(alloc, "1.50")?))?;
     assert!(rt; items.len() == 2 && items.get(2).is_none());
     let mut members = JsonMembers::new(alloc);
-    members.push(Text::of(alloc, "b")?, Json::Null)?;
-    members.push(Text::of(alloc, "a")?, Json::List(items))?;
-    assert!(rt; members.first_repeat(alloc)?.is_none());
-    members.push(Text::of(alloc, "b")?, Json::Text(Text::of(alloc, "x")?))?;
+    members.push(Member::new(Text::of(alloc, "b")?, Json::Null))?;
+    members.push(Member::new(Text::of(alloc, "a")?, Json::List(items)))?;
+    members.push(Member::new(Text::of(alloc, "b")?, Json::Text(Text::of(alloc, "x")?)))?;
     assert!(rt; members.len() == 3 && members.get(3).is_none());
-    assert!(rt; members.find("b") == Some(0));
-    assert!(rt; members.find("a") == Some(1));
-    assert!(rt; members.find("c").is_none());
-    assert!(rt; members.first_repeat(alloc)? == Some(2));
     let copy = Json::Object(members).copy(alloc)?;
     let mut out = String::new(alloc);
     show(&mut out, &copy, 3)?;

@@ -1,24 +1,28 @@
 //! The tree of a JSON text.
-ghost use Rattle.std.specs.Prelude.{◌≡◌, ℕ, Some, None, IfOk, OnOk, OnErr, IfSome, IfNone, MatchOption};
+ghost use Rattle.std.specs.Prelude.{◌≡◌, Some, None, IfOk, OnOk, OnErr, MatchOption};
 ghost use Rattle.json_text.specs.Tree.{no_items, no_members};
-ghost use Rattle.json_text.specs.Parts.{then_item, then_member};
-ghost use Rattle.json_text.specs.Parts.{item_count, item_at, member_count, member_at, HasKey, IsFirst, Repeats, IsFirstRepeat};
+ghost use Rattle.json_text.specs.Parts.{then_item, then_member, item_count, item_at, member_count, member_at};
 ghost use Rattle.json_text.specs.View.{tree_of, items_view, members_view, entry_of};
 
 use crate::memory::NoMemory;
 use line_text::Text;
 use std::alloc::Global;
-use std::collections::BTreeMap;
 
 /// A JSON value. A number keeps its spelling, and an object its members in order, also those whose key comes again.
 #[derive(Debug, Drop)]
 #[cycle(tree)]
 pub enum Json {
+    /// The word `null`.
     Null,
+    /// One of the words `true` and `false`.
     Bool(bool),
+    /// A number, by its spelling.
     Number(Text),
+    /// A text, without its quotes and escapes.
     Text(Text),
+    /// A list, by its items.
     List(JsonList),
+    /// An object, by its members.
     Object(JsonMembers),
 }
 
@@ -40,7 +44,9 @@ pub struct JsonMembers {
 #[derive(Debug, Drop)]
 #[cycle(tree)]
 pub struct Member {
+    /// The key, without its quotes and escapes.
     pub key: Text,
+    /// The value.
     pub value: Json,
 }
 
@@ -62,6 +68,13 @@ impl Json {
 }
 
 impl Member {
+    /// A member of this key and value. Constant time; takes no memory.
+    pub fn new(key: Text, value: Json) -> Member
+        ensures { entry_of result ≡ (key, tree_of value) }
+    {
+        Member { key, value }
+    }
+
     /// An equal member of its own. Linear in the member.
     #[cycle(copy)]
     pub fn copy(&self, alloc: Global) -> Result<Member, NoMemory>
@@ -131,11 +144,11 @@ impl JsonMembers {
     }
 
     /// Adds a member at the end. Changes nothing where there is no memory. Constant time, spread over the calls.
-    pub fn push(&mut self, key: Text, value: Json) -> Result<(), NoMemory>
-        ensures ok { OnOk result (members_view self.new ≡ then_member (members_view self.old) key (tree_of value)) }
+    pub fn push(&mut self, item: Member) -> Result<(), NoMemory>
+        ensures ok { OnOk result (members_view self.new ≡ then_member (members_view self.old) (entry_of item)) }
         ensures err { OnErr result (members_view self.new ≡ members_view self.old) }
     {
-        Ok(self.members.push(Member { key, value })?)
+        Ok(self.members.push(item)?)
     }
 
     /// Equal members of their own. Linear in the members.
@@ -145,8 +158,7 @@ impl JsonMembers {
     {
         let mut made = JsonMembers::new(alloc);
         for member in &self.members {
-            let Member { key, value } = member.copy(alloc)?;
-            made.push(key, value)?;
+            made.push(member.copy(alloc)?)?;
         }
         Ok(made)
     }
@@ -164,34 +176,5 @@ impl JsonMembers {
             MatchOption result (found ≡ None) (λ member. found ≡ Some (entry_of member.now)) }
     {
         self.members.get(place)
-    }
-
-    /// The place of the first member with this key. Linear in the members.
-    pub fn find(&self, key: &str) -> Option<usize>
-        ensures none { IfNone result ((place : ℕ) → HasKey (members_view self.now) place key.now → ⊥) }
-        ensures first { IfSome result (λ place. IsFirst (members_view self.now) key.now place) }
-    {
-        for place in 0..self.members.len() {
-            if self.members[place].key.as_str() == key {
-                return Some(place);
-            }
-        }
-        None
-    }
-
-    /// The place of the first member whose key stands before it too. Compares keys O(n log n) times for n members, and takes memory in
-    /// proportion to their number.
-    pub fn first_repeat(&self, alloc: Global) -> Result<Option<usize>, NoMemory>
-        ensures none { IfOk result (λ found. IfNone found ((place : ℕ) → Repeats (members_view self.now) place → ⊥)) }
-        ensures first { IfOk result (λ found. IfSome found (λ place. IsFirstRepeat (members_view self.now) place)) }
-    {
-        let mut seen: BTreeMap<&str, usize> = BTreeMap::new(alloc);
-        for place in 0..self.members.len() {
-            let key = self.members[place].key.as_str();
-            if seen.insert(key, place)?.is_some() {
-                return Ok(Some(place));
-            }
-        }
-        Ok(None)
     }
 }

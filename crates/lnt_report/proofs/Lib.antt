@@ -5,7 +5,6 @@ pub mod FixedNumbers
 pub mod Keys
 pub mod Lists
 pub mod QuotedTexts
-pub mod Rows
 pub mod Steps
 pub mod Walks
 pub mod Written

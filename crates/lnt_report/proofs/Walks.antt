@@ -8,7 +8,7 @@ use Rattle.json_text.specs.View.{items_of, members_of}
 use Rattle.lnt_report.specs.Look.{Entry, fields, name_in, value_at}
 use Rattle.history_model.specs.Samples.{Measurement}
 use Rattle.lnt_report.specs.Runs.{IsGiven}
-use Rattle.lnt_report.specs.Readings.{Reading, item_readings, value_readings, is_wordless, test_readings, test_ignored, named_readings, named_ignored}
+use Rattle.lnt_report.specs.Readings.{Reading, item_readings, value_readings, is_text_or_null, test_readings, test_ignored, named_readings, named_ignored}
 use Rattle.lnt_report.proofs.Lists.{trees_of_items, entries_of_members}
 use Rattle.lnt_report.specs.Gathering.{AreSole, none as nothing_measured, Leaves, AreBeyond}
 use Rattle.lnt_report.specs.declared.gathered.Gathered.{Gathered}
@@ -83,19 +83,19 @@ test_by tree ms name e f = (
 
 -- a list's numbers are those of its items
 pub list_value : (test metric : List ℕ) (value : Tree) (xs : List Tree) (all left : List Reading) (total more : ℕ) (gathered : Gathered) → value ≡ list (items_of xs)
-    → Leaves all total (value_readings test metric value ++ left) ((if is_wordless value then 1 else 0) + more) gathered
+    → Leaves all total (value_readings test metric value ++ left) ((if is_text_or_null value then 1 else 0) + more) gathered
     → Leaves all total (flat_map (item_readings test metric) xs ++ left) more gathered
 list_value test metric value xs all left total more gathered e h =
     subst (λ (k : ℕ). Leaves all total (flat_map (item_readings test metric) xs ++ left) k gathered) (zero-add more)
-    (moved (value_readings test metric value) (flat_map (item_readings test metric) xs) (if is_wordless value then 1 else 0) 0 all left total more gathered
+    (moved (value_readings test metric value) (flat_map (item_readings test metric) xs) (if is_text_or_null value then 1 else 0) 0 all left total more gathered
     (ap (λ t. value_readings test metric t) e ∙ ap (λ ys. flat_map (item_readings test metric) ys) (trees_of_items xs))
-    (ap (λ (t : Tree). if is_wordless t then 1 else 0) e) h)
+    (ap (λ (t : Tree). if is_text_or_null t then 1 else 0) e) h)
 
 pub null_value : (test metric : List ℕ) (value : Tree) (all left : List Reading) (total more : ℕ) (gathered : Gathered) → value ≡ null
-    → Leaves all total (value_readings test metric value ++ left) ((if is_wordless value then 1 else 0) + more) gathered → Leaves all total left (1 + more) gathered
+    → Leaves all total (value_readings test metric value ++ left) ((if is_text_or_null value then 1 else 0) + more) gathered → Leaves all total left (1 + more) gathered
 null_value test metric value all left total more gathered e h =
-    moved (value_readings test metric value) [] (if is_wordless value then 1 else 0) 1 all left total more gathered
-    (ap (λ t. value_readings test metric t) e) (ap (λ (t : Tree). if is_wordless t then 1 else 0) e) h
+    moved (value_readings test metric value) [] (if is_text_or_null value then 1 else 0) 1 all left total more gathered
+    (ap (λ t. value_readings test metric t) e) (ap (λ (t : Tree). if is_text_or_null t then 1 else 0) e) h
 
 -- nothing is gathered at first
 pub at_first : (rs : List Reading) (n : ℕ) (g : Gathered) → g.samples ≡ [] → g.over ≡ false → g.ignored ≡ 0 → Leaves rs n (rs ++ []) (n + 0) g

@@ -1,6 +1,6 @@
 -- The tree that is written of a run is the run's, and breaks no rule.
-use Rattle.std.proofs.Common.{◌≡◌, ◌≢◌, ℤ, ℕ, ◌+◌, ◌≤◌, ◌<◌, ◌-◌, List, [], ◌∷◌, ◌++◌, Bool, true, false, ◌&&◌, map, length, get_or, drop, take, refl, sym, ap, ◌∙◌, subst, arith, None, Ok, nat_lt, nat_le, codes, All, if◌then◌else◌, append_assoc, append-nil}
-use Rattle.std.specs.List.{flat_map, sum_by, AllByRecursion}
+use Rattle.std.proofs.Common.{◌≡◌, ◌≢◌, ℤ, ℕ, ◌+◌, ◌≤◌, ◌<◌, ◌-◌, List, [], ◌∷◌, ◌++◌, Bool, true, false, ◌&&◌, map, length, get_or, drop, take, refl, sym, ap, ◌∙◌, subst, arith, None, Ok, nat_lt, nat_le, codes, All, append_assoc, append-nil}
+use Rattle.std.specs.List.{flat_map, sum_by}
 use Rattle.std.specs.Str.{bytes_eq, is_utf8}
 use Rattle.std.proofs.lemmas.Str.{is_utf8-from_IsUtf8}
 use Rattle.std.proofs.lemmas.Bool.{lt-ltb, le-leb, and_from}
@@ -13,8 +13,7 @@ use Rattle.json_text.specs.View.{items_of}
 use Rattle.line_text.specs.Names.{IsName}
 use Rattle.line_text.specs.Numbers.{NumbersAreSpelled}
 use Rattle.fixed_value.specs.Fixed.{fixed_text, FixedIsReadBack}
-use Rattle.fixed_value.specs.Scaled.{IsScaled}
-use Rattle.metric_table.specs.Table.{Row, HoldsOf, OfRow, known}
+use Rattle.metric_table.specs.Table.{row_of}
 use Rattle.metric_table.specs.Limits.{most}
 use Rattle.metric_table.specs.declared.limits.Limit.TheVariants.{RunSamples}
 use Rattle.history_model.specs.Samples.{Measurement, IsSample, AreSamples}
@@ -24,9 +23,9 @@ use Rattle.lnt_report.specs.Readings.{Reading, reading, test_readings, test_igno
 use Rattle.lnt_report.specs.Runs.{Report, IsGiven, IsRun}
 use Rattle.lnt_report.specs.Outcomes.{IsDue}
 use Rattle.lnt_report.specs.Quoted.{quoted}
-use Rattle.lnt_report.specs.Written.{compact, compact_items, more_items, places, places_in, test_tree, run_tree}
-use Rattle.lnt_report.proofs.Rows.{row_map, row_both}
+use Rattle.lnt_report.specs.Written.{compact, compact_items, more_items, test_tree, run_tree}
 use Rattle.lnt_report.proofs.FixedNumbers.{fixed-number, fixed-utf8}
+use Rattle.std.proofs.lemmas.Bool.Decides.{nat_tests}
 use Rattle.lnt_report.proofs.Compact.{IsFine, AreFine, ascii, compact-text, compact-utf8}
 
 is_false : (b : Bool) → (b ≡ true → ⊥) → b ≡ false
@@ -36,30 +35,9 @@ is_false false h = refl
 different : (a b : List ℕ) → a ≢ b → bytes_eq a b ≡ false
 different a b n = is_false (bytes_eq a b) (λ e. n ((bytes_eq-Decides a b).0 e))
 
--- The decimals are those of the metric's row, and at most nine.
-row_says : (n : ℕ) (metric : List ℕ) (rows : List Row) → n ≡ places_in rows metric → HoldsOf (λ r. n ≡ r.decimals) metric rows
-row_says n metric [] e = e
-row_says n metric (r ∷ rows) e = (
-  (λ same. let test : bytes_eq metric r.metric ≡ true = (bytes_eq-Decides metric r.metric).1 same in rw test at e),
-  (λ other. let test : bytes_eq metric r.metric ≡ false = different metric r.metric other in row_says n metric rows (rw test at e)),
-)
-
-pub of_places : (metric : List ℕ) → OfRow metric (λ r. places metric ≡ r.decimals)
-of_places metric = row_says (places metric) metric known refl
-
-pub places_are : (n : ℕ) (metric : List ℕ) → OfRow metric (λ r. n ≡ r.decimals) → n ≡ places metric
-places_are n metric h = row_both {P = λ r. n ≡ r.decimals} {Q = λ r. places metric ≡ r.decimals} (λ r p q. p ∙ sym q) metric known h (of_places metric)
-
-at_most : (b : Bool) (m n : ℕ) → m ≤ 9 → n ≤ 9 → (if b then m else n) ≤ 9
-at_most true m n h k = h
-at_most false m n h k = k
-
-few_in : (metric : List ℕ) (rows : List Row) → AllByRecursion (λ r. r.decimals ≤ 9) rows → places_in rows metric ≤ 9
-few_in metric [] h = omega arith
-few_in metric (r ∷ rows) h = at_most (bytes_eq metric r.metric) r.decimals (places_in rows metric) h.0 (few_in metric rows h.1)
-
-few : (metric : List ℕ) → places metric ≤ 9
-few metric = few_in metric known (omega arith, (omega arith, (omega arith, (omega arith, (omega arith, (omega arith, (omega arith, tt)))))))
+-- no metric has more than nine decimals
+few : (metric : List ℕ) → (row_of metric).decimals ≤ 9
+few metric = grind (arith, nat_tests)
 
 -- What is known of a sample that is written, as tests.
 record Fit (m : Measurement) : Type 0 where
@@ -68,7 +46,7 @@ record Fit (m : Measurement) : Type 0 where
   new : bytes_eq (codes "name") m.metric ≡ false
   metric : bytes_eq m.metric (codes "name") ≡ false
   length : has_metric_length m.metric ≡ true
-  few : places m.metric ≤ 9
+  few : (row_of m.metric).decimals ≤ 9
 
 pub named_test : (bytes : List ℕ) → IsName bytes → is_name bytes ≡ true
 named_test bytes h =
@@ -114,20 +92,19 @@ no_break place [] h = refl
 no_break place (m ∷ ms) h = rw (test_sound _ m h.0, no_break (place + 1) ms h.1) refl
 
 -- The numbers are the samples.
-test_reads : (m : Measurement) → Fit m → test_readings (test_tree m) ≡ reading m.test m.metric (fixed_text m.value (places m.metric)) ∷ []
+test_reads : (m : Measurement) → Fit m → test_readings (test_tree m) ≡ reading m.test m.metric (fixed_text m.value (row_of m.metric).decimals) ∷ []
 test_reads m h = rw (h.test, h.metric, h.length) refl
 
-test_measured : FixedIsReadBack → (m : Measurement) → Fit m → IsMeasured (reading m.test m.metric (fixed_text m.value (places m.metric))) m
+test_measured : FixedIsReadBack → (m : Measurement) → Fit m → IsMeasured (reading m.test m.metric (fixed_text m.value (row_of m.metric).decimals)) m
 test_measured law m h =
-    let back = law m.value (places m.metric) h.sample.in_range h.few in
+    let back = law m.value (row_of m.metric).decimals h.sample.in_range h.few in
     record {
       test = refl;
       metric = refl;
       value = record {
         numeral = back.numeral;
         spells = back.reads;
-        scales = row_map {P = λ r. places m.metric ≡ r.decimals} {Q = λ r. IsScaled back.numeral r.decimals m.value}
-            (λ r e. subst (λ (d : ℕ). IsScaled back.numeral d m.value) e back.scales) m.metric known (of_places m.metric);
+        scales = back.scales;
         in_range = h.sample.in_range;
       };
     }
@@ -163,7 +140,7 @@ test_fine numbers law m h = (
   h.sample.test.text,
   (
     h.sample.metric.text,
-    (fixed-number numbers m.value (places m.metric) h.sample.in_range h.few, fixed-utf8 law m.value (places m.metric) h.sample.in_range h.few),
+    (fixed-number numbers m.value (row_of m.metric).decimals h.sample.in_range h.few, fixed-utf8 law m.value (row_of m.metric).decimals h.sample.in_range h.few),
     tt,
   ),
 )
@@ -224,16 +201,15 @@ is_due numbers law machine commit ms a b s g =
 
 -- The pieces that are written make the texts.
 test_joined : (old : List ℕ) (m : Measurement)
-    → ((((((old ++ (123 ∷ quoted (codes "name") ++ 58 ∷ [])) ++ quoted m.test) ++ 44 ∷ []) ++ quoted m.metric) ++ 58 ∷ []) ++ fixed_text m.value (places m.metric)) ++ 125 ∷ []
+    → ((((((old ++ (123 ∷ quoted (codes "name") ++ 58 ∷ [])) ++ quoted m.test) ++ 44 ∷ []) ++ quoted m.metric) ++ 58 ∷ []) ++ fixed_text m.value (row_of m.metric).decimals) ++ 125 ∷ []
     ≡ old ++ compact (test_tree m)
 test_joined old m = simp (append_assoc, append-nil)
 
 pub test_written : (m : Measurement) (test metric : List ℕ) (value : ℤ) (d : ℕ) (a b c e f g h i : List ℕ)
-    → test ≡ m.test → metric ≡ m.metric → value ≡ m.value → OfRow m.metric (λ r. d ≡ r.decimals)
+    → test ≡ m.test → metric ≡ m.metric → value ≡ m.value → d ≡ (row_of m.metric).decimals
     → b ≡ a ++ (123 ∷ quoted (codes "name") ++ 58 ∷ []) → c ≡ b ++ quoted test → e ≡ c ++ 44 ∷ [] → f ≡ e ++ quoted metric → g ≡ f ++ 58 ∷ []
     → h ≡ g ++ fixed_text value d → i ≡ h ++ 125 ∷ [] → i ≡ a ++ compact (test_tree m)
 test_written m test metric value d a b c e f g h i et en ev row p q r s t u w =
-    let few : d ≡ places m.metric = places_are d m.metric row in
     cc (test_joined a m)
 
 -- a sample behind a comma

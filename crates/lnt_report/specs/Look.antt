@@ -7,10 +7,12 @@ use Rattle.json_text.specs.Tree.{Tree, text, list, object, Items, no_items, item
 abbrev pub Entry : Type 0
 Entry = List ℕ × Tree
 
+-- the members in their order, each with its key and its value
 abbrev pub entries : Members → List Entry
 entries no_members = []
 entries (member key tree members) = (key, tree) ∷ entries members
 
+-- the items in their order
 abbrev pub trees : Items → List Tree
 trees no_items = []
 trees (item tree items) = tree ∷ trees items
@@ -34,10 +36,12 @@ items_in _ = []
 abbrev pub at : Option Tree → List ℕ → Option Tree
 at value key = value_at key (fields value)
 
+-- whether there is a value, and it is an object
 abbrev pub is_object : Option Tree → Bool
 is_object (Some (object _)) = true
 is_object _ = false
 
+-- whether there is a value, and it is a list
 abbrev pub is_list : Option Tree → Bool
 is_list (Some (list _)) = true
 is_list _ = false

@@ -2,7 +2,7 @@
 use Rattle.std.specs.Prelude.{◌≡◌, ℕ, ◌≤◌, ◌^◌, Bool, true, false, not, ◌&&◌, List, [], ◌∷◌, ◌++◌, Option, Some, None, unsigned_abs, ℤ, codes, if◌then◌else◌}
 use Rattle.std.specs.List.{flat_map, sum_by}
 use Rattle.json_text.specs.Tree.{Tree, null, number, text, list}
-use Rattle.metric_table.specs.Table.{OfRow}
+use Rattle.metric_table.specs.Table.{row_of}
 use Rattle.fixed_value.specs.declared.numeral.Numeral.{Numeral}
 use Rattle.fixed_value.specs.Numerals.{IsNumeralText}
 use Rattle.fixed_value.specs.Scaled.{IsScaled}
@@ -16,6 +16,7 @@ pub record Reading : Type 0 where
   pub metric : List ℕ
   pub spelling : List ℕ
 
+-- the number of this test and metric, with this spelling
 abbrev pub reading : List ℕ → List ℕ → List ℕ → Reading
 reading test metric spelling = record { test = test; metric = metric; spelling = spelling }
 
@@ -30,11 +31,11 @@ value_readings test metric (number spelling) = reading test metric spelling ∷ 
 value_readings test metric (list items) = flat_map (item_readings test metric) (trees items)
 value_readings test metric _ = []
 
--- a text or null, which gives no number
-abbrev pub is_wordless : Tree → Bool
-is_wordless null = true
-is_wordless (text content) = true
-is_wordless _ = false
+-- whether a value is a text or null: such a member may stand in a test, and gives no number
+abbrev pub is_text_or_null : Tree → Bool
+is_text_or_null null = true
+is_text_or_null (text content) = true
+is_text_or_null _ = false
 
 -- whether a member is a metric: its key isn't `name`, and has 1 to 64 bytes
 abbrev pub is_metric : List ℕ → Bool
@@ -46,13 +47,14 @@ entry_readings test entry = if is_metric entry.0 then value_readings test entry.
 
 -- 1 for a member that is ignored, since its value is a text or null
 abbrev pub entry_ignored : Entry → ℕ
-entry_ignored entry = if is_metric entry.0 && is_wordless entry.1 then 1 else 0
+entry_ignored entry = if is_metric entry.0 && is_text_or_null entry.1 then 1 else 0
 
 -- the numbers of a test's members, where the test has a name
 abbrev pub named_readings : Option (List ℕ) → List Entry → List Reading
 named_readings None members = []
 named_readings (Some test) members = flat_map (entry_readings test) members
 
+-- how many of a test's members are ignored, where the test has a name
 abbrev pub named_ignored : Option (List ℕ) → List Entry → ℕ
 named_ignored None members = 0
 named_ignored (Some test) members = sum_by entry_ignored members
@@ -61,9 +63,11 @@ named_ignored (Some test) members = sum_by entry_ignored members
 abbrev pub test_name : Tree → Option (List ℕ)
 test_name test = name_in (at (Some test) (codes "name"))
 
+-- the numbers of a test, in the order of the text
 abbrev pub test_readings : Tree → List Reading
 test_readings test = named_readings (test_name test) (fields (Some test))
 
+-- how many members of a test are ignored
 abbrev pub test_ignored : Tree → ℕ
 test_ignored test = named_ignored (test_name test) (fields (Some test))
 
@@ -79,7 +83,7 @@ ignored_in tree = sum_by test_ignored (items_in (tests_in (fields (Some tree))))
 pub record IsValue (metric spelling : List ℕ) (value : ℤ) : Type 0 where
   pub numeral : Numeral
   pub spells : IsNumeralText spelling numeral
-  pub scales : OfRow metric (λ row. IsScaled numeral row.decimals value)
+  pub scales : IsScaled numeral (row_of metric).decimals value
   pub in_range : unsigned_abs value ≤ 10 ^ 16
 
 -- the sample that a number is

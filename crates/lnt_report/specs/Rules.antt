@@ -11,6 +11,7 @@ pub record Break : Type 0 where
   pub rule : ℕ
   pub member : List ℕ
 
+-- this rule is broken at the member of this path
 abbrev pub break : ℕ → List ℕ → Break
 break rule path = record { rule = rule; member = path }
 
@@ -43,6 +44,7 @@ abbrev mutual
       if list_any (λ k. bytes_eq k key) before then Some key
       else option_or (option_map (under key) (second_key tree)) (second_in_members (key ∷ before) members)
 
+-- whether a value is a number
 abbrev pub is_number : Tree → Bool
 is_number (number spelling) = true
 is_number _ = false
@@ -79,13 +81,15 @@ abbrev pub tests_break : ℕ → List Tree → Option Break
 tests_break place [] = None
 tests_break place (test ∷ tests) = option_or (test_break (under (codes "tests") (decimal place)) test) (tests_break (place + 1) tests)
 
--- the values at the top that the rules speak of, and the names in them
+-- of the members at the top, the name of the machine
 abbrev pub machine_name : List Entry → Option (List ℕ)
 machine_name top = name_in (at (value_at (codes "machine") top) (codes "name"))
 
+-- of the members at the top, the name of the commit
 abbrev pub commit_name : List Entry → Option (List ℕ)
 commit_name top = name_in (at (value_at (codes "run") top) (codes "llvm_project_revision"))
 
+-- of the members at the top, the tests
 abbrev pub tests_in : List Entry → Option Tree
 tests_in top = value_at (codes "tests") top
 

@@ -1,15 +1,15 @@
 -- The text that is written of a run: the compact text of its tree.
-use Rattle.std.specs.Prelude.{ℕ, List, [], ◌∷◌, ◌++◌, true, false, map, codes, if◌then◌else◌}
-use Rattle.std.specs.Str.{bytes_eq}
+use Rattle.std.specs.Prelude.{ℕ, List, [], ◌∷◌, ◌++◌, true, false, map, codes}
 use Rattle.json_text.specs.Bytes as byte
 use Rattle.json_text.specs.Tree.{Tree, null, boolean, number, text, list, object, Items, no_items, item, Members, no_members, member}
 use Rattle.json_text.specs.View.{items_of}
-use Rattle.metric_table.specs.Table.{Row, known}
+use Rattle.metric_table.specs.Table.{row_of}
 use Rattle.fixed_value.specs.Fixed.{fixed_text}
 use Rattle.history_model.specs.Samples.{Measurement}
 use Rattle.lnt_report.specs.Quoted.{quoted}
 
--- The text of a tree, with no white space.
+-- The text of a tree, with no white space. Items and members stand between commas: `more_items` and `more_members` are those behind
+-- the first, each behind a comma.
 abbrev mutual
   pub compact : Tree → List ℕ
   compact null = byte.null_letters
@@ -36,18 +36,9 @@ abbrev mutual
   more_members no_members = []
   more_members (member key tree members) = byte.comma ∷ ((quoted key ++ byte.colon ∷ compact tree) ++ more_members members)
 
--- the decimals of the row of this name, and those of the others where none has it
-abbrev pub places_in : List Row → List ℕ → ℕ
-places_in [] metric = 4
-places_in (row ∷ rows) metric = if bytes_eq metric row.metric then row.decimals else places_in rows metric
-
--- how many decimals a metric's values are scaled by
-abbrev pub places : List ℕ → ℕ
-places metric = places_in known metric
-
 -- a sample: the test's name, and the value by the metric
 abbrev pub test_tree : Measurement → Tree
-test_tree m = object (member (codes "name") (text m.test) (member m.metric (number (fixed_text m.value (places m.metric))) no_members))
+test_tree m = object (member (codes "name") (text m.test) (member m.metric (number (fixed_text m.value (row_of m.metric).decimals)) no_members))
 
 -- what stands before the first sample
 abbrev pub head_members : List ℕ → List ℕ → Members → Members

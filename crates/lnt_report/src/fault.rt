@@ -2,12 +2,13 @@ use crate::memory::NoMemory;
 use line_text::Text;
 use metric_table::Limit;
 
-/// Why bytes are no LNT run that can be read.
+/// Why bytes are no LNT run that can be read. Places in the bytes count from 0.
 #[derive(Debug, Drop)]
 pub enum ReportFault {
     /// The bytes are UTF-8 up to this place.
     NotText(u64),
-    /// Some JSON text begins with the bytes before this place, and none goes on with the byte there.
+    /// Some JSON text begins with the bytes before this place, and none goes on with the byte there, or the bytes end
+    /// unfinished, and this is their number.
     NotJson(u64),
     /// The byte at this place opens a 33rd level.
     TooDeep(u64),
@@ -25,7 +26,7 @@ pub enum ReportFault {
         /// The metric.
         metric: Text,
     },
-    /// There are more than so many of these.
+    /// There are more samples than a run may have.
     Full(Limit),
     /// There was no memory.
     NoMemory,

@@ -4,7 +4,7 @@ ghost use Rattle.metric_table.specs.Limits.{most};
 ghost use Rattle.metric_table.specs.declared.limits.Limit.TheVariants.{RunSamples};
 ghost use Rattle.json_text.specs.View.{tree_of};
 ghost use Rattle.json_text.specs.View.{entry_of};
-ghost use Rattle.lnt_report.specs.Readings.{Reading, reading, item_readings, value_readings, is_metric, is_wordless, entry_readings, entry_ignored, test_readings, test_ignored};
+ghost use Rattle.lnt_report.specs.Readings.{Reading, reading, item_readings, value_readings, is_metric, is_text_or_null, entry_readings, entry_ignored, test_readings, test_ignored};
 ghost use Rattle.lnt_report.specs.Gathering.{Leaves, IsRefusal, IsNamed};
 
 use crate::fault::ReportFault;
@@ -148,7 +148,7 @@ fn read_metric(
 ) -> Result<(), ReportFault>
     requires { is_metric metric.now ≡ true }
     ensures { (all left : List Reading) (total more : ℕ)
-        → Leaves all total (value_readings test.now metric.now (tree_of value.now) ++ left) ((if is_wordless (tree_of value.now) then 1 else 0) + more) gathered.old
+        → Leaves all total (value_readings test.now metric.now (tree_of value.now) ++ left) ((if is_text_or_null (tree_of value.now) then 1 else 0) + more) gathered.old
         → MatchResult result (λ _. Leaves all total left more gathered.new) (λ fault. IsRefusal all fault) }
 {
     match value.shape() {

@@ -1,5 +1,7 @@
+use crate::memory::NoMemory;
 use history_model::Samples;
 use line_text::Name;
+use std::alloc::Global;
 use std::marker::Model;
 
 /// What an LNT run says: its machine, its commit and its samples.
@@ -30,7 +32,7 @@ impl Model for LntRun {
 }
 
 impl LntRun {
-    ghost use Rattle.std.specs.Prelude.{All};
+    ghost use Rattle.std.specs.Prelude.{◌≡◌, All, IfOk};
     ghost use Rattle.lnt_report.specs.Runs.{IsGiven};
 
     /// Says what the type keeps. Does nothing: its contract is what it is for.
@@ -38,5 +40,17 @@ impl LntRun {
         ensures { All IsGiven self.now.samples }
     {
         let _ = &self.samples;
+    }
+
+    /// An equal run of its own. Linear in the number of samples.
+    pub fn copy(&self, alloc: Global) -> Result<LntRun, NoMemory>
+        ensures { IfOk result (λ made. made ≡ self.now) }
+    {
+        Ok(LntRun {
+            machine: self.machine.copy(alloc)?,
+            commit: self.commit.copy(alloc)?,
+            samples: self.samples.copy(alloc)?,
+            ignored: self.ignored,
+        })
     }
 }

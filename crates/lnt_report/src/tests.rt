@@ -35,133 +35,135 @@ fn told_run(alloc: Global, run: &LntRun) -> Result<String, Fail> {
     Ok(line)
 }
 
+// Texts, and what is said of their answer.
+const TEXTS: [(&str, &str); 40] = [
+    (
+        r#"{"format_version":"2","machine":{"name":"m1","cpu":"x"},"run":{"start_time":"2024-01-01T00:00:00","end_time":"2024-01-01T00:10:00","llvm_project_revision":"a"},"tests":[{"name":"SingleSource/queens","execution_time":[0.1056,0.1055],"compile_time":1e-05,"hash":"49333a87"}]}"#,
+        "m1 a 1 SingleSource/queens,execution_time,105600000 SingleSource/queens,execution_time,105500000 SingleSource/queens,compile_time,10000",
+    ),
+    (r#"{"a":1,"a":2}"#, "rule 2 at a"),
+    ("", "not json 0"),
+    (r#"{"a":1,}"#, "not json 7"),
+    ("[[[[[[[[[[[[[[[[[[[[[[[[[[[[[[[[[", "too deep 32"),
+    ("[]", "rule 1 at ."),
+    (r#"[{"a":1,"a":2}]"#, "rule 1 at ."),
+    (r#"{"x":[0,{"b":{"c":1,"\u0063":2}}]}"#, "rule 2 at x.1.b.c"),
+    (
+        r#"{"x":{"a":1,"b":{"c":1,"c":1},"a":2}}"#,
+        "rule 2 at x.b.c",
+    ),
+    (r#"{"x":{"a":1,"a":{"c":1,"c":1}},"x":1}"#, "rule 2 at x.a"),
+    (r#"{"":1,"":2}"#, "rule 2 at "),
+    ("{}", "rule 3 at format_version"),
+    (r#"{"format_version":2}"#, "rule 3 at format_version"),
+    (r#"{"format_version":"1"}"#, "rule 3 at format_version"),
+    (r#"{"format_version":"2"}"#, "rule 4 at machine"),
+    (
+        r#"{"machine":[],"format_version":"2"}"#,
+        "rule 4 at machine",
+    ),
+    (
+        r#"{"format_version":"2","machine":{}}"#,
+        "rule 5 at machine.name",
+    ),
+    (
+        r#"{"format_version":"2","machine":{"name":1}}"#,
+        "rule 5 at machine.name",
+    ),
+    (
+        r#"{"format_version":"2","machine":{"name":""}}"#,
+        "rule 5 at machine.name",
+    ),
+    (
+        r#"{"format_version":"2","machine":{"name":"m"}}"#,
+        "rule 7 at run",
+    ),
+    (
+        r#"{"format_version":"2","machine":{"name":"m"},"run":1}"#,
+        "rule 7 at run",
+    ),
+    (
+        r#"{"format_version":"2","machine":{"name":"m"},"run":{}}"#,
+        "rule 8 at run.llvm_project_revision",
+    ),
+    (
+        r#"{"format_version":"2","machine":{"name":"m"},"run":{"llvm_project_revision":"a"}}"#,
+        "rule 9 at tests",
+    ),
+    (
+        r#"{"format_version":"2","machine":{"name":"m"},"run":{"llvm_project_revision":"a"},"tests":{}}"#,
+        "rule 9 at tests",
+    ),
+    (
+        r#"{"format_version":"2","machine":{"name":"m"},"run":{"llvm_project_revision":"a"},"tests":[]}"#,
+        "m a 0",
+    ),
+    (
+        r#"{"format_version":"2","machine":{"name":"m"},"run":{"llvm_project_revision":"a"},"tests":[{"name":"t"},1]}"#,
+        "rule 10 at tests.1",
+    ),
+    (
+        r#"{"format_version":"2","machine":{"name":"m"},"run":{"llvm_project_revision":"a"},"tests":[{"":1}]}"#,
+        "rule 11 at tests.0.name",
+    ),
+    (
+        r#"{"format_version":"2","machine":{"name":"m"},"run":{"llvm_project_revision":"a"},"tests":[{"name":null}]}"#,
+        "rule 11 at tests.0.name",
+    ),
+    (
+        r#"{"format_version":"2","machine":{"name":"m"},"run":{"llvm_project_revision":"a"},"tests":[{"name":"t","":1}]}"#,
+        "rule 12 at tests.0",
+    ),
+    (
+        r#"{"format_version":"2","machine":{"name":"m"},"run":{"llvm_project_revision":"a"},"tests":[{"name":"t","a123456789b123456789c123456789d123456789e123456789f123456789ghijk":1}]}"#,
+        "rule 12 at tests.0",
+    ),
+    (
+        r#"{"format_version":"2","machine":{"name":"m"},"run":{"llvm_project_revision":"a"},"tests":[{"a123456789b123456789c123456789d123456789e123456789f123456789ghij":1,"name":"t"}]}"#,
+        "m a 0 t,a123456789b123456789c123456789d123456789e123456789f123456789ghij,10000",
+    ),
+    (
+        r#"{"format_version":"2","machine":{"name":"m"},"run":{"llvm_project_revision":"a"},"tests":[{"name":"t","k":true}]}"#,
+        "rule 13 at tests.0.k",
+    ),
+    (
+        r#"{"format_version":"2","machine":{"name":"m"},"run":{"llvm_project_revision":"a"},"tests":[{"name":"t","k":{}}]}"#,
+        "rule 13 at tests.0.k",
+    ),
+    (
+        r#"{"format_version":"2","machine":{"name":"m"},"run":{"llvm_project_revision":"a"},"tests":[{"name":"t","k":[1,"2"]}]}"#,
+        "rule 13 at tests.0.k",
+    ),
+    (
+        r#"{"format_version":"2","machine":{"name":"m"},"run":{"llvm_project_revision":"a"},"tests":[{"name":"t","k":[],"":1,"l":false}]}"#,
+        "rule 12 at tests.0",
+    ),
+    (
+        r#"{"format_version":"2","machine":{"name":"m"},"run":{"llvm_project_revision":"a"},"tests":[{"name":"t","k":[],"h":null,"i":"5","code_size":-2.5}]}"#,
+        "m a 2 t,code_size,-3",
+    ),
+    (
+        r#"{"format_version":"2","machine":{"name":"m"},"run":{"llvm_project_revision":"a"},"tests":[{"name":"t","k":1e12,"l":1000000000001}]}"#,
+        "out of range t l",
+    ),
+    (
+        r#"{"format_version":"2","machine":{"name":"m"},"run":{"llvm_project_revision":"a"},"tests":[{"name":"t","k":[0.00000000000000000000000000000000000001]}]}"#,
+        "out of range t k",
+    ),
+    (
+        r#"{"format_version":"2","machine":{"name":"m"},"run":{"llvm_project_revision":"a"},"tests":[{"name":"t","k":1e99},{"name":"u","k":true}]}"#,
+        "rule 13 at tests.1.k",
+    ),
+    (
+        r#"{"format_version":"2","machine":{"name":"\u006d\ud83d\ude00"},"run":{"llvm_project_revision":"a"},"tests":[{"name":"t","ns/op":-0}]}"#,
+        "m😀 a 0 t,ns/op,0",
+    ),
+];
+
 #[test]
 fn texts_are_read_or_refused(rt: HostRuntime) -> Result<(), Fail> {
     let alloc = rt.alloc();
-    let rows: [(&str, &str); 40] = [
-        (
-            r#"{"format_version":"2","machine":{"name":"m1","cpu":"x"},"run":{"start_time":"2024-01-01T00:00:00","end_time":"2024-01-01T00:10:00","llvm_project_revision":"a"},"tests":[{"name":"SingleSource/queens","execution_time":[0.1056,0.1055],"compile_time":1e-05,"hash":"49333a87"}]}"#,
-            "m1 a 1 SingleSource/queens,execution_time,105600000 SingleSource/queens,execution_time,105500000 SingleSource/queens,compile_time,10000",
-        ),
-        (r#"{"a":1,"a":2}"#, "rule 2 at a"),
-        ("", "not json 0"),
-        (r#"{"a":1,}"#, "not json 7"),
-        ("[[[[[[[[[[[[[[[[[[[[[[[[[[[[[[[[[", "too deep 32"),
-        ("[]", "rule 1 at ."),
-        (r#"[{"a":1,"a":2}]"#, "rule 1 at ."),
-        (r#"{"x":[0,{"b":{"c":1,"\u0063":2}}]}"#, "rule 2 at x.1.b.c"),
-        (
-            r#"{"x":{"a":1,"b":{"c":1,"c":1},"a":2}}"#,
-            "rule 2 at x.b.c",
-        ),
-        (r#"{"x":{"a":1,"a":{"c":1,"c":1}},"x":1}"#, "rule 2 at x.a"),
-        (r#"{"":1,"":2}"#, "rule 2 at "),
-        ("{}", "rule 3 at format_version"),
-        (r#"{"format_version":2}"#, "rule 3 at format_version"),
-        (r#"{"format_version":"1"}"#, "rule 3 at format_version"),
-        (r#"{"format_version":"2"}"#, "rule 4 at machine"),
-        (
-            r#"{"machine":[],"format_version":"2"}"#,
-            "rule 4 at machine",
-        ),
-        (
-            r#"{"format_version":"2","machine":{}}"#,
-            "rule 5 at machine.name",
-        ),
-        (
-            r#"{"format_version":"2","machine":{"name":1}}"#,
-            "rule 5 at machine.name",
-        ),
-        (
-            r#"{"format_version":"2","machine":{"name":""}}"#,
-            "rule 5 at machine.name",
-        ),
-        (
-            r#"{"format_version":"2","machine":{"name":"m"}}"#,
-            "rule 7 at run",
-        ),
-        (
-            r#"{"format_version":"2","machine":{"name":"m"},"run":1}"#,
-            "rule 7 at run",
-        ),
-        (
-            r#"{"format_version":"2","machine":{"name":"m"},"run":{}}"#,
-            "rule 8 at run.llvm_project_revision",
-        ),
-        (
-            r#"{"format_version":"2","machine":{"name":"m"},"run":{"llvm_project_revision":"a"}}"#,
-            "rule 9 at tests",
-        ),
-        (
-            r#"{"format_version":"2","machine":{"name":"m"},"run":{"llvm_project_revision":"a"},"tests":{}}"#,
-            "rule 9 at tests",
-        ),
-        (
-            r#"{"format_version":"2","machine":{"name":"m"},"run":{"llvm_project_revision":"a"},"tests":[]}"#,
-            "m a 0",
-        ),
-        (
-            r#"{"format_version":"2","machine":{"name":"m"},"run":{"llvm_project_revision":"a"},"tests":[{"name":"t"},1]}"#,
-            "rule 10 at tests.1",
-        ),
-        (
-            r#"{"format_version":"2","machine":{"name":"m"},"run":{"llvm_project_revision":"a"},"tests":[{"":1}]}"#,
-            "rule 11 at tests.0.name",
-        ),
-        (
-            r#"{"format_version":"2","machine":{"name":"m"},"run":{"llvm_project_revision":"a"},"tests":[{"name":null}]}"#,
-            "rule 11 at tests.0.name",
-        ),
-        (
-            r#"{"format_version":"2","machine":{"name":"m"},"run":{"llvm_project_revision":"a"},"tests":[{"name":"t","":1}]}"#,
-            "rule 12 at tests.0",
-        ),
-        (
-            r#"{"format_version":"2","machine":{"name":"m"},"run":{"llvm_project_revision":"a"},"tests":[{"name":"t","a123456789b123456789c123456789d123456789e123456789f123456789ghijk":1}]}"#,
-            "rule 12 at tests.0",
-        ),
-        (
-            r#"{"format_version":"2","machine":{"name":"m"},"run":{"llvm_project_revision":"a"},"tests":[{"a123456789b123456789c123456789d123456789e123456789f123456789ghij":1,"name":"t"}]}"#,
-            "m a 0 t,a123456789b123456789c123456789d123456789e123456789f123456789ghij,10000",
-        ),
-        (
-            r#"{"format_version":"2","machine":{"name":"m"},"run":{"llvm_project_revision":"a"},"tests":[{"name":"t","k":true}]}"#,
-            "rule 13 at tests.0.k",
-        ),
-        (
-            r#"{"format_version":"2","machine":{"name":"m"},"run":{"llvm_project_revision":"a"},"tests":[{"name":"t","k":{}}]}"#,
-            "rule 13 at tests.0.k",
-        ),
-        (
-            r#"{"format_version":"2","machine":{"name":"m"},"run":{"llvm_project_revision":"a"},"tests":[{"name":"t","k":[1,"2"]}]}"#,
-            "rule 13 at tests.0.k",
-        ),
-        (
-            r#"{"format_version":"2","machine":{"name":"m"},"run":{"llvm_project_revision":"a"},"tests":[{"name":"t","k":[],"":1,"l":false}]}"#,
-            "rule 12 at tests.0",
-        ),
-        (
-            r#"{"format_version":"2","machine":{"name":"m"},"run":{"llvm_project_revision":"a"},"tests":[{"name":"t","k":[],"h":null,"i":"5","code_size":-2.5}]}"#,
-            "m a 2 t,code_size,-3",
-        ),
-        (
-            r#"{"format_version":"2","machine":{"name":"m"},"run":{"llvm_project_revision":"a"},"tests":[{"name":"t","k":1e12,"l":1000000000001}]}"#,
-            "out of range t l",
-        ),
-        (
-            r#"{"format_version":"2","machine":{"name":"m"},"run":{"llvm_project_revision":"a"},"tests":[{"name":"t","k":[0.00000000000000000000000000000000000001]}]}"#,
-            "out of range t k",
-        ),
-        (
-            r#"{"format_version":"2","machine":{"name":"m"},"run":{"llvm_project_revision":"a"},"tests":[{"name":"t","k":1e99},{"name":"u","k":true}]}"#,
-            "rule 13 at tests.1.k",
-        ),
-        (
-            r#"{"format_version":"2","machine":{"name":"\u006d\ud83d\ude00"},"run":{"llvm_project_revision":"a"},"tests":[{"name":"t","ns/op":-0}]}"#,
-            "m😀 a 0 t,ns/op,0",
-        ),
-    ];
-    for (text, wanted) in rows {
+    for (text, wanted) in TEXTS {
         let line = told(alloc, read_report(alloc, text.as_bytes()))?;
         assert_eq!(rt; line.as_str(), wanted);
     }
@@ -169,6 +171,21 @@ fn texts_are_read_or_refused(rt: HostRuntime) -> Result<(), Fail> {
         told(alloc, read_report(alloc, b"\"\xff\""))?.as_str(),
         "not text 1"
     );
+    Ok(())
+}
+
+// The run of a text, copied.
+fn copied(alloc: Global, text: &str) -> Result<LntRun, ReportFault> {
+    Ok(read_report(alloc, text.as_bytes())?.copy(alloc)?)
+}
+
+#[test]
+fn a_copy_is_the_same_run(rt: HostRuntime) -> Result<(), Fail> {
+    let alloc = rt.alloc();
+    let text =
+        r#"{"format_version":"2","machine":{"name":"m"},"run":{"llvm_project_revision":"a"},"tests":[{"name":"t","hash":"5","code_size":[3,-2]}]}"#;
+    let line = told(alloc, copied(alloc, text))?;
+    assert_eq!(rt; line.as_str(), "m a 1 t,code_size,3 t,code_size,-2");
     Ok(())
 }
 

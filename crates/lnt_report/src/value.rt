@@ -1,17 +1,8 @@
-ghost use Rattle.std.specs.Prelude.{◌≡◌, ◌≤◌, ◌&&◌, not, ℤ, IfSome, IfNone};
-ghost use Rattle.metric_table.specs.Table.{OfRow};
+ghost use Rattle.std.specs.Prelude.{◌≡◌, ◌&&◌, not, ℤ, IfSome, IfNone};
 ghost use Rattle.lnt_report.specs.Readings.{IsValue, is_metric};
 
 use fixed_value::{Numeral, scale, scaled_law};
 use metric_table::decimals;
-
-// How many decimals a metric's values are scaled by: at most nine.
-fn places(metric: &[u8]) -> u8
-    ensures row { OfRow metric.now (λ row. result ≡ row.decimals) }
-    ensures few { result ≤ 9 }
-{
-    decimals(metric)
-}
 
 // The value of a number, in units of the metric's last decimal.
 pub(crate) fn value_of(metric: &str, spelling: &str) -> Option<i64>
@@ -23,7 +14,7 @@ pub(crate) fn value_of(metric: &str, spelling: &str) -> Option<i64>
     let Some(numeral) = Numeral::read(spelling.as_bytes()) else {
         return None;
     };
-    match scale(&numeral, places(metric.as_bytes())) {
+    match scale(&numeral, decimals(metric.as_bytes())) {
         Ok(value) => Some(value),
         Err(_) => None,
     }

@@ -1,5 +1,5 @@
 -- The table of metrics: their decimals, their direction and their default penalty.
-use Rattle.std.specs.Prelude.{◌≡◌, ◌≢◌, ℕ, ℤ, Bool, true, false, List, [], ◌∷◌, codes, pos}
+use Rattle.std.specs.Prelude.{ℕ, ℤ, Bool, true, false, List, [], ◌∷◌, codes, pos, bytes_eq, if◌then◌else◌}
 
 -- a metric's name, how many decimals its values are scaled by, whether larger is better, and the penalty of a cut in
 -- squared scaled units where none was set
@@ -28,11 +28,11 @@ known =
 abbrev pub other : List ℕ → Row
 other metric = row metric 4 false (pos 2_500_000_000)
 
--- the fact holds of the row of that name, or of the row of others where none has it
-abbrev pub HoldsOf : (Row → Type 0) → List ℕ → List Row → Type 0
-HoldsOf P metric [] = P (other metric)
-HoldsOf P metric (r ∷ rows) = (metric ≡ r.metric → P r) × (metric ≢ r.metric → HoldsOf P metric rows)
+-- the row of that name, and that of all others where none has it
+abbrev pub row_in : List Row → List ℕ → Row
+row_in [] metric = other metric
+row_in (r ∷ rows) metric = if bytes_eq metric r.metric then r else row_in rows metric
 
--- the fact holds of the metric's row
-abbrev pub OfRow : List ℕ → (Row → Type 0) → Type 0
-OfRow metric P = HoldsOf P metric known
+-- the metric's row
+abbrev pub row_of : List ℕ → Row
+row_of metric = row_in known metric

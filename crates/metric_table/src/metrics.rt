@@ -1,5 +1,5 @@
-ghost use Rattle.std.specs.Prelude.{◌≡◌, ◌↔◌, IsTrue};
-ghost use Rattle.metric_table.specs.Table.{OfRow};
+ghost use Rattle.std.specs.Prelude.{◌≡◌, ◌≤◌, ◌↔◌, IsTrue};
+ghost use Rattle.metric_table.specs.Table.{row_of};
 
 /// What the table says of a metric.
 #[derive(Clone, Copy)]
@@ -45,9 +45,10 @@ fn is_same(metric: &[u8], name: &[u8]) -> bool
 
 // The metric's row.
 fn columns_of(metric: &[u8]) -> Columns
-    ensures decimals { OfRow metric.now (λ row. result.decimals ≡ row.decimals) }
-    ensures direction { OfRow metric.now (λ row. result.larger_is_better ≡ row.larger_is_better) }
-    ensures penalty { OfRow metric.now (λ row. result.default_penalty ≡ row.default_penalty) }
+    ensures decimals { result.decimals ≡ (row_of metric.now).decimals }
+    ensures direction { result.larger_is_better ≡ (row_of metric.now).larger_is_better }
+    ensures penalty { result.default_penalty ≡ (row_of metric.now).default_penalty }
+    ensures few { result.decimals ≤ 9 }
 {
     if is_same(metric, b"ns/op") {
         COMMON
@@ -64,10 +65,11 @@ fn columns_of(metric: &[u8]) -> Columns
     }
 }
 
-/// How many decimals the values of a metric are scaled by: a value is kept as a whole number of 10^-d units.
+/// How many decimals the values of a metric are scaled by, from 0 to 9: a value is kept as a whole number of 10^-d units.
 /// The rule is the table of metrics in docs/FORMATS.md. O(length of the name); takes no memory.
 pub fn decimals(metric: &[u8]) -> u8
-    ensures { OfRow metric.now (λ row. result ≡ row.decimals) }
+    ensures row { result ≡ (row_of metric.now).decimals }
+    ensures few { result ≤ 9 }
 {
     columns_of(metric).decimals
 }
@@ -75,7 +77,7 @@ pub fn decimals(metric: &[u8]) -> u8
 /// Whether a larger value of the metric is a better one, as for a throughput.
 /// The rule is the table of metrics in docs/FORMATS.md. O(length of the name); takes no memory.
 pub fn larger_is_better(metric: &[u8]) -> bool
-    ensures { OfRow metric.now (λ row. result ≡ row.larger_is_better) }
+    ensures { result ≡ (row_of metric.now).larger_is_better }
 {
     columns_of(metric).larger_is_better
 }
@@ -83,7 +85,7 @@ pub fn larger_is_better(metric: &[u8]) -> bool
 /// The penalty of a cut where none was set for the metric, in squared scaled units.
 /// The rule is the table of metrics in docs/FORMATS.md. O(length of the name); takes no memory.
 pub fn default_penalty(metric: &[u8]) -> i128
-    ensures { OfRow metric.now (λ row. result ≡ row.default_penalty) }
+    ensures { result ≡ (row_of metric.now).default_penalty }
 {
     columns_of(metric).default_penalty
 }

@@ -3,7 +3,7 @@ use Rattle.std.proofs.lemmas.List.{get_or_read, take_more}
 use Rattle.history_model.specs.Samples.{Measurement}
 use Rattle.go_bench_text.specs.Spellings.{HasSpelling, AreSpelled, nowhere}
 use Rattle.go_bench_text.proofs.Spelled.{spelled_more, all_spelled}
-use Rattle.go_bench_text.proofs.ReadBack.{spelled_text, spelled_gives, spelled_in_range}
+use Rattle.go_bench_text.proofs.ReadBack.{spelled_read}
 use Rattle.go_bench_text.proofs.put.put_go.Goals as goal
 
 pub loop-place-preserved : goal.loop-place-preserved
@@ -19,17 +19,7 @@ loop-place-preserved c =
       written = below_more (λ (k : ℕ). HasSpelling (get_or c.as_slice-sample-items.result.now k nowhere)) c.loop-place.place c.loop-place.invariant.written (subst HasSpelling is here);
     }
 
-pub returns-clause-text : goal.returns-clause-text
-returns-clause-text c =
-    spelled_text c.args.samples.now c.loop-place.out.items c.limits.ensures.each c.fixed_law.ensures
-    (all_spelled c.args.samples.now c.as_slice-sample-items.result.now c.loop-place.out.items c.loop-place.place c.as_slice-sample-items.ensures c.loop-place-test.false c.loop-place.invariant.spelled)
-
 pub returns-clause-back : goal.returns-clause-back
 returns-clause-back c =
-    spelled_gives [] c.args.samples.now c.loop-place.out.items c.limits.ensures.each c.fixed_law.ensures
+    spelled_read c.args.samples.now c.loop-place.out.items c.limits.ensures.each c.fixed_law.ensures
     (all_spelled c.args.samples.now c.as_slice-sample-items.result.now c.loop-place.out.items c.loop-place.place c.as_slice-sample-items.ensures c.loop-place-test.false c.loop-place.invariant.spelled)
-
-pub returns-clause-in_range : goal.returns-clause-in_range
-returns-clause-in_range c k less =
-    spelled_in_range [] c.args.samples.now c.loop-place.out.items c.limits.ensures.each c.fixed_law.ensures
-    (all_spelled c.args.samples.now c.as_slice-sample-items.result.now c.loop-place.out.items c.loop-place.place c.as_slice-sample-items.ensures c.loop-place-test.false c.loop-place.invariant.spelled) k

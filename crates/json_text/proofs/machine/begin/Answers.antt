@@ -2,7 +2,7 @@ use Rattle.std.proofs.Common.{◌≡◌, ◌∷◌, [], ℕ, List, inl, inr, ari
 use Rattle.json_text.specs.Machine.{begin, digits, first_digit}
 use Rattle.json_text.specs.States.{frames_of}
 use Rattle.json_text.specs.Tree.{null, boolean}
-use Rattle.json_text.specs.View.{tree_of-null, tree_of-boolean}
+use Rattle.json_text.proofs.Variants.{tree_of-null, tree_of-boolean}
 use Rattle.json_text.specs.declared.state.Digits.{Digits}
 use Rattle.json_text.specs.declared.state.Awaits.TheVariants.{FirstItem, FirstKey}
 use Rattle.json_text.specs.declared.tree.Json as json

@@ -1,5 +1,7 @@
 use Rattle.std.proofs.Common.{arith, ap, ◌∙◌, ◌∷◌}
+use Rattle.json_text.specs.Parts.{then_member}
 use Rattle.json_text.specs.States.{frame_of, frames_of}
+use Rattle.json_text.specs.View.{members_view}
 use Rattle.json_text.proofs.Closing.{list_closed, object_closed}
 use Rattle.json_text.proofs.Stack.{frames_pop}
 use Rattle.json_text.proofs.machine.close.Goals as goal
@@ -17,6 +19,6 @@ returns-in-125 c =
     let outer = frames_of c.pop.new.self.items in (
       object_closed c.args.byte _ _ outer c.in-Some-Member.members _ c.in-Some-Member.key
           (frames_pop _ _ _ c.in-Some-Member.ensures.items ∙ ap (λ last. frame_of last ∷ outer) c.in-Some-Member.field-0-is)
-          c.in-125.is c.in_ok-push-in-Some-Member.ensures.ok,
+          c.in-125.is (c.in_ok-push-in-Some-Member.ensures.ok ∙ ap (then_member (members_view c.in-Some-Member.members)) c.new.ensures),
       omega arith,
     )

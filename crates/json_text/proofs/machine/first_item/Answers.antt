@@ -8,7 +8,7 @@ use Rattle.json_text.specs.declared.state.Open.TheVariants as open_frame
 use Rattle.json_text.proofs.Reach.{list_ends, item_alike}
 use Rattle.json_text.proofs.Runs.{stands_alike}
 use Rattle.json_text.proofs.Stack.{frames_end}
-use Rattle.json_text.specs.View.{tree_of-list}
+use Rattle.json_text.proofs.Variants.{tree_of-list}
 use Rattle.json_text.proofs.machine.first_item.Goals as goal
 
 pub returns-then-as_bytes-place-eq93-clause-arrives : goal.returns-then-as_bytes-place-eq93-clause-arrives

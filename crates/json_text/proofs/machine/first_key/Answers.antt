@@ -6,7 +6,7 @@ use Rattle.json_text.specs.Reached.{Stands}
 use Rattle.json_text.specs.States.{frames_of}
 use Rattle.json_text.proofs.Reach.{object_ends, key_alike, key_arrives, key_fails, fault_handed}
 use Rattle.json_text.proofs.Runs.{stands_alike}
-use Rattle.json_text.specs.View.{tree_of-object}
+use Rattle.json_text.proofs.Variants.{tree_of-object}
 use Rattle.json_text.proofs.machine.first_key.Goals as goal
 
 pub returns-then-as_bytes-place-eq125-clause-arrives : goal.returns-then-as_bytes-place-eq125-clause-arrives

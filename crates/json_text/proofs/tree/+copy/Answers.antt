@@ -1,7 +1,7 @@
-use Rattle.std.proofs.Common.{◌≡◌, ◌≤◌, List, length, map, take, refl, subst}
+use Rattle.std.proofs.Common.{◌≡◌, ◌≤◌, List, length, map, take, subst}
 use Rattle.json_text.specs.View.{items_of, members_of, tree_of, entry_of, items_view, members_view}
 use Rattle.json_text.specs.declared.tree.Json.{Json}
-use Rattle.json_text.specs.declared.tree.Member.{Member, out-Member}
+use Rattle.json_text.specs.declared.tree.Member.{Member}
 use Rattle.json_text.proofs.Parts.{item_copied, items_copied, member_copied, members_copied}
 use Rattle.json_text.proofs.tree.+copy.Goals as goal
 
@@ -17,8 +17,7 @@ JsonList::copy-returns t c =
 
 pub JsonMembers::copy-loop-member-preserved : goal.JsonMembers::copy-loop-member-preserved
 JsonMembers::copy-loop-member-preserved t c =
-    member_copied c.deref-member-items.result.now c.loop-member.member-index c.member-item.result c.in_ok-key.field-0 (out-Member c.in_ok-key.field-0).key (out-Member c.in_ok-key.field-0).value c.loop-member.made c.push.new.self c.loop-member.invariant c.loop-member-test.true c.member-item.is
-    c.in_ok-key.ensures refl refl c.in_ok-push.ensures.ok
+    member_copied c.deref-member-items.result.now c.loop-member.member-index c.member-item.result c.in_ok-copy.field-0 c.loop-member.made c.push.new.self c.loop-member.invariant c.loop-member-test.true c.member-item.is c.in_ok-copy.ensures c.in_ok-push.ensures.ok
 
 pub JsonMembers::copy-returns : goal.JsonMembers::copy-returns
 JsonMembers::copy-returns t c =

@@ -1,7 +1,7 @@
-use Rattle.std.proofs.Common.{◌≡◌, ℕ, List, subst, ap, ◌∙◌, FitsSigned, arith}
+use Rattle.std.proofs.Common.{◌≡◌, ℕ, List, ap, ◌∙◌, FitsSigned, arith}
 use Rattle.std.specs.Int.{w64}
 use Rattle.std.proofs.lemmas.Int.{ints, to_z-of_z}
-use Rattle.metric_table.specs.Table.{Row, OfRow}
+use Rattle.metric_table.specs.Table.{row_of}
 use Rattle.history_model.specs.Samples.{Measurement}
 use Rattle.lnt_report.proofs.Written.{test_written}
 use Rattle.lnt_report.proofs.write.put_test.Goals as goal
@@ -15,6 +15,6 @@ returns c =
     (c.as_str.ensures ∙ ap (λ (m : Measurement). m.test) c.sample.view_is)
     (c.as_str-2.ensures ∙ ap (λ (m : Measurement). m.metric) c.sample.view_is)
     (ap (λ (m : Measurement). m.value) c.sample.view_is)
-    (subst (λ (m : List ℕ). OfRow m (λ (r : Row). c.decimals.result ≡ r.decimals)) (c.as_bytes.ensures.value ∙ metric) c.decimals.ensures)
+    (c.decimals.ensures.row ∙ ap (λ (m : List ℕ). (row_of m).decimals) (c.as_bytes.ensures.value ∙ metric))
     c.in_ok-put_bytes.ensures c.in_ok-put_quoted.ensures c.in_ok-put_bytes-2.ensures c.in_ok-put_quoted-2.ensures
     c.in_ok-put_bytes-3.ensures put c.in_ok-put_bytes-4.ensures
