@@ -8,9 +8,10 @@
 //!
 //! Proved: [`Numeral::read`] answers exactly where the text has the grammar, and with the one
 //! numeral that it is; [`scale`] gives the whole number that is nearest, by a relation of whole
-//! numbers, for any digits and any exponent; and what [`put_fixed`] writes is read and scaled back
-//! to the value. Reading and scaling take no memory. The functions whose name ends in `_law` do
-//! nothing: their contracts are laws of these definitions, for proofs above.
+//! numbers, for any digits and any exponent; and what [`put_fixed`] writes of a value of a magnitude
+//! up to 10^16 with at most nine decimals is read and scaled back to the value. Reading and scaling
+//! take no memory. The functions whose name ends in `_law` do nothing: their contracts are laws of
+//! these definitions, for proofs above.
 //!
 //! Stands on `itoa`, which prints whole numbers.
 #![tactic(auto)]

@@ -12,3 +12,4 @@ mod ReaderSteps
 mod PieceSteps
 mod Exclusion
 mod Completeness
+mod Fronts

@@ -1,5 +1,5 @@
 -- What the pieces of an input show, which a reader took.
-use Rattle.std.proofs.Common.{◌≡◌, ◌≢◌, ℕ, ◌+◌, ◌-◌, ◌^◌, ◌<◌, ◌≤◌, inl, inr, List, [], ◌++◌, length, take, drop, Option, None, Some, IfSome, refl, sym, ap, subst, ◌∙◌, arith, append-nil, append_assoc, length-append}
+use Rattle.std.proofs.Common.{◌≡◌, ◌≢◌, ℕ, ◌+◌, ◌-◌, ◌^◌, ◌<◌, ◌≤◌, inl, inr, List, [], ◌++◌, length, take, drop, Option, None, Some, IfSome, Result, Ok, Err, OnOk, refl, sym, ap, subst, ◌∙◌, arith, append-nil, append_assoc, length-append}
 use Rattle.std.proofs.lemmas.List.{take_all, take-append-le, take-append-drop, length-take, take-take}
 use lib.Seq.{take-append-add}
 use Rattle.std.specs.Io.KnownBytes.{prepend_known}
@@ -353,3 +353,8 @@ gives_last initial before after reader left gave gives = record {
   gave = gave_more initial before after gave.read gives.given gave.gave gives.gave;
   few = (let all : length (gave.read ++ gives.given) ≡ length gave.read + length gives.given = length-append gave.read gives.given in let sum : length (gave.read ++ gives.given) ≤ 2 ^ 30 + 1 = omega (arith, gave.short, gives.few) in sum);
 }
+
+-- what holds whatever the answer
+pub always : {A E : Type 0} {P : Type 0} (r : Result A E) → P → OnOk r P
+always (Ok x) holds = holds
+always (Err e) holds = tt

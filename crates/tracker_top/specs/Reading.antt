@@ -46,7 +46,7 @@ pub record IsFirstRefused (IsRefused : List CutLine → ℕ → List ℕ → Typ
 abbrev pub within_limit : List ℕ → List ℕ
 within_limit bytes = take (2 ^ 30) bytes
 
--- line k is the first that is refused, whatever comes behind the bytes within the limit
+-- line k is the first that is refused, whatever comes behind the first 2^30 bytes where there are more
 abbrev pub Refuses : (List CutLine → ℕ → List ℕ → Type 0) → List ℕ → ℕ → Type 0
 Refuses IsRefused bytes k =
     (more : List ℕ) → (length bytes ≤ 2 ^ 30 → more ≡ []) → IsFirstRefused IsRefused (lines_of (within_limit bytes ++ more)) k

@@ -1,5 +1,6 @@
 ghost use Rattle.std.specs.Prelude.{◌≡◌, ◌≢◌, ℕ, ℤ, ◌^◌, ◌<◌, ◌≤◌, ◌⊎◌, List, [], ◌∷◌, length, drop, slice_range, decimal, unsigned_abs, IfSome, IfNone, IfOk, IsTrue, ◌++◌};
 ghost use Rattle.std.specs.Fmt.{signed_decimal};
+ghost use Rattle.segment_model.specs.Limits.{IsSmall};
 ghost use Rattle.line_text.specs.Lines.{words_of};
 ghost use Rattle.tracker_top.specs.Lines.{IsGood, MayBecomeGood};
 ghost use Rattle.tracker_top.specs.LineKinds.{IsKind};
@@ -46,8 +47,8 @@ fn two_numbers(line: &[u8], first: (usize, usize)) -> Option<(u64, i64)>
     requires placed { (first.0 ≤ first.1) × (first.1 ≤ length line.now) }
     requires word { words_of line.now ≡ slice_range line.now first.0 first.1 ∷ words_of (drop first.1 line.now) }
     ensures some { IfSome result (λ pair. words_of line.now ≡ decimal pair.0 ∷ signed_decimal pair.1 ∷ []) }
-    ensures small { IfSome result (λ pair. unsigned_abs pair.1 ≤ 10 ^ 16) }
-    ensures none { IfNone result ((order : ℕ) (value : ℤ) → order < 2 ^ 64 → unsigned_abs value ≤ 10 ^ 16 → words_of line.now ≢ decimal order ∷ signed_decimal value ∷ []) }
+    ensures small { IfSome result (λ pair. IsSmall pair.1) }
+    ensures none { IfNone result ((order : ℕ) (value : ℤ) → order < 2 ^ 64 → IsSmall value → words_of line.now ≢ decimal order ∷ signed_decimal value ∷ []) }
 {
     let second = next_word(line, first.1)?;
     if next_word(line, second.1).is_some() {

@@ -1,4 +1,4 @@
-ghost use Rattle.std.specs.Prelude.{◌≡◌, ℕ, ◌+◌, ◌^◌, ◌<◌, ◌≤◌, List, length, IfSome, IfOk, IfErr};
+ghost use Rattle.std.specs.Prelude.{◌≡◌, ℕ, ◌+◌, ◌^◌, ◌<◌, ◌≤◌, List, [], length, OnOk, IfSome, IfOk, IfErr};
 ghost use Rattle.track_outside.specs.Counts.{Rose};
 ghost use Rattle.tracker_top.specs.Reading.{ArePointsOf, GivesOpen, GivesFew};
 ghost use Rattle.tracker_top.specs.Statuses.{IsShown, StopsReading};
@@ -19,6 +19,7 @@ const PIECE: usize = 0x1_0000;
 /// The points of the cut lines that the input has. Linear in the bytes.
 pub fn read_points<I: Source>(alloc: Global, input: &mut I) -> Result<Points, Status>
     ensures points { IfOk result (λ points. IfSome (I.left input.old) (λ bytes. ArePointsOf bytes points)) }
+    ensures ended { OnOk result (IfSome (I.left input.new) (λ bytes. bytes ≡ [])) }
     ensures stops { IfErr result StopsReading }
     ensures shown { IfErr result (λ status. IfSome (I.left input.old) (λ bytes. IsShown bytes status)) }
     ensures read_fault { IfErr result (λ status. status ≡ Status.ReadFault → Rose (I.faults input.old) (I.faults input.new)) }

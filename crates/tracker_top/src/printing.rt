@@ -2,7 +2,7 @@ ghost use Rattle.std.specs.Prelude.{◌≡◌, ℕ, ◌≤◌, List, [], ◌∷�
 ghost use Rattle.std.specs.Fmt.{signed_decimal};
 ghost use Rattle.std.specs.Io.KnownBytes.{append_known};
 ghost use Rattle.track_outside.specs.Counts.{Rose};
-ghost use Rattle.tracker_top.specs.Text.{row, text_of, line_of};
+ghost use Rattle.tracker_top.specs.Text.{row, text_of, line_of, TookFront};
 
 use crate::status::Status;
 use itoa::Buffer;
@@ -83,6 +83,7 @@ fn put_costs(alloc: Global, out: &mut Vec<u8>, name: &[u8], costs: &Costs) -> Re
 /// failed write leaves a first part of the line written.
 pub fn put_status<O: Sink>(err: &mut O, status: Status) -> Result<(), Failed>
     ensures all { OnOk result (O.taken err.new ≡ append_known (O.taken err.old) (line_of status)) }
+    ensures part { OnErr result (TookFront (O.taken err.old) (O.taken err.new) (line_of status)) }
     ensures counts { O.faults err.old ≤ O.faults err.new }
     ensures rose { OnErr result (Rose (O.faults err.old) (O.faults err.new)) }
 {
@@ -102,6 +103,7 @@ pub fn put_status<O: Sink>(err: &mut O, status: Status) -> Result<(), Failed>
 // Writes a line that ends with a number.
 fn put_numbered<O: Sink>(err: &mut O, name: &[u8], number: u64) -> Result<(), Failed>
     ensures all { OnOk result (O.taken err.new ≡ append_known (O.taken err.old) (name.now ++ decimal number ++ 10 ∷ [])) }
+    ensures part { OnErr result (TookFront (O.taken err.old) (O.taken err.new) (name.now ++ decimal number ++ 10 ∷ [])) }
     ensures counts { O.faults err.old ≤ O.faults err.new }
     ensures rose { OnErr result (Rose (O.faults err.old) (O.faults err.new)) }
 {

@@ -6,15 +6,10 @@ ghost use Rattle.tracker_top.specs.Adding.{IsNotAdded, TakesLine, RefusesLine};
 
 use crate::cut_line::{LINE_LIMIT, LineKind, line_kind};
 use crate::status::Status;
+use metric_table::Limit;
 use segment_cost::{Points, with_last_law};
 use std::alloc::Global;
 use std::marker::Model;
-
-/// The most values of a series.
-const VALUES_LIMIT: u64 = 65_536;
-
-/// The most positions of a series.
-const POSITIONS_LIMIT: usize = 16_384;
 
 /// The positions of the cut lines so far, and how many values they have.
 #[derive(Drop)]
@@ -81,7 +76,9 @@ impl Series {
             return Err(Status::NotYet(number));
         }
         let is_new = order > last_order;
-        if self.values >= VALUES_LIMIT || is_new && self.points.len() >= POSITIONS_LIMIT {
+        if self.values >= Limit::SeriesSamples.most()
+            || is_new && self.points.len() as u64 >= Limit::Positions.most()
+        {
             return Err(Status::Full(number));
         }
         self.points.push_last(order, number, value)?;

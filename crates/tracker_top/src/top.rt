@@ -1,11 +1,11 @@
-ghost use Rattle.std.specs.Prelude.{◌≡◌, ◌≢◌, ℕ, ◌+◌, ◌^◌, ◌≤◌, List, ◌⊎◌, length, take, pos, IfSome, IfNone, IfOk, IfErr, OnOk, OnErr};
+ghost use Rattle.std.specs.Prelude.{◌≡◌, ◌≢◌, ℕ, ◌+◌, ◌^◌, ◌≤◌, List, [], ◌⊎◌, pos, IfSome, IfNone, IfOk, IfErr, OnOk, OnErr};
 ghost use Rattle.std.specs.Io.KnownBytes.{append_known};
 ghost use Rattle.track_outside.specs.Counts.{Rose};
 ghost use Rattle.tracker_top.specs.Commands.{texts, IsCut};
 ghost use Rattle.tracker_top.specs.Reading.{GivesOpen, GivesFew};
 ghost use Rattle.tracker_top.specs.Statuses.{IsFree, IsNoCommand, IsDue, IsShown};
 ghost use Rattle.tracker_top.specs.Answers.{IsAnswer, OneStatusIsDue};
-ghost use Rattle.tracker_top.specs.Text.{line_of};
+ghost use Rattle.tracker_top.specs.Text.{line_of, TookFront};
 
 use crate::input::read_points;
 use crate::printing::{certificate_text, put_status};
@@ -51,7 +51,8 @@ pub fn alone<I: Source, O: Sink>(
     ensures read_open { result ≡ Status.ReadFault → GivesOpen (I.left input.old) (I.left input.new) }
     ensures write_fault { result ≡ Status.WriteFault → Rose (O.faults out.old) (O.faults out.new) }
 
-    // The input is read up to one byte behind the most that it may have.
+    // The input is read to its end where all is done, and up to one byte behind the most that it may have.
+    ensures read_all { result ≡ Status.Done → IfSome (I.left input.new) (λ bytes. bytes ≡ []) }
     ensures few_read { GivesFew (2 ^ 30 + 1) (I.left input.old) (I.left input.new) }
 
     // What is due comes, unless an object fails or memory is wanting. So good words and good input are Done.
@@ -62,14 +63,13 @@ pub fn alone<I: Source, O: Sink>(
     // The output is the answer's text, a first part of it, or nothing.
     ensures done { result ≡ Status.Done → (penalty : ℕ) × (text : List ℕ) × IsCut (texts words.now) penalty
         × IsAnswer penalty (I.left input.old) text × (O.taken out.new ≡ append_known (O.taken out.old) text) }
-    ensures part { result ≡ Status.WriteFault → (penalty : ℕ) × (text : List ℕ) × (n : ℕ) × IsCut (texts words.now) penalty
-        × IsAnswer penalty (I.left input.old) text × (n ≤ length text)
-        × (O.taken out.new ≡ append_known (O.taken out.old) (take n text)) }
+    ensures part { result ≡ Status.WriteFault → (penalty : ℕ) × (text : List ℕ) × IsCut (texts words.now) penalty
+        × IsAnswer penalty (I.left input.old) text × TookFront (O.taken out.old) (O.taken out.new) text }
     ensures nothing { result ≢ Status.Done → result ≢ Status.WriteFault → O.taken out.new ≡ O.taken out.old }
 
-    // The status is told in a line.
-    ensures told { Rose (O.faults err.old) (O.faults err.new)
-        ⊎ (O.taken err.new ≡ append_known (O.taken err.old) (line_of result)) }
+    // The status is told in a line, of which a first part is written where `err` fails.
+    ensures told { (O.taken err.new ≡ append_known (O.taken err.old) (line_of result))
+        ⊎ (Rose (O.faults err.old) (O.faults err.new) × TookFront (O.taken err.old) (O.taken err.new) (line_of result)) }
 
     // No count falls.
     ensures input_counts { I.faults input.old ≤ I.faults input.new }
@@ -97,10 +97,10 @@ fn outcome<I: Source, O: Sink>(
     ensures write_fault { result ≡ Status.WriteFault → Rose (O.faults out.old) (O.faults out.new) }
     ensures done { result ≡ Status.Done → (penalty : ℕ) × (text : List ℕ) × IsCut (texts words.now) penalty
         × IsAnswer penalty (I.left input.old) text × (O.taken out.new ≡ append_known (O.taken out.old) text) }
-    ensures part { result ≡ Status.WriteFault → (penalty : ℕ) × (text : List ℕ) × (n : ℕ) × IsCut (texts words.now) penalty
-        × IsAnswer penalty (I.left input.old) text × (n ≤ length text)
-        × (O.taken out.new ≡ append_known (O.taken out.old) (take n text)) }
+    ensures part { result ≡ Status.WriteFault → (penalty : ℕ) × (text : List ℕ) × IsCut (texts words.now) penalty
+        × IsAnswer penalty (I.left input.old) text × TookFront (O.taken out.old) (O.taken out.new) text }
     ensures nothing { result ≢ Status.Done → result ≢ Status.WriteFault → O.taken out.new ≡ O.taken out.old }
+    ensures read_all { result ≡ Status.Done → IfSome (I.left input.new) (λ bytes. bytes ≡ []) }
     ensures few_read { GivesFew (2 ^ 30 + 1) (I.left input.old) (I.left input.new) }
     ensures input_counts { I.faults input.old ≤ I.faults input.new }
     ensures out_counts { O.faults out.old ≤ O.faults out.new }
@@ -140,10 +140,10 @@ fn cut<I: Source, O: Sink>(alloc: Global, penalty: u128, input: &mut I, out: &mu
     ensures write_fault { result ≡ Status.WriteFault → Rose (O.faults out.old) (O.faults out.new) }
     ensures done { result ≡ Status.Done → (text : List ℕ)
         × IsAnswer penalty (I.left input.old) text × (O.taken out.new ≡ append_known (O.taken out.old) text) }
-    ensures part { result ≡ Status.WriteFault → (text : List ℕ) × (n : ℕ)
-        × IsAnswer penalty (I.left input.old) text × (n ≤ length text)
-        × (O.taken out.new ≡ append_known (O.taken out.old) (take n text)) }
+    ensures part { result ≡ Status.WriteFault → (text : List ℕ)
+        × IsAnswer penalty (I.left input.old) text × TookFront (O.taken out.old) (O.taken out.new) text }
     ensures nothing { result ≢ Status.Done → result ≢ Status.WriteFault → O.taken out.new ≡ O.taken out.old }
+    ensures read_all { result ≡ Status.Done → IfSome (I.left input.new) (λ bytes. bytes ≡ []) }
     ensures few_read { GivesFew (2 ^ 30 + 1) (I.left input.old) (I.left input.new) }
     ensures input_counts { I.faults input.old ≤ I.faults input.new }
     ensures out_counts { O.faults out.old ≤ O.faults out.new }

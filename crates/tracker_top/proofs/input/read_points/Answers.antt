@@ -1,7 +1,7 @@
 use Rattle.std.proofs.Common.{◌≡◌, ℕ, ◌+◌, ◌-◌, ◌^◌, List, ◌++◌, length, take, drop, arith, refl, length-append}
 use Rattle.std.proofs.lemmas.List.{length-take, length-drop}
 use Rattle.std.proofs.lemmas.Result.{err_from_is_err_and, MatchResult-weaker}
-use Rattle.tracker_top.proofs.PieceSteps.{gave_none, stopped, after_piece, end_stopped, all_points, gives_none, gives_last}
+use Rattle.tracker_top.proofs.PieceSteps.{gave_none, stopped, after_piece, end_stopped, all_points, gives_none, gives_last, always}
 use Rattle.tracker_top.proofs.input.read_points.Goals as goal
 
 pub loop-reader-init : goal.loop-reader-init
@@ -121,3 +121,6 @@ returns-then-taken-eq0-clause-few g c =
 
 pub returns-in_err-buffer-clause-few : goal.returns-in_err-buffer-clause-few
 returns-in_err-buffer-clause-few g c = gives_none (2 ^ 30 + 1) (g.I.Source.left c.args.input.now) (g.I.Source.left c.args.input.now) refl
+
+pub returns-then-taken-eq0-clause-ended : goal.returns-then-taken-eq0-clause-ended
+returns-then-taken-eq0-clause-ended g c = always c.finish.result (c.in_ok-taken.ensures.ok.end c.if-taken-eq0.true)

@@ -13,4 +13,4 @@ returns-clause-part g c is =
       stands = search rules;
       spelled = c.deref.ensures.value ∙ c.in-Ok-certificate_text.ensures;
     } in
-    (c.deref.result.now, part.0, answer, part.1, part.2)
+    (c.deref.result.now, answer, part)
