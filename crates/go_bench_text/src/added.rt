@@ -28,7 +28,7 @@ fn add_pairs(
         let Some((unit, more)) = next_field(behind) else {
             unreachable!();
         };
-        let sample = sample_of(alloc, test, value, unit)?;
+        let sample = sample_of(alloc, &mut gathered.units, test, value, unit)?;
         gathered.add(sample)?;
         rest = more;
     }

@@ -1,5 +1,6 @@
 ghost use Rattle.std.specs.Prelude.{◌≡◌, ◌∷◌, [], OnOk};
 
+use crate::units::Units;
 use history_model::{NoMemory, Sample, Samples};
 use metric_table::Limit;
 use std::alloc::Global;
@@ -9,6 +10,7 @@ use std::alloc::Global;
 pub(crate) struct Gathered {
     pub(crate) samples: Samples,
     pub(crate) full: bool,
+    pub(crate) units: Units,
 }
 
 impl Gathered {
@@ -20,6 +22,7 @@ impl Gathered {
         Gathered {
             samples: Samples::new(alloc),
             full: false,
+            units: Units::new(alloc),
         }
     }
 

@@ -26,6 +26,7 @@ mod read;
 mod spelling;
 #[cfg(test)]
 mod tests;
+mod units;
 
 pub use kind::LineKind;
 pub use kinds::line_kind;

@@ -5,6 +5,7 @@ ghost use Rattle.go_bench_text.specs.Lines.{IsNumeral};
 ghost use Rattle.go_bench_text.specs.Readings.{test_of, IsSampleOf, IsLarge};
 
 use crate::memory::LineFault;
+use crate::units::Units;
 use fixed_value::{Numeral, OutOfRange, numeral_law, scale, scaled_law};
 use history_model::Sample;
 use line_text::{Name, NameError};
@@ -12,7 +13,7 @@ use metric_table::decimals;
 use std::alloc::Global;
 
 // The name that the bytes are, which are text and not empty.
-fn name_of(alloc: Global, text: &str) -> Result<Name, LineFault>
+pub(crate) fn name_of(alloc: Global, text: &str) -> Result<Name, LineFault>
     requires { 0 < length text.now }
     ensures ok { IfOk result (λ name. name ≡ text.now) }
     ensures over { result ≡ Err LineFault.OutOfRange → 256 < length text.now }
@@ -41,7 +42,8 @@ pub(crate) fn test_name(alloc: Global, pkg: &str, name: &str) -> Result<Name, Li
     if pkg.len() > 256 || name.len() > 256 {
         return Err(LineFault::OutOfRange);
     }
-    let mut text = String::from_str(alloc, pkg)?;
+    let mut text = String::with_capacity(alloc, pkg.len() + 1 + name.len())?;
+    text.push_str(pkg)?;
     text.push_str("#")?;
     text.push_str(name)?;
     name_of(alloc, text.as_str())
@@ -69,6 +71,7 @@ fn scaled_value(value: &str, unit: &str) -> Result<i64, LineFault>
 // The sample of a value and its unit.
 pub(crate) fn sample_of(
     alloc: Global,
+    units: &mut Units,
     test: &Name,
     value: &str,
     unit: &str,
@@ -81,7 +84,7 @@ pub(crate) fn sample_of(
     ensures over { result ≡ Err LineFault.OutOfRange → IsLarge value.now unit.now }
 {
     let scaled = scaled_value(value, unit)?;
-    let metric = match name_of(alloc, unit) {
+    let metric = match units.name_of(alloc, unit) {
         Ok(metric) => metric,
         Err(LineFault::OutOfRange) => unreachable!(),
         Err(LineFault::NoMemory) => return Err(LineFault::NoMemory),

@@ -10,7 +10,7 @@ loop-value-preserved c =
     let before = subst (λ (rest : List (List ℕ)). Taken c.args.gathered.now c.loop-value.gathered c.args.test.now (fields_of c.args.pairs.now) rest) split c.loop-value.invariant.taken in
     record {
       text = c.in-Some-next_field.ensures.more;
-      taken = taken_more c.args.gathered.now c.loop-value.gathered c.add.new.self c.args.test.now c.in-Some.value.now c.in-Some-next_field.unit.now (fields_of c.args.pairs.now) (fields_of c.in-Some-next_field.more.now) c.in_ok-sample.sample before c.in_ok-sample.ensures.ok c.in_ok-sample.ensures.in_range c.in_ok-add.ensures;
+      taken = taken_more c.args.gathered.now c.loop-value.gathered c.add.new.self c.args.test.now c.in-Some.value.now c.in-Some-next_field.unit.now (fields_of c.args.pairs.now) (fields_of c.in-Some-next_field.more.now) c.in_ok-sample.sample before c.in_ok-sample.ensures.ok c.in_ok-sample.ensures.in_range (λ given keeps. c.in_ok-add.ensures given (record { all = keeps.all; more = keeps.more }));
     }
 
 pub returns-clause-ok : goal.returns-clause-ok
