@@ -8,7 +8,7 @@ use Rattle.std.proofs.lemmas.Bool.Decides.{nat_tests}
 use Rattle.std.proofs.lemmas.Fmt.{decimal_is_IsNumeral_wide, length-decimal-le_wide}
 use Rattle.std.proofs.lemmas.Int.{ints}
 use Rattle.std.proofs.lemmas.List.Elements.{All-nil, All-cons, All-append}
-use Rattle.fixed_value.specs.Fixed.{low_digits, fraction_text, magnitude_text, fixed_text, MayStand, IsReadBack, FixedIsReadBack}
+use Rattle.fixed_value.specs.Fixed.{low_digits, fraction_text, magnitude_text, fixed_text, IsFixedByte, IsReadBack, FixedIsReadBack}
 use Rattle.fixed_value.specs.Numerals.{IsSign, no_sign, minus, no_point, point, no_mark, IsTail}
 use Rattle.fixed_value.specs.Scaled.{signed, IsMagnitude}
 use Rattle.fixed_value.proofs.Reading.{value_after_append, digit_is}
@@ -55,15 +55,15 @@ length-tail (suc d) n = omega (arith, length-low d n)
 
 -- ---- bytes
 
-digits_stand : (digits : List ℕ) → AllDigits 10 digits → All MayStand digits
-digits_stand [] are = All-nil MayStand
+digits_stand : (digits : List ℕ) → AllDigits 10 digits → All IsFixedByte digits
+digits_stand [] are = All-nil IsFixedByte
 digits_stand (c ∷ digits) are =
     let is : 48 + digit_value c ≡ c = digit_is c are.0 in
-    All-cons MayStand c digits (omega (arith, is), omega (arith, is, are.0)) (digits_stand digits are.1)
+    All-cons IsFixedByte c digits (omega (arith, is), omega (arith, is, are.0)) (digits_stand digits are.1)
 
-tail_stands : (d n : ℕ) → All MayStand (fraction_text d n)
-tail_stands zero n = All-nil MayStand
-tail_stands (suc d) n = All-cons MayStand 46 (low_digits (suc d) n) (omega arith, omega arith) (digits_stand (low_digits (suc d) n) (low_are (suc d) n))
+tail_stands : (d n : ℕ) → All IsFixedByte (fraction_text d n)
+tail_stands zero n = All-nil IsFixedByte
+tail_stands (suc d) n = All-cons IsFixedByte 46 (low_digits (suc d) n) (omega arith, omega arith) (digits_stand (low_digits (suc d) n) (low_are (suc d) n))
 
 -- ---- the text
 
@@ -73,7 +73,7 @@ whole_below n d small = omega arith
 no_power : (d : ℕ) → (pos 0 -ℤ pos d) +ℤ pos d ≡ pos 0
 no_power d = omega (arith, ints)
 
-back : (sign : List ℕ) (negative : Bool) (n d : ℕ) (value : ℤ) → IsSign sign negative → length sign ≤ 1 → n ≤ 10 ^ 16 → d ≤ 9 → All MayStand sign
+back : (sign : List ℕ) (negative : Bool) (n d : ℕ) (value : ℤ) → IsSign sign negative → length sign ≤ 1 → n ≤ 10 ^ 16 → d ≤ 9 → All IsFixedByte sign
     → fixed_text value d ≡ sign ++ magnitude_text n d → unsigned_abs value ≡ n → value ≡ signed negative n → IsReadBack value d
 back sign negative n d value signs one small few stands text abs is =
     let digits = decimal_is_IsNumeral_wide (n / 10 ^ d) (omega (arith, whole_below n d small)) in
@@ -102,11 +102,11 @@ back sign negative n d value signs one small few stands text abs is =
         magnitude = subst (λ power. IsMagnitude n power (unsigned_abs value)) (sym (no_power d)) (omega (arith, abs));
         sign = is ∙ ap (signed negative) (sym abs);
       };
-      bytes = subst (All MayStand) (sym text)
-          (All-append MayStand sign (magnitude_text n d) stands (All-append MayStand (decimal (n / 10 ^ d)) (fraction_text d n) (digits_stand (decimal (n / 10 ^ d)) digits.0.1) (tail_stands d n)));
+      bytes = subst (All IsFixedByte) (sym text)
+          (All-append IsFixedByte sign (magnitude_text n d) stands (All-append IsFixedByte (decimal (n / 10 ^ d)) (fraction_text d n) (digits_stand (decimal (n / 10 ^ d)) digits.0.1) (tail_stands d n)));
     }
 
 pub fixed_read_back : FixedIsReadBack
-fixed_read_back (pos n) d small few = back [] false n d (pos n) (no_sign refl refl) (omega arith) small few (All-nil MayStand) refl refl refl
+fixed_read_back (pos n) d small few = back [] false n d (pos n) (no_sign refl refl) (omega arith) small few (All-nil IsFixedByte) refl refl refl
 fixed_read_back (negsuc n) d small few =
-    back (45 ∷ []) true (suc n) d (negsuc n) (minus refl refl) (omega arith) small few (All-cons MayStand 45 [] (omega arith, omega arith) (All-nil MayStand)) refl refl refl
+    back (45 ∷ []) true (suc n) d (negsuc n) (minus refl refl) (omega arith) small few (All-cons IsFixedByte 45 [] (omega arith, omega arith) (All-nil IsFixedByte)) refl refl refl

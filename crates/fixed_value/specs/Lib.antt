@@ -1,3 +1,4 @@
+pub mod Bytes
 pub mod Scaled
 pub mod Fixed
 pub mod Numerals

@@ -6,7 +6,8 @@ use Rattle.fixed_value.specs.declared.numeral.Numeral.{Numeral}
 abbrev pub signed : Bool → ℕ → ℤ
 signed negative magnitude = if negative then neg_ℤ (pos magnitude) else pos magnitude
 
--- the whole number nearest to m / 10^k, the larger one where two are as near: m / 10^k is from a - 1/2 on and below a + 1/2
+-- the whole number nearest to m / 10^k, the larger one where two are as near: m / 10^k is from a - 1/2 on and below
+-- a + 1/2
 abbrev pub IsNearest : ℕ → ℕ → ℕ → Type 0
 IsNearest m k a = (2 * a * 10 ^ k ≤ 2 * m + 10 ^ k) × (2 * m < (2 * a + 1) * 10 ^ k)
 
@@ -22,4 +23,13 @@ pub record IsScaled (numeral : Numeral) (d : ℕ) (value : ℤ) : Type 0 where
 
 -- a numeral has one scaled value
 abbrev pub ScaledIsOne : Type 0
-ScaledIsOne = (numeral : Numeral) (d : ℕ) (value other : ℤ) → IsScaled numeral d value → IsScaled numeral d other → value ≡ other
+ScaledIsOne = (numeral : Numeral) (d : ℕ) (value other : ℤ) → IsScaled numeral d value → IsScaled numeral d other
+    → value ≡ other
+
+-- the numeral's scaled value is above the limit
+abbrev pub IsTooLarge : Numeral → ℕ → Type 0
+IsTooLarge numeral d = (value : ℤ) × IsScaled numeral d value × (10 ^ 16 < unsigned_abs value)
+
+-- the magnitude is above the limit
+abbrev pub IsMagnitudeTooLarge : ℕ → ℤ → Type 0
+IsMagnitudeTooLarge m power = (a : ℕ) × IsMagnitude m power a × (10 ^ 16 < a)

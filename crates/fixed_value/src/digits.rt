@@ -1,7 +1,9 @@
+//! The parts of a numeral: its sign, its digits, and what marks a fraction or an exponent.
 ghost use Rattle.std.specs.Prelude.{◌≡◌, ◌≢◌, ◌↔◌, ◌⊎◌, ℕ, Bool, List, ◌∷◌, ◌++◌, ◌+◌, ◌*◌, ◌^◌, ◌<◌, ◌≤◌, length, take, slice_index, IsTrue, IfSome, IfNone, OnSome};
 ghost use Rattle.std.specs.Str.Parse.{AllDigits, digits_value_after};
 ghost use Rattle.std.specs.Char.{digit_value};
-ghost use Rattle.fixed_value.specs.Numerals.{AreDigits, IsSign};
+ghost use Rattle.fixed_value.specs.Bytes.{point};
+ghost use Rattle.fixed_value.specs.Numerals.{AreDigits, IsExponentLetter, IsSign};
 
 // Whether a sign `-` comes first, and what follows the sign.
 pub(crate) fn split_sign(text: &[u8]) -> (bool, &[u8])
@@ -20,8 +22,8 @@ pub(crate) fn split_sign(text: &[u8]) -> (bool, &[u8])
 
 // What follows a point, if one comes first.
 pub(crate) fn after_point(text: &[u8]) -> Option<&[u8]>
-    ensures some { IfSome result (λ behind. text.now ≡ 46 ∷ behind.now) }
-    ensures none { IfNone result (slice_index text.now 0 ≢ 46) }
+    ensures some { IfSome result (λ behind. text.now ≡ point ∷ behind.now) }
+    ensures none { IfNone result (slice_index text.now 0 ≢ point) }
 {
     match text {
         [b'.', behind @ ..] => Some(behind),
@@ -32,8 +34,8 @@ pub(crate) fn after_point(text: &[u8]) -> Option<&[u8]>
 // What follows the letter of an exponent, if one comes first.
 pub(crate) fn after_letter(text: &[u8]) -> Option<&[u8]>
     ensures some { IfSome result (λ behind. text.now ≡ slice_index text.now 0 ∷ behind.now) }
-    ensures letter { OnSome result ((slice_index text.now 0 ≡ 69) ⊎ (slice_index text.now 0 ≡ 101)) }
-    ensures none { IfNone result ((slice_index text.now 0 ≢ 69) × (slice_index text.now 0 ≢ 101)) }
+    ensures letter { OnSome result (IsExponentLetter (slice_index text.now 0)) }
+    ensures none { IfNone result (¬ IsExponentLetter (slice_index text.now 0)) }
 {
     match text {
         [b'E' | b'e', behind @ ..] => Some(behind),

@@ -1,7 +1,8 @@
+//! A scaled value as text, and what reading that text gives.
 ghost use Rattle.std.specs.Prelude.{◌≡◌, ◌≤◌, unsigned_abs, ◌+◌, ◌/◌, ◌%◌, ◌^◌, ◌++◌, length, take, OnOk, OnErr};
 ghost use Rattle.fixed_value.specs.Fixed.{fixed_text, magnitude_text, low_digits, IsReadBack, FixedIsReadBack};
 
-use crate::memory::NoMemory;
+use crate::NoMemory;
 use itoa::Buffer;
 use std::alloc::Global;
 

@@ -18,15 +18,14 @@
 
 mod digits;
 mod fixed;
-mod memory;
 mod numeral;
 mod scaled;
 mod signs;
 
 pub use fixed::{fixed_law, put_fixed};
-pub use memory::NoMemory;
 pub use numeral::{Numeral, numeral_law};
 pub use scaled::{OutOfRange, scale, scaled_law};
+pub use std::alloc::AllocError as NoMemory;
 
 #[cfg(test)]
 mod tests;

@@ -1,3 +1,4 @@
+//! Numerals, and which text is one.
 ghost use Rattle.std.specs.Prelude.{◌≡◌, ℕ, ℤ, List, ◌^◌, ◌<◌, ◌≤◌, length, Some, IfSome, IfNone, IsSomeAnd, unsigned_abs};
 ghost use Rattle.fixed_value.specs.declared.numeral.Numeral.{Numeral};
 ghost use Rattle.fixed_value.specs.Numerals.{IsPower, IsExponent, IsTail, IsNumeralText, NumeralIsOne};
@@ -28,7 +29,8 @@ impl Numeral {
     /// Linear in the length, of which no more than 40 bytes are looked at; takes no memory.
     pub fn read(text: &[u8]) -> Option<Numeral>
         ensures some { IfSome result (λ numeral. IsNumeralText text.now numeral) }
-        ensures only { (numeral : Numeral) → IsNumeralText text.now numeral → result ≡ Some numeral }
+        ensures only { (numeral : Numeral) → IsNumeralText text.now numeral
+            → result ≡ Some numeral }
         ensures none { IfNone result ((numeral : Numeral) → ¬ IsNumeralText text.now numeral) }
     {
         if text.len() > 40 {

@@ -1,5 +1,6 @@
+//! The scaled value of a numeral: its value in units of a decimal place.
 ghost use Rattle.std.specs.Prelude.{◌≡◌, ℕ, ℤ, pos, ◌+ℤ◌, ◌+◌, ◌*◌, ◌^◌, ◌<◌, ◌≤◌, IfOk, OnErr, unsigned_abs};
-ghost use Rattle.fixed_value.specs.Scaled.{IsNearest, IsMagnitude, IsScaled, ScaledIsOne};
+ghost use Rattle.fixed_value.specs.Scaled.{IsNearest, IsMagnitude, IsMagnitudeTooLarge, IsScaled, IsTooLarge, ScaledIsOne};
 
 use crate::numeral::Numeral;
 use crate::signs::with_sign;
@@ -22,7 +23,7 @@ pub fn scale(numeral: &Numeral, d: u8) -> Result<i64, OutOfRange>
     requires { d ≤ 9 }
     ensures ok { IfOk result (λ value. IsScaled numeral.now d value) }
     ensures within { IfOk result (λ value. unsigned_abs value ≤ 10 ^ 16) }
-    ensures err { OnErr result ((value : ℤ) × IsScaled numeral.now d value × (10 ^ 16 < unsigned_abs value)) }
+    ensures err { OnErr result (IsTooLarge numeral.now d) }
 {
     let magnitude = magnitude(numeral.digits, numeral.exponent, d)?;
     Ok(with_sign(numeral.negative, magnitude))
@@ -33,7 +34,7 @@ fn magnitude(digits: u128, exponent: i128, d: u8) -> Result<u64, OutOfRange>
     requires { d ≤ 9 }
     ensures ok { IfOk result (λ a. IsMagnitude digits (exponent +ℤ pos d) a) }
     ensures within { IfOk result (λ a. a ≤ 10 ^ 16) }
-    ensures err { OnErr result ((a : ℕ) × IsMagnitude digits (exponent +ℤ pos d) a × (10 ^ 16 < a)) }
+    ensures err { OnErr result (IsMagnitudeTooLarge digits (exponent +ℤ pos d)) }
 {
     if digits == 0 {
         return Ok(0);
@@ -52,7 +53,7 @@ fn magnitude(digits: u128, exponent: i128, d: u8) -> Result<u64, OutOfRange>
 fn at_power(digits: u128, power: i128) -> Result<u128, OutOfRange>
     requires { 0 < digits }
     ensures ok { IfOk result (λ a. IsMagnitude digits power a) }
-    ensures err { OnErr result ((a : ℕ) × IsMagnitude digits power a × (10 ^ 16 < a)) }
+    ensures err { OnErr result (IsMagnitudeTooLarge digits power) }
 {
     if power < 0 {
         Ok(rounded(digits, power.unsigned_abs()))

@@ -1,3 +1,4 @@
+//! Whole numbers with a sign.
 ghost use Rattle.std.specs.Prelude.{◌≡◌, ◌<◌, ◌≤◌, ◌^◌, pos, ◌-ℤ◌, unsigned_abs};
 ghost use Rattle.fixed_value.specs.Scaled.{signed};
 

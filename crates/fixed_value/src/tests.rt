@@ -1,3 +1,4 @@
+//! Numerals of benchmark output, with their scaled values, and scaled values as text.
 use super::*;
 use std::test::Fail;
 

@@ -1,8 +1,9 @@
 -- How the characters of a text are cut into fields.
-use Rattle.std.proofs.Common.{◌≡◌, ◌≢◌, ℕ, zero, suc, ◌<◌, Bool, true, false, cond, not, ◌&&◌, List, [], ◌∷◌, ◌++◌, length, map, filter, refl, sym, ◌∙◌, ap, subst, arith}
+use Rattle.std.proofs.Common.{◌≡◌, ◌≢◌, ℕ, zero, suc, ◌<◌, Bool, true, false, cond, List, [], ◌∷◌, ◌++◌, length, map, filter, refl, sym, ◌∙◌, ap, subst, arith}
 use Rattle.std.specs.Char.{is_whitespace}
 use Rattle.std.specs.List.{slice_split, list_all, All}
 use Rattle.std.specs.Str.{chars, encode_utf8_all, all_scalars, IsUtf8, trim_start, skip_leading_whitespace}
+use Rattle.std.proofs.lemmas.Bool.{not-true, and_parts}
 use Rattle.std.proofs.lemmas.Str.{chars-encodes, chars-append, encodes-chars, encodes_same, scalars-chars, chars-nil}
 use Rattle.std.proofs.lemmas.List.{append-nil, nil_from_length}
 use Rattle.std.proofs.lemmas.List.Splits.{slice_split-cons_yes, slice_split_none, slice_split_at}
@@ -29,13 +30,9 @@ scalars_skipped : (c : ℕ) (cs : List ℕ) (white : Bool) → all_scalars (c �
 scalars_skipped c cs true h rest = rest
 scalars_skipped c cs false h rest = h
 
-right : (a b : Bool) → (a && b) ≡ true → b ≡ true
-right true b h = h
-right false b h = absurd (let no : false ≡ true = h in cc)
-
 pub scalars-skip : (cs : List ℕ) → all_scalars cs ≡ true → all_scalars (skip_leading_whitespace cs) ≡ true
 scalars-skip [] h = refl
-scalars-skip (c ∷ cs) h = scalars_skipped c cs (is_whitespace c) h (scalars-skip cs (right _ (all_scalars cs) h))
+scalars-skip (c ∷ cs) h = scalars_skipped c cs (is_whitespace c) h (scalars-skip cs ((and_parts _ (all_scalars cs) h).1))
 
 stopped_skip : (c : ℕ) (cs : List ℕ) (white : Bool) → is_whitespace c ≡ white → (is_stopped (skip_leading_whitespace cs) ≡ true → skip_leading_whitespace cs ≡ [])
     → is_stopped (cond white (skip_leading_whitespace cs) (c ∷ cs)) ≡ true → cond white (skip_leading_whitespace cs) (c ∷ cs) ≡ []
@@ -47,18 +44,10 @@ pub skip_stops : (cs : List ℕ) → is_stopped (skip_leading_whitespace cs) ≡
 skip_stops [] h = refl
 skip_stops (c ∷ cs) h = stopped_skip c cs (is_whitespace c) refl (skip_stops cs) h
 
-not_true : (a : Bool) → not a ≡ true → a ≡ false
-not_true true h = absurd (let no : false ≡ true = h in cc)
-not_true false h = refl
-
-left : (a b : Bool) → (a && b) ≡ true → a ≡ true
-left true b h = refl
-left false b h = h
-
 all_black : (xs : List ℕ) → list_all is_black xs ≡ true → All (λ x. is_whitespace x ≡ false) xs
 all_black [] h k d l = absurd (omega arith)
-all_black (x ∷ xs) h zero d l = not_true (is_whitespace x) (left (is_black x) (list_all is_black xs) h)
-all_black (x ∷ xs) h (suc k) d l = all_black xs (right (is_black x) (list_all is_black xs) h) k d (omega arith)
+all_black (x ∷ xs) h zero d l = not-true (is_whitespace x) ((and_parts (is_black x) (list_all is_black xs) h).0)
+all_black (x ∷ xs) h (suc k) d l = all_black xs ((and_parts (is_black x) (list_all is_black xs) h).1) k d (omega arith)
 
 has_some : (x : ℕ) (xs : List ℕ) → is_field (x ∷ xs) ≡ true
 has_some x xs = grind (arith, nat_tests)

@@ -1,12 +1,11 @@
-pub mod Cuts
 pub mod Cutting
 pub mod Digits
 pub mod LineParts
 pub mod OneReading
-pub mod OneSample
 pub mod Passed
 pub mod PkgInForce
 pub mod Progress
+pub mod Partings
 pub mod PutFields
 pub mod PutPkg
 pub mod ReadBack

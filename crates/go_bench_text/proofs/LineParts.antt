@@ -1,12 +1,11 @@
 -- What a line adds, and when it is out of range.
 use Rattle.std.proofs.Common.{◌≡◌, ℕ, ◌≤◌, ◌<◌, ◌⊎◌, inl, inr, true, false, List, [], length, refl, sym, ◌∙◌, ap, subst, arith}
 use Rattle.std.proofs.lemmas.List.{append-nil}
-use Rattle.go_bench_text.specs.Gathering.{Keeps, Gains}
-use Rattle.go_bench_text.specs.Added.{AddsPairs, AddsLine}
+use Rattle.go_bench_text.specs.Gathering.{Keeps, Gains, AddsPairs, AddsLine}
 use Rattle.go_bench_text.specs.Lines.{begins, IsResult, IsResultLine}
-use Rattle.go_bench_text.specs.Readings.{HasLarge, Gives, IsOver, pkg_of, test_of}
+use Rattle.go_bench_text.specs.Readings.{HasLarge, PairsGive, IsOver, pkg_of, test_of}
 use Rattle.go_bench_text.specs.Readings.LineGives.{measured, broken, silent}
-use Rattle.go_bench_text.specs.declared.gathered.Gathered.{Gathered}
+use Rattle.go_bench_text.specs.declared.gather.Gathered.{Gathered}
 use Rattle.go_bench_text.proofs.OneReading.{same_parts, not_both}
 
 pub gains_none : (before : Gathered) → Gains before before []
@@ -32,7 +31,7 @@ adds_measured old new before line name pkg test pairs is e f short adds =
     let there : test_of pkg name ≡ test_of (pkg_of before) name = ap (λ (p : List ℕ). test_of p name) (sym e) in
     record {
       samples = adds.new;
-      gives = measured name pairs is (subst (λ (t : List ℕ). Gives t pairs adds.new) (f ∙ there) adds.gives) refl;
+      gives = measured name pairs is (subst (λ (t : List ℕ). PairsGive t pairs adds.new) (f ∙ there) adds.gives) refl;
       gains = adds.gains;
       in_range = λ over. none_over (test_of (pkg_of before) name) pairs (subst (λ (t : List ℕ). length t ≤ 256) there short) adds.in_range (over_parts before line name pairs is over);
     }

@@ -2,19 +2,11 @@
 use Rattle.std.proofs.Common.{◌≡◌, ℕ, Bool, true, false, ℤ, List, [], ◌∷◌, ◌++◌, refl, sym, ◌∙◌, ap, subst, arith}
 use Rattle.std.specs.Prelude.{codes}
 use Rattle.std.proofs.lemmas.List.{append_cancel_left}
-use Rattle.metric_table.specs.Table.{row_of}
-use Rattle.fixed_value.specs.Numerals.{NumeralIsOne}
-use Rattle.fixed_value.specs.Scaled.{IsScaled, ScaledIsOne}
-use Rattle.fixed_value.specs.declared.numeral.Numeral.{Numeral}
+use Rattle.metric_value.specs.Values.{ValueIsOne}
 use Rattle.history_model.specs.Samples.{Measurement}
 use Rattle.go_bench_text.specs.Lines.{begins, IsResult}
-use Rattle.go_bench_text.specs.Readings.{IsSampleOf, Gives, LineGives, LinesGive, pkg_of, test_of}
+use Rattle.go_bench_text.specs.Readings.{IsSampleOf, PairsGive, LineGives, LinesGive, pkg_of, test_of}
 use Rattle.go_bench_text.specs.Readings.LineGives.{measured, broken, silent}
-
--- a text is one numeral's at most, and a numeral has one scaled value
-pub record Values : Type 0 where
-  pub numeral : NumeralIsOne
-  pub scaled : ScaledIsOne
 
 same_sample : (one other : Measurement) → one.test ≡ other.test → one.metric ≡ other.metric → one.value ≡ other.value → one ≡ other
 same_sample one other e f g =
@@ -22,14 +14,12 @@ same_sample one other e f g =
     ap (λ (t : List ℕ). make t one.metric one.value) e ∙ (ap (λ (m : List ℕ). make other.test m one.value) f ∙ ap (λ (v : ℤ). make other.test other.metric v) g)
 
 -- a pair has one sample
-pub one_sample : (test value unit : List ℕ) (sample other : Measurement) → Values → IsSampleOf test value unit sample → IsSampleOf test value unit other → sample ≡ other
-one_sample test value unit sample other values one two =
-    let e : two.numeral ≡ one.numeral = values.numeral value two.numeral one.numeral two.reads one.reads in
-    let scales : IsScaled one.numeral (row_of unit).decimals other.value = subst (λ (n : Numeral). IsScaled n (row_of unit).decimals other.value) e two.scales in
-    same_sample sample other (one.of_test ∙ sym two.of_test) (one.by_metric ∙ sym two.by_metric) (values.scaled one.numeral (row_of unit).decimals sample.value other.value one.scales scales)
+one_sample : (test text unit : List ℕ) (sample other : Measurement) → ValueIsOne → IsSampleOf test text unit sample → IsSampleOf test text unit other → sample ≡ other
+one_sample test text unit sample other law one two =
+    same_sample sample other (one.of_test ∙ sym two.of_test) (one.by_metric ∙ sym two.by_metric) (law unit text sample.value other.value one.value two.value)
 
 -- pairs have one list of samples
-one_list : (test : List ℕ) (pairs : List (List ℕ)) (samples others : List Measurement) → Values → Gives test pairs samples → Gives test pairs others → samples ≡ others
+one_list : (test : List ℕ) (pairs : List (List ℕ)) (samples others : List Measurement) → ValueIsOne → PairsGive test pairs samples → PairsGive test pairs others → samples ≡ others
 one_list test [] [] [] values one two = refl
 one_list test [] [] (other ∷ others) values one two = absurd two
 one_list test [] (sample ∷ samples) others values one two = absurd one
@@ -54,12 +44,12 @@ pub not_both : (b : Bool) → b ≡ true → b ≡ false → ⊥
 not_both b e f = let no : true ≡ false = sym e ∙ f in absurd (cc)
 
 -- a line gives one list of samples and one number of ignored lines
-one_line : (before : List (List ℕ)) (line : List ℕ) (samples others : List Measurement) (ignored count : ℕ) → Values → LineGives before line samples ignored → LineGives before line others count
+one_line : (before : List (List ℕ)) (line : List ℕ) (samples others : List Measurement) (ignored count : ℕ) → ValueIsOne → LineGives before line samples ignored → LineGives before line others count
     → (samples ≡ others) × (ignored ≡ count)
 one_line before line samples others ignored count values (measured name pairs is gives e) (measured other more also given f) =
     let same = same_parts line other name more pairs also is in
-    let there : Gives (test_of (pkg_of before) name) pairs others =
-    subst (λ (ps : List (List ℕ)). Gives (test_of (pkg_of before) name) ps others) same.both (subst (λ (n : List ℕ). Gives (test_of (pkg_of before) n) more others) same.names given) in
+    let there : PairsGive (test_of (pkg_of before) name) pairs others =
+    subst (λ (ps : List (List ℕ)). PairsGive (test_of (pkg_of before) name) ps others) same.both (subst (λ (n : List ℕ). PairsGive (test_of (pkg_of before) n) more others) same.names given) in
     (one_list (test_of (pkg_of before) name) pairs samples others values gives there, e ∙ sym f)
 one_line before line samples others ignored count values (measured name pairs is gives e) (broken not_is f g) = absurd (not_is.1 (name, pairs, is))
 one_line before line samples others ignored count values (measured name pairs is gives e) (silent off f g) = absurd (not_both (begins line) is.first off)
@@ -71,7 +61,7 @@ one_line before line samples others ignored count values (silent off e f) (broke
 one_line before line samples others ignored count values (silent off e f) (silent also g h) = (e ∙ sym g, f ∙ sym h)
 
 -- so do lines in a row
-pub one_reading : Values → (before lines : List (List ℕ)) (samples others : List Measurement) (ignored count : ℕ) → LinesGive before lines samples ignored → LinesGive before lines others count
+pub one_reading : ValueIsOne → (before lines : List (List ℕ)) (samples others : List Measurement) (ignored count : ℕ) → LinesGive before lines samples ignored → LinesGive before lines others count
     → (samples ≡ others) × (ignored ≡ count)
 one_reading values before [] samples others ignored count one two = (one.0 ∙ sym two.0, one.1 ∙ sym two.1)
 one_reading values before (line ∷ lines) samples others ignored count one two =

@@ -3,6 +3,7 @@ use Rattle.std.proofs.Common.{◌≡◌, ℕ, Bool, true, false, ◌&&◌, not, 
 use Rattle.std.specs.Char.{is_whitespace, encode_utf8, IsScalar}
 use Rattle.std.specs.List.{list_all}
 use Rattle.std.specs.Str.{chars, IsUtf8, IsCharBoundary}
+use Rattle.std.proofs.lemmas.Bool.{and_from}
 use Rattle.std.proofs.lemmas.Str.{IsUtf8-nil, IsUtf8-append, IsUtf8-encode, chars-append, chars_past_char, chars-nil, IsCharBoundary-at_seam}
 use Rattle.std.proofs.lemmas.List.{append-nil, take_at, drop_at}
 use Rattle.std.proofs.lemmas.List.Folds.{list_all-append}
@@ -19,9 +20,6 @@ pub record Passed (text rest : List ℕ) : Type 0 where
 pub passed_none : (text : List ℕ) → IsUtf8 text → Passed text text
 passed_none text is = record { front = []; joined = refl; is = IsUtf8-nil; black = ap (list_all is_black) chars-nil; more = is }
 
-both : (a b : Bool) → a ≡ true → b ≡ true → (a && b) ≡ true
-both a b h k = ap (λ (x : Bool). x && b) h ∙ k
-
 pub passed_more : (text rest more : List ℕ) (c : ℕ) → IsScalar c → rest ≡ encode_utf8 c ++ more → IsUtf8 more → is_whitespace c ≡ false → Passed text rest → Passed text more
 passed_more text rest more c scalar e is white before =
     let of_c : chars (encode_utf8 c) ≡ c ∷ [] = chars_past_char (encode_utf8 c) [] c (IsUtf8-encode c scalar) (sym (append-nil (encode_utf8 c))) ∙ ap (λ (cs : List ℕ). c ∷ cs) chars-nil in
@@ -31,7 +29,7 @@ passed_more text rest more c scalar e is white before =
       front = before.front ++ encode_utf8 c;
       joined = before.joined ∙ (ap (λ (xs : List ℕ). before.front ++ xs) e ∙ sym (append_assoc before.front (encode_utf8 c) more));
       is = IsUtf8-append before.front (encode_utf8 c) before.is (IsUtf8-encode c scalar);
-      black = ap (list_all is_black) all ∙ (list_all-append is_black (chars before.front) (c ∷ []) ∙ both (list_all is_black (chars before.front)) (list_all is_black (c ∷ [])) before.black last);
+      black = ap (list_all is_black) all ∙ (list_all-append is_black (chars before.front) (c ∷ []) ∙ and_from (list_all is_black (chars before.front)) (list_all is_black (c ∷ [])) before.black last);
       more = is;
     }
 

@@ -4,10 +4,9 @@ use Rattle.std.specs.Str.{IsUtf8}
 use Rattle.std.proofs.lemmas.List.{append-nil, drop_more, take_more, drop_all}
 use Rattle.line_text.specs.Lines.{lines_of}
 use Rattle.history_model.specs.Samples.{Measurement}
-use Rattle.go_bench_text.specs.Gathering.{Keeps}
-use Rattle.go_bench_text.specs.Added.{AddsLine}
+use Rattle.go_bench_text.specs.Gathering.{Keeps, AddsLine}
 use Rattle.go_bench_text.specs.Readings.{LinesGive, IsOver, IsOverAt, NoneOverBelow, IsFirstOver, IsRead, pkg_of}
-use Rattle.go_bench_text.specs.declared.gathered.Gathered.{Gathered}
+use Rattle.go_bench_text.specs.declared.gather.Gathered.{Gathered}
 
 -- what the lines behind the first n give is all that is missing
 pub record Progress (lines : List (List ℕ)) (n : ℕ) (gathered : Gathered) (pkg : List ℕ) (ignored : ℕ) : Type 0 where

@@ -1,14 +1,15 @@
 -- The fields of a line that is put.
-use Rattle.std.proofs.Common.{◌≡◌, ℕ, zero, suc, ◌<◌, ◌≤◌, Bool, true, ◌&&◌, List, [], ◌∷◌, ◌++◌, length, get_or, refl, sym, ◌∙◌, ap, arith, lit<}
+use Rattle.std.proofs.Common.{◌≡◌, ℕ, zero, suc, ◌<◌, ◌≤◌, true, List, [], ◌∷◌, ◌++◌, length, get_or, refl, sym, ◌∙◌, ap, arith, lit<}
 use Rattle.std.specs.Prelude.{codes, nat_lt}
 use Rattle.std.specs.List.{list_all, All}
 use Rattle.std.specs.Str.{chars, encode_utf8_all, IsUtf8, IsAscii}
+use Rattle.std.proofs.lemmas.Bool.{and_from}
 use Rattle.std.proofs.lemmas.Str.{chars-append, encodes-chars, chars-nil, chars-IsAscii, IsUtf8-from_ascii, IsUtf8-append, encode_ascii}
 use Rattle.std.proofs.lemmas.List.{append-nil, get_or_past}
 use Rattle.std.proofs.lemmas.List.Folds.{list_all-append}
 use Rattle.std.proofs.lemmas.List.Sums.{list_all-from_AllPass, AllPass-from_list_all}
 use Rattle.std.proofs.lemmas.Bool.Decides.{nat_tests}
-use Rattle.fixed_value.specs.Fixed.{MayStand}
+use Rattle.fixed_value.specs.Fixed.{IsFixedByte}
 use Rattle.go_bench_text.specs.Characters.{is_black}
 use Rattle.go_bench_text.specs.Fields.{fields_of, fields_of_chars}
 use Rattle.go_bench_text.specs.Parts.{is_stopped}
@@ -62,13 +63,13 @@ pub ascii_word : (xs : List ℕ) → list_all (λ b. nat_lt b 128) xs ≡ true �
 ascii_word xs e = ascii_all xs (λ k d l. low_byte (get_or xs k d) (AllPass-from_list_all (λ b. nat_lt b 128) xs e k d l))
 
 -- the bytes of a written value
-pub ascii_of : (xs : List ℕ) → All MayStand xs → IsAscii xs
+pub ascii_of : (xs : List ℕ) → All IsFixedByte xs → IsAscii xs
 ascii_of xs h = ascii_all xs (λ k d l. omega (arith, (h k d l).1))
 
 black_byte : (b : ℕ) → 45 ≤ b → b ≤ 57 → is_black b ≡ true
 black_byte b l h = grind (arith, nat_tests)
 
-pub black_of : (xs : List ℕ) → All MayStand xs → list_all is_black (chars xs) ≡ true
+pub black_of : (xs : List ℕ) → All IsFixedByte xs → list_all is_black (chars xs) ≡ true
 black_of xs h = ap (list_all is_black) (chars-IsAscii xs (ascii_of xs h)) ∙ list_all-from_AllPass is_black xs (λ k d l. black_byte (get_or xs k d) (h k d l).0 (h k d l).1)
 
 bench_ascii : IsAscii (codes "Benchmark")
@@ -80,19 +81,16 @@ bench_utf8 = IsUtf8-from_ascii (codes "Benchmark") bench_ascii
 one_utf8 : IsUtf8 (49 ∷ [])
 one_utf8 = IsUtf8-from_ascii (49 ∷ []) (ascii_word (49 ∷ []) refl)
 
-both : (a b : Bool) → a ≡ true → b ≡ true → (a && b) ≡ true
-both a b h k = ap (λ (x : Bool). x && b) h ∙ k
-
 bench_black : (name : List ℕ) → list_all is_black (chars name) ≡ true → list_all is_black (chars (codes "Benchmark" ++ name)) ≡ true
 bench_black name h =
     ap (list_all is_black) (chars-append (codes "Benchmark") name bench_utf8 ∙ ap (λ (xs : List ℕ). xs ++ chars name) (chars-IsAscii (codes "Benchmark") bench_ascii))
-    ∙ (list_all-append is_black (codes "Benchmark") (chars name) ∙ both (list_all is_black (codes "Benchmark")) (list_all is_black (chars name)) refl h)
+    ∙ (list_all-append is_black (codes "Benchmark") (chars name) ∙ and_from (list_all is_black (codes "Benchmark")) (list_all is_black (chars name)) refl h)
 
 -- what is known of the parts of a result line that is put
 pub record MayPut (name fixed metric : List ℕ) : Type 0 where
   pub name_is : IsUtf8 name
   pub name_black : list_all is_black (chars name) ≡ true
-  pub fixed_is : All MayStand fixed
+  pub fixed_is : All IsFixedByte fixed
   pub fixed_some : 0 < length fixed
   pub metric_is : IsUtf8 metric
   pub metric_black : list_all is_black (chars metric) ≡ true

@@ -1,5 +1,5 @@
 -- Reading what was put gives the samples.
-use Rattle.std.proofs.Common.{◌≡◌, ℕ, zero, suc, ◌+◌, ◌-◌, ◌^◌, ◌<◌, ◌≤◌, inl, inr, unsigned_abs, Bool, true, false, not, ◌&&◌, ◌||◌, List, [], ◌∷◌, ◌++◌, length, take, get_or, refl, sym, ◌∙◌, ap, subst, arith, eqb, lit<, length-append, append_assoc}
+use Rattle.std.proofs.Common.{◌≡◌, ℕ, ℤ, zero, suc, ◌+◌, ◌-◌, ◌^◌, ◌<◌, ◌≤◌, inl, inr, unsigned_abs, Bool, true, false, not, ◌&&◌, ◌||◌, List, [], ◌∷◌, ◌++◌, length, take, get_or, refl, sym, ◌∙◌, ap, subst, arith, eqb, lit<, length-append, append_assoc}
 use Rattle.std.specs.Prelude.{codes, nat_lt}
 use Rattle.std.specs.Char.{is_whitespace}
 use Rattle.std.specs.List.{list_all, list_any, All}
@@ -9,20 +9,21 @@ use Rattle.std.proofs.lemmas.List.{get_or_default, get_or_past}
 use Rattle.std.proofs.lemmas.List.Elements.{All-append}
 use Rattle.std.proofs.lemmas.List.Splits.{slice_split_at}
 use Rattle.std.proofs.lemmas.List.Sums.{AllPass-from_list_all}
+use Rattle.std.proofs.lemmas.Bool.{not-true, and_parts}
 use Rattle.std.proofs.lemmas.Bool.Decides.{nat_tests}
 use Rattle.line_text.specs.Lines.{lines_of}
-use Rattle.metric_table.specs.Table.{row_of}
 use Rattle.fixed_value.specs.Numerals.{IsNumeralText}
 use Rattle.fixed_value.specs.declared.numeral.Numeral.{Numeral}
-use Rattle.fixed_value.specs.Fixed.{MayStand, IsReadBack, FixedIsReadBack}
+use Rattle.fixed_value.specs.Fixed.{IsFixedByte}
+use Rattle.metric_value.specs.Values.{value_text, IsValueOf, IsReadBackBy, ValueIsReadBack}
 use Rattle.history_model.specs.Samples.{Measurement, IsSample}
 use Rattle.go_bench_text.specs.Characters.{is_black, is_name, is_blank}
 use Rattle.go_bench_text.specs.Lines.{begins, IsResult}
-use Rattle.go_bench_text.specs.Readings.{pkg_of, test_of, IsSampleOf, HasLarge, IsOver, IsRead, LineGives, LinesGive}
+use Rattle.go_bench_text.specs.Readings.{pkg_of, test_of, HasLarge, IsOver, IsRead, LineGives, LinesGive}
 use Rattle.go_bench_text.specs.Readings.LineGives.{measured, silent}
-use Rattle.go_bench_text.specs.Spellings.{is_bare_name, IsCut, IsWrittenBy, IsSpelling, AreSpelled, pkg_line, value_text, result_line}
+use Rattle.go_bench_text.specs.Spellings.{is_bare_name, IsPartedAt, IsWrittenBy, IsSpelling, AreSpelled, pkg_line, result_line}
 use Rattle.go_bench_text.specs.Spellings.IsWrittenBy.{lone, own, parted}
-use Rattle.go_bench_text.proofs.Cuts.{cut_there}
+use Rattle.go_bench_text.proofs.Partings.{parted_there}
 use Rattle.go_bench_text.proofs.PkgInForce.{pkg_set}
 use Rattle.go_bench_text.proofs.PutFields.{MayPut, put_fields, ascii_of, ascii_word, bench_utf8}
 use Rattle.go_bench_text.proofs.PutPkg.{Sets, sets_none, sets_some}
@@ -33,27 +34,12 @@ use Rattle.go_bench_text.proofs.LineParts.{over_parts, none_over, silent_in_rang
 is_clean : ℕ → Bool
 is_clean b = not (eqb b 10)
 
-not_true : (a : Bool) → not a ≡ true → a ≡ false
-not_true true h = absurd (let no : false ≡ true = h in cc)
-not_true false h = refl
-
-left : (a b : Bool) → (a && b) ≡ true → a ≡ true
-left true b h = refl
-left false b h = h
-
-right : (a b : Bool) → (a && b) ≡ true → b ≡ true
-right true b h = h
-right false b h = absurd (let no : false ≡ true = h in cc)
-
-both : (a b : Bool) → a ≡ true → b ≡ true → (a && b) ≡ true
-both a b h k = ap (λ (x : Bool). x && b) h ∙ k
-
 -- the bytes hold no line feed
 pub record IsClean (bytes : List ℕ) : Type 0 where
   pub each : All (λ b. eqb b 10 ≡ false) bytes
 
 clean_word : (xs : List ℕ) → list_all (λ b. not (eqb b 10)) xs ≡ true → IsClean xs
-clean_word xs h = record { each = λ k d l. not_true (eqb (get_or xs k d) 10) (AllPass-from_list_all (λ b. not (eqb b 10)) xs h k d l) }
+clean_word xs h = record { each = λ k d l. not-true (eqb (get_or xs k d) 10) (AllPass-from_list_all (λ b. not (eqb b 10)) xs h k d l) }
 
 clean_join : (xs ys : List ℕ) → IsClean xs → IsClean ys → IsClean (xs ++ ys)
 clean_join xs ys h k = record { each = All-append (λ b. eqb b 10 ≡ false) xs ys h.each k.each }
@@ -64,12 +50,12 @@ off_ten b h = told (eqb b 10) refl where
   told false e = refl
   told true e = absurd (h (let is : b ≡ 10 = grind (arith, nat_tests) in is))
 
-clean_digits : (xs : List ℕ) → All MayStand xs → IsClean xs
+clean_digits : (xs : List ℕ) → All IsFixedByte xs → IsClean xs
 clean_digits xs h = record { each = λ k d l. off_ten (get_or xs k d) (λ e. omega (arith, (h k d l).0, e)) }
 
 none_pass : (cs : List ℕ) → list_all is_black cs ≡ true → NonePass is_whitespace cs
 none_pass [] h = tt
-none_pass (c ∷ cs) h = (not_true (is_whitespace c) (left (is_black c) (list_all is_black cs) h), none_pass cs (right (is_black c) (list_all is_black cs) h))
+none_pass (c ∷ cs) h = (not-true (is_whitespace c) ((and_parts (is_black c) (list_all is_black cs) h).0), none_pass cs ((and_parts (is_black c) (list_all is_black cs) h).1))
 
 no_white : (text : List ℕ) → IsUtf8 text → list_all is_black (chars text) ≡ true → NoCharPasses is_whitespace text
 no_white text is h = (chars text, encodes-chars text is, none_pass (chars text) h)
@@ -117,8 +103,8 @@ without_pkg test name is bare back = record {
   pkg_is = IsUtf8-nil;
   name_is = is;
   pkg_clean = clean_word (codes "pkg:") refl;
-  named = left (is_name (chars name)) (list_all is_black (chars name)) bare;
-  black = right (is_name (chars name)) (list_all is_black (chars name)) bare;
+  named = (and_parts (is_name (chars name)) (list_all is_black (chars name)) bare).0;
+  black = (and_parts (is_name (chars name)) (list_all is_black (chars name)) bare).1;
   sets = sets_none;
   back = back;
 }
@@ -127,24 +113,24 @@ own_name : (test : List ℕ) → 0 < length test → test_of [] test ≡ test
 own_name [] h = absurd (omega arith)
 own_name (b ∷ test) h = refl
 
-with_pkg : (test : List ℕ) (b : ℕ) (pkg name : List ℕ) → IsUtf8 (b ∷ pkg) → IsUtf8 name → IsCut test (b ∷ pkg) name → Parts test (b ∷ pkg) name
+with_pkg : (test : List ℕ) (b : ℕ) (pkg name : List ℕ) → IsUtf8 (b ∷ pkg) → IsUtf8 name → IsPartedAt test (b ∷ pkg) name → Parts test (b ∷ pkg) name
 with_pkg test b pkg name is also cut =
-    let one = left (not (eqb (length (b ∷ pkg)) 0) && not (list_any (λ x. eqb x 10) (b ∷ pkg))) (not (is_blank b) && not (eqb (get_or (b ∷ pkg) (length (b ∷ pkg) - 1) 0) 13)) cut.before in
-    let two = right (not (eqb (length (b ∷ pkg)) 0) && not (list_any (λ x. eqb x 10) (b ∷ pkg))) (not (is_blank b) && not (eqb (get_or (b ∷ pkg) (length (b ∷ pkg) - 1) 0) 13)) cut.before in
-    let feed = not_true (list_any (λ x. eqb x 10) (b ∷ pkg)) (right (not (eqb (length (b ∷ pkg)) 0)) (not (list_any (λ x. eqb x 10) (b ∷ pkg))) one) in
-    let first = not_true (is_blank b) (left (not (is_blank b)) (not (eqb (get_or (b ∷ pkg) (length (b ∷ pkg) - 1) 0) 13)) two) in
-    let last = not_true (eqb (get_or (b ∷ pkg) (length (b ∷ pkg) - 1) 0) 13) (right (not (is_blank b)) (not (eqb (get_or (b ∷ pkg) (length (b ∷ pkg) - 1) 0) 13)) two) in
+    let one = (and_parts (not (eqb (length (b ∷ pkg)) 0) && not (list_any (λ x. eqb x 10) (b ∷ pkg))) (not (is_blank b) && not (eqb (get_or (b ∷ pkg) (length (b ∷ pkg) - 1) 0) 13)) cut.before).0 in
+    let two = (and_parts (not (eqb (length (b ∷ pkg)) 0) && not (list_any (λ x. eqb x 10) (b ∷ pkg))) (not (is_blank b) && not (eqb (get_or (b ∷ pkg) (length (b ∷ pkg) - 1) 0) 13)) cut.before).1 in
+    let feed = not-true (list_any (λ x. eqb x 10) (b ∷ pkg)) ((and_parts (not (eqb (length (b ∷ pkg)) 0)) (not (list_any (λ x. eqb x 10) (b ∷ pkg))) one).1) in
+    let first = not-true (is_blank b) ((and_parts (not (is_blank b)) (not (eqb (get_or (b ∷ pkg) (length (b ∷ pkg) - 1) 0) 13)) two).0) in
+    let last = not-true (eqb (get_or (b ∷ pkg) (length (b ∷ pkg) - 1) 0) 13) ((and_parts (not (is_blank b)) (not (eqb (get_or (b ∷ pkg) (length (b ∷ pkg) - 1) 0) 13)) two).1) in
     record {
       pkg_is = is;
       name_is = also;
       pkg_clean = clean_join (codes "pkg: ") (b ∷ pkg) (clean_word (codes "pkg: ") refl) (clean_word (b ∷ pkg) (clean_any (b ∷ pkg) feed));
-      named = left (is_name (chars name)) (list_all is_black (chars name)) cut.behind;
-      black = right (is_name (chars name)) (list_all is_black (chars name)) cut.behind;
+      named = (and_parts (is_name (chars name)) (list_all is_black (chars name)) cut.behind).0;
+      black = (and_parts (is_name (chars name)) (list_all is_black (chars name)) cut.behind).1;
       sets = sets_some b pkg (record { first = first; last = last });
       back = sym cut.joined;
     }
 
-cut_parts : (test pkg name : List ℕ) → IsUtf8 pkg → IsUtf8 name → IsCut test pkg name → Parts test pkg name
+cut_parts : (test pkg name : List ℕ) → IsUtf8 pkg → IsUtf8 name → IsPartedAt test pkg name → Parts test pkg name
 cut_parts test [] name is also cut = absurd (let no : false ≡ true = cut.before in cc)
 cut_parts test (b ∷ pkg) name is also cut = with_pkg test b pkg name is also cut
 
@@ -154,11 +140,11 @@ parts_of test pkg name is (lone e f g) =
 parts_of test pkg name is (own h f g) =
     subst (λ (p : List ℕ). Parts test p name) (sym f) (subst (λ (n : List ℕ). Parts test [] n) (sym g) (without_pkg test test is h.bare (own_name test h.some)))
 parts_of test pkg name is (parted off not_own first) =
-    let there = cut_there test pkg name (length pkg) refl first.cut in
-    let less : length pkg < length test = omega (arith, ap length first.cut.joined, length-append pkg (35 ∷ name)) in
+    let there = parted_there test pkg name (length pkg) refl first.parted in
+    let less : length pkg < length test = omega (arith, ap length first.parted.joined, length-append pkg (35 ∷ name)) in
     let front : IsUtf8 pkg = subst IsUtf8 (sym there.front) (IsUtf8-take test (length pkg) is (IsCharBoundary-before_ascii test (length pkg) less (omega (arith, there.hash)))) in
     let back : IsUtf8 name = subst IsUtf8 (sym there.back) (IsUtf8-drop test (length pkg + 1) is (IsCharBoundary-after_ascii test (length pkg) is less (omega (arith, there.hash)))) in
-    cut_parts test pkg name front back first.cut
+    cut_parts test pkg name front back first.parted
 
 -- ---- the two lines of a sample
 
@@ -181,40 +167,36 @@ some_joined text sign whole tail e h = omega (arith, ap length e, length-append 
 at_length : (text : List ℕ) (numeral : Numeral) → IsNumeralText text numeral → 0 < length text
 at_length text numeral is = some_joined text is.sign is.whole is.tail is.joined is.whole_is.0
 
--- a sample's value is read back from its text
-abbrev ValueIsReadBack : Measurement → Type 0
-ValueIsReadBack sample = IsReadBack sample.value (row_of sample.metric).decimals
+some_value : (sample : Measurement) → IsReadBackBy sample.metric sample.value → 0 < length (value_text sample.metric sample.value)
+some_value sample back = at_length (value_text sample.metric sample.value) back.reads.numeral back.reads.spells
 
-some_value : (sample : Measurement) → ValueIsReadBack sample → 0 < length (value_text sample)
-some_value sample back = at_length (value_text sample) back.numeral back.reads
-
-is_result : (name : List ℕ) (sample : Measurement) → MayPut name (value_text sample) sample.metric → is_name (chars name) ≡ true → ValueIsReadBack sample → length sample.metric ≤ 64
-    → IsResult (result_line name sample) name (value_text sample ∷ sample.metric ∷ [])
+is_result : (name : List ℕ) (sample : Measurement) → MayPut name (value_text sample.metric sample.value) sample.metric → is_name (chars name) ≡ true → IsReadBackBy sample.metric sample.value → length sample.metric ≤ 64
+    → IsResult (result_line name sample) name (value_text sample.metric sample.value ∷ sample.metric ∷ [])
 is_result name sample may named back short = record {
   count = 49 ∷ [];
   first = refl;
-  fields = put_fields name (value_text sample) sample.metric may;
+  fields = put_fields name (value_text sample.metric sample.value) sample.metric may;
   named = named;
   counted = (omega arith, (lit< tt, tt));
   some = omega arith;
-  paired = ((back.numeral, back.reads), short, tt);
+  paired = ((back.reads.numeral, back.reads.spells), short, tt);
 }
 
-result_clean : (name : List ℕ) (sample : Measurement) → MayPut name (value_text sample) sample.metric → IsClean (result_line name sample)
+result_clean : (name : List ℕ) (sample : Measurement) → MayPut name (value_text sample.metric sample.value) sample.metric → IsClean (result_line name sample)
 result_clean name sample may =
-    clean_join (codes "Benchmark" ++ name) (codes " 1 " ++ (value_text sample ++ 32 ∷ sample.metric))
+    clean_join (codes "Benchmark" ++ name) (codes " 1 " ++ (value_text sample.metric sample.value ++ 32 ∷ sample.metric))
     (clean_join (codes "Benchmark") name (clean_word (codes "Benchmark") refl) (clean_black name may.name_is may.name_black))
-    (clean_join (codes " 1 ") (value_text sample ++ 32 ∷ sample.metric) (clean_word (codes " 1 ") refl)
-    (clean_join (value_text sample) (32 ∷ sample.metric) (clean_digits (value_text sample) may.fixed_is) (clean_join (32 ∷ []) sample.metric (clean_word (32 ∷ []) refl) (clean_black sample.metric may.metric_is may.metric_black))))
+    (clean_join (codes " 1 ") (value_text sample.metric sample.value ++ 32 ∷ sample.metric) (clean_word (codes " 1 ") refl)
+    (clean_join (value_text sample.metric sample.value) (32 ∷ sample.metric) (clean_digits (value_text sample.metric sample.value) may.fixed_is) (clean_join (32 ∷ []) sample.metric (clean_word (32 ∷ []) refl) (clean_black sample.metric may.metric_is may.metric_black))))
 
 utf8_word : (xs : List ℕ) → list_all (λ b. nat_lt b 128) xs ≡ true → IsUtf8 xs
 utf8_word xs e = IsUtf8-from_ascii xs (ascii_word xs e)
 
-result_utf8 : (name : List ℕ) (sample : Measurement) → MayPut name (value_text sample) sample.metric → IsUtf8 (result_line name sample)
+result_utf8 : (name : List ℕ) (sample : Measurement) → MayPut name (value_text sample.metric sample.value) sample.metric → IsUtf8 (result_line name sample)
 result_utf8 name sample may =
-    IsUtf8-append (codes "Benchmark" ++ name) (codes " 1 " ++ (value_text sample ++ 32 ∷ sample.metric)) (IsUtf8-append (codes "Benchmark") name bench_utf8 may.name_is)
-    (IsUtf8-append (codes " 1 ") (value_text sample ++ 32 ∷ sample.metric) (utf8_word (codes " 1 ") refl)
-    (IsUtf8-append (value_text sample) (32 ∷ sample.metric) (IsUtf8-from_ascii (value_text sample) (ascii_of (value_text sample) may.fixed_is)) (IsUtf8-append (32 ∷ []) sample.metric (utf8_word (32 ∷ []) refl) may.metric_is)))
+    IsUtf8-append (codes "Benchmark" ++ name) (codes " 1 " ++ (value_text sample.metric sample.value ++ 32 ∷ sample.metric)) (IsUtf8-append (codes "Benchmark") name bench_utf8 may.name_is)
+    (IsUtf8-append (codes " 1 ") (value_text sample.metric sample.value ++ 32 ∷ sample.metric) (utf8_word (codes " 1 ") refl)
+    (IsUtf8-append (value_text sample.metric sample.value) (32 ∷ sample.metric) (IsUtf8-from_ascii (value_text sample.metric sample.value) (ascii_of (value_text sample.metric sample.value) may.fixed_is)) (IsUtf8-append (32 ∷ []) sample.metric (utf8_word (32 ∷ []) refl) may.metric_is)))
 
 pkg_utf8 : (pkg : List ℕ) → IsUtf8 pkg → IsUtf8 (pkg_line pkg)
 pkg_utf8 [] is = utf8_word (codes "pkg:") refl
@@ -232,20 +214,16 @@ pkg_then before pkg sets = pkg_set before (pkg_line pkg) sets.sets ∙ sets.valu
 test_back : (test pkg name : List ℕ) (before : List (List ℕ)) → Parts test pkg name → test_of (pkg_of (before ++ pkg_line pkg ∷ [])) name ≡ test
 test_back test pkg name before parts = ap (λ (p : List ℕ). test_of p name) (pkg_then before pkg parts.sets) ∙ parts.back
 
--- no metric has more than nine decimals
-few_decimals : (metric : List ℕ) → (row_of metric).decimals ≤ 9
-few_decimals metric = grind (arith, nat_tests)
+-- a pair whose value is in range is not out of range
+small_pair : (text unit : List ℕ) (value : ℤ) → IsValueOf unit text value → unsigned_abs value ≤ 10 ^ 16 → ¬ HasLarge (text ∷ unit ∷ [])
+small_pair text unit value is small (inl large) = absurd (omega (arith, large value is, small))
+small_pair text unit value is small (inr none) = none
 
--- the value of a pair that has a sample in range is in range
-small_pair : (value unit : List ℕ) (sample : Measurement) → IsSampleOf [] value unit sample → unsigned_abs sample.value ≤ 10 ^ 16 → ¬ HasLarge (value ∷ unit ∷ [])
-small_pair value unit sample is small (inl large) = absurd (omega (arith, large sample is, small))
-small_pair value unit sample is small (inr none) = none
-
-pub two_of : (sample : Measurement) (text : List ℕ) → IsSample sample → FixedIsReadBack → IsSpelling sample text → Two sample text
+pub two_of : (sample : Measurement) (text : List ℕ) → IsSample sample → ValueIsReadBack → IsSpelling sample text → Two sample text
 two_of sample text is law spelled =
     let parts = parts_of sample.test spelled.pkg spelled.name is.test.text spelled.written in
-    let back : ValueIsReadBack sample = law sample.value (row_of sample.metric).decimals is.in_range (few_decimals sample.metric) in
-    let may : MayPut spelled.name (value_text sample) sample.metric = record {
+    let back : IsReadBackBy sample.metric sample.value = law sample.metric sample.value is.in_range in
+    let may : MayPut spelled.name (value_text sample.metric sample.value) sample.metric = record {
       name_is = parts.name_is;
       name_black = parts.black;
       fixed_is = back.bytes;
@@ -254,7 +232,7 @@ two_of sample text is law spelled =
       metric_black = spelled.unit;
       metric_some = is.metric.some;
     } in
-    let result : IsResult (result_line spelled.name sample) spelled.name (value_text sample ∷ sample.metric ∷ []) = is_result spelled.name sample may parts.named back is.short in
+    let result : IsResult (result_line spelled.name sample) spelled.name (value_text sample.metric sample.value ∷ sample.metric ∷ []) = is_result spelled.name sample may parts.named back is.short in
     record {
       pkg = spelled.pkg;
       line = result_line spelled.name sample;
@@ -263,14 +241,12 @@ two_of sample text is law spelled =
       clean = result_clean spelled.name sample may;
       off = parts.sets.off;
       gives = λ before.
-          measured spelled.name (value_text sample ∷ sample.metric ∷ []) result
-          (record { numeral = back.numeral; reads = back.reads; scales = back.scales; of_test = sym (test_back sample.test spelled.pkg spelled.name before parts); by_metric = refl }, tt) refl;
+          measured spelled.name (value_text sample.metric sample.value ∷ sample.metric ∷ []) result
+          (record { of_test = sym (test_back sample.test spelled.pkg spelled.name before parts); by_metric = refl; value = back.reads }, tt) refl;
       in_range = λ before over.
-          let plain : Measurement = record { test = []; metric = sample.metric; value = sample.value } in
-          let pair : IsSampleOf [] (value_text sample) sample.metric plain = record { numeral = back.numeral; reads = back.reads; scales = back.scales; of_test = refl; by_metric = refl } in
-          none_over (test_of (pkg_of (before ++ pkg_line spelled.pkg ∷ [])) spelled.name) (value_text sample ∷ sample.metric ∷ [])
-          (subst (λ (t : List ℕ). length t ≤ 256) (sym (test_back sample.test spelled.pkg spelled.name before parts)) is.test.short) (small_pair (value_text sample) sample.metric plain pair is.in_range)
-          (over_parts (before ++ pkg_line spelled.pkg ∷ []) (result_line spelled.name sample) spelled.name (value_text sample ∷ sample.metric ∷ []) result over);
+          none_over (test_of (pkg_of (before ++ pkg_line spelled.pkg ∷ [])) spelled.name) (value_text sample.metric sample.value ∷ sample.metric ∷ [])
+          (subst (λ (t : List ℕ). length t ≤ 256) (sym (test_back sample.test spelled.pkg spelled.name before parts)) is.test.short) (small_pair (value_text sample.metric sample.value) sample.metric sample.value back.reads is.in_range)
+          (over_parts (before ++ pkg_line spelled.pkg ∷ []) (result_line spelled.name sample) spelled.name (value_text sample.metric sample.value ∷ sample.metric ∷ []) result over);
       text_is = subst IsUtf8 (sym spelled.lines) (lines_utf8 (pkg_line spelled.pkg) (result_line spelled.name sample) (pkg_utf8 spelled.pkg parts.pkg_is) (result_utf8 spelled.name sample may));
     }
 
@@ -279,7 +255,7 @@ two_of sample text is law spelled =
 rest_of : (sample : Measurement) (samples : List Measurement) → All IsSample (sample ∷ samples) → All IsSample samples
 rest_of sample samples h k d l = h (suc k) d (omega arith)
 
-spelled_gives : (before : List (List ℕ)) (samples : List Measurement) (text : List ℕ) → All IsSample samples → FixedIsReadBack → AreSpelled samples text → LinesGive before (lines_of text) samples 0
+spelled_gives : (before : List (List ℕ)) (samples : List Measurement) (text : List ℕ) → All IsSample samples → ValueIsReadBack → AreSpelled samples text → LinesGive before (lines_of text) samples 0
 spelled_gives before [] text all law e =
     subst (λ (xs : List ℕ). LinesGive before (lines_of xs) [] 0) (sym e) ([], [], 0, 0, refl, refl, silent refl refl refl, (refl, refl))
 spelled_gives before (sample ∷ samples) text all law spelled =
@@ -290,7 +266,7 @@ spelled_gives before (sample ∷ samples) text all law spelled =
     (sample ∷ [], samples, 0, 0, refl, refl, two.gives before, spelled_gives ((before ++ pkg_line two.pkg ∷ []) ++ two.line ∷ []) samples spelled.1 (rest_of sample samples all) law spelled.4) in
     subst (λ (ls : List (List ℕ)). LinesGive before ls (sample ∷ samples) 0) (sym lines) ([], sample ∷ samples, 0, 0, refl, refl, silent two.off refl refl, behind)
 
-spelled_text : (samples : List Measurement) (text : List ℕ) → All IsSample samples → FixedIsReadBack → AreSpelled samples text → IsUtf8 text
+spelled_text : (samples : List Measurement) (text : List ℕ) → All IsSample samples → ValueIsReadBack → AreSpelled samples text → IsUtf8 text
 spelled_text [] text all law e = subst IsUtf8 (sym e) IsUtf8-nil
 spelled_text (sample ∷ samples) text all law spelled =
     let two = two_of sample spelled.0 (all zero sample (omega arith)) law spelled.3 in
@@ -307,7 +283,7 @@ none_empty : (before : List (List ℕ)) (k : ℕ) → ¬ IsOver (before ++ take 
 none_empty before zero over = silent_in_range (before ++ []) [] refl over
 none_empty before (suc k) over = silent_in_range (before ++ take (suc k) ([] ∷ [])) (get_or ([] ∷ []) (suc k) []) (ap begins (get_or_past ([] ∷ []) (suc k) [] (omega arith))) over
 
-spelled_in_range : (before : List (List ℕ)) (samples : List Measurement) (text : List ℕ) → All IsSample samples → FixedIsReadBack → AreSpelled samples text
+spelled_in_range : (before : List (List ℕ)) (samples : List Measurement) (text : List ℕ) → All IsSample samples → ValueIsReadBack → AreSpelled samples text
     → (k : ℕ) → ¬ IsOver (before ++ take k (lines_of text)) (get_or (lines_of text) k [])
 spelled_in_range before [] text all law e k =
     subst (λ (xs : List ℕ). ¬ IsOver (before ++ take k (lines_of xs)) (get_or (lines_of xs) k [])) (sym e) (none_empty before k)
@@ -320,7 +296,7 @@ spelled_in_range before (sample ∷ samples) text all law spelled k =
     (spelled_in_range ((before ++ pkg_line two.pkg ∷ []) ++ two.line ∷ []) samples spelled.1 (rest_of sample samples all) law spelled.4) k)
 
 -- the text of samples is read as these samples
-pub spelled_read : (samples : List Measurement) (text : List ℕ) → All IsSample samples → FixedIsReadBack → AreSpelled samples text → IsRead text samples 0
+pub spelled_read : (samples : List Measurement) (text : List ℕ) → All IsSample samples → ValueIsReadBack → AreSpelled samples text → IsRead text samples 0
 spelled_read samples text all law spelled = record {
   text = spelled_text samples text all law spelled;
   gives = spelled_gives [] samples text all law spelled;

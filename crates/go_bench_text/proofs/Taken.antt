@@ -2,17 +2,17 @@
 use Rattle.std.proofs.Common.{◌≡◌, ℕ, inl, inr, List, [], ◌∷◌, ◌++◌, sym, subst, append_assoc}
 use Rattle.std.proofs.lemmas.List.{append-nil}
 use Rattle.history_model.specs.Samples.{Measurement}
-use Rattle.go_bench_text.specs.Gathering.{Keeps, Gains}
-use Rattle.go_bench_text.specs.Added.{AddsPairs}
+use Rattle.metric_value.specs.Values.{HasNoneInRange}
+use Rattle.go_bench_text.specs.Gathering.{Keeps, Gains, AddsPairs}
 use Rattle.go_bench_text.specs.Lines.{ArePairs}
-use Rattle.go_bench_text.specs.Readings.{IsSampleOf, IsLarge, HasLarge, Gives}
-use Rattle.go_bench_text.specs.declared.gathered.Gathered.{Gathered}
+use Rattle.go_bench_text.specs.Readings.{IsSampleOf, HasLarge, PairsGive}
+use Rattle.go_bench_text.specs.declared.gather.Gathered.{Gathered}
 use Rattle.go_bench_text.proofs.LineParts.{gains_none}
 
 -- these samples are those of the pairs in front of the rest
 pub record Taken (before now : Gathered) (test : List ℕ) (pairs rest : List (List ℕ)) : Type 0 where
   pub new : List Measurement
-  pub on : (more : List Measurement) → Gives test rest more → Gives test pairs (new ++ more)
+  pub on : (more : List Measurement) → PairsGive test rest more → PairsGive test pairs (new ++ more)
   pub gains : Gains before now new
   pub large : HasLarge pairs → HasLarge rest
   pub larger : HasLarge rest → HasLarge pairs
@@ -35,10 +35,10 @@ in_front : (new more : List Measurement) (sample : Measurement) → (new ++ samp
 in_front new more sample = append_assoc new (sample ∷ []) more
 
 pub taken_more : (before now next : Gathered) (test value unit : List ℕ) (pairs more : List (List ℕ)) (sample : Measurement) → Taken before now test pairs (value ∷ unit ∷ more)
-    → IsSampleOf test value unit sample → ¬ IsLarge value unit → Gains now next (sample ∷ []) → Taken before next test pairs more
+    → IsSampleOf test value unit sample → ¬ HasNoneInRange unit value → Gains now next (sample ∷ []) → Taken before next test pairs more
 taken_more before now next test value unit pairs more sample taken is small gains = record {
   new = taken.new ++ sample ∷ [];
-  on = λ rest gives. subst (Gives test pairs) (sym (in_front taken.new rest sample)) (taken.on (sample ∷ rest) (is, gives));
+  on = λ rest gives. subst (PairsGive test pairs) (sym (in_front taken.new rest sample)) (taken.on (sample ∷ rest) (is, gives));
   gains = gains_more before now next taken.new sample taken.gains gains;
   large = λ h. later (taken.large h);
   larger = λ h. taken.larger (inr h);
@@ -53,11 +53,11 @@ taken_all before now test pairs rest taken e =
     let done : Taken before now test pairs [] = subst (Taken before now test pairs) e taken in
     record {
       new = done.new;
-      gives = subst (Gives test pairs) (append-nil done.new) (done.on [] tt);
+      gives = subst (PairsGive test pairs) (append-nil done.new) (done.on [] tt);
       gains = done.gains;
       in_range = done.large;
     }
 
 -- a value out of range at the front of the rest is one of the pairs
-pub taken_large : (before now : Gathered) (test value unit : List ℕ) (pairs more : List (List ℕ)) → Taken before now test pairs (value ∷ unit ∷ more) → IsLarge value unit → HasLarge pairs
+pub taken_large : (before now : Gathered) (test value unit : List ℕ) (pairs more : List (List ℕ)) → Taken before now test pairs (value ∷ unit ∷ more) → HasNoneInRange unit value → HasLarge pairs
 taken_large before now test value unit pairs more taken large = taken.larger (inl large)

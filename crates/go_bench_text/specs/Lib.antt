@@ -1,4 +1,5 @@
-pub mod Added
+pub mod Answers
+pub mod Bytes
 pub mod Characters
 pub mod Fields
 pub mod Gathering

@@ -2,20 +2,20 @@
 use Rattle.std.specs.Prelude.{◌≡◌, ℕ, ◌-◌, ◌<◌, ◌≤◌, Bool, true, false, ◌&&◌, ◌==◌, List, [], ◌∷◌, ◌++◌, length, take, drop, codes, nat_eq, IsTrue}
 use Rattle.std.specs.List.{list_any, starts_with, before_first, after_first, prefix_len, suffix_len}
 use Rattle.std.specs.Str.{chars}
-use Rattle.fixed_value.specs.Numerals.{AreDigits, IsNumeralText}
-use Rattle.fixed_value.specs.declared.numeral.Numeral.{Numeral}
+use Rattle.fixed_value.specs.Numerals.{AreDigits, HasNumeral}
+use Rattle.go_bench_text.specs.Bytes as byte
 use Rattle.go_bench_text.specs.Characters.{is_key, is_name, is_blank}
 use Rattle.go_bench_text.specs.Fields.{fields_of}
-use Rattle.go_bench_text.specs.declared.kind.LineKind.{LineKind}
-use Rattle.go_bench_text.specs.declared.kind.LineKind.TheVariants.{Config, Result, Broken, Other}
+use Rattle.go_bench_text.specs.declared.line.LineKind.{LineKind}
+use Rattle.go_bench_text.specs.declared.line.LineKind.TheVariants.{Config, Result, Broken, Other}
 
 -- the line without the carriage returns at its end
 abbrev pub without_returns : List ℕ → List ℕ
-without_returns line = take (length line - suffix_len (λ b. b == 13) line) line
+without_returns line = take (length line - suffix_len (λ b. b == byte.carriage_return) line) line
 
 -- the colon that ends a key
 abbrev pub is_colon : ℕ → Bool
-is_colon b = b == 58
+is_colon b = b == byte.colon
 
 -- what stands before the first colon
 abbrev pub key_of : List ℕ → List ℕ
@@ -36,7 +36,8 @@ without_blanks bs = drop (prefix_len is_blank bs) bs
 
 -- a configuration line has a key, the line's first colon, and then nothing, or spaces or tabs and a value
 abbrev pub is_config : List ℕ → Bool
-is_config line = list_any is_colon (without_returns line) && (is_key (chars (key_of line)) && is_set_off (behind_key line))
+is_config line =
+    list_any is_colon (without_returns line) && (is_key (chars (key_of line)) && is_set_off (behind_key line))
 
 -- the value begins behind the spaces and tabs, and may be empty
 abbrev pub value_of : List ℕ → List ℕ
@@ -46,15 +47,11 @@ value_of line = without_blanks (behind_key line)
 abbrev pub begins : List ℕ → Bool
 begins line = starts_with nat_eq line (codes "Benchmark")
 
--- the field is a numeral's text
-abbrev pub IsNumeral : List ℕ → Type 0
-IsNumeral field = (numeral : Numeral) × IsNumeralText field numeral
-
 -- the fields are pairs of a numeral and a unit of at most 64 bytes
 abbrev pub ArePairs : List (List ℕ) → Type 0
 ArePairs [] = Unit {0}
 ArePairs (value ∷ []) = ⊥
-ArePairs (value ∷ unit ∷ more) = IsNumeral value × (length unit ≤ 64) × ArePairs more
+ArePairs (value ∷ unit ∷ more) = HasNumeral value × (length unit ≤ 64) × ArePairs more
 
 -- the line's first character begins the field `Benchmark` NAME, a field of digits follows, and then one or more pairs
 pub record IsResult (line name : List ℕ) (pairs : List (List ℕ)) : Type 0 where

@@ -1,4 +1,4 @@
--- Where a text is cut while it is read.
+-- Private: no public contract cites this. Where a field ends.
 use Rattle.std.specs.Prelude.{ℕ, Bool, true, List, [], ◌∷◌}
 use Rattle.std.specs.Char.{is_whitespace}
 

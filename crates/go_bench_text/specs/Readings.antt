@@ -1,15 +1,13 @@
 -- The samples of a text, by a look back from each result line to the last line before it that sets `pkg`.
-use Rattle.std.specs.Prelude.{◌≡◌, ℕ, ◌+◌, ◌-◌, ◌^◌, ◌<◌, ◌≤◌, Bool, false, ◌&&◌, ◌⊎◌, List, [], ◌∷◌, ◌++◌, length, take, slice_index_or, reverse, find, codes, bytes_eq, unsigned_abs}
+use Rattle.std.specs.Prelude.{◌≡◌, ℕ, ◌+◌, ◌-◌, ◌<◌, ◌≤◌, Bool, false, ◌&&◌, ◌⊎◌, List, [], ◌∷◌, ◌++◌, length, take, slice_index_or, reverse, find, codes, bytes_eq}
 use Rattle.std.specs.Option.{option_map_or}
 use Rattle.std.specs.Str.{IsUtf8}
 use Rattle.line_text.specs.Lines.{lines_of}
 use Rattle.metric_table.specs.Limits.{most}
 use Rattle.metric_table.specs.declared.limits.Limit.TheVariants.{RunSamples}
-use Rattle.metric_table.specs.Table.{row_of}
-use Rattle.fixed_value.specs.Numerals.{IsNumeralText}
-use Rattle.fixed_value.specs.Scaled.{IsScaled}
-use Rattle.fixed_value.specs.declared.numeral.Numeral.{Numeral}
+use Rattle.metric_value.specs.Values.{IsValueOf, HasNoneInRange}
 use Rattle.history_model.specs.Samples.{Measurement}
+use Rattle.go_bench_text.specs.Bytes as byte
 use Rattle.go_bench_text.specs.Lines.{is_config, key_of, value_of, begins, IsResult, IsBroken}
 
 -- a configuration line with the key `pkg`
@@ -24,46 +22,47 @@ pkg_of before = option_map_or value_of (find sets_pkg (reverse before)) []
 abbrev pub test_of : List ℕ → List ℕ → List ℕ
 test_of [] [] = codes "#"
 test_of [] (b ∷ name) = b ∷ name
-test_of (b ∷ pkg) name = (b ∷ pkg) ++ 35 ∷ name
+test_of (b ∷ pkg) name = (b ∷ pkg) ++ byte.hash ∷ name
 
--- the sample of a value and its unit: the unit is its metric, whose decimals scale the value
-pub record IsSampleOf (test value unit : List ℕ) (sample : Measurement) : Type 0 where
-  pub numeral : Numeral
-  pub reads : IsNumeralText value numeral
-  pub scales : IsScaled numeral (row_of unit).decimals sample.value
+-- the sample of a numeral's text and its unit: the unit is its metric, by which the text has the sample's value
+pub record IsSampleOf (test text unit : List ℕ) (sample : Measurement) : Type 0 where
   pub of_test : sample.test ≡ test
   pub by_metric : sample.metric ≡ unit
+  pub value : IsValueOf unit text sample.value
 
 -- one sample for each pair of a value and a unit, in order
-abbrev pub Gives : List ℕ → List (List ℕ) → List Measurement → Type 0
-Gives test [] [] = Unit {0}
-Gives test (value ∷ unit ∷ more) (sample ∷ samples) = IsSampleOf test value unit sample × Gives test more samples
-Gives test _ _ = ⊥
+abbrev pub PairsGive : List ℕ → List (List ℕ) → List Measurement → Type 0
+PairsGive test [] [] = Unit {0}
+PairsGive test (value ∷ unit ∷ more) (sample ∷ samples) = IsSampleOf test value unit sample × PairsGive test more samples
+PairsGive test _ _ = ⊥
 
 -- the samples that a line gives behind other lines, and how many lines are ignored and counted there
 pub data LineGives (before : List (List ℕ)) (line : List ℕ) (samples : List Measurement) (ignored : ℕ) : Type 0 where
-  measured : (name : List ℕ) (pairs : List (List ℕ)) → IsResult line name pairs → Gives (test_of (pkg_of before) name) pairs samples → ignored ≡ 0 → LineGives before line samples ignored
+  measured : (name : List ℕ) (pairs : List (List ℕ)) → IsResult line name pairs
+      → PairsGive (test_of (pkg_of before) name) pairs samples → ignored ≡ 0 → LineGives before line samples ignored
   broken : IsBroken line → samples ≡ [] → ignored ≡ 1 → LineGives before line samples ignored
   silent : begins line ≡ false → samples ≡ [] → ignored ≡ 0 → LineGives before line samples ignored
 
 -- the same of lines in a row: their samples are joined, their ignored lines summed
 abbrev pub LinesGive : List (List ℕ) → List (List ℕ) → List Measurement → ℕ → Type 0
 LinesGive before [] samples ignored = (samples ≡ []) × (ignored ≡ 0)
-LinesGive before (line ∷ lines) samples ignored = (first : List Measurement) × (rest : List Measurement) × (here : ℕ) × (later : ℕ) × (samples ≡ first ++ rest) × (ignored ≡ here + later) × LineGives before line first here × LinesGive (before ++ line ∷ []) lines rest later
+LinesGive before (line ∷ lines) samples ignored =
+    (first : List Measurement) × (rest : List Measurement) × (here : ℕ) × (later : ℕ)
+    × (samples ≡ first ++ rest) × (ignored ≡ here + later)
+    × LineGives before line first here × LinesGive (before ++ line ∷ []) lines rest later
 
 -- whatever lines stand before, lines have one list of samples and one number of ignored lines
 abbrev pub OneReading : Type 0
-OneReading = (before lines : List (List ℕ)) (samples others : List Measurement) (ignored count : ℕ) → LinesGive before lines samples ignored → LinesGive before lines others count → (samples ≡ others) × (ignored ≡ count)
-
--- a value that is out of range: the magnitude of its scaled value, whichever sample of the pair has it, is above 10^16
-abbrev pub IsLarge : List ℕ → List ℕ → Type 0
-IsLarge value unit = (sample : Measurement) → IsSampleOf [] value unit sample → 10 ^ 16 < unsigned_abs sample.value
+OneReading =
+    (before lines : List (List ℕ)) (samples others : List Measurement) (ignored count : ℕ)
+    → LinesGive before lines samples ignored → LinesGive before lines others count
+    → (samples ≡ others) × (ignored ≡ count)
 
 -- one of the pairs has a value that is out of range
 abbrev pub HasLarge : List (List ℕ) → Type 0
 HasLarge [] = ⊥
 HasLarge (value ∷ []) = ⊥
-HasLarge (value ∷ unit ∷ more) = IsLarge value unit ⊎ HasLarge more
+HasLarge (value ∷ unit ∷ more) = HasNoneInRange unit value ⊎ HasLarge more
 
 -- a result line with a test of more than 256 bytes, or with a value that is out of range
 pub record IsOver (before : List (List ℕ)) (line : List ℕ) : Type 0 where
@@ -95,4 +94,5 @@ pub record IsRead (bytes : List ℕ) (samples : List Measurement) (ignored : ℕ
 
 -- no line is out of range, and there are more samples than a run may have
 abbrev pub HasTooMany : List ℕ → Type 0
-HasTooMany bytes = (samples : List Measurement) × (ignored : ℕ) × IsRead bytes samples ignored × (most RunSamples < length samples)
+HasTooMany bytes =
+    (samples : List Measurement) × (ignored : ℕ) × IsRead bytes samples ignored × (most RunSamples < length samples)

@@ -1,3 +1,4 @@
+//! The classes of characters that tell lines apart.
 ghost use Rattle.std.specs.Prelude.{◌≡◌, ◌++◌, ◌∷◌, [], IfSome, IfNone};
 ghost use Rattle.std.specs.Char.{encode_utf8};
 ghost use Rattle.std.specs.Str.{chars, IsUtf8};
@@ -18,18 +19,21 @@ pub(crate) fn split_first(text: &str) -> Option<(char, &str)>
     Some((first, rest.as_str()))
 }
 
+// Whether the character is upper case.
 fn is_upper(c: char) -> bool
     ensures { result ≡ is_upper c }
 {
     GeneralCategory::for_char(c) == GeneralCategory::UppercaseLetter
 }
 
+// Whether the character is lower case.
 fn is_lower(c: char) -> bool
     ensures { result ≡ is_lower c }
 {
     GeneralCategory::for_char(c) == GeneralCategory::LowercaseLetter
 }
 
+// Whether the character may stand in a key.
 fn is_of_key(c: char) -> bool
     ensures { result ≡ is_of_key c }
 {

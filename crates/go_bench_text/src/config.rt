@@ -1,3 +1,4 @@
+//! Configuration lines: a key, a colon and a value.
 ghost use Rattle.std.specs.Prelude.{◌≡◌, ◌<◌, true, false, length, IfSome, IfNone};
 ghost use Rattle.std.specs.List.{list_any, before_first, after_first};
 ghost use Rattle.std.specs.Str.{IsUtf8};

@@ -1,10 +1,11 @@
+//! The fields of a line.
 ghost use Rattle.std.specs.Prelude.{◌≡◌, ◌<◌, ◌≤◌, ◌++◌, ◌∷◌, [], ◌↔◌, true, length, IfSome, IfNone, IsTrue};
 ghost use Rattle.std.specs.List.{list_all};
 ghost use Rattle.std.specs.Str.{chars, IsUtf8, trim_start};
-ghost use Rattle.fixed_value.specs.Numerals.{AreDigits};
+ghost use Rattle.fixed_value.specs.Numerals.{AreDigits, HasNumeral};
 ghost use Rattle.go_bench_text.specs.Characters.{is_black};
 ghost use Rattle.go_bench_text.specs.Fields.{fields_of};
-ghost use Rattle.go_bench_text.specs.Lines.{IsNumeral, ArePairs};
+ghost use Rattle.go_bench_text.specs.Lines.{ArePairs};
 ghost use Rattle.go_bench_text.specs.Parts.{is_stopped};
 
 use crate::characters::split_first;
@@ -58,7 +59,7 @@ pub(crate) fn are_digits(field: &str) -> bool
 
 // Whether the field is a numeral.
 fn is_numeral(field: &str) -> bool
-    ensures { IsTrue result ↔ IsNumeral field.now }
+    ensures { IsTrue result ↔ HasNumeral field.now }
 {
     match Numeral::read(field.as_bytes()) {
         Some(_) => true,

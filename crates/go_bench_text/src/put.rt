@@ -1,16 +1,15 @@
+//! The writer: samples as benchmark output.
 ghost use Rattle.std.specs.Prelude.{◌≡◌, ◌++◌, ◌∷◌, [], true, ℕ, List, IfOk, OnOk, IfSome, IfNone};
 ghost use Rattle.std.specs.List.{list_all};
 ghost use Rattle.std.specs.Str.{chars};
-ghost use Rattle.metric_table.specs.Table.{row_of};
+ghost use Rattle.go_bench_text.specs.Bytes.{line_feed};
 ghost use Rattle.go_bench_text.specs.Characters.{is_black};
 ghost use Rattle.go_bench_text.specs.Readings.{IsRead};
-ghost use Rattle.go_bench_text.specs.Spellings.{IsWrittenBy, HasSpelling, IsSpelling, AreSpelled, IsFirstUnspelled, pkg_line, value_text, result_line};
+ghost use Rattle.go_bench_text.specs.Spellings.{IsWrittenBy, HasSpelling, IsSpelling, AreSpelled, IsFirstUnspelled, pkg_line, result_line};
 
-use crate::memory::NoMemory;
 use crate::spelling::{are_black, written_by};
-use fixed_value::{fixed_law, put_fixed};
-use history_model::{Sample, Samples};
-use metric_table::decimals;
+use history_model::{NoMemory, Sample, Samples};
+use metric_value::{put_value, value_law};
 use std::alloc::Global;
 
 /// Why samples give no text.
@@ -50,7 +49,7 @@ fn spelled_by(sample: &Sample) -> Option<(&str, &str)>
 
 // Appends the line that sets `pkg`.
 fn put_pkg(out: &mut Vec<u8>, pkg: &str) -> Result<(), NoMemory>
-    ensures { OnOk result (out.new.items ≡ out.old.items ++ (pkg_line pkg.now ++ 10 ∷ [])) }
+    ensures { OnOk result (out.new.items ≡ out.old.items ++ (pkg_line pkg.now ++ line_feed ∷ [])) }
 {
     out.extend_from_slice(b"pkg:")?;
     if !pkg.is_empty() {
@@ -61,29 +60,15 @@ fn put_pkg(out: &mut Vec<u8>, pkg: &str) -> Result<(), NoMemory>
     Ok(())
 }
 
-// How many decimals the value of a sample is written with.
-fn places_of(sample: &Sample) -> u8
-    ensures { result ≡ (row_of sample.now.metric).decimals }
-{
-    decimals(sample.metric.as_str().as_bytes())
-}
-
-// Appends the value of a sample, with the decimals of its metric.
-fn put_value(alloc: Global, out: &mut Vec<u8>, sample: &Sample) -> Result<(), NoMemory>
-    ensures { OnOk result (out.new.items ≡ out.old.items ++ value_text sample.now) }
-{
-    put_fixed(alloc, out, sample.value, places_of(sample))?;
-    Ok(())
-}
-
 // Appends the result line of a sample.
 fn put_result(alloc: Global, out: &mut Vec<u8>, name: &str, sample: &Sample) -> Result<(), NoMemory>
-    ensures { OnOk result (out.new.items ≡ out.old.items ++ (result_line name.now sample.now ++ 10 ∷ [])) }
+    ensures { OnOk result (out.new.items
+        ≡ out.old.items ++ (result_line name.now sample.now ++ line_feed ∷ [])) }
 {
     out.extend_from_slice(b"Benchmark")?;
     out.extend_from_slice(name.as_bytes())?;
     out.extend_from_slice(b" 1 ")?;
-    put_value(alloc, out, sample)?;
+    put_value(alloc, out, sample.metric.as_str().as_bytes(), sample.value)?;
     out.push(b' ')?;
     out.extend_from_slice(sample.metric.as_str().as_bytes())?;
     out.push(b'\n')?;
@@ -100,7 +85,8 @@ fn put_sample(
 ) -> Result<(), NoMemory>
     requires written { IsWrittenBy sample.now.test pkg.now name.now }
     requires unit { list_all is_black (chars sample.now.metric) ≡ true }
-    ensures { OnOk result ((text : List ℕ) × IsSpelling sample.now text × (out.new.items ≡ out.old.items ++ text)) }
+    ensures { OnOk result ((text : List ℕ) × IsSpelling sample.now text
+        × (out.new.items ≡ out.old.items ++ text)) }
 {
     put_pkg(out, pkg)?;
     put_result(alloc, out, name, sample)?;
@@ -115,10 +101,11 @@ fn put_sample(
 pub fn put_go(alloc: Global, samples: &Samples) -> Result<Vec<u8>, PutFault>
     ensures ok { IfOk result (λ text. AreSpelled samples.now text.items) }
     ensures back { IfOk result (λ text. IsRead text.items samples.now 0) }
-    ensures cannot { (place : ℕ) → result ≡ Err (PutFault.CannotWrite place) → IsFirstUnspelled samples.now place }
+    ensures cannot { (place : ℕ) → result ≡ Err (PutFault.CannotWrite place)
+        → IsFirstUnspelled samples.now place }
 {
     samples.limits();
-    fixed_law();
+    value_law();
     let mut out = Vec::new(alloc);
     for (place, sample) in samples.as_slice().iter().enumerate() {
         let Some((pkg, name)) = spelled_by(sample) else {

@@ -1,23 +1,21 @@
-ghost use Rattle.std.specs.Prelude.{◌≡◌, ◌≢◌, ◌≤◌, ◌∷◌, ◌++◌, [], true, false, ℕ, List, length, IfOk, IfSome, IfNone, MatchResult};
-ghost use Rattle.std.specs.Str.{IsUtf8, IsValidUpTo};
-ghost use Rattle.line_text.specs.Lines.{lines_of};
+//! The reader of benchmark output: from the bytes over the lines to the samples.
+ghost use Rattle.std.specs.Prelude.{◌≡◌, ◌≤◌, ◌∷◌, ◌++◌, [], true, false, ℕ, List, length, IfOk, IfErr, IfSome, IfNone, MatchResult};
+ghost use Rattle.std.specs.Str.{IsUtf8};
 ghost use Rattle.history_model.specs.Samples.{Measurement};
 ghost use Rattle.metric_table.specs.Limits.{most};
-ghost use Rattle.metric_table.specs.declared.limits.Limit.{Limit};
 ghost use Rattle.metric_table.specs.declared.limits.Limit.TheVariants.{RunSamples};
-ghost use Rattle.go_bench_text.specs.Added.{AddsLine};
-ghost use Rattle.go_bench_text.specs.Gathering.{Keeps};
+ghost use Rattle.go_bench_text.specs.Answers.{IsFault};
+ghost use Rattle.go_bench_text.specs.Gathering.{AddsLine, Keeps};
 ghost use Rattle.go_bench_text.specs.Lines.{value_of};
-ghost use Rattle.go_bench_text.specs.Readings.{sets_pkg, pkg_of, IsOver, IsRead, IsFirstOver, HasTooMany, OneReading};
+ghost use Rattle.go_bench_text.specs.Readings.{sets_pkg, pkg_of, IsOver, IsRead, OneReading};
 
-use crate::added::add_measured;
 use crate::config::setting_of;
-use crate::gathered::Gathered;
-use crate::kinds::begins;
-use crate::memory::LineFault;
-use fixed_value::{numeral_law, scaled_law};
+use crate::fault::LineFault;
+use crate::gather::{Gathered, add_measured};
+use crate::line::begins;
 use history_model::{NoMemory, Samples};
 use metric_table::Limit;
+use metric_value::value_law;
 use std::alloc::Global;
 
 /// What a text of benchmark output has.
@@ -73,9 +71,12 @@ fn read_line<'a>(
     pkg: &'a str,
     line: &'a str,
 ) -> Result<(&'a str, u64), LineFault>
-    ensures adds { IfOk result (λ read. (before : List (List ℕ)) → pkg_of before ≡ pkg.now → AddsLine gathered.old gathered.new before line.now read.1) }
-    ensures pkg { IfOk result (λ read. (before : List (List ℕ)) → pkg_of before ≡ pkg.now → pkg_of (before ++ line.now ∷ []) ≡ read.0.now) }
-    ensures over { result ≡ Err LineFault.OutOfRange → (before : List (List ℕ)) → pkg_of before ≡ pkg.now → IsOver before line.now }
+    ensures adds { IfOk result (λ read. (before : List (List ℕ)) → pkg_of before ≡ pkg.now
+        → AddsLine gathered.old gathered.new before line.now read.1) }
+    ensures pkg { IfOk result (λ read. (before : List (List ℕ)) → pkg_of before ≡ pkg.now
+        → pkg_of (before ++ line.now ∷ []) ≡ read.0.now) }
+    ensures over { result ≡ Err LineFault.OutOfRange
+        → (before : List (List ℕ)) → pkg_of before ≡ pkg.now → IsOver before line.now }
     ensures few { IfOk result (λ read. read.1 ≤ 1) }
     ensures text { IfOk result (λ read. IsUtf8 read.0.now) }
 {
@@ -91,10 +92,9 @@ fn read_line<'a>(
 
 // The samples of a text, kept, and how many of its lines are ignored.
 fn gather(alloc: Global, text: &str) -> Result<(Gathered, u64), GoFault>
-    ensures ok { IfOk result (λ all. (given : List Measurement) × Keeps all.0 given × IsRead text.now given all.1) }
-    ensures over { (number : ℕ) → result ≡ Err (GoFault.OutOfRange number) → IsFirstOver (lines_of text.now) number }
-    ensures not_text { (offset : ℕ) → result ≢ Err (GoFault.NotText offset) }
-    ensures full { (limit : Limit) → result ≢ Err (GoFault.Full limit) }
+    ensures ok { IfOk result (λ all. (given : List Measurement)
+        × Keeps all.0 given × IsRead text.now given all.1) }
+    ensures fault { IfErr result (λ fault. IsFault text.now fault) }
 {
     let mut gathered = Gathered::new(alloc);
     let mut pkg = "";
@@ -117,11 +117,7 @@ fn gather(alloc: Global, text: &str) -> Result<(Gathered, u64), GoFault>
 // The answer of `read_go`, by its causes.
 fn read_text(alloc: Global, bytes: &[u8]) -> Result<GoRun, GoFault>
     ensures ok { IfOk result (λ run. IsRead bytes.now run.samples run.ignored) }
-    ensures not_text { (offset : ℕ) → result ≡ Err (GoFault.NotText offset) → IsValidUpTo bytes.now offset }
-    ensures over_text { (number : ℕ) → result ≡ Err (GoFault.OutOfRange number) → IsUtf8 bytes.now }
-    ensures over { (number : ℕ) → result ≡ Err (GoFault.OutOfRange number) → IsFirstOver (lines_of bytes.now) number }
-    ensures full { (limit : Limit) → result ≡ Err (GoFault.Full limit) → limit ≡ Limit.RunSamples }
-    ensures many { (limit : Limit) → result ≡ Err (GoFault.Full limit) → HasTooMany bytes.now }
+    ensures fault { IfErr result (λ fault. IsFault bytes.now fault) }
 {
     let text = match str::from_utf8(bytes) {
         Ok(text) => text,
@@ -143,8 +139,7 @@ fn read_text(alloc: Global, bytes: &[u8]) -> Result<GoRun, GoFault>
 pub fn one_reading_law()
     ensures { OneReading }
 {
-    numeral_law();
-    scaled_law();
+    value_law();
 }
 
 /// The samples of a text of benchmark output: one for each pair of a value and a unit on its result lines, in order.
@@ -155,18 +150,16 @@ pub fn one_reading_law()
 ///
 /// Linear in the length of the text; takes memory for the samples alone.
 pub fn read_go(alloc: Global, bytes: &[u8]) -> Result<GoRun, GoFault>
-    // What is given are the text's samples, and where a text has samples within the limit they are given, unless memory
-    // runs out.
+    // What is given are the text's samples, and where a text has samples within the limit they are
+    // given, unless memory runs out.
     ensures ok { IfOk result (λ run. IsRead bytes.now run.samples run.ignored) }
-    ensures only { (samples : List Measurement) (ignored : ℕ) → IsRead bytes.now samples ignored → length samples ≤ most RunSamples
-        → MatchResult result (λ run. (run.samples ≡ samples) × (run.ignored ≡ ignored)) (λ fault. fault ≡ GoFault.NoMemory) }
+    ensures only { (samples : List Measurement) (ignored : ℕ) → IsRead bytes.now samples ignored
+        → length samples ≤ most RunSamples
+        → MatchResult result (λ run. (run.samples ≡ samples) × (run.ignored ≡ ignored))
+        (λ fault. fault ≡ GoFault.NoMemory) }
 
     // Each fault is at its place.
-    ensures not_text { (offset : ℕ) → result ≡ Err (GoFault.NotText offset) → IsValidUpTo bytes.now offset }
-    ensures over_text { (number : ℕ) → result ≡ Err (GoFault.OutOfRange number) → IsUtf8 bytes.now }
-    ensures over { (number : ℕ) → result ≡ Err (GoFault.OutOfRange number) → IsFirstOver (lines_of bytes.now) number }
-    ensures full { (limit : Limit) → result ≡ Err (GoFault.Full limit) → limit ≡ Limit.RunSamples }
-    ensures many { (limit : Limit) → result ≡ Err (GoFault.Full limit) → HasTooMany bytes.now }
+    ensures fault { IfErr result (λ fault. IsFault bytes.now fault) }
 {
     one_reading_law();
     read_text(alloc, bytes)

@@ -1,8 +1,10 @@
+//! What a test is written by: a value of `pkg` and a name.
 ghost use Rattle.std.specs.Prelude.{◌≡◌, ◌≢◌, ◌==◌, ◌++◌, ◌∷◌, [], ◌↔◌, ◌<◌, length, true, ℕ, List, codes, IfSome, IfNone, IsTrue};
 ghost use Rattle.std.specs.List.{list_all, list_any};
 ghost use Rattle.std.specs.Str.{chars};
+ghost use Rattle.go_bench_text.specs.Bytes.{line_feed};
 ghost use Rattle.go_bench_text.specs.Characters.{is_black};
-ghost use Rattle.go_bench_text.specs.Spellings.{is_bare_name, may_set, IsCut, IsFirstCut, IsOwnName, IsWrittenBy};
+ghost use Rattle.go_bench_text.specs.Spellings.{is_bare_name, may_set, IsPartedAt, IsFirstPartedAt, IsOwnName, IsWrittenBy};
 
 use crate::characters::{is_name, split_first};
 
@@ -29,7 +31,7 @@ fn is_bare_name(text: &str) -> bool
 
 // Whether the bytes hold a line feed.
 fn has_feed(bytes: &[u8]) -> bool
-    ensures { result ≡ list_any (λ b. b == 10) bytes.now }
+    ensures { result ≡ list_any (λ b. b == line_feed) bytes.now }
 {
     bytes.contains(&b'\n')
 }
@@ -47,12 +49,13 @@ fn may_set(text: &str) -> bool
     first != b' ' && first != b'\t' && last != b'\r'
 }
 
-// The cut of a test at one of its bytes, where that is a `#` that meets the conditions.
-fn cut_at(test: &str, at: usize) -> Option<(&str, &str)>
+// The parts of a test at one of its bytes, where that is a `#` that meets the conditions.
+fn parts_at(test: &str, at: usize) -> Option<(&str, &str)>
     requires { at < length test.now }
-    ensures some { IfSome result (λ cut. IsCut test.now cut.0.now cut.1.now) }
-    ensures there { IfSome result (λ cut. length cut.0.now ≡ at) }
-    ensures none { IfNone result ((pkg name : List ℕ) → length pkg ≡ at → ¬ IsCut test.now pkg name) }
+    ensures some { IfSome result (λ parts. IsPartedAt test.now parts.0.now parts.1.now) }
+    ensures there { IfSome result (λ parts. length parts.0.now ≡ at) }
+    ensures none { IfNone result ((pkg name : List ℕ)
+        → length pkg ≡ at → ¬ IsPartedAt test.now pkg name) }
 {
     if test.as_bytes()[at] != b'#' {
         return None;
@@ -66,14 +69,14 @@ fn cut_at(test: &str, at: usize) -> Option<(&str, &str)>
     }
 }
 
-// The first cut of a test at a `#` into what `pkg` is set to and a name.
-fn first_cut(test: &str) -> Option<(&str, &str)>
-    ensures some { IfSome result (λ cut. IsFirstCut test.now cut.0.now cut.1.now) }
-    ensures none { IfNone result ((pkg name : List ℕ) → ¬ IsCut test.now pkg name) }
+// What `pkg` is set to and the name, parted at the first `#` that meets the conditions.
+fn first_parts(test: &str) -> Option<(&str, &str)>
+    ensures some { IfSome result (λ parts. IsFirstPartedAt test.now parts.0.now parts.1.now) }
+    ensures none { IfNone result ((pkg name : List ℕ) → ¬ IsPartedAt test.now pkg name) }
 {
     for at in 0..test.len() {
-        if let Some(cut) = cut_at(test, at) {
-            return Some(cut);
+        if let Some(parts) = parts_at(test, at) {
+            return Some(parts);
         }
     }
     None
@@ -97,5 +100,5 @@ pub(crate) fn written_by(test: &str) -> Option<(&str, &str)>
     if is_own_name(test) {
         return Some(("", test));
     }
-    first_cut(test)
+    first_parts(test)
 }

@@ -1,3 +1,4 @@
+//! Lines, texts and samples, with what they are read as and what is written of them.
 use crate::{GoFault, GoRun, LineKind, line_kind, put_go, read_go};
 use history_model::{Sample, Samples};
 use line_text::{Name, NameError};
@@ -67,14 +68,10 @@ fn lines_have_the_kinds_of_the_rules(rt: HostRuntime) {
 }
 
 // Texts, and what they are read as.
-const TEXTS: [(&str, &str); 21] = [
+const TEXTS: [(&str, &str); 20] = [
     (
         "goos: linux\ngoarch: amd64\npkg: example.com/fib\ncpu: Intel(R) Xeon(R) CPU\nBenchmarkFib10-8   5000000   325.4 ns/op   16 B/op   2 allocs/op\nBenchmarkFib20-8   50000   40537 ns/op\nPASS\nok  example.com/fib  3.412s\n",
         "example.com/fib#Fib10-8 ns/op 3254000\nexample.com/fib#Fib10-8 B/op 16\nexample.com/fib#Fib10-8 allocs/op 2\nexample.com/fib#Fib20-8 ns/op 405370000\nignored 0\n",
-    ),
-    (
-        "BenchmarkA 1 5\nBenchmarkB 1 Inf ns/op\nBenchmark 1 7 B/op\nBenchmarkfoo 1 2 ns/op\n",
-        "# B/op 7\nignored 3\n",
     ),
     ("BenchmarkX 1 1000000000000.0001 ns/op", "OutOfRange(1)"),
     (
@@ -163,7 +160,19 @@ fn texts_give_the_samples_of_the_rules(rt: HostRuntime) -> Result<(), Fail> {
     Ok(())
 }
 
-// As the tools of Go print it.
+#[test]
+fn a_test_with_no_name_is_read_and_written(rt: HostRuntime) -> Result<(), Fail> {
+    let alloc = rt.alloc();
+    let text =
+        b"BenchmarkA 1 5\nBenchmarkB 1 Inf ns/op\nBenchmark 1 7 B/op\nBenchmarkfoo 1 2 ns/op\n";
+    let run = read_go(alloc, text).map_err(|_| "one sample")?;
+    assert_eq!(rt; listed(alloc, &run)?.as_str(), "# B/op 7\nignored 3\n");
+    let put = put_go(alloc, &run.samples).map_err(|_| "a spelling")?;
+    assert_eq!(rt; put.as_slice(), "pkg:\nBenchmark 1 7 B/op\n".as_bytes());
+    Ok(())
+}
+
+// As the tools of Go print it: a copy of `examples/go-bench.txt`.
 const PRINTED: &str =
     "goos: linux\ngoarch: amd64\npkg: example.com/store/index\ncpu: Intel(R) Core(TM) i7-9750H CPU @ 2.60GHz\nBenchmarkLookup-8                \t15243216\t        78.61 ns/op\t       0 B/op\t       0 allocs/op\nBenchmarkInsert/keys=100-8       \t  184503\t      6541 ns/op\t    4096 B/op\t      12 allocs/op\nBenchmarkInsert/keys=10000-8     \t    1630\t    731842 ns/op\t  524288 B/op\t     145 allocs/op\nBenchmarkScan/sequential/warm-8  \t     512\t   2301877.5 ns/op\t 455.53 MB/s\t     128 B/op\t       3 allocs/op\nBenchmarkMerge-8                 \t    2048\t    584210 ns/op\t        17.25 probes/op\nPASS\nok  \texample.com/store/index\t9.184s\npkg: example.com/store/cache\nBenchmarkEvict\nBenchmarkEvict-8   \t1000000000\t         0.3127 ns/op\nBenchmarkFill-8    \t       1\t1.5e+09 ns/op\t        98.7 hit%\n--- BENCH: BenchmarkFill-8\n    cache_test.go:41: filled 1 time\nPASS\nok  \texample.com/store/cache\t2.017s\n";
 

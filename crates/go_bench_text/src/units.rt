@@ -1,7 +1,8 @@
+//! The names of units that have been met, so that they are shared.
 ghost use Rattle.std.specs.Prelude.{◌≡◌, ◌<◌, length, IfOk};
 
-use crate::measured::name_of;
-use crate::memory::LineFault;
+use crate::fault::LineFault;
+use crate::sample::name_of;
 use line_text::Name;
 use std::alloc::Global;
 
@@ -15,6 +16,7 @@ pub(crate) struct Units {
 const MOST: usize = 16;
 
 impl Units {
+    // No names.
     pub(crate) fn new(alloc: Global) -> Units {
         Units {
             names: Vec::new(alloc),

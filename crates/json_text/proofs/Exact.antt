@@ -104,7 +104,7 @@ pub outcome_found : (bytes : List ℕ) (result : Result Json JsonFault) → IsUt
 outcome_found bytes (Ok json) utf8 (state, reach, done) = found bytes state (tree_of json) utf8 reach done
 outcome_found bytes (Err fault) utf8 outcome = tt
 
-pub outcome_fault : (bytes : List ℕ) (result : Result Json JsonFault) → IsUtf8 bytes → Outcome result bytes → IfErr result (λ fault. IsFault fault bytes)
+pub outcome_fault : (bytes : List ℕ) (result : Result Json JsonFault) → IsUtf8 bytes → Outcome result bytes → IfErr result (λ fault. IsFault bytes fault)
 outcome_fault bytes (Ok json) utf8 outcome = tt
 outcome_fault bytes (Err (NotText k)) utf8 outcome = absurd outcome
 outcome_fault bytes (Err (NotJson k)) utf8 outcome = stops_json bytes k utf8 outcome
@@ -160,7 +160,7 @@ json_or_deep bytes k m one other =
     ]
 
 -- At most one answer with one place is due.
-pub one_answer : (bytes : List ℕ) (one other : Result Tree JsonFault) → IsDue one bytes → IsDue other bytes → one ≡ other
+pub one_answer : (bytes : List ℕ) (one other : Result Tree JsonFault) → IsDue bytes one → IsDue bytes other → one ≡ other
 one_answer bytes (Ok tree) (Ok other) h g = ap Ok (one_tree bytes tree other h.text g.text)
 one_answer bytes (Ok tree) (Err (NotText m)) h g = absurd (text_not_text bytes m h.utf8 g)
 one_answer bytes (Ok tree) (Err (NotJson m)) h g = absurd (g.unfinished tree h.text)
@@ -181,7 +181,7 @@ one_answer bytes (Err NoMemory) other h g = absurd h
 one_answer bytes one (Err NoMemory) h g = absurd g
 
 -- What an answer that is due says of the others.
-pub only_due : (bytes : List ℕ) (result : Result Json JsonFault) → IfOk result (λ json. Reads bytes (tree_of json)) → IfErr result (λ fault. IsFault fault bytes)
+pub only_due : (bytes : List ℕ) (result : Result Json JsonFault) → IfOk result (λ json. Reads bytes (tree_of json)) → IfErr result (λ fault. IsFault bytes fault)
     → (tree : Tree) → Reads bytes tree → MatchResult result (λ json. tree_of json ≡ tree) (λ fault. fault ≡ NoMemory)
 only_due bytes (Ok json) found fault tree reads = one_tree bytes (tree_of json) tree found.text reads.text
 only_due bytes (Err (NotText k)) found fault tree reads = absurd (text_not_text bytes k reads.utf8 fault)
@@ -190,11 +190,11 @@ only_due bytes (Err (TooDeep k)) found fault tree reads = absurd (fault.deeper (
 only_due bytes (Err NoMemory) found fault tree reads = refl
 
 -- one fault that is due is another
-pub same_fault : (bytes : List ℕ) (one other : JsonFault) → IsDue (Err one) bytes → IsDue (Err other) bytes → one ≡ other
+pub same_fault : (bytes : List ℕ) (one other : JsonFault) → IsDue bytes (Err one) → IsDue bytes (Err other) → one ≡ other
 same_fault bytes one other h g = let same = one_answer bytes (Err one) (Err other) h g in cc same
 
-pub place_due : (bytes : List ℕ) (result : Result Json JsonFault) → IfOk result (λ json. Reads bytes (tree_of json)) → IfErr result (λ fault. IsFault fault bytes)
-    → (due : JsonFault) → IsDue (Err due) bytes → MatchResult result (λ _. ⊥) (λ fault. (fault ≡ due) ⊎ (fault ≡ NoMemory))
+pub place_due : (bytes : List ℕ) (result : Result Json JsonFault) → IfOk result (λ json. Reads bytes (tree_of json)) → IfErr result (λ fault. IsFault bytes fault)
+    → (due : JsonFault) → IsDue bytes (Err due) → MatchResult result (λ _. ⊥) (λ fault. (fault ≡ due) ⊎ (fault ≡ NoMemory))
 place_due bytes (Ok json) found fault due is = let same = one_answer bytes (Ok (tree_of json)) (Err due) found is in absurd (cc same)
 place_due bytes (Err (NotText k)) found fault due is = inl (same_fault bytes (NotText k) due fault is)
 place_due bytes (Err (NotJson k)) found fault due is = inl (same_fault bytes (NotJson k) due fault is)

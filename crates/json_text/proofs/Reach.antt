@@ -13,7 +13,7 @@ use Rattle.json_text.specs.Depth.{inner_depth, around}
 use Rattle.json_text.specs.Places.{most_levels}
 use Rattle.json_text.specs.Reached.{ended_tree, Reaches, Alike, Stands, Carries, word_mode, ReadsWord, StopsWord, ReadsDigits, StopsDigits, ReadsContent, ReadsText, StopsText}
 use Rattle.json_text.specs.Outcome.{StopsAt, DeepAt, Fault, fault_at}
-use Rattle.json_text.specs.States.{frames_of, mode_of, Gives, Arrives, SpellsNumber, ReadsNumber, StopsNumber, ReadsQuoted, StopsQuoted}
+use Rattle.json_text.specs.States.{frames_of, mode_of, StepGives, Arrives, SpellsNumber, ReadsNumber, StopsNumber, ReadsQuoted, StopsQuoted}
 use Rattle.json_text.specs.declared.state.Digits.{Digits}
 use Rattle.json_text.specs.declared.state.Within.{Within}
 use Rattle.json_text.specs.declared.state.Within.TheVariants.{Plain}
@@ -452,12 +452,12 @@ key_fails stops.TooDeep bytes i j listed stack stands short black room most h = 
 key_fails stops.NoMemory bytes i j listed stack stands short black room most h = tt
 
 -- A byte by which the machine goes on, or stops.
-pub given_goes : (bytes : List ℕ) (i : ℕ) (held : State) (next : Awaits) (stack : List Open) → Stands bytes i held → i < length bytes → Gives (Ok next) stack (step (get_or bytes i 0) held.0 held.1) → Arrives (Ok next) bytes i (i + 1) stack
+pub given_goes : (bytes : List ℕ) (i : ℕ) (held : State) (next : Awaits) (stack : List Open) → Stands bytes i held → i < length bytes → StepGives (Ok next) stack (step (get_or bytes i 0) held.0 held.1) → Arrives (Ok next) bytes i (i + 1) stack
 given_goes bytes i held next stack stands short (e, room) =
     let size = length_frames stack in
     (omega arith, reached_stands bytes (i + 1) (mode_of next, frames_of stack) (takes bytes i held (mode_of next, frames_of stack) stands short e (omega (arith, room, size))), room)
 
-pub given_stops : (bytes : List ℕ) (i : ℕ) (held : State) (stop : Stop) (stack : List Open) → Stands bytes i held → i < length bytes → Gives (Err stop) stack (step (get_or bytes i 0) held.0 held.1) → Fault (fault_at stop i) bytes
+pub given_stops : (bytes : List ℕ) (i : ℕ) (held : State) (stop : Stop) (stack : List Open) → Stands bytes i held → i < length bytes → StepGives (Err stop) stack (step (get_or bytes i 0) held.0 held.1) → Fault (fault_at stop i) bytes
 given_stops bytes i held stops.Refused stack stands short e = refuses bytes i held stands short e
 given_stops bytes i held stops.TooDeep stack stands short (state, e, deep) = opens_deep bytes i held state stands short e deep
 given_stops bytes i held stops.NoMemory stack stands short e = tt

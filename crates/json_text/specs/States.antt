@@ -1,4 +1,4 @@
--- The reader's state as the machine's, and what a token of it gives.
+-- Private: no public contract cites this. The reader's state as the machine's, and what a token of it gives.
 use Rattle.std.specs.Prelude.{◌≡◌, ℕ, ◌+◌, ◌<◌, ◌≤◌, ◌⊎◌, false, List, [], ◌∷◌, length, slice_index, Option, Some, None, IsTrue, Result, Ok, Err}
 use Rattle.json_text.specs.declared.state.Open.{Open}
 use Rattle.json_text.specs.declared.state.Open.TheVariants as open_frame
@@ -45,9 +45,9 @@ Stops TooDeep after = (state : machine.State) × (after ≡ Some state) × (most
 Stops NoMemory after = Unit {0}
 
 -- what a byte gave, with what it left open, is what the machine does, and within the limit of levels
-abbrev pub Gives : Result Awaits Stop → List Open → Option machine.State → Type 0
-Gives (Ok awaits) stack after = (after ≡ Some (mode_of awaits, frames_of stack)) × (machine.own_level (mode_of awaits) + length stack ≤ most_levels)
-Gives (Err stop) stack after = Stops stop after
+abbrev pub StepGives : Result Awaits Stop → List Open → Option machine.State → Type 0
+StepGives (Ok awaits) stack after = (after ≡ Some (mode_of awaits, frames_of stack)) × (machine.own_level (mode_of awaits) + length stack ≤ most_levels)
+StepGives (Err stop) stack after = Stops stop after
 
 -- A token led from one place on to another, where the machine stands in this state; or reading stops there for good.
 abbrev pub Arrives : Result Awaits Stop → List ℕ → ℕ → ℕ → List Open → Type 0

@@ -8,7 +8,6 @@
 
 mod lexeme;
 mod machine;
-mod memory;
 pub mod reading;
 pub mod shape;
 mod state;
@@ -17,7 +16,7 @@ mod tests;
 mod token;
 pub mod tree;
 
-pub use memory::NoMemory;
 pub use reading::{JsonFault, one_answer_law, one_tree_law, read_json};
 pub use shape::Shape;
+pub use std::alloc::AllocError as NoMemory;
 pub use tree::{Json, JsonList, JsonMembers, Member};

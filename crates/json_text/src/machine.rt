@@ -4,7 +4,7 @@ ghost use Rattle.json_text.specs.Classes.{is_blank};
 ghost use Rattle.json_text.specs.Machine as machine;
 ghost use Rattle.json_text.specs.Places.{most_levels};
 ghost use Rattle.json_text.specs.Reached.{Stands, ReadsWord, StopsWord};
-ghost use Rattle.json_text.specs.States.{frames_of, mode_of, Gives, Arrives, ReadsNumber, StopsNumber, ReadsQuoted, StopsQuoted};
+ghost use Rattle.json_text.specs.States.{frames_of, mode_of, StepGives, Arrives, ReadsNumber, StopsNumber, ReadsQuoted, StopsQuoted};
 ghost use Rattle.json_text.specs.View.{tree_of, members_view};
 
 use crate::lexeme::{first_digit, may_end};
@@ -56,8 +56,10 @@ fn read_quoted(alloc: Global, text: &str, place: &mut usize) -> Result<Text, Sto
 fn open(stack: &Vec<Open>, place: &mut usize, next: Awaits) -> Result<Awaits, Stop>
     requires room { length stack.now.items ≤ most_levels }
     requires some { place.old + 1 < 2 ^ 64 }
-    ensures opens { IfOk result (λ opened. (opened ≡ next) × (length stack.now.items < most_levels) × (place.new ≡ place.old + 1)) }
-    ensures full { IfErr result (λ stop. (stop ≡ Stop.TooDeep) × (length stack.now.items ≡ most_levels) × (place.new ≡ place.old)) }
+    ensures opens { IfOk result (λ opened. (opened ≡ next)
+        × (length stack.now.items < most_levels) × (place.new ≡ place.old + 1)) }
+    ensures full { IfErr result (λ stop. (stop ≡ Stop.TooDeep)
+        × (length stack.now.items ≡ most_levels) × (place.new ≡ place.old)) }
 {
     if stack.len() == MOST_LEVELS {
         return Err(Stop::TooDeep);
@@ -70,8 +72,10 @@ fn open(stack: &Vec<Open>, place: &mut usize, next: Awaits) -> Result<Awaits, St
 fn word(bytes: &[u8], place: &mut usize, left: &[u8], value: Json) -> Result<Awaits, Stop>
     requires { place.old < length bytes.now }
     ensures place { (place.old < place.new) × (place.new ≤ length bytes.now) }
-    ensures reads { IfOk result (λ next. (next ≡ Awaits.Ended value) × ReadsWord bytes.now (place.old + 1) place.new left.now) }
-    ensures stops { IfErr result (λ stop. (stop ≡ Stop.Refused) × StopsWord bytes.now (place.old + 1) place.new left.now) }
+    ensures reads { IfOk result (λ next. (next ≡ Awaits.Ended value)
+        × ReadsWord bytes.now (place.old + 1) place.new left.now) }
+    ensures stops { IfErr result (λ stop. (stop ≡ Stop.Refused)
+        × StopsWord bytes.now (place.old + 1) place.new left.now) }
 {
     *place += 1;
     read_word(bytes, place, left)?;
@@ -149,7 +153,8 @@ fn first_key(
 fn colon(stack: &mut Vec<Open>, members: JsonMembers, key: Text, byte: u8) -> Result<Awaits, Stop>
     requires room { length stack.old.items < most_levels }
     requires black { is_blank byte ≡ false }
-    ensures { Gives result stack.new.items (machine.step byte (machine.colon (members_view members) key) (frames_of stack.old.items)) }
+    ensures { StepGives result stack.new.items
+        (machine.step byte (machine.colon (members_view members) key) (frames_of stack.old.items)) }
 {
     if byte != b':' {
         return Err(Stop::Refused);
@@ -162,7 +167,8 @@ fn colon(stack: &mut Vec<Open>, members: JsonMembers, key: Text, byte: u8) -> Re
 #[tactic(auto, using(crate::proofs::Stack::frames_pop, crate::proofs::Stack::frames_end))]
 fn close(stack: &mut Vec<Open>, value: Json, byte: u8) -> Result<Awaits, Stop>
     requires { length stack.old.items ≤ most_levels }
-    ensures { Gives result stack.new.items (machine.close byte (tree_of value) (frames_of stack.old.items)) }
+    ensures { StepGives result stack.new.items
+        (machine.close byte (tree_of value) (frames_of stack.old.items)) }
 {
     match stack.pop() {
         None => Err(Stop::Refused),
@@ -225,7 +231,8 @@ pub(crate) fn step(
 /// The value, where a text may end here.
 #[tactic(auto, using(crate::proofs::Stack::length_frames, crate::proofs::Stack::finish_open))]
 pub(crate) fn finish(stack: &Vec<Open>, awaits: Awaits) -> Option<Json>
-    ensures { option_map tree_of result ≡ machine.finish (mode_of awaits) (frames_of stack.now.items) }
+    ensures { option_map tree_of result
+        ≡ machine.finish (mode_of awaits) (frames_of stack.now.items) }
 {
     if !stack.is_empty() {
         return None;

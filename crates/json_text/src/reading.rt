@@ -52,9 +52,9 @@ pub fn read_json(alloc: Global, bytes: &[u8]) -> Result<Json, JsonFault>
     ensures only { (tree : Tree) → Reads bytes.now tree
         → MatchResult result (λ json. tree_of json ≡ tree) (λ fault. fault ≡ JsonFault.NoMemory) }
     // A fault stands at its place.
-    ensures fault { IfErr result (λ fault. IsFault fault bytes.now) }
+    ensures fault { IfErr result (λ fault. IsFault bytes.now fault) }
     // Where a fault is due it is given, unless memory runs out.
-    ensures place { (due : JsonFault) → IsDue (Err due) bytes.now
+    ensures place { (due : JsonFault) → IsDue bytes.now (Err due)
         → MatchResult result (λ _. ⊥) (λ fault. (fault ≡ due) ⊎ (fault ≡ JsonFault.NoMemory)) }
 {
     match std::str::from_utf8(bytes) {
@@ -91,6 +91,6 @@ pub fn one_tree_law(bytes: &[u8])
 
 /// The law that one answer at most is due: a tree, or one fault at one place.
 pub fn one_answer_law(bytes: &[u8])
-    ensures { (one other : Result Tree JsonFault) → IsDue one bytes.now → IsDue other bytes.now
+    ensures { (one other : Result Tree JsonFault) → IsDue bytes.now one → IsDue bytes.now other
         → one ≡ other }
 {}

@@ -1,7 +1,7 @@
 //! What reading is in the middle of.
 ghost use Rattle.std.specs.Prelude.{◌≡◌};
 
-use crate::memory::NoMemory;
+use crate::NoMemory;
 use crate::tree::{Json, JsonList, JsonMembers};
 use line_text::Text;
 use std::alloc::{AllocError, AllocFailed};
@@ -88,26 +88,6 @@ impl<T: Drop> From<AllocFailed<T>> for Stop {
     ghost from_gives = { λ _ stop. stop ≡ Stop.NoMemory };
 
     fn from(_: AllocFailed<T>) -> Stop {
-        Stop::NoMemory
-    }
-}
-
-impl From<line_text::NoMemory> for Stop {
-    ghost use Rattle.json_text.specs.declared.state.Stop.{Stop};
-
-    ghost from_gives = { λ _ stop. stop ≡ Stop.NoMemory };
-
-    fn from(_: line_text::NoMemory) -> Stop {
-        Stop::NoMemory
-    }
-}
-
-impl From<NoMemory> for Stop {
-    ghost use Rattle.json_text.specs.declared.state.Stop.{Stop};
-
-    ghost from_gives = { λ _ stop. stop ≡ Stop.NoMemory };
-
-    fn from(_: NoMemory) -> Stop {
         Stop::NoMemory
     }
 }

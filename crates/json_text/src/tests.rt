@@ -1,5 +1,5 @@
 //! Cases from the standard and from outside: what is read, and where each fault stands.
-use crate::memory::NoMemory;
+use crate::NoMemory;
 use crate::reading::{JsonFault, read_json};
 use crate::tree::{Json, JsonList, JsonMembers, Member};
 use line_text::Text;

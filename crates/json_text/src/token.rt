@@ -43,7 +43,8 @@ pub(crate) fn read_word(bytes: &[u8], place: &mut usize, left: &[u8]) -> Result<
     requires { place.old ≤ length bytes.now }
     ensures place { (place.old ≤ place.new) × (place.new ≤ length bytes.now) }
     ensures reads { IfOk result (λ _. ReadsWord bytes.now place.old place.new left.now) }
-    ensures stops { IfErr result (λ stop. (stop ≡ Stop.Refused) × StopsWord bytes.now place.old place.new left.now) }
+    ensures stops { IfErr result (λ stop. (stop ≡ Stop.Refused)
+        × StopsWord bytes.now place.old place.new left.now) }
 {
     for letter in left {
         if *place < bytes.len() && bytes[*place] == *letter {
@@ -79,7 +80,8 @@ fn read_escape(bytes: &[u8], place: &mut usize) -> Result<char, Stop>
     requires some { place.old < length bytes.now }
     requires backslash { slice_index bytes.now place.old ≡ 92 }
     ensures place { (place.old < place.new) × (place.new ≤ length bytes.now) }
-    ensures reads { IfOk result (λ code. ReadsContent bytes.now place.old place.new Within.Plain Within.Plain (encode_utf8 code)) }
+    ensures reads { IfOk result (λ code. ReadsContent bytes.now place.old place.new
+        Within.Plain Within.Plain (encode_utf8 code)) }
     ensures stops { IfErr result (λ stop. StopsText stop bytes.now place.old place.new) }
     ensures boundary { IfOk result (λ _. IsUtf8 bytes.now → IsCharBoundary bytes.now place.new) }
 {

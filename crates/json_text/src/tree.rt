@@ -4,7 +4,7 @@ ghost use Rattle.json_text.specs.Tree.{no_items, no_members};
 ghost use Rattle.json_text.specs.Parts.{then_item, then_member, item_count, item_at, member_count, member_at};
 ghost use Rattle.json_text.specs.View.{tree_of, items_view, members_view, entry_of};
 
-use crate::memory::NoMemory;
+use crate::NoMemory;
 use line_text::Text;
 use std::alloc::Global;
 
@@ -99,7 +99,8 @@ impl JsonList {
 
     /// Adds an item at the end. Changes nothing where there is no memory. Constant time, spread over the calls.
     pub fn push(&mut self, item: Json) -> Result<(), NoMemory>
-        ensures ok { OnOk result (items_view self.new ≡ then_item (items_view self.old) (tree_of item)) }
+        ensures ok { OnOk result (items_view self.new
+            ≡ then_item (items_view self.old) (tree_of item)) }
         ensures err { OnErr result (items_view self.new ≡ items_view self.old) }
     {
         Ok(self.items.push(item)?)
@@ -145,7 +146,8 @@ impl JsonMembers {
 
     /// Adds a member at the end. Changes nothing where there is no memory. Constant time, spread over the calls.
     pub fn push(&mut self, item: Member) -> Result<(), NoMemory>
-        ensures ok { OnOk result (members_view self.new ≡ then_member (members_view self.old) (entry_of item)) }
+        ensures ok { OnOk result (members_view self.new
+            ≡ then_member (members_view self.old) (entry_of item)) }
         ensures err { OnErr result (members_view self.new ≡ members_view self.old) }
     {
         Ok(self.members.push(item)?)

@@ -9,14 +9,14 @@ use Rattle.metric_table.specs.declared.limits.Limit.TheVariants.{RunSamples}
 use Rattle.history_model.specs.Samples.{Measurement}
 use Rattle.lnt_report.specs.Look.{Entry, fields, items_in, value_at, is_object, is_list}
 use Rattle.lnt_report.specs.Rules.{Break, unless, machine_name, commit_name, tests_in, tests_break, run_break, head_break, first_break, IsSound}
-use Rattle.lnt_report.specs.Readings.{Reading, readings, ignored_in, test_readings, test_ignored, IsOut}
+use Rattle.lnt_report.specs.Numbers.{Reading, readings, ignored_in, test_readings, test_ignored, AreMeasured, IsOut}
 use Rattle.lnt_report.specs.Runs.{Report, IsRun}
-use Rattle.lnt_report.specs.Gathering.{AreSole, Leaves, AreBeyond, IsRefusal}
-use Rattle.lnt_report.specs.Outcomes.{IsOver, IsAnswerOf}
+use Rattle.lnt_report.specs.Gathering.{Leaves, AreBeyond, IsRefusal}
+use Rattle.lnt_report.specs.Checks.{IsAnswerOf}
+use Rattle.lnt_report.specs.Outcomes.{IsOver}
 use Rattle.lnt_report.specs.declared.gathered.Gathered.{Gathered}
 use Rattle.lnt_report.specs.declared.fault.ReportFault.{ReportFault}
 use Rattle.lnt_report.specs.declared.fault.ReportFault.TheVariants.{NotText, NotJson, TooDeep, NotReport, OutOfRange, Full, NoMemory}
-use Rattle.lnt_report.proofs.Steps.{are_measured, are_only}
 use Rattle.lnt_report.proofs.Walks.{fields_of}
 
 pub after : (first later : Option Break) → option_or first later ≡ None → later ≡ None
@@ -68,8 +68,8 @@ ignored_are tree top tests e f = ap (λ es. sum_by test_ignored (items_in (tests
 
 -- a number that is no sample
 pub refused : (tree : Tree) (top : List Entry) (tests : List Tree) (fault : ReportFault) → tree ≡ object (members_of top) → first_break tree ≡ None → items_in (tests_in top) ≡ tests
-    → IsRefusal (flat_map test_readings tests) fault → IsAnswerOf (Err fault) tree
-refused tree top tests (OutOfRange test metric) e clean f h = inr ((clean, subst (λ (rs : List Reading). IsOut rs test metric) (sym (readings_are tree top tests e f)) h), tt)
+    → IsRefusal (flat_map test_readings tests) fault → IsAnswerOf tree (Err fault)
+refused tree top tests (OutOfRange test metric) e clean f h = inr (clean, subst (λ (rs : List Reading). IsOut rs test metric) (sym (readings_are tree top tests e f)) h)
 refused tree top tests NoMemory e clean f h = inl refl
 refused tree top tests (NotText k) e clean f h = absurd h
 refused tree top tests (NotJson k) e clean f h = absurd h
@@ -86,27 +86,28 @@ pub answered : (tree : Tree) (top : List Entry) (tests : List Tree) (machine com
     → Leaves (flat_map test_readings tests) (sum_by test_ignored tests) [] 0 g
     → IfOk answer (λ run. run ≡ record { machine = machine; commit = commit; samples = g.samples; ignored = g.ignored }) → IfOk answer (λ _. g.over ≡ false)
     → IfOk answer (λ _. length g.samples ≤ most RunSamples) → IfErr answer (λ fault. fault ≡ Full RunSamples) → IfErr answer (λ _. g.over ≡ true)
-    → IsAnswerOf answer tree
+    → IsAnswerOf tree answer
 answered tree top tests machine commit g (Ok run) e clean m n f h is all few full over =
     let beyond : AreBeyond false g.samples h.beyond = subst (λ (o : Bool). AreBeyond o g.samples h.beyond) all h.over in
     let listed : g.samples ++ h.beyond ≡ g.samples = ap (λ (ms : List Measurement). g.samples ++ ms) beyond ∙ append-nil g.samples in
     let same = all_past (flat_map test_readings tests) (sum_by test_ignored tests) g h ∙ sym (readings_are tree top tests e f) in
-    let sole : AreSole (readings tree) g.samples = subst (λ (rs : List Reading). AreSole rs g.samples) same (subst (λ (ms : List Measurement). AreSole h.past ms) listed h.measured) in
+    let measured : AreMeasured (readings tree) g.samples =
+    subst (λ (rs : List Reading). AreMeasured rs g.samples) same (subst (λ (ms : List Measurement). AreMeasured h.past ms) listed h.measured) in
     let made : IsRun tree (record { machine = machine; commit = commit; samples = g.samples; ignored = g.ignored }) = record {
       machine = ap machine_name (fields_of tree top e) ∙ m;
       commit = ap commit_name (fields_of tree top e) ∙ n;
-      samples = are_measured sole;
+      samples = measured;
       few = few;
       ignored = omega (arith, h.ignored, h.counted, ignored_are tree top tests e f);
     } in
-    inr ((clean, subst (λ (r : Report). IsRun tree r) (sym is) made), (λ ms others. are_only sole others ∙ sym (ap (λ (r : Report). r.samples) is)))
+    inr (clean, subst (λ (r : Report). IsRun tree r) (sym is) made)
 answered tree top tests machine commit g (Err fault) e clean m n f h is all few full over =
     let beyond : AreBeyond true g.samples h.beyond = subst (λ (o : Bool). AreBeyond o g.samples h.beyond) over h.over in
     let same = all_past (flat_map test_readings tests) (sum_by test_ignored tests) g h ∙ sym (readings_are tree top tests e f) in
     let full_of : IsOver (readings tree) RunSamples = record {
       samples = g.samples ++ h.beyond;
-      measured = are_measured (subst (λ (rs : List Reading). AreSole rs (g.samples ++ h.beyond)) same h.measured);
+      measured = subst (λ (rs : List Reading). AreMeasured rs (g.samples ++ h.beyond)) same h.measured;
       over = omega (arith, beyond, length-append g.samples h.beyond);
       of_samples = refl;
     } in
-    subst (λ (fault : ReportFault). IsAnswerOf (Err fault) tree) (sym full) (inr ((clean, full_of), tt))
+    subst (λ (fault : ReportFault). IsAnswerOf tree (Err fault)) (sym full) (inr (clean, full_of))

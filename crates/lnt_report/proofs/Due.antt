@@ -1,5 +1,5 @@
 -- One answer at most is due.
-use Rattle.std.proofs.Common.{◌≡◌, ℕ, ◌≤◌, ◌⊎◌, inl, inr, List, [], ◌∷◌, ◌++◌, Option, Some, None, Result, Ok, Err, length, refl, sym, ap, ◌∙◌, subst, arith, ℤ}
+use Rattle.std.proofs.Common.{◌≡◌, ℕ, ◌≤◌, ◌⊎◌, inl, inr, List, [], ◌∷◌, ◌++◌, Option, Some, None, Result, Ok, Err, length, refl, sym, ap, ◌∙◌, subst, arith}
 use Rattle.json_text.specs.Tree.{Tree}
 use Rattle.json_text.specs.Places.{Reads}
 use Rattle.json_text.specs.Answers.{IsDue as IsTextDue, IsFault as IsTextFault}
@@ -10,16 +10,23 @@ use Rattle.metric_table.specs.declared.limits.Limit.{Limit}
 use Rattle.metric_table.specs.declared.limits.Limit.TheVariants.{RunSamples}
 use Rattle.history_model.specs.Samples.{Measurement}
 use Rattle.lnt_report.specs.Rules.{Break, break, first_break}
-use Rattle.lnt_report.specs.Readings.{Reading, readings, AreMeasured, none, one, IsOut, IsValue}
+use Rattle.lnt_report.specs.Numbers.{Reading, readings, AreMeasured, none, one, IsMeasured, IsOut}
 use Rattle.lnt_report.specs.Runs.{Report, IsRun}
-use Rattle.lnt_report.specs.Outcomes.{IsOver, IsDue, IsDueOf, IsOnly, IsOfText}
+use Rattle.metric_value.specs.Values.{HasNoneInRange, ValueIsOne}
+use Rattle.lnt_report.specs.Gathering.{measurement}
+use Rattle.lnt_report.specs.Checks.{IsOfText}
+use Rattle.lnt_report.specs.Outcomes.{IsOver, IsDue, IsDueOf}
 use Rattle.lnt_report.specs.declared.fault.ReportFault.{ReportFault}
 use Rattle.lnt_report.specs.declared.fault.ReportFault.TheVariants.{NotText, NotJson, TooDeep, NotReport, OutOfRange, Full, NoMemory}
 
+-- a number that is a sample has a value in range
+in_range_not_none : {r : Reading} {m : Measurement} → IsMeasured r m → HasNoneInRange r.metric r.spelling → ⊥
+in_range_not_none {m = m} h never = omega (arith, never m.value h.value, h.in_range)
+
 -- a number among those that are measured has a value
 no_out : (front : List Reading) (out : Reading) (back : List Reading) (ms : List Measurement) → AreMeasured (front ++ (out ∷ back)) ms
-    → ((value : ℤ) → IsValue out.metric out.spelling value → ⊥) → ⊥
-no_out [] out back ms (one {m = m} h more) never = never m.value h.value
+    → HasNoneInRange out.metric out.spelling → ⊥
+no_out [] out back ms (one h more) never = in_range_not_none h never
 no_out (r ∷ front) out back ms (one {ms = rest} h more) never = no_out front out back rest more never
 
 unmeasured : (rs : List Reading) (test metric : List ℕ) (ms : List Measurement) → IsOut rs test metric → AreMeasured rs ms → ⊥
@@ -28,12 +35,12 @@ unmeasured rs test metric ms h all = no_out h.front h.out h.back ms (subst (λ (
 -- two numbers that are the first with no value are one
 same_out : (front : List Reading) (out : Reading) (back : List Reading) (other_front : List Reading) (other : Reading) (other_back : List Reading) (ms ns : List Measurement)
     → front ++ (out ∷ back) ≡ other_front ++ (other ∷ other_back) → AreMeasured front ms → AreMeasured other_front ns
-    → ((value : ℤ) → IsValue out.metric out.spelling value → ⊥) → ((value : ℤ) → IsValue other.metric other.spelling value → ⊥) → out ≡ other
+    → HasNoneInRange out.metric out.spelling → HasNoneInRange other.metric other.spelling → out ≡ other
 same_out [] out back [] other other_back ms ns e h k never nor = cc
 same_out [] out back (r ∷ front) other other_back ms ns e h (one {m = m} k more) never nor =
-    let same : out ≡ r = cc in absurd (never m.value (subst (λ (x : Reading). IsValue x.metric x.spelling m.value) (sym same) k.value))
+    let same : out ≡ r = cc in absurd (in_range_not_none k (subst (λ (x : Reading). HasNoneInRange x.metric x.spelling) same never))
 same_out (r ∷ front) out back [] other other_back ms ns e (one {m = m} h more) k never nor =
-    let same : r ≡ other = cc in absurd (nor m.value (subst (λ (x : Reading). IsValue x.metric x.spelling m.value) same h.value))
+    let same : r ≡ other = cc in absurd (in_range_not_none h (subst (λ (x : Reading). HasNoneInRange x.metric x.spelling) (sym same) nor))
 same_out (r ∷ front) out back (s ∷ other_front) other other_back ms ns e (one {ms = rest} h more) (one {ms = others} k most_of) never nor =
     let tails : front ++ (out ∷ back) ≡ other_front ++ (other ∷ other_back) = cc in
     same_out front out back other_front other other_back rest others tails more most_of never nor
@@ -46,6 +53,18 @@ out_is_one rs test metric other_test other_metric h k =
     let metrics : metric ≡ other_metric = h.of_metric ∙ ap (λ (r : Reading). r.metric) same ∙ sym k.of_metric in
     ap (λ (t : List ℕ). OutOfRange t metric) tests ∙ ap (λ (m : List ℕ). OutOfRange other_test m) metrics
 
+same_sample : (m n : Measurement) → m.test ≡ n.test → m.metric ≡ n.metric → m.value ≡ n.value → m ≡ n
+same_sample m n e f g =
+    ap (λ (test : List ℕ). measurement test m.metric m.value) e ∙ ap (λ (metric : List ℕ). measurement n.test metric m.value) f ∙ ap (measurement n.test n.metric) g
+
+-- numbers are one list of samples
+samples_are_one : ValueIsOne → {rs : List Reading} {ms ns : List Measurement} → AreMeasured rs ms → AreMeasured rs ns → ms ≡ ns
+samples_are_one law none none = refl
+samples_are_one law (one {r = r} {m = m} {ms = ms} first more) (one {m = n} {ms = ns} other others) =
+    ap (λ (x : Measurement). x ∷ ms)
+    (same_sample m n (first.test ∙ sym other.test) (first.metric ∙ sym other.metric) (law r.metric r.spelling m.value n.value first.value other.value))
+    ∙ ap (λ xs. n ∷ xs) (samples_are_one law more others)
+
 lengths : {rs : List Reading} {ms : List Measurement} → AreMeasured rs ms → length ms ≡ length rs
 lengths none = refl
 lengths (one h more) = let e = lengths more in omega arith
@@ -56,14 +75,14 @@ report machine commit samples ignored = record { machine = machine; commit = com
 inside : {A : Type 0} (a b : A) → Some a ≡ Some b → a ≡ b
 inside a b e = cc
 
-run_is_one : (tree : Tree) (a b : Report) → IsRun tree a → IsRun tree b → ((ms : List Measurement) → AreMeasured (readings tree) ms → ms ≡ a.samples) → a ≡ b
-run_is_one tree a b h k only =
+run_is_one : (tree : Tree) (a b : Report) → ValueIsOne → IsRun tree a → IsRun tree b → a ≡ b
+run_is_one tree a b law h k =
     let machines : a.machine ≡ b.machine = inside a.machine b.machine (sym h.machine ∙ k.machine) in
     let commits : a.commit ≡ b.commit = inside a.commit b.commit (sym h.commit ∙ k.commit) in
     let counts : a.ignored ≡ b.ignored = h.ignored ∙ sym k.ignored in
     ap (λ (m : List ℕ). report m a.commit a.samples a.ignored) machines
     ∙ ap (λ (m : List ℕ). report b.machine m a.samples a.ignored) commits
-    ∙ ap (λ (ms : List Measurement). report b.machine b.commit ms a.ignored) (sym (only b.samples k.samples))
+    ∙ ap (λ (ms : List Measurement). report b.machine b.commit ms a.ignored) (samples_are_one law h.samples k.samples)
     ∙ ap (report b.machine b.commit b.samples) counts
 
 clash : {A : Type 0} (o : Option A) (a : A) → o ≡ None → o ≡ Some a → ⊥
@@ -72,54 +91,54 @@ clash o a e f = let g : None ≡ Some a = sym e ∙ f in cc
 too_many : (rs : List Reading) (ms : List Measurement) (limit : Limit) → AreMeasured rs ms → length ms ≤ most RunSamples → IsOver rs limit → ⊥
 too_many rs ms limit h few over = omega (arith, lengths h, lengths over.measured, over.over)
 
-due_is_one : (tree : Tree) (a b : Result Report ReportFault) → IsDueOf a tree → IsOnly a tree → IsDueOf b tree → a ≡ b
-due_is_one tree (Ok x) (Ok y) h only k = ap Ok (run_is_one tree x y h.1 k.1 only)
-due_is_one tree (Ok x) (Err (NotReport other_rule other_path)) h only k = absurd (clash (first_break tree) (break other_rule other_path) h.0 k)
-due_is_one tree (Ok x) (Err (OutOfRange other_test other_metric)) h only k = absurd (unmeasured (readings tree) other_test other_metric x.samples k.1 h.1.samples)
-due_is_one tree (Ok x) (Err (Full other_limit)) h only k = absurd (too_many (readings tree) x.samples other_limit h.1.samples h.1.few k.1)
-due_is_one tree (Ok x) (Err (NotText j)) h only k = absurd k
-due_is_one tree (Ok x) (Err (NotJson j)) h only k = absurd k
-due_is_one tree (Ok x) (Err (TooDeep j)) h only k = absurd k
-due_is_one tree (Ok x) (Err NoMemory) h only k = absurd k
-due_is_one tree (Err (NotReport rule path)) (Ok y) h only k = absurd (clash (first_break tree) (break rule path) k.0 h)
-due_is_one tree (Err (NotReport rule path)) (Err (NotReport other_rule other_path)) h only k = ap (λ (b : Break). Err (NotReport b.rule b.member)) (inside (break rule path) (break other_rule other_path) (sym h ∙ k))
-due_is_one tree (Err (NotReport rule path)) (Err (OutOfRange other_test other_metric)) h only k = absurd (clash (first_break tree) (break rule path) k.0 h)
-due_is_one tree (Err (NotReport rule path)) (Err (Full other_limit)) h only k = absurd (clash (first_break tree) (break rule path) k.0 h)
-due_is_one tree (Err (NotReport rule path)) (Err (NotText j)) h only k = absurd k
-due_is_one tree (Err (NotReport rule path)) (Err (NotJson j)) h only k = absurd k
-due_is_one tree (Err (NotReport rule path)) (Err (TooDeep j)) h only k = absurd k
-due_is_one tree (Err (NotReport rule path)) (Err NoMemory) h only k = absurd k
-due_is_one tree (Err (OutOfRange test metric)) (Ok y) h only k = absurd (unmeasured (readings tree) test metric y.samples h.1 k.1.samples)
-due_is_one tree (Err (OutOfRange test metric)) (Err (NotReport other_rule other_path)) h only k = absurd (clash (first_break tree) (break other_rule other_path) h.0 k)
-due_is_one tree (Err (OutOfRange test metric)) (Err (OutOfRange other_test other_metric)) h only k = ap Err (out_is_one (readings tree) test metric other_test other_metric h.1 k.1)
-due_is_one tree (Err (OutOfRange test metric)) (Err (Full other_limit)) h only k = absurd (unmeasured (readings tree) test metric k.1.samples h.1 k.1.measured)
-due_is_one tree (Err (OutOfRange test metric)) (Err (NotText j)) h only k = absurd k
-due_is_one tree (Err (OutOfRange test metric)) (Err (NotJson j)) h only k = absurd k
-due_is_one tree (Err (OutOfRange test metric)) (Err (TooDeep j)) h only k = absurd k
-due_is_one tree (Err (OutOfRange test metric)) (Err NoMemory) h only k = absurd k
-due_is_one tree (Err (Full limit)) (Ok y) h only k = absurd (too_many (readings tree) y.samples limit k.1.samples k.1.few h.1)
-due_is_one tree (Err (Full limit)) (Err (NotReport other_rule other_path)) h only k = absurd (clash (first_break tree) (break other_rule other_path) h.0 k)
-due_is_one tree (Err (Full limit)) (Err (OutOfRange other_test other_metric)) h only k = absurd (unmeasured (readings tree) other_test other_metric h.1.samples k.1 h.1.measured)
-due_is_one tree (Err (Full limit)) (Err (Full other_limit)) h only k = ap (λ (l : Limit). Err (Full l)) (h.1.of_samples ∙ sym k.1.of_samples)
-due_is_one tree (Err (Full limit)) (Err (NotText j)) h only k = absurd k
-due_is_one tree (Err (Full limit)) (Err (NotJson j)) h only k = absurd k
-due_is_one tree (Err (Full limit)) (Err (TooDeep j)) h only k = absurd k
-due_is_one tree (Err (Full limit)) (Err NoMemory) h only k = absurd k
-due_is_one tree (Err (NotText j)) b h only k = absurd h
-due_is_one tree (Err (NotJson j)) b h only k = absurd h
-due_is_one tree (Err (TooDeep j)) b h only k = absurd h
-due_is_one tree (Err NoMemory) b h only k = absurd h
+due_is_one : (tree : Tree) (a b : Result Report ReportFault) → ValueIsOne → IsDueOf tree a → IsDueOf tree b → a ≡ b
+due_is_one tree (Ok x) (Ok y) law h k = ap Ok (run_is_one tree x y law h.1 k.1)
+due_is_one tree (Ok x) (Err (NotReport other_rule other_path)) law h k = absurd (clash (first_break tree) (break other_rule other_path) h.0 k)
+due_is_one tree (Ok x) (Err (OutOfRange other_test other_metric)) law h k = absurd (unmeasured (readings tree) other_test other_metric x.samples k.1 h.1.samples)
+due_is_one tree (Ok x) (Err (Full other_limit)) law h k = absurd (too_many (readings tree) x.samples other_limit h.1.samples h.1.few k.1)
+due_is_one tree (Ok x) (Err (NotText j)) law h k = absurd k
+due_is_one tree (Ok x) (Err (NotJson j)) law h k = absurd k
+due_is_one tree (Ok x) (Err (TooDeep j)) law h k = absurd k
+due_is_one tree (Ok x) (Err NoMemory) law h k = absurd k
+due_is_one tree (Err (NotReport rule path)) (Ok y) law h k = absurd (clash (first_break tree) (break rule path) k.0 h)
+due_is_one tree (Err (NotReport rule path)) (Err (NotReport other_rule other_path)) law h k = ap (λ (b : Break). Err (NotReport b.rule b.member)) (inside (break rule path) (break other_rule other_path) (sym h ∙ k))
+due_is_one tree (Err (NotReport rule path)) (Err (OutOfRange other_test other_metric)) law h k = absurd (clash (first_break tree) (break rule path) k.0 h)
+due_is_one tree (Err (NotReport rule path)) (Err (Full other_limit)) law h k = absurd (clash (first_break tree) (break rule path) k.0 h)
+due_is_one tree (Err (NotReport rule path)) (Err (NotText j)) law h k = absurd k
+due_is_one tree (Err (NotReport rule path)) (Err (NotJson j)) law h k = absurd k
+due_is_one tree (Err (NotReport rule path)) (Err (TooDeep j)) law h k = absurd k
+due_is_one tree (Err (NotReport rule path)) (Err NoMemory) law h k = absurd k
+due_is_one tree (Err (OutOfRange test metric)) (Ok y) law h k = absurd (unmeasured (readings tree) test metric y.samples h.1 k.1.samples)
+due_is_one tree (Err (OutOfRange test metric)) (Err (NotReport other_rule other_path)) law h k = absurd (clash (first_break tree) (break other_rule other_path) h.0 k)
+due_is_one tree (Err (OutOfRange test metric)) (Err (OutOfRange other_test other_metric)) law h k = ap Err (out_is_one (readings tree) test metric other_test other_metric h.1 k.1)
+due_is_one tree (Err (OutOfRange test metric)) (Err (Full other_limit)) law h k = absurd (unmeasured (readings tree) test metric k.1.samples h.1 k.1.measured)
+due_is_one tree (Err (OutOfRange test metric)) (Err (NotText j)) law h k = absurd k
+due_is_one tree (Err (OutOfRange test metric)) (Err (NotJson j)) law h k = absurd k
+due_is_one tree (Err (OutOfRange test metric)) (Err (TooDeep j)) law h k = absurd k
+due_is_one tree (Err (OutOfRange test metric)) (Err NoMemory) law h k = absurd k
+due_is_one tree (Err (Full limit)) (Ok y) law h k = absurd (too_many (readings tree) y.samples limit k.1.samples k.1.few h.1)
+due_is_one tree (Err (Full limit)) (Err (NotReport other_rule other_path)) law h k = absurd (clash (first_break tree) (break other_rule other_path) h.0 k)
+due_is_one tree (Err (Full limit)) (Err (OutOfRange other_test other_metric)) law h k = absurd (unmeasured (readings tree) other_test other_metric h.1.samples k.1 h.1.measured)
+due_is_one tree (Err (Full limit)) (Err (Full other_limit)) law h k = ap (λ (l : Limit). Err (Full l)) (h.1.of_samples ∙ sym k.1.of_samples)
+due_is_one tree (Err (Full limit)) (Err (NotText j)) law h k = absurd k
+due_is_one tree (Err (Full limit)) (Err (NotJson j)) law h k = absurd k
+due_is_one tree (Err (Full limit)) (Err (TooDeep j)) law h k = absurd k
+due_is_one tree (Err (Full limit)) (Err NoMemory) law h k = absurd k
+due_is_one tree (Err (NotText j)) b law h k = absurd h
+due_is_one tree (Err (NotJson j)) b law h k = absurd h
+due_is_one tree (Err (TooDeep j)) b law h k = absurd h
+due_is_one tree (Err NoMemory) b law h k = absurd h
 
 -- what a text's answer says of the answer of a run
 abbrev From : Result Tree JsonFault → Result Report ReportFault → Type 0
-From (Ok tree) due = IsDueOf due tree
+From (Ok tree) due = IsDueOf tree due
 From (Err (json.NotText j)) due = due ≡ Err (NotText j)
 From (Err (json.NotJson j)) due = due ≡ Err (NotJson j)
 From (Err (json.TooDeep j)) due = due ≡ Err (TooDeep j)
 From (Err json.NoMemory) due = ⊥
 
 -- an answer that is due comes from a text's
-of_text : (bytes : List ℕ) (due : Result Report ReportFault) → IsDue due bytes → (answer : Result Tree JsonFault) × (IsTextDue answer bytes × From answer due)
+of_text : (bytes : List ℕ) (due : Result Report ReportFault) → IsDue bytes due → (answer : Result Tree JsonFault) × (IsTextDue bytes answer × From answer due)
 of_text bytes (Err (NotText j)) d = (Err (json.NotText j), (d, refl))
 of_text bytes (Err (NotJson j)) d = (Err (json.NotJson j), (d, refl))
 of_text bytes (Err (TooDeep j)) d = (Err (json.TooDeep j), (d, refl))
@@ -130,21 +149,21 @@ of_text bytes (Err (Full limit)) d = (Ok d.0, (d.1, d.2))
 of_text bytes (Err NoMemory) d = (Ok d.0, (d.1, d.2))
 
 abbrev pub OneText : List ℕ → Type 0
-OneText bytes = (one other : Result Tree JsonFault) → IsTextDue one bytes → IsTextDue other bytes → one ≡ other
+OneText bytes = (one other : Result Tree JsonFault) → IsTextDue bytes one → IsTextDue bytes other → one ≡ other
 
 -- what a tree is due is what its bytes are due
-pub same_answer : (bytes : List ℕ) → OneText bytes → (tree : Tree) (answer : Result Report ReportFault) → Reads bytes tree → IsDueOf answer tree → IsOnly answer tree
-    → (due : Result Report ReportFault) → IsDue due bytes → answer ≡ due
-same_answer bytes law tree answer reads h only due d =
+pub same_answer : (bytes : List ℕ) → OneText bytes → (tree : Tree) (answer : Result Report ReportFault) → ValueIsOne → Reads bytes tree → IsDueOf tree answer
+    → (due : Result Report ReportFault) → IsDue bytes due → answer ≡ due
+same_answer bytes law tree answer values reads h due d =
     let f = of_text bytes due d in
-    due_is_one tree answer due h only (subst (λ (t : Result Tree JsonFault). From t due) (sym (law (Ok tree) f.0 reads f.1.0)) f.1.1)
+    due_is_one tree answer due values h (subst (λ (t : Result Tree JsonFault). From t due) (sym (law (Ok tree) f.0 reads f.1.0)) f.1.1)
 
 abbrev pub failed : ReportFault → Result Report ReportFault
 failed fault = Err fault
 
 -- a fault of the text is what its bytes are due
-pub same_fault : (bytes : List ℕ) → OneText bytes → (fault : JsonFault) (said : ReportFault) → IsOfText said fault → IsTextFault fault bytes
-    → (due : Result Report ReportFault) → IsDue due bytes → (failed said ≡ due) ⊎ (failed said ≡ failed NoMemory)
+pub same_fault : (bytes : List ℕ) → OneText bytes → (fault : JsonFault) (said : ReportFault) → IsOfText fault said → IsTextFault bytes fault
+    → (due : Result Report ReportFault) → IsDue bytes due → (failed said ≡ due) ⊎ (failed said ≡ failed NoMemory)
 same_fault bytes law json.NoMemory said e h due d = inr (ap failed e)
 same_fault bytes law (json.NotText j) said e h due d =
     let f = of_text bytes due d in

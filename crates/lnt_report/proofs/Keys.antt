@@ -4,7 +4,7 @@ use Rattle.std.specs.List.{list_any}
 use Rattle.std.specs.Str.{bytes_eq}
 use Rattle.json_text.specs.Tree.{Tree, Members, member}
 use Rattle.lnt_report.specs.Look.{Entry}
-use Rattle.lnt_report.specs.Rules.{second_key, second_in_members}
+use Rattle.lnt_report.specs.Rules.{repeated_key, repeated_in_members}
 
 -- one key more is in the map
 pub with_key : {A : Type 0} (same : Bool) (value : A) (found : Option A) (among : Bool) → is_some found ≡ among → is_some (cond same (Some value) found) ≡ (same || among)
@@ -13,6 +13,6 @@ with_key false value found among e = e
 
 -- a member whose key is new, and in whose value no key comes again
 pub next_member : (keys : List (List ℕ)) (entry : Entry) (key : List ℕ) (tree : Tree) (rest : Members) → key ≡ entry.0 → tree ≡ entry.1
-    → list_any (λ k. bytes_eq k key) keys ≡ false → second_key tree ≡ None
-    → second_in_members keys (member entry.0 entry.1 rest) ≡ second_in_members (key ∷ keys) rest
+    → list_any (λ k. bytes_eq k key) keys ≡ false → repeated_key tree ≡ None
+    → repeated_in_members keys (member entry.0 entry.1 rest) ≡ repeated_in_members (key ∷ keys) rest
 next_member keys entry key tree rest e f g h = rw (← e, ← f, g, h) refl

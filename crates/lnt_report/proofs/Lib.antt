@@ -1,10 +1,10 @@
 pub mod Answers
 pub mod Compact
 pub mod Due
-pub mod FixedNumbers
 pub mod Keys
 pub mod Lists
 pub mod QuotedTexts
 pub mod Steps
+pub mod ValueNumbers
 pub mod Walks
 pub mod Written

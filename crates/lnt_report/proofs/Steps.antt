@@ -1,37 +1,21 @@
 -- One number more is gathered, or is no sample.
-use Rattle.std.proofs.Common.{◌≡◌, ◌≢◌, ℕ, ◌<◌, ◌≤◌, inl, inr, List, [], ◌∷◌, ◌++◌, Bool, true, false, All, length, refl, sym, ap, ◌∙◌, subst, append_assoc, append-nil, length-append, rules, arith, codes, ℤ}
+use Rattle.std.proofs.Common.{◌≡◌, ◌≢◌, ℕ, ◌<◌, ◌≤◌, inl, inr, List, [], ◌∷◌, ◌++◌, Bool, true, false, All, length, refl, sym, ap, ◌∙◌, subst, append_assoc, append-nil, length-append, rules, arith, codes}
 use Rattle.std.proofs.lemmas.Bool.{cases_lt}
 use Rattle.std.proofs.lemmas.List.Elements.{All-append}
 use Rattle.metric_table.specs.Limits.{most}
 use Rattle.metric_table.specs.declared.limits.Limit.TheVariants.{RunSamples}
 use Rattle.history_model.specs.Samples.{Measurement}
 use Rattle.lnt_report.specs.Runs.{IsGiven}
-use Rattle.lnt_report.specs.Readings.{Reading, reading, IsMeasured, IsValue, AreMeasured, none as nothing, one as next, is_metric}
-use Rattle.lnt_report.specs.Gathering.{AreSole, none, one, Leaves, AreBeyond, IsRefusal, IsNamed}
+use Rattle.metric_value.specs.Values.{HasNoneInRange}
+use Rattle.lnt_report.specs.Numbers.{Reading, reading, IsMeasured, AreMeasured, none, one, is_metric}
+use Rattle.lnt_report.specs.Gathering.{Leaves, AreBeyond, IsRefusal, IsNamed}
 use Rattle.lnt_report.specs.declared.gathered.Gathered.{Gathered}
 use Rattle.lnt_report.specs.declared.fault.ReportFault.{ReportFault}
 
-pub measured_end : {rs : List Reading} {ms : List Measurement} {r : Reading} {m : Measurement} → AreSole rs ms → IsMeasured r m
-    → ((value : ℤ) → IsValue r.metric r.spelling value → value ≡ m.value) → AreSole (rs ++ r ∷ []) (ms ++ m ∷ [])
-measured_end none h only = one h only none
-measured_end (one first sole more) h only = one first sole (measured_end more h only)
-
-pub are_measured : {rs : List Reading} {ms : List Measurement} → AreSole rs ms → AreMeasured rs ms
-are_measured none = nothing
-are_measured (one first sole more) = next first (are_measured more)
-
-abbrev sample : List ℕ → List ℕ → ℤ → Measurement
-sample test metric value = record { test = test; metric = metric; value = value }
-
-same_sample : (m n : Measurement) → m.test ≡ n.test → m.metric ≡ n.metric → m.value ≡ n.value → m ≡ n
-same_sample m n e f g = ap (λ (test : List ℕ). sample test m.metric m.value) e ∙ ap (λ (metric : List ℕ). sample n.test metric m.value) f ∙ ap (sample n.test n.metric) g
-
--- the samples are the only ones
-pub are_only : {rs : List Reading} {ms ns : List Measurement} → AreSole rs ms → AreMeasured rs ns → ns ≡ ms
-are_only none nothing = refl
-are_only (one {r = r} {m = m} {ms = ms} first sole more) (next {m = n} {ms = ns} other others) =
-    ap (λ (x : Measurement). x ∷ ns) (same_sample n m (other.test ∙ sym first.test) (other.metric ∙ sym first.metric) (sole n.value other.value))
-    ∙ ap (λ xs. m ∷ xs) (are_only more others)
+pub measured_end : {rs : List Reading} {ms : List Measurement} {r : Reading} {m : Measurement} → AreMeasured rs ms → IsMeasured r m
+    → AreMeasured (rs ++ r ∷ []) (ms ++ m ∷ [])
+measured_end none h = one h none
+measured_end (one first more) h = one first (measured_end more h)
 
 all_one : (m : Measurement) → IsGiven m → All IsGiven (m ∷ [])
 all_one m given = search rules
@@ -49,9 +33,9 @@ still true kept after beyond h room = absurd (omega (arith, h.0, room))
 
 -- a sample that is kept, where there is room
 pub kept_one : (all left : List Reading) (total more : ℕ) (r : Reading) (m : Measurement) (old new : Gathered)
-    → Leaves all total (r ∷ left) more old → IsMeasured r m → ((value : ℤ) → IsValue r.metric r.spelling value → value ≡ m.value) → IsGiven m → length old.samples < most RunSamples
+    → Leaves all total (r ∷ left) more old → IsMeasured r m → IsGiven m → length old.samples < most RunSamples
     → new.samples ≡ old.samples ++ m ∷ [] → new.over ≡ old.over → new.ignored ≡ old.ignored → Leaves all total left more new
-kept_one all left total more r m old new h measured sole given room e f g =
+kept_one all left total more r m old new h measured given room e f g =
     let nothing : h.beyond ≡ [] = no_beyond old.over old.samples h.beyond h.over room in
     let listed : (old.samples ++ h.beyond) ++ m ∷ [] ≡ new.samples ++ [] =
     ap (λ xs. (old.samples ++ xs) ++ m ∷ []) nothing ∙ ap (λ xs. xs ++ m ∷ []) (append-nil old.samples) ∙ sym e ∙ sym (append-nil new.samples) in
@@ -60,7 +44,7 @@ kept_one all left total more r m old new h measured sole given room e f g =
       beyond = [];
       count = h.count;
       split = append_assoc h.past (r ∷ []) left ∙ h.split;
-      measured = subst (λ (ms : List Measurement). AreSole (h.past ++ r ∷ []) ms) listed (measured_end h.measured measured sole);
+      measured = subst (λ (ms : List Measurement). AreMeasured (h.past ++ r ∷ []) ms) listed (measured_end h.measured measured);
       over = subst (λ (over : Bool). AreBeyond over new.samples []) (sym f) (still old.over old.samples new.samples h.beyond h.over room);
       counted = h.counted;
       ignored = g ∙ h.ignored;
@@ -69,9 +53,9 @@ kept_one all left total more r m old new h measured sole given room e f g =
 
 -- a sample beyond those that are kept
 pub beyond_one : (all left : List Reading) (total more : ℕ) (r : Reading) (m : Measurement) (old new : Gathered)
-    → Leaves all total (r ∷ left) more old → IsMeasured r m → ((value : ℤ) → IsValue r.metric r.spelling value → value ≡ m.value) → most RunSamples ≤ length old.samples
+    → Leaves all total (r ∷ left) more old → IsMeasured r m → most RunSamples ≤ length old.samples
     → new.samples ≡ old.samples → new.over ≡ true → new.ignored ≡ old.ignored → Leaves all total left more new
-beyond_one all left total more r m old new h measured sole full e f g =
+beyond_one all left total more r m old new h measured full e f g =
     let listed : (old.samples ++ h.beyond) ++ m ∷ [] ≡ new.samples ++ (h.beyond ++ m ∷ []) =
     append_assoc old.samples h.beyond (m ∷ []) ∙ ap (λ xs. xs ++ (h.beyond ++ m ∷ [])) (sym e) in
     let some : 0 < length (h.beyond ++ m ∷ []) = omega (arith, length-append h.beyond (m ∷ [])) in
@@ -81,7 +65,7 @@ beyond_one all left total more r m old new h measured sole full e f g =
       beyond = h.beyond ++ m ∷ [];
       count = h.count;
       split = append_assoc h.past (r ∷ []) left ∙ h.split;
-      measured = subst (λ (ms : List Measurement). AreSole (h.past ++ r ∷ []) ms) listed (measured_end h.measured measured sole);
+      measured = subst (λ (ms : List Measurement). AreMeasured (h.past ++ r ∷ []) ms) listed (measured_end h.measured measured);
       over = subst (λ (over : Bool). AreBeyond over new.samples (h.beyond ++ m ∷ [])) (sym f) (still_full, some);
       counted = h.counted;
       ignored = g ∙ h.ignored;
@@ -90,7 +74,7 @@ beyond_one all left total more r m old new h measured sole full e f g =
 
 -- a number that is no sample
 pub out_one : (all left : List Reading) (total more : ℕ) (test metric spelling : List ℕ) (g : Gathered) (fault : ReportFault)
-    → Leaves all total (reading test metric spelling ∷ left) more g → ((value : ℤ) → IsValue metric spelling value → ⊥) → IsNamed fault test metric → IsRefusal all fault
+    → Leaves all total (reading test metric spelling ∷ left) more g → HasNoneInRange metric spelling → IsNamed test metric fault → IsRefusal all fault
 out_one all left total more test metric spelling g fault h never (inl e) =
     subst (λ (f : ReportFault). IsRefusal all f) (sym e) (record {
       front = h.past;
@@ -98,7 +82,7 @@ out_one all left total more test metric spelling g fault h never (inl e) =
       back = left;
       split = sym h.split;
       samples = g.samples ++ h.beyond;
-      before = are_measured h.measured;
+      before = h.measured;
       none = never;
       of_test = refl;
       of_metric = refl;

@@ -1,16 +1,17 @@
 -- A walk along a list, gathering what each item gives.
-use Rattle.std.proofs.Common.{◌≡◌, ℕ, ◌+◌, ◌<◌, ◌≤◌, List, [], ◌∷◌, ◌++◌, map, length, get_or, drop, refl, ap, sym, ◌∙◌, subst, append_assoc, arith, zero-add, Option, Some, codes, if◌then◌else◌, append-nil, Bool, false, All}
+use Rattle.std.proofs.Common.{◌≡◌, ℕ, ◌+◌, ◌<◌, ◌≤◌, List, [], ◌∷◌, ◌++◌, map, length, get_or, drop, refl, ap, sym, ◌∙◌, subst, append_assoc, arith, zero-add, Option, Some, codes, if◌then◌else◌, append-nil, Bool, false, All, Result, Ok, Err}
 use Rattle.std.specs.List.{flat_map, sum_by}
 use Rattle.std.proofs.lemmas.List.{at_drop_more, at_drop_all}
 use Rattle.std.proofs.lemmas.List.Sums.{sum_by-cons}
-use Rattle.json_text.specs.Tree.{Tree, null, list, object}
+use Rattle.json_text.specs.Tree.{Tree, list, object}
 use Rattle.json_text.specs.View.{items_of, members_of}
 use Rattle.lnt_report.specs.Look.{Entry, fields, name_in, value_at}
 use Rattle.history_model.specs.Samples.{Measurement}
 use Rattle.lnt_report.specs.Runs.{IsGiven}
-use Rattle.lnt_report.specs.Readings.{Reading, item_readings, value_readings, is_text_or_null, test_readings, test_ignored, named_readings, named_ignored}
+use Rattle.lnt_report.specs.Numbers.{Reading, item_readings, value_readings, is_text_or_null, test_readings, test_ignored, named_readings, named_ignored, AreMeasured, none as nothing_measured}
 use Rattle.lnt_report.proofs.Lists.{trees_of_items, entries_of_members}
-use Rattle.lnt_report.specs.Gathering.{AreSole, none as nothing_measured, Leaves, AreBeyond}
+use Rattle.lnt_report.specs.Gathering.{Gathers, Leaves, AreBeyond}
+use Rattle.lnt_report.specs.declared.fault.ReportFault.{ReportFault}
 use Rattle.lnt_report.specs.declared.gathered.Gathered.{Gathered}
 
 pub flat_next : {A B : Type 0} (f : B → List Reading) (g : A → B) (xs : List A) (i : ℕ) (x : A) (left : List Reading) → i < length xs → x ≡ get_or xs i x
@@ -28,47 +29,60 @@ sum_next f g xs i x more h e =
     omega (arith, at_drop_more (λ ys. sum_by f (map g ys)) xs i x h, one, ap (λ y. f (g y)) e)
 
 -- what is left, an item further
-pub leaves_next : {A B : Type 0} (f : B → List Reading) (g : A → B) (xs : List A) (i : ℕ) (x : A) (all left : List Reading) (total more : ℕ) (gathered : Gathered)
-    → i < length xs → x ≡ get_or xs i x
-    → Leaves all total (flat_map f (map g (drop i xs)) ++ left) more gathered
-    → Leaves all total (f (g x) ++ (flat_map f (map g (drop (i + 1) xs)) ++ left)) more gathered
-leaves_next f g xs i x all left total more gathered h e k =
-    subst (λ (rest : List Reading). Leaves all total rest more gathered) (flat_next f g xs i x left h e) k
+left_next : {A B : Type 0} (f : B → List Reading) (count : B → ℕ) (g : A → B) (xs : List A) (i : ℕ) (x : A) (all left : List Reading) (total more : ℕ)
+    (now : Gathered) → i < length xs → x ≡ get_or xs i x
+    → Leaves all total (flat_map f (map g (drop i xs)) ++ left) (sum_by count (map g (drop i xs)) + more) now
+    → Leaves all total (f (g x) ++ (flat_map f (map g (drop (i + 1) xs)) ++ left)) (count (g x) + (sum_by count (map g (drop (i + 1) xs)) + more)) now
+left_next f count g xs i x all left total more now h e k =
+    subst (λ (rest : List Reading). Leaves all total rest (count (g x) + (sum_by count (map g (drop (i + 1) xs)) + more)) now) (flat_next f g xs i x left h e)
+    (subst (λ (rest : ℕ). Leaves all total (flat_map f (map g (drop i xs)) ++ left) rest now) (sum_next count g xs i x more h e) k)
 
--- the same where members are counted too
-pub counts_next : {A B : Type 0} (f : B → List Reading) (count : B → ℕ) (g : A → B) (xs : List A) (i : ℕ) (x : A) (all left : List Reading) (total more : ℕ) (gathered : Gathered)
-    → i < length xs → x ≡ get_or xs i x
-    → Leaves all total (flat_map f (map g (drop i xs)) ++ left) (sum_by count (map g (drop i xs)) + more) gathered
-    → Leaves all total (f (g x) ++ (flat_map f (map g (drop (i + 1) xs)) ++ left)) (count (g x) + (sum_by count (map g (drop (i + 1) xs)) + more)) gathered
-counts_next f count g xs i x all left total more gathered h e k =
-    leaves_next f g xs i x all left total (count (g x) + (sum_by count (map g (drop (i + 1) xs)) + more)) gathered h e
-    (subst (λ (rest : ℕ). Leaves all total (flat_map f (map g (drop i xs)) ++ left) rest gathered) (sum_next count g xs i x more h e) k)
+-- what the items before this place give has been gathered
+abbrev pub Walked : {A B : Type 0} → (B → List Reading) → (B → ℕ) → (A → B) → List A → ℕ → Gathered → Gathered → Type 0
+Walked f count g xs i old now = (all left : List Reading) (total more : ℕ)
+    → Leaves all total (flat_map f (map g xs) ++ left) (sum_by count (map g xs) + more) old
+    → Leaves all total (flat_map f (map g (drop i xs)) ++ left) (sum_by count (map g (drop i xs)) + more) now
+
+pub walked_none : {A B : Type 0} (f : B → List Reading) (count : B → ℕ) (g : A → B) (xs : List A) (old : Gathered) → Walked f count g xs 0 old old
+walked_none f count g xs old all left total more h = h
+
+-- an item more is gathered
+pub gathers_each : {A B : Type 0} (f : B → List Reading) (count : B → ℕ) (g : A → B) (xs : List A) (i : ℕ) (x : A) (old now new : Gathered)
+    → i < length xs → x ≡ get_or xs i x → Walked f count g xs i old now → Gathers (f (g x)) (count (g x)) now new (Ok tt) → Walked f count g xs (i + 1) old new
+gathers_each f count g xs i x old now new h e walked here all left total more k =
+    here all (flat_map f (map g (drop (i + 1) xs)) ++ left) total (sum_by count (map g (drop (i + 1) xs)) + more)
+    (left_next f count g xs i x all left total more now h e (walked all left total more k))
+
+-- a fault at an item is one of the whole
+pub refused_each : {A B : Type 0} (f : B → List Reading) (count : B → ℕ) (g : A → B) (xs : List A) (i : ℕ) (x : A) (old now new : Gathered) (fault : ReportFault)
+    → i < length xs → x ≡ get_or xs i x → Walked f count g xs i old now → Gathers (f (g x)) (count (g x)) now new (Err fault)
+    → Gathers (flat_map f (map g xs)) (sum_by count (map g xs)) old new (Err fault)
+refused_each f count g xs i x old now new fault h e walked here all left total more k =
+    here all (flat_map f (map g (drop (i + 1) xs)) ++ left) total (sum_by count (map g (drop (i + 1) xs)) + more)
+    (left_next f count g xs i x all left total more now h e (walked all left total more k))
 
 -- at the end of the list
-pub leaves_end : {A B : Type 0} (f : B → List Reading) (g : A → B) (xs : List A) (i : ℕ) (all left : List Reading) (total more : ℕ) (gathered : Gathered)
-    → length xs ≤ i → Leaves all total (flat_map f (map g (drop i xs)) ++ left) more gathered → Leaves all total left more gathered
-leaves_end f g xs i all left total more gathered h k =
-    subst (λ (rest : List Reading). Leaves all total rest more gathered) (at_drop_all (λ ys. flat_map f (map g ys) ++ left) xs i h) k
-
-pub counts_end : {A B : Type 0} (f : B → List Reading) (count : B → ℕ) (g : A → B) (xs : List A) (i : ℕ) (all left : List Reading) (total more : ℕ) (gathered : Gathered)
-    → length xs ≤ i → Leaves all total (flat_map f (map g (drop i xs)) ++ left) (sum_by count (map g (drop i xs)) + more) gathered → Leaves all total left more gathered
-counts_end f count g xs i all left total more gathered h k =
+pub gathers_all : {A B : Type 0} (f : B → List Reading) (count : B → ℕ) (g : A → B) (xs : List A) (i : ℕ) (old now : Gathered) → length xs ≤ i
+    → Walked f count g xs i old now → Gathers (flat_map f (map g xs)) (sum_by count (map g xs)) old now (Ok tt)
+gathers_all f count g xs i old now h walked all left total more k =
     let nothing : sum_by count (map g (drop i xs)) + more ≡ more = at_drop_all (λ ys. sum_by count (map g ys) + more) xs i h ∙ zero-add more in
-    leaves_end f g xs i all left total more gathered h
-    (subst (λ (rest : ℕ). Leaves all total (flat_map f (map g (drop i xs)) ++ left) rest gathered) nothing k)
+    subst (λ (rest : List Reading). Leaves all total rest more now) (at_drop_all (λ ys. flat_map f (map g ys) ++ left) xs i h)
+    (subst (λ (rest : ℕ). Leaves all total (flat_map f (map g (drop i xs)) ++ left) rest now) nothing (walked all left total more k))
 
--- another spelling of what is left
-pub moved : (now after : List Reading) (n m : ℕ) (all left : List Reading) (total more : ℕ) (gathered : Gathered)
-    → now ≡ after → n ≡ m → Leaves all total (now ++ left) (n + more) gathered → Leaves all total (after ++ left) (m + more) gathered
-moved now after n m all left total more gathered e f h =
-    subst (λ (k : ℕ). Leaves all total (after ++ left) (k + more) gathered) f
-    (subst (λ (rest : List Reading). Leaves all total (rest ++ left) (n + more) gathered) e h)
+-- where no item counts, none is counted
+pub no_count : {A : Type 0} (xs : List A) → sum_by (λ _. 0) xs ≡ 0
+no_count [] = refl
+no_count (x ∷ xs) = let rest : sum_by (λ _. 0) xs ≡ 0 = no_count xs in omega (arith, rest, sum_by-cons (λ _. 0) x xs)
 
--- nothing is left of an item
-pub nothing_of : (now : List Reading) (n : ℕ) (all left : List Reading) (total more : ℕ) (gathered : Gathered)
-    → now ≡ [] → n ≡ 0 → Leaves all total (now ++ left) (n + more) gathered → Leaves all total left more gathered
-nothing_of now n all left total more gathered e f h =
-    subst (λ (k : ℕ). Leaves all total left k gathered) (zero-add more) (moved now [] n 0 all left total more gathered e f h)
+-- a part gathers what an equal part does
+pub gathers_same : (here other : List Reading) (count number : ℕ) (old new : Gathered) (result : Result Unit ReportFault) → here ≡ other → count ≡ number
+    → Gathers here count old new result → Gathers other number old new result
+gathers_same here other count number old new result e f h =
+    subst (λ (rs : List Reading). Gathers rs number old new result) e (subst (λ (n : ℕ). Gathers here n old new result) f h)
+
+-- nothing is gathered of nothing
+pub gathers_none : (old : Gathered) → Gathers [] 0 old old (Ok tt)
+gathers_none old all left total more h = subst (λ (n : ℕ). Leaves all total left n old) (zero-add more) h
 
 pub fields_of : (tree : Tree) (ms : List Entry) → tree ≡ object (members_of ms) → fields (Some tree) ≡ ms
 fields_of tree ms e = ap (λ (t : Tree). fields (Some t)) e ∙ entries_of_members ms
@@ -82,20 +96,12 @@ test_by tree ms name e f = (
 )
 
 -- a list's numbers are those of its items
-pub list_value : (test metric : List ℕ) (value : Tree) (xs : List Tree) (all left : List Reading) (total more : ℕ) (gathered : Gathered) → value ≡ list (items_of xs)
-    → Leaves all total (value_readings test metric value ++ left) ((if is_text_or_null value then 1 else 0) + more) gathered
-    → Leaves all total (flat_map (item_readings test metric) xs ++ left) more gathered
-list_value test metric value xs all left total more gathered e h =
-    subst (λ (k : ℕ). Leaves all total (flat_map (item_readings test metric) xs ++ left) k gathered) (zero-add more)
-    (moved (value_readings test metric value) (flat_map (item_readings test metric) xs) (if is_text_or_null value then 1 else 0) 0 all left total more gathered
-    (ap (λ t. value_readings test metric t) e ∙ ap (λ ys. flat_map (item_readings test metric) ys) (trees_of_items xs))
-    (ap (λ (t : Tree). if is_text_or_null t then 1 else 0) e) h)
-
-pub null_value : (test metric : List ℕ) (value : Tree) (all left : List Reading) (total more : ℕ) (gathered : Gathered) → value ≡ null
-    → Leaves all total (value_readings test metric value ++ left) ((if is_text_or_null value then 1 else 0) + more) gathered → Leaves all total left (1 + more) gathered
-null_value test metric value all left total more gathered e h =
-    moved (value_readings test metric value) [] (if is_text_or_null value then 1 else 0) 1 all left total more gathered
-    (ap (λ t. value_readings test metric t) e) (ap (λ (t : Tree). if is_text_or_null t then 1 else 0) e) h
+pub list_value : (test metric : List ℕ) (value : Tree) (xs : List Tree) → value ≡ list (items_of xs)
+    → (flat_map (item_readings test metric) xs ≡ value_readings test metric value) × (◌≡◌ {A = ℕ} 0 (if is_text_or_null value then 1 else 0))
+list_value test metric value xs e = (
+  sym (ap (λ t. value_readings test metric t) e ∙ ap (λ ys. flat_map (item_readings test metric) ys) (trees_of_items xs)),
+  sym (ap (λ (t : Tree). if is_text_or_null t then 1 else 0) e),
+)
 
 -- nothing is gathered at first
 pub at_first : (rs : List Reading) (n : ℕ) (g : Gathered) → g.samples ≡ [] → g.over ≡ false → g.ignored ≡ 0 → Leaves rs n (rs ++ []) (n + 0) g
@@ -104,7 +110,7 @@ at_first rs n g e f h = record {
   beyond = [];
   count = 0;
   split = append-nil rs;
-  measured = subst (λ (ms : List Measurement). AreSole [] (ms ++ [])) (sym e) nothing_measured;
+  measured = subst (λ (ms : List Measurement). AreMeasured [] (ms ++ [])) (sym e) nothing_measured;
   over = subst (λ (over : Bool). AreBeyond over g.samples []) (sym f) refl;
   counted = omega arith;
   ignored = h;

@@ -12,20 +12,18 @@ use Rattle.json_text.specs.Tree.{nesting, items_nesting}
 use Rattle.json_text.specs.View.{items_of}
 use Rattle.line_text.specs.Names.{IsName}
 use Rattle.line_text.specs.Numbers.{NumbersAreSpelled}
-use Rattle.fixed_value.specs.Fixed.{fixed_text, FixedIsReadBack}
-use Rattle.metric_table.specs.Table.{row_of}
+use Rattle.metric_value.specs.Values.{value_text, ValueIsReadBack}
 use Rattle.metric_table.specs.Limits.{most}
 use Rattle.metric_table.specs.declared.limits.Limit.TheVariants.{RunSamples}
 use Rattle.history_model.specs.Samples.{Measurement, IsSample, AreSamples}
 use Rattle.lnt_report.specs.Look.{trees, is_name, has_metric_length}
-use Rattle.lnt_report.specs.Rules.{first_break, second_key, second_in_items, tests_break, test_break}
-use Rattle.lnt_report.specs.Readings.{Reading, reading, test_readings, test_ignored, IsMeasured, AreMeasured, none, one}
+use Rattle.lnt_report.specs.Rules.{first_break, repeated_key, repeated_in_items, tests_break, test_break}
+use Rattle.lnt_report.specs.Numbers.{Reading, reading, test_readings, test_ignored, IsMeasured, AreMeasured, none, one}
 use Rattle.lnt_report.specs.Runs.{Report, IsGiven, IsRun}
 use Rattle.lnt_report.specs.Outcomes.{IsDue}
 use Rattle.lnt_report.specs.Quoted.{quoted}
 use Rattle.lnt_report.specs.Written.{compact, compact_items, more_items, test_tree, run_tree}
-use Rattle.lnt_report.proofs.FixedNumbers.{fixed-number, fixed-utf8}
-use Rattle.std.proofs.lemmas.Bool.Decides.{nat_tests}
+use Rattle.lnt_report.proofs.ValueNumbers.{value-number, value-utf8}
 use Rattle.lnt_report.proofs.Compact.{IsFine, AreFine, ascii, compact-text, compact-utf8}
 
 is_false : (b : Bool) → (b ≡ true → ⊥) → b ≡ false
@@ -35,10 +33,6 @@ is_false false h = refl
 different : (a b : List ℕ) → a ≢ b → bytes_eq a b ≡ false
 different a b n = is_false (bytes_eq a b) (λ e. n ((bytes_eq-Decides a b).0 e))
 
--- no metric has more than nine decimals
-few : (metric : List ℕ) → (row_of metric).decimals ≤ 9
-few metric = grind (arith, nat_tests)
-
 -- What is known of a sample that is written, as tests.
 record Fit (m : Measurement) : Type 0 where
   sample : IsSample m
@@ -46,7 +40,6 @@ record Fit (m : Measurement) : Type 0 where
   new : bytes_eq (codes "name") m.metric ≡ false
   metric : bytes_eq m.metric (codes "name") ≡ false
   length : has_metric_length m.metric ≡ true
-  few : (row_of m.metric).decimals ≤ 9
 
 pub named_test : (bytes : List ℕ) → IsName bytes → is_name bytes ≡ true
 named_test bytes h =
@@ -60,7 +53,6 @@ fits m s g = record {
   new = different (codes "name") m.metric (λ e. g (sym e));
   metric = different m.metric (codes "name") g;
   length = and_from (nat_lt 0 (length m.metric)) (nat_le (length m.metric) 64) (lt-ltb 0 (length m.metric) s.metric.some) (le-leb (length m.metric) 64 s.short);
-  few = few m.metric;
 }
 
 EachFit : List Measurement → Type 0
@@ -74,10 +66,10 @@ each_fits (m ∷ ms) s g =
     (fits m (All-head IsSample m ms s) (All-head IsGiven m ms g), each_fits ms (All-tail IsSample m ms s) (All-tail IsGiven m ms g))
 
 -- No key of a sample comes twice.
-second_test : (m : Measurement) → Fit m → second_key (test_tree m) ≡ None
+second_test : (m : Measurement) → Fit m → repeated_key (test_tree m) ≡ None
 second_test m h = rw h.new refl
 
-no_second : (place : ℕ) (ms : List Measurement) → EachFit ms → second_in_items place (items_of (map test_tree ms)) ≡ None
+no_second : (place : ℕ) (ms : List Measurement) → EachFit ms → repeated_in_items place (items_of (map test_tree ms)) ≡ None
 unfolding EachFit
 no_second place [] h = refl
 no_second place (m ∷ ms) h = rw (second_test m h.0, no_second (place + 1) ms h.1) refl
@@ -92,24 +84,14 @@ no_break place [] h = refl
 no_break place (m ∷ ms) h = rw (test_sound _ m h.0, no_break (place + 1) ms h.1) refl
 
 -- The numbers are the samples.
-test_reads : (m : Measurement) → Fit m → test_readings (test_tree m) ≡ reading m.test m.metric (fixed_text m.value (row_of m.metric).decimals) ∷ []
+test_reads : (m : Measurement) → Fit m → test_readings (test_tree m) ≡ reading m.test m.metric (value_text m.metric m.value) ∷ []
 test_reads m h = rw (h.test, h.metric, h.length) refl
 
-test_measured : FixedIsReadBack → (m : Measurement) → Fit m → IsMeasured (reading m.test m.metric (fixed_text m.value (row_of m.metric).decimals)) m
+test_measured : ValueIsReadBack → (m : Measurement) → Fit m → IsMeasured (reading m.test m.metric (value_text m.metric m.value)) m
 test_measured law m h =
-    let back = law m.value (row_of m.metric).decimals h.sample.in_range h.few in
-    record {
-      test = refl;
-      metric = refl;
-      value = record {
-        numeral = back.numeral;
-        spells = back.reads;
-        scales = back.scales;
-        in_range = h.sample.in_range;
-      };
-    }
+    record { test = refl; metric = refl; value = (law m.metric m.value h.sample.in_range).reads; in_range = h.sample.in_range }
 
-measured : FixedIsReadBack → (ms : List Measurement) → EachFit ms → AreMeasured (flat_map test_readings (trees (items_of (map test_tree ms)))) ms
+measured : ValueIsReadBack → (ms : List Measurement) → EachFit ms → AreMeasured (flat_map test_readings (trees (items_of (map test_tree ms)))) ms
 unfolding EachFit
 measured law [] h = none
 measured law (m ∷ ms) h =
@@ -134,23 +116,23 @@ depth [] = omega arith
 depth (m ∷ ms) = omega (arith, depth ms)
 
 -- What is in a sample is spelled as it may be.
-test_fine : NumbersAreSpelled → FixedIsReadBack → (m : Measurement) → Fit m → IsFine (test_tree m)
+test_fine : NumbersAreSpelled → ValueIsReadBack → (m : Measurement) → Fit m → IsFine (test_tree m)
 test_fine numbers law m h = (
   ascii (codes "name") refl,
   h.sample.test.text,
   (
     h.sample.metric.text,
-    (fixed-number numbers m.value (row_of m.metric).decimals h.sample.in_range h.few, fixed-utf8 law m.value (row_of m.metric).decimals h.sample.in_range h.few),
+    (value-number numbers m.metric m.value h.sample.in_range, value-utf8 law m.metric m.value h.sample.in_range),
     tt,
   ),
 )
 
-all_fine : NumbersAreSpelled → FixedIsReadBack → (ms : List Measurement) → EachFit ms → AreFine (items_of (map test_tree ms))
+all_fine : NumbersAreSpelled → ValueIsReadBack → (ms : List Measurement) → EachFit ms → AreFine (items_of (map test_tree ms))
 unfolding EachFit
 all_fine numbers law [] h = tt
 all_fine numbers law (m ∷ ms) h = (test_fine numbers law m h.0, all_fine numbers law ms h.1)
 
-fine : NumbersAreSpelled → FixedIsReadBack → (machine commit : List ℕ) (ms : List Measurement) → IsName machine → IsName commit → EachFit ms
+fine : NumbersAreSpelled → ValueIsReadBack → (machine commit : List ℕ) (ms : List Measurement) → IsName machine → IsName commit → EachFit ms
     → IsFine (run_tree machine commit ms)
 fine numbers law machine commit ms a b h = (
   ascii (codes "format_version") refl,
@@ -170,7 +152,7 @@ sound : (machine commit : List ℕ) (ms : List Measurement) → is_name machine 
     → first_break (run_tree machine commit ms) ≡ None
 sound machine commit ms a b h = rw (no_second 0 ms h, a, b, no_break 0 ms h) refl
 
-is_run : FixedIsReadBack → (machine commit : List ℕ) (ms : List Measurement) → is_name machine ≡ true → is_name commit ≡ true → EachFit ms
+is_run : ValueIsReadBack → (machine commit : List ℕ) (ms : List Measurement) → is_name machine ≡ true → is_name commit ≡ true → EachFit ms
     → length ms ≤ most RunSamples
     → IsRun (run_tree machine commit ms) (record { machine = machine; commit = commit; samples = ms; ignored = 0 })
 is_run law machine commit ms a b h small = record {
@@ -185,9 +167,9 @@ within : (machine commit : List ℕ) (ms : List Measurement) → nesting (run_tr
 within machine commit ms = omega (arith, depth ms)
 
 -- what is written of a run is due to be read as the run
-pub is_due : NumbersAreSpelled → FixedIsReadBack → (machine commit : List ℕ) (ms : List Measurement)
+pub is_due : NumbersAreSpelled → ValueIsReadBack → (machine commit : List ℕ) (ms : List Measurement)
     → IsName machine → IsName commit → AreSamples ms → All IsGiven ms
-    → IsDue (Ok (record { machine = machine; commit = commit; samples = ms; ignored = 0 })) (compact (run_tree machine commit ms))
+    → IsDue (compact (run_tree machine commit ms)) (Ok (record { machine = machine; commit = commit; samples = ms; ignored = 0 }))
 is_due numbers law machine commit ms a b s g =
     let h : EachFit ms = each_fits ms s.each g in
     let spelled : IsFine (run_tree machine commit ms) = fine numbers law machine commit ms a b h in (
@@ -201,15 +183,15 @@ is_due numbers law machine commit ms a b s g =
 
 -- The pieces that are written make the texts.
 test_joined : (old : List ℕ) (m : Measurement)
-    → ((((((old ++ (123 ∷ quoted (codes "name") ++ 58 ∷ [])) ++ quoted m.test) ++ 44 ∷ []) ++ quoted m.metric) ++ 58 ∷ []) ++ fixed_text m.value (row_of m.metric).decimals) ++ 125 ∷ []
+    → ((((((old ++ (123 ∷ quoted (codes "name") ++ 58 ∷ [])) ++ quoted m.test) ++ 44 ∷ []) ++ quoted m.metric) ++ 58 ∷ []) ++ value_text m.metric m.value) ++ 125 ∷ []
     ≡ old ++ compact (test_tree m)
 test_joined old m = simp (append_assoc, append-nil)
 
-pub test_written : (m : Measurement) (test metric : List ℕ) (value : ℤ) (d : ℕ) (a b c e f g h i : List ℕ)
-    → test ≡ m.test → metric ≡ m.metric → value ≡ m.value → d ≡ (row_of m.metric).decimals
+pub test_written : (m : Measurement) (test metric bytes : List ℕ) (value : ℤ) (a b c e f g h i : List ℕ)
+    → test ≡ m.test → metric ≡ m.metric → bytes ≡ m.metric → value ≡ m.value
     → b ≡ a ++ (123 ∷ quoted (codes "name") ++ 58 ∷ []) → c ≡ b ++ quoted test → e ≡ c ++ 44 ∷ [] → f ≡ e ++ quoted metric → g ≡ f ++ 58 ∷ []
-    → h ≡ g ++ fixed_text value d → i ≡ h ++ 125 ∷ [] → i ≡ a ++ compact (test_tree m)
-test_written m test metric value d a b c e f g h i et en ev row p q r s t u w =
+    → h ≡ g ++ value_text bytes value → i ≡ h ++ 125 ∷ [] → i ≡ a ++ compact (test_tree m)
+test_written m test metric bytes value a b c e f g h i et en eb ev p q r s t u w =
     cc (test_joined a m)
 
 -- a sample behind a comma

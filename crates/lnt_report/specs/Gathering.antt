@@ -1,33 +1,28 @@
--- How far the samples of a run have been gathered.
-use Rattle.std.specs.Prelude.{◌⊎◌, ◌≡◌, ℕ, ◌+◌, ◌-◌, ◌^◌, ◌<◌, ◌≤◌, Bool, true, false, ℤ, List, [], ◌∷◌, ◌++◌, length, min, All}
+-- Private: no public contract cites this. How far the samples of a run have been gathered.
+use Rattle.std.specs.Prelude.{◌⊎◌, ◌≡◌, ℕ, ◌+◌, ◌-◌, ◌^◌, ◌<◌, ◌≤◌, Bool, true, false, ℤ, List, [], ◌++◌, length, min, All, Result, MatchResult}
 use Rattle.metric_table.specs.Limits.{most}
 use Rattle.metric_table.specs.declared.limits.Limit.TheVariants.{RunSamples}
 use Rattle.history_model.specs.Samples.{Measurement}
-use Rattle.lnt_report.specs.Readings.{Reading, IsValue, IsMeasured, IsOut}
+use Rattle.lnt_report.specs.Numbers.{Reading, AreMeasured, IsOut}
 use Rattle.lnt_report.specs.Runs.{IsGiven}
 use Rattle.lnt_report.specs.declared.gathered.Gathered.{Gathered}
 use Rattle.lnt_report.specs.declared.fault.ReportFault.{ReportFault}
 use Rattle.lnt_report.specs.declared.fault.ReportFault.TheVariants.{OutOfRange, NoMemory}
 
--- these samples are beyond those that are kept, and `over` says whether there are any; there are none until as many are kept as a run may have
+-- these samples are beyond those that are kept, and `over` says whether there are any; there are none until as many
+-- are kept as a run may have
 abbrev pub AreBeyond : Bool → List Measurement → List Measurement → Type 0
 AreBeyond false kept beyond = beyond ≡ []
 AreBeyond true kept beyond = (most RunSamples ≤ length kept) × (0 < length beyond)
 
--- the samples that numbers are, each in its place, and no number has another value
-pub data AreSole : List Reading → List Measurement → Type 0 where
-  none : AreSole [] []
-  one : {r : Reading} {m : Measurement} {rs : List Reading} {ms : List Measurement}
-      → IsMeasured r m → ((value : ℤ) → IsValue r.metric r.spelling value → value ≡ m.value) → AreSole rs ms → AreSole (r ∷ rs) (m ∷ ms)
-
--- Of all these numbers the last ones are left, and of the members that are ignored in total so many. The others are gathered: the samples
--- that they are, as far as a run may have them.
+-- Of all these numbers the last ones are left, and of the members that are ignored in total so many. The others are
+-- gathered: the samples that they are, as far as a run may have them.
 pub record Leaves (all : List Reading) (total : ℕ) (left : List Reading) (more : ℕ) (g : Gathered) : Type 0 where
   pub past : List Reading
   pub beyond : List Measurement
   pub count : ℕ
   pub split : past ++ left ≡ all
-  pub measured : AreSole past (g.samples ++ beyond)
+  pub measured : AreMeasured past (g.samples ++ beyond)
   pub over : AreBeyond g.over g.samples beyond
   pub counted : count + more ≡ total
   pub ignored : g.ignored ≡ min count (2 ^ 64 - 1)
@@ -39,6 +34,17 @@ IsRefusal all (OutOfRange test metric) = IsOut all test metric
 IsRefusal all NoMemory = Unit {0}
 IsRefusal all fault = ⊥
 
+-- What became of a part of the numbers, with so many members that are ignored: where they were left to gather, with
+-- others behind them, only those others are left; or the fault names the first number that is no sample.
+abbrev pub Gathers : List Reading → ℕ → Gathered → Gathered → Result Unit ReportFault → Type 0
+Gathers here ignored old new result = (all left : List Reading) (total more : ℕ)
+    → Leaves all total (here ++ left) (ignored + more) old
+    → MatchResult result (λ _. Leaves all total left more new) (λ fault. IsRefusal all fault)
+
+-- the sample of this test and metric, with this value
+abbrev pub measurement : List ℕ → List ℕ → ℤ → Measurement
+measurement test metric value = record { test = test; metric = metric; value = value }
+
 -- the fault names this test and metric, unless memory ran out
-abbrev pub IsNamed : ReportFault → List ℕ → List ℕ → Type 0
-IsNamed fault test metric = (fault ≡ OutOfRange test metric) ⊎ (fault ≡ NoMemory)
+abbrev pub IsNamed : List ℕ → List ℕ → ReportFault → Type 0
+IsNamed test metric fault = (fault ≡ OutOfRange test metric) ⊎ (fault ≡ NoMemory)

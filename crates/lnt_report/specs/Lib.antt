@@ -1,8 +1,9 @@
+pub mod Checks
 pub mod Gathering
 pub mod Look
 pub mod Outcomes
 pub mod Quoted
-pub mod Readings
+pub mod Numbers
 pub mod Rules
 pub mod Runs
 pub mod Written

@@ -3,6 +3,7 @@ use Rattle.std.specs.Prelude.{◌≡◌, ℕ, ◌+◌, Bool, true, false, List, 
 use Rattle.std.specs.Option.{option_map, option_or}
 use Rattle.std.specs.List.{list_any, list_all}
 use Rattle.std.specs.Str.{bytes_eq}
+use Rattle.json_text.specs.Bytes as byte
 use Rattle.json_text.specs.Tree.{Tree, null, boolean, number, text, list, object, Items, no_items, item, Members, no_members, member}
 use Rattle.lnt_report.specs.Look.{Entry, trees, fields, items_in, value_at, at, is_object, is_list, text_in, name_in, is_text, is_name_key, has_metric_length}
 
@@ -17,32 +18,32 @@ break rule path = record { rule = rule; member = path }
 
 -- a path and one more part of it, behind a point
 abbrev pub under : List ℕ → List ℕ → List ℕ
-under path part = path ++ 46 ∷ part
+under path part = path ++ byte.point ∷ part
 
 -- the rule is broken at the member, unless the condition holds
 abbrev pub unless : Bool → ℕ → List ℕ → Option Break
 unless holds rule path = if holds then None else Some (break rule path)
 
--- The path of the first member in the order of the text whose key an earlier member of its object has. Of an object, `before` are the
--- keys of the members before; of a list, `place` is the place of its first item.
+-- The path of the first member in the order of the text whose key an earlier member of its object has. Of an object,
+-- `before` are the keys of the members before; of a list, `place` is the place of its first item.
 abbrev mutual
-  pub second_key : Tree → Option (List ℕ)
-  second_key null = None
-  second_key (boolean truth) = None
-  second_key (number spelling) = None
-  second_key (text content) = None
-  second_key (list items) = second_in_items 0 items
-  second_key (object members) = second_in_members [] members
+  pub repeated_key : Tree → Option (List ℕ)
+  repeated_key null = None
+  repeated_key (boolean truth) = None
+  repeated_key (number spelling) = None
+  repeated_key (text content) = None
+  repeated_key (list items) = repeated_in_items 0 items
+  repeated_key (object members) = repeated_in_members [] members
 
-  pub second_in_items : ℕ → Items → Option (List ℕ)
-  second_in_items place no_items = None
-  second_in_items place (item tree items) = option_or (option_map (under (decimal place)) (second_key tree)) (second_in_items (place + 1) items)
+  pub repeated_in_items : ℕ → Items → Option (List ℕ)
+  repeated_in_items place no_items = None
+  repeated_in_items place (item tree items) = option_or (option_map (under (decimal place)) (repeated_key tree)) (repeated_in_items (place + 1) items)
 
-  pub second_in_members : List (List ℕ) → Members → Option (List ℕ)
-  second_in_members before no_members = None
-  second_in_members before (member key tree members) =
+  pub repeated_in_members : List (List ℕ) → Members → Option (List ℕ)
+  repeated_in_members before no_members = None
+  repeated_in_members before (member key tree members) =
       if list_any (λ k. bytes_eq k key) before then Some key
-      else option_or (option_map (under key) (second_key tree)) (second_in_members (key ∷ before) members)
+      else option_or (option_map (under key) (repeated_key tree)) (repeated_in_members (key ∷ before) members)
 
 -- whether a value is a number
 abbrev pub is_number : Tree → Bool
@@ -113,7 +114,7 @@ head_break top =
 abbrev pub first_break : Tree → Option Break
 first_break tree =
     option_or (unless (is_object (Some tree)) 1 (codes "."))
-    (option_or (option_map (break 2) (second_key tree))
+    (option_or (option_map (break 2) (repeated_key tree))
     (head_break (fields (Some tree))))
 
 -- the members at the top have what the rules demand of them

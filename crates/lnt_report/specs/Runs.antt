@@ -6,7 +6,7 @@ use Rattle.metric_table.specs.declared.limits.Limit.TheVariants.{RunSamples}
 use Rattle.history_model.specs.Samples.{Measurement}
 use Rattle.lnt_report.specs.Look.{fields}
 use Rattle.lnt_report.specs.Rules.{machine_name, commit_name}
-use Rattle.lnt_report.specs.Readings.{readings, ignored_in, AreMeasured}
+use Rattle.lnt_report.specs.Numbers.{readings, ignored_in, AreMeasured}
 
 -- the machine, the commit, the samples, and how many members gave none
 pub record Report : Type 0 where

@@ -3,13 +3,12 @@ use Rattle.std.specs.Prelude.{ℕ, List, [], ◌∷◌, ◌++◌, true, false, m
 use Rattle.json_text.specs.Bytes as byte
 use Rattle.json_text.specs.Tree.{Tree, null, boolean, number, text, list, object, Items, no_items, item, Members, no_members, member}
 use Rattle.json_text.specs.View.{items_of}
-use Rattle.metric_table.specs.Table.{row_of}
-use Rattle.fixed_value.specs.Fixed.{fixed_text}
+use Rattle.metric_value.specs.Values.{value_text}
 use Rattle.history_model.specs.Samples.{Measurement}
 use Rattle.lnt_report.specs.Quoted.{quoted}
 
--- The text of a tree, with no white space. Items and members stand between commas: `more_items` and `more_members` are those behind
--- the first, each behind a comma.
+-- The text of a tree, with no white space. Items and members stand between commas: `more_items` and `more_members` are
+-- those behind the first, each behind a comma.
 abbrev mutual
   pub compact : Tree → List ℕ
   compact null = byte.null_letters
@@ -38,7 +37,7 @@ abbrev mutual
 
 -- a sample: the test's name, and the value by the metric
 abbrev pub test_tree : Measurement → Tree
-test_tree m = object (member (codes "name") (text m.test) (member m.metric (number (fixed_text m.value (row_of m.metric).decimals)) no_members))
+test_tree m = object (member (codes "name") (text m.test) (member m.metric (number (value_text m.metric m.value)) no_members))
 
 -- what stands before the first sample
 abbrev pub head_members : List ℕ → List ℕ → Members → Members

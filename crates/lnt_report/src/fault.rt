@@ -1,4 +1,5 @@
-use crate::memory::NoMemory;
+//! Why bytes are no LNT run that can be read.
+use crate::NoMemory;
 use line_text::Text;
 use metric_table::Limit;
 
@@ -7,8 +8,8 @@ use metric_table::Limit;
 pub enum ReportFault {
     /// The bytes are UTF-8 up to this place.
     NotText(u64),
-    /// Some JSON text begins with the bytes before this place, and none goes on with the byte there, or the bytes end
-    /// unfinished, and this is their number.
+    /// Some JSON text begins with the bytes before this place, and none goes on with the byte there, or
+    /// the bytes end unfinished, and this is their number.
     NotJson(u64),
     /// The byte at this place opens a 33rd level.
     TooDeep(u64),
@@ -19,7 +20,8 @@ pub enum ReportFault {
         /// The path: keys and places from 0, joined by points.
         member: Text,
     },
-    /// The first number of the run that is no numeral, or whose value is out of range, is of this test and metric.
+    /// The first number of the run that is no numeral, or whose value is out of range, is of this test
+    /// and metric.
     OutOfRange {
         /// The test's name.
         test: Text,
@@ -39,28 +41,6 @@ impl From<NoMemory> for ReportFault {
     ghost from_gives = { λ _ e. e ≡ fault.NoMemory };
 
     fn from(_: NoMemory) -> ReportFault {
-        ReportFault::NoMemory
-    }
-}
-
-impl From<line_text::NoMemory> for ReportFault {
-    ghost use Rattle.std.specs.Prelude.{◌≡◌};
-    ghost use Rattle.lnt_report.specs.declared.fault.ReportFault.TheVariants as fault;
-
-    ghost from_gives = { λ _ e. e ≡ fault.NoMemory };
-
-    fn from(_: line_text::NoMemory) -> ReportFault {
-        ReportFault::NoMemory
-    }
-}
-
-impl From<history_model::NoMemory> for ReportFault {
-    ghost use Rattle.std.specs.Prelude.{◌≡◌};
-    ghost use Rattle.lnt_report.specs.declared.fault.ReportFault.TheVariants as fault;
-
-    ghost from_gives = { λ _ e. e ≡ fault.NoMemory };
-
-    fn from(_: history_model::NoMemory) -> ReportFault {
         ReportFault::NoMemory
     }
 }

@@ -1,26 +1,26 @@
-ghost use Rattle.std.specs.Prelude.{◌≡◌, ℕ, ◌+◌, ◌<◌, ◌≤◌, ◌^◌, if◌then◌else◌, unsigned_abs, OnOk, [], ◌∷◌, ◌++◌, List, map, length, true, IfOk, MatchResult};
+//! The numbers of a run's tests, gathered as samples in the order of the text.
+ghost use Rattle.std.specs.Prelude.{◌≡◌, ◌+◌, ◌<◌, ◌≤◌, ◌^◌, if◌then◌else◌, unsigned_abs, OnOk, [], ◌∷◌, ◌++◌, map, length, true, IfOk, MatchResult};
 ghost use Rattle.std.specs.List.{flat_map, sum_by};
 ghost use Rattle.metric_table.specs.Limits.{most};
 ghost use Rattle.metric_table.specs.declared.limits.Limit.TheVariants.{RunSamples};
-ghost use Rattle.json_text.specs.View.{tree_of};
-ghost use Rattle.json_text.specs.View.{entry_of};
-ghost use Rattle.lnt_report.specs.Readings.{Reading, reading, item_readings, value_readings, is_metric, is_text_or_null, entry_readings, entry_ignored, test_readings, test_ignored};
-ghost use Rattle.lnt_report.specs.Gathering.{Leaves, IsRefusal, IsNamed};
+ghost use Rattle.json_text.specs.View.{tree_of, entry_of};
+ghost use Rattle.lnt_report.specs.Numbers.{reading, item_readings, value_readings, is_metric, is_text_or_null, entry_readings, entry_ignored, test_readings, test_ignored};
+ghost use Rattle.lnt_report.specs.Gathering.{measurement, Gathers, Leaves, IsRefusal, IsNamed};
 
+use crate::NoMemory;
 use crate::fault::ReportFault;
 use crate::gathered::Gathered;
 use crate::look::name_at;
-use crate::memory::NoMemory;
-use crate::value::{is_metric, value_of};
 use history_model::{Sample, Samples};
 use json_text::{Json, Member, Shape};
 use line_text::{Name, NameError, Text};
 use metric_table::Limit;
+use metric_value::value_of;
 use std::alloc::Global;
 
 // A number of this test and metric is no sample.
 fn out_of_range(alloc: Global, test: &Name, metric: &Name) -> ReportFault
-    ensures { IsNamed result test.now metric.now }
+    ensures { IsNamed test.now metric.now result }
 {
     match copies(alloc, test, metric) {
         Ok((test, metric)) => ReportFault::OutOfRange { test, metric },
@@ -60,9 +60,13 @@ fn keep(
 ) -> Result<(), NoMemory>
     requires short { length metric.now ≤ 64 }
     requires in_range { unsigned_abs value ≤ 10 ^ 16 }
-    ensures room { length gathered.old.samples < most RunSamples → OnOk result (gathered.new.samples ≡ gathered.old.samples ++ record { test = test.now; metric = metric.now; value = value } ∷ []) }
-    ensures same { length gathered.old.samples < most RunSamples → gathered.new.over ≡ gathered.old.over }
-    ensures full { most RunSamples ≤ length gathered.old.samples → gathered.new.samples ≡ gathered.old.samples }
+    ensures room { length gathered.old.samples < most RunSamples
+        → OnOk result (gathered.new.samples
+        ≡ gathered.old.samples ++ measurement test.now metric.now value ∷ []) }
+    ensures same { length gathered.old.samples < most RunSamples
+        → gathered.new.over ≡ gathered.old.over }
+    ensures full { most RunSamples ≤ length gathered.old.samples
+        → gathered.new.samples ≡ gathered.old.samples }
     ensures over { most RunSamples ≤ length gathered.old.samples → gathered.new.over ≡ true }
     ensures ignored { gathered.new.ignored ≡ gathered.old.ignored }
 {
@@ -79,6 +83,7 @@ fn keep(
     Ok(())
 }
 
+// The sample of a number, by its spelling.
 fn read_number(
     alloc: Global,
     gathered: &mut Gathered,
@@ -87,15 +92,16 @@ fn read_number(
     spelling: &str,
 ) -> Result<(), ReportFault>
     requires { is_metric metric.now ≡ true }
-    ensures { (all left : List Reading) (total more : ℕ) → Leaves all total (reading test.now metric.now spelling.now ∷ left) more gathered.old
-        → MatchResult result (λ _. Leaves all total left more gathered.new) (λ fault. IsRefusal all fault) }
+    ensures { Gathers (reading test.now metric.now spelling.now ∷ [])
+        0 gathered.old gathered.new result }
 {
-    match value_of(metric.as_str(), spelling) {
-        Some(value) => Ok(keep(alloc, gathered, test, metric, value)?),
-        None => Err(out_of_range(alloc, test, metric)),
+    match value_of(metric.as_str().as_bytes(), spelling.as_bytes()) {
+        Ok(value) => Ok(keep(alloc, gathered, test, metric, value)?),
+        Err(_) => Err(out_of_range(alloc, test, metric)),
     }
 }
 
+// The sample of an item of a list, where it is a number.
 fn read_item(
     alloc: Global,
     gathered: &mut Gathered,
@@ -104,9 +110,8 @@ fn read_item(
     item: &Json,
 ) -> Result<(), ReportFault>
     requires { is_metric metric.now ≡ true }
-    ensures { (all left : List Reading) (total more : ℕ)
-        → Leaves all total (item_readings test.now metric.now (tree_of item.now) ++ left) more gathered.old
-        → MatchResult result (λ _. Leaves all total left more gathered.new) (λ fault. IsRefusal all fault) }
+    ensures { Gathers (item_readings test.now metric.now (tree_of item.now))
+        0 gathered.old gathered.new result }
 {
     match item.shape() {
         Shape::Number(spelling) => read_number(alloc, gathered, test, metric, spelling),
@@ -114,6 +119,7 @@ fn read_item(
     }
 }
 
+// The samples of the items of a list.
 fn read_items(
     alloc: Global,
     gathered: &mut Gathered,
@@ -122,9 +128,8 @@ fn read_items(
     items: &[Json],
 ) -> Result<(), ReportFault>
     requires { is_metric metric.now ≡ true }
-    ensures { (all left : List Reading) (total more : ℕ)
-        → Leaves all total (flat_map (item_readings test.now metric.now) (map tree_of items.now) ++ left) more gathered.old
-        → MatchResult result (λ _. Leaves all total left more gathered.new) (λ fault. IsRefusal all fault) }
+    ensures { Gathers (flat_map (item_readings test.now metric.now) (map tree_of items.now))
+        0 gathered.old gathered.new result }
 {
     for item in items {
         read_item(alloc, gathered, test, metric, item)?;
@@ -134,11 +139,12 @@ fn read_items(
 
 // Counts a member that gives no sample.
 fn ignore(gathered: &mut Gathered)
-    ensures { (all left : List Reading) (total more : ℕ) → Leaves all total left (1 + more) gathered.old → Leaves all total left more gathered.new }
+    ensures { Gathers [] 1 gathered.old gathered.new (Ok tt) }
 {
     gathered.ignored = gathered.ignored.saturating_add(1);
 }
 
+// The samples of a member's value: a number, or a list of them; a text and null are counted.
 fn read_metric(
     alloc: Global,
     gathered: &mut Gathered,
@@ -147,9 +153,8 @@ fn read_metric(
     value: &Json,
 ) -> Result<(), ReportFault>
     requires { is_metric metric.now ≡ true }
-    ensures { (all left : List Reading) (total more : ℕ)
-        → Leaves all total (value_readings test.now metric.now (tree_of value.now) ++ left) ((if is_text_or_null (tree_of value.now) then 1 else 0) + more) gathered.old
-        → MatchResult result (λ _. Leaves all total left more gathered.new) (λ fault. IsRefusal all fault) }
+    ensures { Gathers (value_readings test.now metric.now (tree_of value.now))
+        (if is_text_or_null (tree_of value.now) then 1 else 0) gathered.old gathered.new result }
 {
     match value.shape() {
         Shape::Number(spelling) => read_number(alloc, gathered, test, metric, spelling),
@@ -161,15 +166,15 @@ fn read_metric(
     }
 }
 
+// The samples of a member of a test, where it is a metric.
 fn read_member(
     alloc: Global,
     gathered: &mut Gathered,
     test: &Name,
     member: &Member,
 ) -> Result<(), ReportFault>
-    ensures { (all left : List Reading) (total more : ℕ)
-        → Leaves all total (entry_readings test.now (entry_of member.now) ++ left) (entry_ignored (entry_of member.now) + more) gathered.old
-        → MatchResult result (λ _. Leaves all total left more gathered.new) (λ fault. IsRefusal all fault) }
+    ensures { Gathers (entry_readings test.now (entry_of member.now))
+        (entry_ignored (entry_of member.now)) gathered.old gathered.new result }
 {
     let key = member.key();
     if !is_metric(key) {
@@ -179,15 +184,15 @@ fn read_member(
     read_metric(alloc, gathered, test, &metric, member.value())
 }
 
+// The samples of the members of a test.
 fn read_members(
     alloc: Global,
     gathered: &mut Gathered,
     test: &Name,
     members: &[Member],
 ) -> Result<(), ReportFault>
-    ensures { (all left : List Reading) (total more : ℕ)
-        → Leaves all total (flat_map (entry_readings test.now) (map entry_of members.now) ++ left) (sum_by entry_ignored (map entry_of members.now) + more) gathered.old
-        → MatchResult result (λ _. Leaves all total left more gathered.new) (λ fault. IsRefusal all fault) }
+    ensures { Gathers (flat_map (entry_readings test.now) (map entry_of members.now))
+        (sum_by entry_ignored (map entry_of members.now)) gathered.old gathered.new result }
 {
     for member in members {
         read_member(alloc, gathered, test, member)?;
@@ -195,10 +200,10 @@ fn read_members(
     Ok(())
 }
 
+// The samples of a test: of its members, where it has a name.
 fn read_test(alloc: Global, gathered: &mut Gathered, value: &Json) -> Result<(), ReportFault>
-    ensures { (all left : List Reading) (total more : ℕ)
-        → Leaves all total (test_readings (tree_of value.now) ++ left) (test_ignored (tree_of value.now) + more) gathered.old
-        → MatchResult result (λ _. Leaves all total left more gathered.new) (λ fault. IsRefusal all fault) }
+    ensures { Gathers (test_readings (tree_of value.now))
+        (test_ignored (tree_of value.now)) gathered.old gathered.new result }
 {
     let Shape::Object(members) = value.shape() else {
         return Ok(());
@@ -209,10 +214,10 @@ fn read_test(alloc: Global, gathered: &mut Gathered, value: &Json) -> Result<(),
     read_members(alloc, gathered, &test, members)
 }
 
+// The samples of the tests, one after the other.
 fn read_each(alloc: Global, gathered: &mut Gathered, tests: &[Json]) -> Result<(), ReportFault>
-    ensures { (all left : List Reading) (total more : ℕ)
-        → Leaves all total (flat_map test_readings (map tree_of tests.now) ++ left) (sum_by test_ignored (map tree_of tests.now) + more) gathered.old
-        → MatchResult result (λ _. Leaves all total left more gathered.new) (λ fault. IsRefusal all fault) }
+    ensures { Gathers (flat_map test_readings (map tree_of tests.now))
+        (sum_by test_ignored (map tree_of tests.now)) gathered.old gathered.new result }
 {
     for test in tests {
         read_test(alloc, gathered, test)?;
@@ -220,10 +225,18 @@ fn read_each(alloc: Global, gathered: &mut Gathered, tests: &[Json]) -> Result<(
     Ok(())
 }
 
+// Whether a key is a metric: it isn't `name`, and has 1 to 64 bytes.
+fn is_metric(key: &str) -> bool
+    ensures { result ≡ is_metric key.now }
+{
+    key != "name" && !key.is_empty() && key.len() <= 64
+}
+
 // The samples of the tests, in the order of the text. Linear in the tests.
 pub(crate) fn read_tests(alloc: Global, tests: &[Json]) -> Result<Gathered, ReportFault>
     ensures { MatchResult result
-        (λ gathered. Leaves (flat_map test_readings (map tree_of tests.now)) (sum_by test_ignored (map tree_of tests.now)) [] 0 gathered)
+        (λ gathered. Leaves (flat_map test_readings (map tree_of tests.now))
+        (sum_by test_ignored (map tree_of tests.now)) [] 0 gathered)
         (λ fault. IsRefusal (flat_map test_readings (map tree_of tests.now)) fault) }
 {
     let mut gathered = Gathered {

@@ -1,3 +1,4 @@
+//! What has been gathered of a run so far.
 use history_model::Samples;
 
 // What has been gathered of a run.

@@ -1,17 +1,18 @@
+//! Members of a JSON object, looked up by their keys.
 ghost use Rattle.std.specs.Prelude.{◌≡◌, if◌then◌else◌, map, Some, None, true, false, IfSome, IfNone, IfOk, option_copied, is_some};
 ghost use Rattle.std.specs.Option.{option_map};
-ghost use Rattle.json_text.specs.View.{tree_of};
-ghost use Rattle.json_text.specs.View.{entry_of};
+ghost use Rattle.json_text.specs.View.{tree_of, entry_of};
 ghost use Rattle.lnt_report.specs.Look.{value_at, fields, items_in, is_object, is_list, is_name, name_in, text_in, is_text};
 
-use crate::memory::NoMemory;
+use crate::NoMemory;
 use json_text::{Json, Member, Shape};
 use line_text::{Name, NameError};
 use std::alloc::Global;
 
 // The value of the first member with this key.
 fn find<'a>(members: &'a [Member], key: &str) -> Option<&'a Json>
-    ensures { option_map tree_of (option_copied result) ≡ value_at key.now (map entry_of members.now) }
+    ensures { option_map tree_of (option_copied result)
+        ≡ value_at key.now (map entry_of members.now) }
 {
     for member in members {
         if member.key() == key {
@@ -24,8 +25,10 @@ fn find<'a>(members: &'a [Member], key: &str) -> Option<&'a Json>
 // The members of the object at this key.
 #[tactic(auto, using(crate::proofs::Lists::entries_of_members))]
 pub(crate) fn object_at<'a>(members: &'a [Member], key: &str) -> Option<&'a [Member]>
-    ensures some { IfSome result (λ inner. is_object (value_at key.now (map entry_of members.now)) ≡ true) }
-    ensures members { IfSome result (λ inner. fields (value_at key.now (map entry_of members.now)) ≡ map entry_of inner.now) }
+    ensures some { IfSome result (λ _.
+        is_object (value_at key.now (map entry_of members.now)) ≡ true) }
+    ensures members { IfSome result (λ inner.
+        fields (value_at key.now (map entry_of members.now)) ≡ map entry_of inner.now) }
     ensures none { IfNone result (is_object (value_at key.now (map entry_of members.now)) ≡ false) }
 {
     let value = find(members, key)?;
@@ -38,8 +41,10 @@ pub(crate) fn object_at<'a>(members: &'a [Member], key: &str) -> Option<&'a [Mem
 // The items of the list at this key.
 #[tactic(auto, using(crate::proofs::Lists::trees_of_items))]
 pub(crate) fn list_at<'a>(members: &'a [Member], key: &str) -> Option<&'a [Json]>
-    ensures some { IfSome result (λ items. is_list (value_at key.now (map entry_of members.now)) ≡ true) }
-    ensures items { IfSome result (λ items. items_in (value_at key.now (map entry_of members.now)) ≡ map tree_of items.now) }
+    ensures some { IfSome result (λ _.
+        is_list (value_at key.now (map entry_of members.now)) ≡ true) }
+    ensures items { IfSome result (λ items.
+        items_in (value_at key.now (map entry_of members.now)) ≡ map tree_of items.now) }
     ensures none { IfNone result (is_list (value_at key.now (map entry_of members.now)) ≡ false) }
 {
     let value = find(members, key)?;

@@ -1,8 +1,9 @@
+//! Bytes as a text of JSON.
 ghost use Rattle.std.specs.Prelude.{◌≡◌, ◌<◌, ◌++◌, OnOk, false};
 ghost use Rattle.std.specs.Fmt.{digit_glyph};
 ghost use Rattle.lnt_report.specs.Quoted.{escape, quoted};
 
-use crate::memory::NoMemory;
+use crate::NoMemory;
 
 // The hex digit of a number below 16.
 fn hex_digit(number: u8) -> u8

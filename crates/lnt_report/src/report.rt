@@ -1,3 +1,4 @@
+//! A run read: from the bytes over the tree to the run or the fault.
 ghost use Rattle.std.specs.Prelude.{◌≡◌, ◌⊎◌, ◌≤◌, Result, Err, map, length, None, true, false, All, IfOk, IfErr};
 ghost use Rattle.json_text.specs.Tree.{Tree, object};
 ghost use Rattle.json_text.specs.View.{tree_of, members_of};
@@ -6,18 +7,20 @@ ghost use Rattle.metric_table.specs.Limits.{most};
 ghost use Rattle.metric_table.specs.declared.limits.Limit.TheVariants.{RunSamples};
 ghost use Rattle.lnt_report.specs.Rules.{machine_name, commit_name, first_break, IsSound};
 ghost use Rattle.lnt_report.specs.Runs.{Report, IsGiven};
-ghost use Rattle.lnt_report.specs.Outcomes.{IsDue, IsAnswerOf, IsAnswer, IsOfText};
+ghost use Rattle.lnt_report.specs.Checks.{IsAnswerOf, IsOfText};
+ghost use Rattle.lnt_report.specs.Outcomes.{IsDue, IsAnswer};
 
+use crate::NoMemory;
 use crate::fault::ReportFault;
 use crate::gather::read_tests;
 use crate::gathered::Gathered;
 use crate::look::{list_at, name_at, object_at};
-use crate::memory::NoMemory;
 use crate::rules::check_rules;
 use crate::run::LntRun;
 use json_text::{Json, JsonFault, Member, Shape, one_answer_law, read_json};
 use line_text::Name;
 use metric_table::Limit;
+use metric_value::value_law;
 use std::alloc::Global;
 
 // The name of the machine.
@@ -43,7 +46,12 @@ fn commit_of(alloc: Global, top: &[Member]) -> Result<Option<Name>, NoMemory>
 // The run of these names and samples, unless there are too many.
 fn run_of(machine: Name, commit: Name, gathered: Gathered) -> Result<LntRun, ReportFault>
     requires { All IsGiven gathered.samples }
-    ensures run { IfOk result (λ run. run ≡ record { machine = machine; commit = commit; samples = gathered.samples; ignored = gathered.ignored }) }
+    ensures run { IfOk result (λ run. run ≡ record {
+      machine = machine;
+      commit = commit;
+      samples = gathered.samples;
+      ignored = gathered.ignored;
+    }) }
     ensures all { IfOk result (λ _. gathered.over ≡ false) }
     ensures few { IfOk result (λ _. length gathered.samples ≤ most RunSamples) }
     ensures full { IfErr result (λ fault. fault ≡ ReportFault.Full RunSamples) }
@@ -69,7 +77,8 @@ fn run_of(machine: Name, commit: Name, gathered: Gathered) -> Result<LntRun, Rep
 // The run of the members at the top of a tree for which no rule is broken.
 fn read_top(alloc: Global, top: &[Member]) -> Result<LntRun, ReportFault>
     requires { IsSound (map entry_of top.now) }
-    ensures { (tree : Tree) → tree ≡ object (members_of (map entry_of top.now)) → first_break tree ≡ None → IsAnswerOf result tree }
+    ensures { (tree : Tree) → tree ≡ object (members_of (map entry_of top.now))
+        → first_break tree ≡ None → IsAnswerOf tree result }
 {
     let Some(machine) = machine_of(alloc, top)? else {
         unreachable!()
@@ -86,7 +95,7 @@ fn read_top(alloc: Global, top: &[Member]) -> Result<LntRun, ReportFault>
 
 // The run of a tree.
 fn read_tree(alloc: Global, value: &Json) -> Result<LntRun, ReportFault>
-    ensures { IsAnswerOf result (tree_of value.now) }
+    ensures { IsAnswerOf (tree_of value.now) result }
 {
     check_rules(alloc, value)?;
     let Shape::Object(top) = value.shape() else {
@@ -97,7 +106,7 @@ fn read_tree(alloc: Global, value: &Json) -> Result<LntRun, ReportFault>
 
 // A fault of the text.
 fn of_json(fault: JsonFault) -> ReportFault
-    ensures { IsOfText result fault }
+    ensures { IsOfText fault result }
 {
     match fault {
         JsonFault::NotText(place) => ReportFault::NotText(place),
@@ -107,15 +116,20 @@ fn of_json(fault: JsonFault) -> ReportFault
     }
 }
 
-/// The LNT run of the bytes, by the profile of docs/FORMATS.md. Linear in the bytes, but for the search for a key that comes twice, which
-/// takes the logarithm of an object's members for each; takes memory for the tree, the keys of the objects that are open, and the run.
+/// The LNT run of the bytes, by the profile of docs/FORMATS.md.
+///
+/// Linear in the bytes, but for the search for a key that comes twice, which takes the logarithm of
+/// an object's members for each; takes memory for the tree, the keys of the objects that are open,
+/// and the run.
 pub fn read_report(alloc: Global, bytes: &[u8]) -> Result<LntRun, ReportFault>
     // The answer is the one that the bytes are due, unless memory runs out.
-    ensures due { IsAnswer result bytes.now }
+    ensures due { IsAnswer bytes.now result }
     // And what the bytes are due is the answer, unless memory runs out.
-    ensures only { (due : Result Report ReportFault) → IsDue due bytes.now → (result ≡ due) ⊎ (result ≡ Err ReportFault.NoMemory) }
+    ensures only { (due : Result Report ReportFault) → IsDue bytes.now due
+        → (result ≡ due) ⊎ (result ≡ Err ReportFault.NoMemory) }
 {
     one_answer_law(bytes);
+    value_law();
     match read_json(alloc, bytes) {
         Ok(value) => read_tree(alloc, &value),
         Err(fault) => Err(of_json(fault)),

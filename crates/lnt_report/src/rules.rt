@@ -1,22 +1,22 @@
+//! The rules of an LNT run, checked in their order.
 ghost use Rattle.std.specs.Prelude.{◌≡◌, ◌⊎◌, map, Some, decimal, codes, Err};
 ghost use Rattle.std.specs.List.{list_all};
 ghost use Rattle.std.specs.Option.{option_map};
-ghost use Rattle.json_text.specs.View.{tree_of};
-ghost use Rattle.json_text.specs.View.{entry_of};
-ghost use Rattle.lnt_report.specs.Rules.{break, under, is_number, may_stand, metric_break, metrics_break, test_break, tests_break, run_break, head_break, first_break, second_key};
-ghost use Rattle.lnt_report.specs.Outcomes.{Tells, IsBroken};
+ghost use Rattle.json_text.specs.View.{tree_of, entry_of};
+ghost use Rattle.lnt_report.specs.Rules.{break, under, is_number, may_stand, metric_break, metrics_break, test_break, tests_break, run_break, head_break, first_break, repeated_key};
+ghost use Rattle.lnt_report.specs.Checks.{Tells, IsBroken};
 
+use crate::NoMemory;
 use crate::fault::ReportFault;
 use crate::look::{has_name_at, is_text_at, list_at, object_at};
-use crate::memory::NoMemory;
-use crate::second::second_key;
+use crate::repeated_key::repeated_key_in;
 use json_text::{Json, Member, Shape};
 use line_text::Text;
 use std::alloc::Global;
 
 // A rule that is broken at a member.
 fn broken(alloc: Global, rule: u8, member: &str) -> ReportFault
-    ensures { IsBroken result rule member.now }
+    ensures { IsBroken rule member.now result }
 {
     match Text::of(alloc, member) {
         Ok(member) => ReportFault::NotReport { rule, member },
@@ -26,7 +26,7 @@ fn broken(alloc: Global, rule: u8, member: &str) -> ReportFault
 
 // A rule that is broken at a member of the test at this place.
 fn broken_in_test(alloc: Global, rule: u8, place: usize, key: &str) -> ReportFault
-    ensures { IsBroken result rule (under (under (codes "tests") (decimal place)) key.now) }
+    ensures { IsBroken rule (under (under (codes "tests") (decimal place)) key.now) result }
 {
     match format!(in alloc; "tests.{place}.{key}") {
         Ok(member) => ReportFault::NotReport {
@@ -39,7 +39,7 @@ fn broken_in_test(alloc: Global, rule: u8, place: usize, key: &str) -> ReportFau
 
 // A rule that is broken at the test at this place.
 fn broken_at_test(alloc: Global, rule: u8, place: usize) -> ReportFault
-    ensures { IsBroken result rule (under (codes "tests") (decimal place)) }
+    ensures { IsBroken rule (under (codes "tests") (decimal place)) result }
 {
     match format!(in alloc; "tests.{place}") {
         Ok(member) => ReportFault::NotReport {
@@ -50,6 +50,7 @@ fn broken_at_test(alloc: Global, rule: u8, place: usize) -> ReportFault
     }
 }
 
+// Whether the value is a number.
 fn is_number(value: &Json) -> bool
     ensures { result ≡ is_number (tree_of value.now) }
 {
@@ -59,6 +60,7 @@ fn is_number(value: &Json) -> bool
     }
 }
 
+// Whether each item is a number.
 fn are_numbers(items: &[Json]) -> bool
     ensures { result ≡ list_all is_number (map tree_of items.now) }
 {
@@ -82,8 +84,10 @@ fn may_stand(value: &Json) -> bool
     }
 }
 
+// The rules of a member of the test at this place: whether it is a metric, and what its value is.
 fn check_metric(alloc: Global, place: usize, member: &Member) -> Result<(), ReportFault>
-    ensures { Tells (metric_break (under (codes "tests") (decimal place)) (entry_of member.now)) result }
+    ensures { Tells (metric_break (under (codes "tests") (decimal place)) (entry_of member.now))
+        result }
 {
     let key = member.key();
     if key == "name" {
@@ -98,8 +102,10 @@ fn check_metric(alloc: Global, place: usize, member: &Member) -> Result<(), Repo
     Ok(())
 }
 
+// The same of each member.
 fn check_metrics(alloc: Global, place: usize, members: &[Member]) -> Result<(), ReportFault>
-    ensures { Tells (metrics_break (under (codes "tests") (decimal place)) (map entry_of members.now)) result }
+    ensures { Tells (metrics_break (under (codes "tests") (decimal place))
+        (map entry_of members.now)) result }
 {
     for member in members {
         check_metric(alloc, place, member)?;
@@ -107,6 +113,7 @@ fn check_metrics(alloc: Global, place: usize, members: &[Member]) -> Result<(), 
     Ok(())
 }
 
+// The rules of the test at this place.
 #[tactic(auto, using(crate::proofs::Lists::entries_of_members))]
 fn check_test(alloc: Global, place: usize, test: &Json) -> Result<(), ReportFault>
     ensures { Tells (test_break (under (codes "tests") (decimal place)) (tree_of test.now)) result }
@@ -120,6 +127,7 @@ fn check_test(alloc: Global, place: usize, test: &Json) -> Result<(), ReportFaul
     check_metrics(alloc, place, members)
 }
 
+// The same of each test.
 fn check_tests(alloc: Global, tests: &[Json]) -> Result<(), ReportFault>
     ensures { Tells (tests_break 0 (map tree_of tests.now)) result }
 {
@@ -161,11 +169,11 @@ fn check_head(alloc: Global, members: &[Member]) -> Result<(), ReportFault>
     check_run(alloc, members)
 }
 
-// No second key stands anywhere.
+// No key comes again in its object, anywhere.
 fn check_keys(alloc: Global, value: &Json) -> Result<(), ReportFault>
-    ensures { Tells (option_map (break 2) (second_key (tree_of value.now))) result }
+    ensures { Tells (option_map (break 2) (repeated_key (tree_of value.now))) result }
 {
-    match second_key(alloc, value)? {
+    match repeated_key_in(alloc, value)? {
         Some(member) => Err(ReportFault::NotReport { rule: 2, member }),
         None => Ok(()),
     }

@@ -1,4 +1,5 @@
-use crate::memory::NoMemory;
+//! What an LNT run says.
+use crate::NoMemory;
 use history_model::Samples;
 use line_text::Name;
 use std::alloc::Global;
@@ -6,8 +7,9 @@ use std::marker::Model;
 
 /// What an LNT run says: its machine, its commit and its samples.
 ///
-/// Contracts see a record of the names' bytes, the list of samples and the count. The type keeps that no sample's metric is `name`: the
-/// member of that key is the test's name, so such a sample has no place in a run.
+/// Contracts see a record of the names' bytes, the list of samples and the count. The type keeps that
+/// no sample's metric is `name`: the member of that key is the test's name, so such a sample has no
+/// place in a run.
 #[derive(Debug, Drop)]
 pub struct LntRun {
     /// The machine that was measured.
@@ -26,7 +28,12 @@ impl Model for LntRun {
 
     ghost Value = { Report };
 
-    ghost view = { λ r. record { machine = r.machine; commit = r.commit; samples = r.samples; ignored = r.ignored } };
+    ghost view = { λ r. record {
+      machine = r.machine;
+      commit = r.commit;
+      samples = r.samples;
+      ignored = r.ignored;
+    } };
 
     ghost invariant = { λ r. All IsGiven r.samples };
 }

@@ -1,6 +1,9 @@
+//! Texts and what they are read as, runs and what is written of them.
 use crate::{LntRun, ReportFault, put_report, read_report};
 use std::alloc::Global;
 use std::test::Fail;
+
+mod example;
 
 // What is said of an answer, in one line.
 fn told(alloc: Global, answer: Result<LntRun, ReportFault>) -> Result<String, Fail> {
@@ -171,6 +174,25 @@ fn texts_are_read_or_refused(rt: HostRuntime) -> Result<(), Fail> {
         told(alloc, read_report(alloc, b"\"\xff\""))?.as_str(),
         "not text 1"
     );
+    Ok(())
+}
+
+// A run, line by line.
+fn listed(alloc: Global, run: &LntRun) -> Result<String, Fail> {
+    let (machine, commit, ignored) = (run.machine.as_str(), run.commit.as_str(), run.ignored);
+    let mut lines = format!(in alloc; "machine {machine}\ncommit {commit}\nignored {ignored}\n")?;
+    for sample in run.samples.as_slice() {
+        let (test, metric, value) = (sample.test.as_str(), sample.metric.as_str(), sample.value);
+        lines.push_str(format!(in alloc; "{test} {metric} {value}\n")?.as_str())?;
+    }
+    Ok(lines)
+}
+
+#[test]
+fn a_submission_gives_its_samples(rt: HostRuntime) -> Result<(), Fail> {
+    let alloc = rt.alloc();
+    let run = read_report(alloc, example::SUBMISSION.as_bytes()).map_err(|_| "a submission")?;
+    assert_eq!(rt; listed(alloc, &run)?.as_str(), example::SAMPLES);
     Ok(())
 }
 

@@ -1,15 +1,15 @@
+//! A run written: the compact text of its tree.
 ghost use Rattle.std.specs.Prelude.{◌≡◌, ◌++◌, Ok, map, OnOk, IfOk};
 ghost use Rattle.json_text.specs.View.{items_of};
 ghost use Rattle.lnt_report.specs.Written.{compact, compact_items, test_tree, run_tree};
 ghost use Rattle.lnt_report.specs.Outcomes.{IsDue};
 
-use crate::memory::NoMemory;
+use crate::NoMemory;
 use crate::quoted::put_quoted;
 use crate::run::LntRun;
-use fixed_value::{fixed_law, put_fixed};
 use history_model::Sample;
 use line_text::{Name, numbers_law};
-use metric_table::decimals;
+use metric_value::{put_value, value_law};
 use std::alloc::Global;
 
 // Appends bytes.
@@ -29,19 +29,15 @@ fn put_test(alloc: Global, out: &mut Vec<u8>, sample: &Sample) -> Result<(), NoM
     put_bytes(out, b",")?;
     put_quoted(out, sample.metric.as_str())?;
     put_bytes(out, b":")?;
-    put_fixed(
-        alloc,
-        out,
-        sample.value,
-        decimals(sample.metric.as_str().as_bytes()),
-    )?;
+    put_value(alloc, out, sample.metric.as_str().as_bytes(), sample.value)?;
     put_bytes(out, b"}")?;
     Ok(())
 }
 
 // Appends the samples, between commas.
 fn put_tests(alloc: Global, out: &mut Vec<u8>, samples: &[Sample]) -> Result<(), NoMemory>
-    ensures { OnOk result (out.new.items ≡ out.old.items ++ compact_items (items_of (map test_tree samples.now))) }
+    ensures { OnOk result (out.new.items
+        ≡ out.old.items ++ compact_items (items_of (map test_tree samples.now))) }
 {
     let [first, rest @ ..] = samples else {
         return Ok(());
@@ -56,7 +52,8 @@ fn put_tests(alloc: Global, out: &mut Vec<u8>, samples: &[Sample]) -> Result<(),
 
 // Appends a whole run.
 fn put_run(alloc: Global, out: &mut Vec<u8>, run: &LntRun) -> Result<(), NoMemory>
-    ensures { OnOk result (out.new.items ≡ out.old.items ++ compact (run_tree run.now.machine run.now.commit run.now.samples)) }
+    ensures { OnOk result (out.new.items
+        ≡ out.old.items ++ compact (run_tree run.now.machine run.now.commit run.now.samples)) }
 {
     put_bytes(out, b"{\"format_version\":\"2\",\"machine\":{\"name\":")?;
     put_quoted(out, run.machine.as_str())?;
@@ -68,18 +65,25 @@ fn put_run(alloc: Global, out: &mut Vec<u8>, run: &LntRun) -> Result<(), NoMemor
     Ok(())
 }
 
-/// The text of an LNT run, by the profile of docs/FORMATS.md: one line of JSON with no white space, in which each sample is a test of
-/// its own. [`read_report`](crate::read_report) reads it as the run, with no member ignored.
+/// The text of an LNT run, by the profile of docs/FORMATS.md: one line of JSON with no white space, in
+/// which each sample is a test of its own. [`read_report`](crate::read_report) reads it as the run,
+/// with no member ignored.
 ///
 /// Linear in the text, which it takes memory for.
 pub fn put_report(alloc: Global, run: &LntRun) -> Result<Vec<u8>, NoMemory>
     // What is written is the text of the run's tree, with no white space.
-    ensures text { IfOk result (λ bytes. bytes.items ≡ compact (run_tree run.now.machine run.now.commit run.now.samples)) }
+    ensures text { IfOk result (λ bytes. bytes.items
+        ≡ compact (run_tree run.now.machine run.now.commit run.now.samples)) }
     // Reading what is written is due to give the run, with none ignored.
-    ensures back { IfOk result (λ bytes. IsDue (Ok (record { machine = run.now.machine; commit = run.now.commit; samples = run.now.samples; ignored = 0 })) bytes.items) }
+    ensures back { IfOk result (λ bytes. IsDue bytes.items (Ok (record {
+      machine = run.now.machine;
+      commit = run.now.commit;
+      samples = run.now.samples;
+      ignored = 0;
+    }))) }
 {
     numbers_law();
-    fixed_law();
+    value_law();
     run.limits();
     run.machine.bytes_law();
     run.commit.bytes_law();

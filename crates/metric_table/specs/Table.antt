@@ -9,6 +9,7 @@ pub record Row : Type 0 where
   pub larger_is_better : Bool
   pub default_penalty : ℤ
 
+-- the row with these columns
 abbrev pub row : List ℕ → ℕ → Bool → ℤ → Row
 row metric decimals larger penalty = record { metric = metric; decimals = decimals; larger_is_better = larger; default_penalty = penalty }
 

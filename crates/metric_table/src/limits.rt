@@ -1,3 +1,4 @@
+//! The limits: what may be there only so often, its number and its word.
 ghost use Rattle.std.specs.Prelude.{◌≡◌};
 
 /// What may be there only so often. A thing that would pass its limit is refused.

@@ -1,3 +1,4 @@
+//! The table of metrics, and what it says of each.
 ghost use Rattle.std.specs.Prelude.{◌≡◌, ◌≤◌, ◌↔◌, IsTrue};
 ghost use Rattle.metric_table.specs.Table.{row_of};
 

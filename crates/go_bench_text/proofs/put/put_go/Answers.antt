@@ -21,5 +21,5 @@ loop-place-preserved c =
 
 pub returns-clause-back : goal.returns-clause-back
 returns-clause-back c =
-    spelled_read c.args.samples.now c.loop-place.out.items c.limits.ensures.each c.fixed_law.ensures
+    spelled_read c.args.samples.now c.loop-place.out.items c.limits.ensures.each c.value_law.ensures.back
     (all_spelled c.args.samples.now c.as_slice-sample-items.result.now c.loop-place.out.items c.loop-place.place c.as_slice-sample-items.ensures c.loop-place-test.false c.loop-place.invariant.spelled)

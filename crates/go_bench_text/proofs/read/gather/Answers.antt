@@ -29,11 +29,13 @@ loop-line-preserved c =
       progress = subst (λ (n : ℕ). Progress (lines_of c.args.text.now) n c.read_line.new.gathered c.in-Ok.value.now (c.loop-line.ignored + c.in-Ok.count)) (sym more) progress;
     }
 
-pub returns-in-Err-OutOfRange-clause-over : goal.returns-in-Err-OutOfRange-clause-over
-returns-in-Err-OutOfRange-clause-over c number is =
-    let next = next_line (goal.at.returns-in-Err-OutOfRange-clause-over c).After-read_line in
-    let same : number ≡ c.loop-line.number + 1 = cc in
-    progress_over (lines_of c.args.text.now) (length c.loop-line.yielded) c.in-Some.line.now c.loop-line.gathered c.loop-line.pkg.now c.loop-line.ignored number next.less next.is (omega (arith, same, c.loop-line.invariant.number)) (c.in-Err-OutOfRange.ensures.over (cc) (take (length c.loop-line.yielded) (lines_of c.args.text.now)) c.loop-line.invariant.progress.pkg_is) c.loop-line.invariant.progress
+pub returns-in-Err-OutOfRange-clause-fault : goal.returns-in-Err-OutOfRange-clause-fault
+returns-in-Err-OutOfRange-clause-fault c =
+    let next = next_line (goal.at.returns-in-Err-OutOfRange-clause-fault c).After-read_line in (
+      c.utf8.text,
+      progress_over (lines_of c.args.text.now) (length c.loop-line.yielded) c.in-Some.line.now c.loop-line.gathered c.loop-line.pkg.now c.loop-line.ignored (c.loop-line.number + 1) next.less next.is
+          (omega (arith, c.loop-line.invariant.number)) (c.in-Err-OutOfRange.ensures.over (cc) (take (length c.loop-line.yielded) (lines_of c.args.text.now)) c.loop-line.invariant.progress.pkg_is) c.loop-line.invariant.progress,
+    )
 
 pub returns-clause-ok : goal.returns-clause-ok
 returns-clause-ok c =

@@ -3,7 +3,7 @@ use Rattle.json_text.specs.Machine.{step, colon, ended, close, own_level}
 use Rattle.json_text.specs.Places.{most_levels}
 use Rattle.json_text.specs.View.{tree_of, members_view}
 use Rattle.json_text.specs.Reached.{Stands}
-use Rattle.json_text.specs.States.{frames_of, mode_of, Gives}
+use Rattle.json_text.specs.States.{frames_of, mode_of, StepGives}
 use Rattle.json_text.specs.declared.state.Awaits.{Awaits}
 use Rattle.json_text.proofs.Reach.{key_arrives, key_fails, given_goes, given_stops, black_closes, fault_handed}
 use Rattle.json_text.proofs.machine.step.Goals as goal
@@ -33,7 +33,7 @@ returns-in_ok-next-in-Colon-clause-arrives c =
     let frames = frames_of c.args.stack.now.items in
     let stands = subst (λ (awaits : Awaits). Stands c.args.text.now c.args.place.now (mode_of awaits, frames)) c.in-Colon.is c.requires.stands in
     given_goes c.args.text.now c.args.place.now (colon (members_view c.in-Colon.members) c.in-Colon.key, frames) c.in_ok-next-in-Colon.next c.colon.new.stack.items stands c.requires.some
-    (subst (λ (xs : List ℕ). Gives (Ok c.in_ok-next-in-Colon.next) c.colon.new.stack.items (step (get_or xs c.args.place.now 0) (colon (members_view c.in-Colon.members) c.in-Colon.key) frames)) c.as_bytes.ensures.value c.in_ok-next-in-Colon.ensures)
+    (subst (λ (xs : List ℕ). StepGives (Ok c.in_ok-next-in-Colon.next) c.colon.new.stack.items (step (get_or xs c.args.place.now 0) (colon (members_view c.in-Colon.members) c.in-Colon.key) frames)) c.as_bytes.ensures.value c.in_ok-next-in-Colon.ensures)
 
 pub returns-in_err-next-in-Colon-clause-arrives : goal.returns-in_err-next-in-Colon-clause-arrives
 returns-in_err-next-in-Colon-clause-arrives c =
@@ -41,15 +41,15 @@ returns-in_err-next-in-Colon-clause-arrives c =
     let stands = subst (λ (awaits : Awaits). Stands c.args.text.now c.args.place.now (mode_of awaits, frames)) c.in-Colon.is c.requires.stands in
     fault_handed _ _ c.args.text.now c.args.place.now c.args.place.now c.colon.new.stack.items c.from_residual-in_err-next-in-Colon.ensures.1
     (given_stops c.args.text.now c.args.place.now (colon (members_view c.in-Colon.members) c.in-Colon.key, frames) c.in_err-next-in-Colon.field-0.0 c.colon.new.stack.items stands c.requires.some
-    (subst (λ (xs : List ℕ). Gives (Err c.in_err-next-in-Colon.field-0.0) c.colon.new.stack.items (step (get_or xs c.args.place.now 0) (colon (members_view c.in-Colon.members) c.in-Colon.key) frames)) c.as_bytes.ensures.value c.in_err-next-in-Colon.ensures))
+    (subst (λ (xs : List ℕ). StepGives (Err c.in_err-next-in-Colon.field-0.0) c.colon.new.stack.items (step (get_or xs c.args.place.now 0) (colon (members_view c.in-Colon.members) c.in-Colon.key) frames)) c.as_bytes.ensures.value c.in_err-next-in-Colon.ensures))
 
 pub returns-in_ok-next-in-Ended-clause-arrives : goal.returns-in_ok-next-in-Ended-clause-arrives
 returns-in_ok-next-in-Ended-clause-arrives c =
     let frames = frames_of c.args.stack.now.items in
     let stands = subst (λ (awaits : Awaits). Stands c.args.text.now c.args.place.now (mode_of awaits, frames)) c.in-Ended.is c.requires.stands in
     given_goes c.args.text.now c.args.place.now (ended (tree_of c.in-Ended.value), frames) c.in_ok-next-in-Ended.next c.close.new.stack.items stands c.requires.some
-    (subst (Gives (Ok c.in_ok-next-in-Ended.next) c.close.new.stack.items) (sym (black_closes (get_or c.args.text.now c.args.place.now 0) (tree_of c.in-Ended.value) frames c.requires.black))
-    (subst (λ (xs : List ℕ). Gives (Ok c.in_ok-next-in-Ended.next) c.close.new.stack.items (close (get_or xs c.args.place.now 0) (tree_of c.in-Ended.value) frames)) c.as_bytes.ensures.value c.in_ok-next-in-Ended.ensures))
+    (subst (StepGives (Ok c.in_ok-next-in-Ended.next) c.close.new.stack.items) (sym (black_closes (get_or c.args.text.now c.args.place.now 0) (tree_of c.in-Ended.value) frames c.requires.black))
+    (subst (λ (xs : List ℕ). StepGives (Ok c.in_ok-next-in-Ended.next) c.close.new.stack.items (close (get_or xs c.args.place.now 0) (tree_of c.in-Ended.value) frames)) c.as_bytes.ensures.value c.in_ok-next-in-Ended.ensures))
 
 pub returns-in_err-next-in-Ended-clause-arrives : goal.returns-in_err-next-in-Ended-clause-arrives
 returns-in_err-next-in-Ended-clause-arrives c =
@@ -57,5 +57,5 @@ returns-in_err-next-in-Ended-clause-arrives c =
     let stands = subst (λ (awaits : Awaits). Stands c.args.text.now c.args.place.now (mode_of awaits, frames)) c.in-Ended.is c.requires.stands in
     fault_handed _ _ c.args.text.now c.args.place.now c.args.place.now c.close.new.stack.items c.from_residual-in_err-next-in-Ended.ensures.1
     (given_stops c.args.text.now c.args.place.now (ended (tree_of c.in-Ended.value), frames) c.in_err-next-in-Ended.field-0.0 c.close.new.stack.items stands c.requires.some
-    (subst (Gives (Err c.in_err-next-in-Ended.field-0.0) c.close.new.stack.items) (sym (black_closes (get_or c.args.text.now c.args.place.now 0) (tree_of c.in-Ended.value) frames c.requires.black))
-    (subst (λ (xs : List ℕ). Gives (Err c.in_err-next-in-Ended.field-0.0) c.close.new.stack.items (close (get_or xs c.args.place.now 0) (tree_of c.in-Ended.value) frames)) c.as_bytes.ensures.value c.in_err-next-in-Ended.ensures)))
+    (subst (StepGives (Err c.in_err-next-in-Ended.field-0.0) c.close.new.stack.items) (sym (black_closes (get_or c.args.text.now c.args.place.now 0) (tree_of c.in-Ended.value) frames c.requires.black))
+    (subst (λ (xs : List ℕ). StepGives (Err c.in_err-next-in-Ended.field-0.0) c.close.new.stack.items (close (get_or xs c.args.place.now 0) (tree_of c.in-Ended.value) frames)) c.as_bytes.ensures.value c.in_err-next-in-Ended.ensures)))

@@ -2,7 +2,7 @@ use Rattle.std.proofs.Common.{◌+◌, arith}
 use Rattle.lnt_report.proofs.gather.ignore.Goals as goal
 
 pub returns : goal.returns
-returns c = λ all left total more h. record {
+returns c all left total more h = record {
   past = h.past;
   beyond = h.beyond;
   count = h.count + 1;

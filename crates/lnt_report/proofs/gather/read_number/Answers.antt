@@ -1,31 +1,35 @@
-use Rattle.std.proofs.Common.{◌≡◌, ℕ, List, refl, sym, subst, arith, length, FitsSigned, ℤ}
+use Rattle.std.proofs.Common.{ℕ, List, ◌∷◌, ◌∙◌, refl, subst, arith, length, FitsSigned, zero-add}
 use Rattle.std.specs.Int.{w64}
 use Rattle.std.proofs.lemmas.Int.{ints, to_z-of_z}
 use Rattle.metric_table.specs.Limits.{most}
 use Rattle.metric_table.specs.declared.limits.Limit.TheVariants.{RunSamples}
-use Rattle.history_model.specs.Samples.{Measurement}
-use Rattle.lnt_report.specs.Readings.{reading, IsValue, IsMeasured}
+use Rattle.metric_value.specs.Values.{IsValueOf, HasNoneInRange}
+use Rattle.lnt_report.specs.Numbers.{reading, IsMeasured}
+use Rattle.lnt_report.specs.Gathering.{measurement, Leaves}
 use Rattle.lnt_report.proofs.Steps.{kept_one, beyond_one, out_one, is_given, by_room}
 use Rattle.lnt_report.proofs.gather.read_number.Goals as goal
 
-pub returns-in_ok-keep-in-Some : goal.returns-in_ok-keep-in-Some
-returns-in_ok-keep-in-Some c = λ all left total more h.
+pub returns-in_ok-keep-in-Ok : goal.returns-in_ok-keep-in-Ok
+returns-in_ok-keep-in-Ok c all left total more h =
     let r = reading c.args.test.now c.args.metric.now c.args.spelling.now in
-    let m : Measurement = record { test = c.args.test.now; metric = c.args.metric.now; value = c.in-Some.value } in
-    let value : IsValue c.args.metric.now c.args.spelling.now c.in-Some.value =
-    subst (λ (metric : List ℕ). IsValue metric c.args.spelling.now c.in-Some.value) c.as_str.ensures c.in-Some.ensures.some in
-    let measured : IsMeasured r m = record { test = refl; metric = refl; value = value } in
-    let fits : FitsSigned w64 c.in-Some.value = omega (arith, ints, value.in_range) in
-    let sole : (other : ℤ) → IsValue c.args.metric.now c.args.spelling.now other → other ≡ c.in-Some.value =
-    λ other v. c.in-Some.ensures.only other (subst (λ (metric : List ℕ). IsValue metric c.args.spelling.now other) (sym c.as_str.ensures) v) in
-    let clauses = c.in_ok-keep-in-Some.ensures in
+    let m = measurement c.args.test.now c.args.metric.now c.in-Ok.value in
+    let by_metric = subst (λ (text : List ℕ). IsValueOf c.as_bytes.result.now text c.in-Ok.value) c.as_bytes-2.ensures.value c.in-Ok.ensures.ok in
+    let value : IsValueOf c.args.metric.now c.args.spelling.now c.in-Ok.value =
+    subst (λ (metric : List ℕ). IsValueOf metric c.args.spelling.now c.in-Ok.value) (c.as_bytes.ensures.value ∙ c.as_str.ensures) by_metric in
+    let measured : IsMeasured r m = record { test = refl; metric = refl; value = value; in_range = c.in-Ok.ensures.within } in
+    let fits : FitsSigned w64 c.in-Ok.value = omega (arith, ints, c.in-Ok.ensures.within) in
+    let before = subst (λ (n : ℕ). Leaves all total (r ∷ left) n c.args.gathered.now) (zero-add more) h in
+    let clauses = c.in_ok-keep-in-Ok.ensures in
     by_room (length c.args.gathered.now.samples) (most RunSamples)
-    (λ room. kept_one all left total more r m c.args.gathered.now c.keep.new.gathered h measured sole (is_given c.args.metric.now c.requires) room
+    (λ room. kept_one all left total more r m c.args.gathered.now c.keep.new.gathered before measured (is_given c.args.metric.now c.requires) room
     (simp to_z-of_z at (clauses.room room)) (clauses.same room) clauses.ignored)
-    (λ full. beyond_one all left total more r m c.args.gathered.now c.keep.new.gathered h measured sole full
-    (clauses.full full) (clauses.over full) clauses.ignored)
+    (λ full. beyond_one all left total more r m c.args.gathered.now c.keep.new.gathered before measured full (clauses.full full) (clauses.over full) clauses.ignored)
 
-pub returns-in-None : goal.returns-in-None
-returns-in-None c = λ all left total more h.
-    out_one all left total more c.args.test.now c.args.metric.now c.args.spelling.now c.args.gathered.now c.out_of_range.result h
-    (λ value v. c.in-None.ensures.none value (subst (λ (metric : List ℕ). IsValue metric c.args.spelling.now value) (sym c.as_str.ensures) v)) c.out_of_range.ensures
+pub returns-in-Err : goal.returns-in-Err
+returns-in-Err c all left total more h =
+    let r = reading c.args.test.now c.args.metric.now c.args.spelling.now in
+    let by_metric = subst (λ (text : List ℕ). HasNoneInRange c.as_bytes.result.now text) c.as_bytes-2.ensures.value c.in-Err.ensures.none in
+    let none : HasNoneInRange c.args.metric.now c.args.spelling.now =
+    subst (λ (metric : List ℕ). HasNoneInRange metric c.args.spelling.now) (c.as_bytes.ensures.value ∙ c.as_str.ensures) by_metric in
+    let before = subst (λ (n : ℕ). Leaves all total (r ∷ left) n c.args.gathered.now) (zero-add more) h in
+    out_one all left total more c.args.test.now c.args.metric.now c.args.spelling.now c.args.gathered.now c.out_of_range.result before none c.out_of_range.ensures

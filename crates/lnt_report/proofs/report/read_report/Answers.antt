@@ -7,7 +7,7 @@ pub returns-in-Ok-clause-only : goal.returns-in-Ok-clause-only
 returns-in-Ok-clause-only c = λ due d.
     elim c.read_tree.ensures [
       | inl e ↦ inr e
-      | inr h ↦ inl (same_answer c.args.bytes.now c.one_answer_law.ensures (tree_of c.in-Ok.value) c.read_tree.result c.in-Ok.ensures.found h.0 h.1 due d)
+      | inr h ↦ inl (same_answer c.args.bytes.now c.one_answer_law.ensures (tree_of c.in-Ok.value) c.read_tree.result c.value_law.ensures.one c.in-Ok.ensures.found h due d)
     ]
 
 pub returns-in-Err-clause-only : goal.returns-in-Err-clause-only

@@ -18,7 +18,7 @@ returns c =
       text = written;
       back =
           subst (λ (bytes : List ℕ).
-          IsDue (Ok (record { machine = c.args.run.now.machine; commit = c.args.run.now.commit; samples = c.args.run.now.samples; ignored = 0 })) bytes)
+          IsDue bytes (Ok (record { machine = c.args.run.now.machine; commit = c.args.run.now.commit; samples = c.args.run.now.samples; ignored = 0 })))
           (sym written)
-          (is_due c.numbers_law.ensures c.fixed_law.ensures c.args.run.now.machine c.args.run.now.commit c.args.run.now.samples machine commit samples c.limits.ensures);
+          (is_due c.numbers_law.ensures c.value_law.ensures.back c.args.run.now.machine c.args.run.now.commit c.args.run.now.samples machine commit samples c.limits.ensures);
     }

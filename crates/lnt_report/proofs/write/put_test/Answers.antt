@@ -1,7 +1,6 @@
-use Rattle.std.proofs.Common.{◌≡◌, ℕ, List, ap, ◌∙◌, FitsSigned, arith}
+use Rattle.std.proofs.Common.{◌≡◌, ap, ◌∙◌, FitsSigned, arith}
 use Rattle.std.specs.Int.{w64}
 use Rattle.std.proofs.lemmas.Int.{ints, to_z-of_z}
-use Rattle.metric_table.specs.Table.{row_of}
 use Rattle.history_model.specs.Samples.{Measurement}
 use Rattle.lnt_report.proofs.Written.{test_written}
 use Rattle.lnt_report.proofs.write.put_test.Goals as goal
@@ -9,12 +8,12 @@ use Rattle.lnt_report.proofs.write.put_test.Goals as goal
 pub returns : goal.returns
 returns c =
     let fits : FitsSigned w64 c.sample.inside.value = omega (arith, ints) in
-    let put = simp to_z-of_z at c.in_ok-put_fixed.ensures.ok in
+    let put = simp to_z-of_z at c.in_ok-put_value.ensures.ok in
     let metric : c.as_str-3.result.now ≡ c.args.sample.now.metric = c.as_str-3.ensures ∙ ap (λ (m : Measurement). m.metric) c.sample.view_is in
-    test_written c.args.sample.now c.as_str.result.now c.as_str-2.result.now _ c.decimals.result _ _ _ _ _ _ _ _
+    test_written c.args.sample.now c.as_str.result.now c.as_str-2.result.now _ _ _ _ _ _ _ _ _ _
     (c.as_str.ensures ∙ ap (λ (m : Measurement). m.test) c.sample.view_is)
     (c.as_str-2.ensures ∙ ap (λ (m : Measurement). m.metric) c.sample.view_is)
+    (c.as_bytes.ensures.value ∙ metric)
     (ap (λ (m : Measurement). m.value) c.sample.view_is)
-    (c.decimals.ensures.row ∙ ap (λ (m : List ℕ). (row_of m).decimals) (c.as_bytes.ensures.value ∙ metric))
     c.in_ok-put_bytes.ensures c.in_ok-put_quoted.ensures c.in_ok-put_bytes-2.ensures c.in_ok-put_quoted-2.ensures
     c.in_ok-put_bytes-3.ensures put c.in_ok-put_bytes-4.ensures

@@ -1,6 +1,0 @@
-use Rattle.std.proofs.Common.{ℕ, ◌<◌, List, length}
-use Rattle.go_bench_text.specs.Spellings.{IsCut}
-use Rattle.go_bench_text.proofs.spelling.first_cut.Given as goal
-
-abbrev pub invariant-loop-at : goal.invariant-loop-at
-invariant-loop-at l = (pkg name : List ℕ) → length pkg < l.at → ¬ IsCut l.test pkg name

@@ -1,0 +1,15 @@
+-- What each answer of the reader says of the bytes.
+use Rattle.std.specs.Prelude.{◌≡◌, ℕ, List}
+use Rattle.std.specs.Str.{IsUtf8, IsValidUpTo}
+use Rattle.line_text.specs.Lines.{lines_of}
+use Rattle.metric_table.specs.declared.limits.Limit.TheVariants.{RunSamples}
+use Rattle.go_bench_text.specs.Readings.{IsFirstOver, HasTooMany}
+use Rattle.go_bench_text.specs.declared.read.GoFault.{GoFault}
+use Rattle.go_bench_text.specs.declared.read.GoFault.TheVariants.{NotText, OutOfRange, Full, NoMemory}
+
+-- what a fault says of the bytes
+abbrev pub IsFault : List ℕ → GoFault → Type 0
+IsFault bytes (NotText offset) = IsValidUpTo bytes offset
+IsFault bytes (OutOfRange number) = IsUtf8 bytes × IsFirstOver (lines_of bytes) number
+IsFault bytes (Full limit) = (limit ≡ RunSamples) × HasTooMany bytes
+IsFault bytes NoMemory = Unit {0}

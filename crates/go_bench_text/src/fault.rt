@@ -1,0 +1,22 @@
+//! Why a line gives no samples.
+use std::alloc::AllocError;
+
+// Why a line gives no samples.
+#[derive(Clone, Copy, Debug, PartialEq, Eq)]
+pub(crate) enum LineFault {
+    // A value or a test is out of range.
+    OutOfRange,
+    // There was no memory.
+    NoMemory,
+}
+
+impl From<AllocError> for LineFault {
+    ghost use Rattle.std.specs.Prelude.{◌≡◌};
+    ghost use Rattle.go_bench_text.specs.declared.fault.LineFault.TheVariants as fault;
+
+    ghost from_gives = { λ _ e. e ≡ fault.NoMemory };
+
+    fn from(_: AllocError) -> LineFault {
+        LineFault::NoMemory
+    }
+}

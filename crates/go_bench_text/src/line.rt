@@ -1,0 +1,91 @@
+//! What kind of line a line of benchmark output is.
+ghost use Rattle.std.specs.Prelude.{◌≡◌, ◌++◌, ◌↔◌, ◌<◌, true, length, codes, IfSome, IfNone, IsTrue, List, ℕ};
+ghost use Rattle.std.specs.Str.{IsUtf8};
+ghost use Rattle.go_bench_text.specs.Fields.{fields_of};
+ghost use Rattle.go_bench_text.specs.Lines.{begins, ArePairs, IsResult, IsResultLine, IsKind};
+
+use crate::characters::is_name;
+use crate::config::setting_of;
+use crate::fields::{are_digits, are_pairs, next_field};
+
+/// What a line of benchmark output is.
+#[derive(Clone, Copy, Debug, PartialEq, Eq)]
+pub enum LineKind {
+    /// A key, a colon and a value.
+    Config,
+    /// A name, a count, and pairs of a value and a unit.
+    Result,
+    /// A line that begins with `Benchmark` and is no result line.
+    Broken,
+    /// Any other line.
+    Other,
+}
+
+// Whether the line begins with `Benchmark`.
+pub(crate) fn begins(line: &str) -> bool
+    ensures { result ≡ begins line.now }
+{
+    line.starts_with("Benchmark")
+}
+
+// What stands behind `Benchmark` in a field that begins with it.
+fn name_in(field: &str) -> Option<&str>
+    ensures some { IfSome result (λ name. field.now ≡ codes "Benchmark" ++ name.now) }
+    ensures text { IfSome result (λ name. IsUtf8 name.now) }
+    ensures none { IfNone result ((name : List ℕ) → ¬ (field.now ≡ codes "Benchmark" ++ name)) }
+{
+    field.strip_prefix("Benchmark")
+}
+
+// Whether the fields are one or more pairs of a numeral and a unit.
+fn are_some_pairs(text: &str) -> bool
+    ensures some { IsTrue result → 0 < length (fields_of text.now) }
+    ensures pairs { IsTrue result → ArePairs (fields_of text.now) }
+    ensures none { 0 < length (fields_of text.now) → ArePairs (fields_of text.now) → IsTrue result }
+{
+    match next_field(text) {
+        Some(_) => are_pairs(text),
+        None => false,
+    }
+}
+
+// The name and the pairs of a result line.
+pub(crate) fn parts_of(line: &str) -> Option<(&str, &str)>
+    requires { begins line.now ≡ true }
+    ensures some { IfSome result (λ parts. IsResult line.now parts.0.now (fields_of parts.1.now)) }
+    ensures name { IfSome result (λ parts. IsUtf8 parts.0.now) }
+    ensures pairs { IfSome result (λ parts. IsUtf8 parts.1.now) }
+    ensures none { IfNone result (¬ IsResultLine line.now) }
+{
+    let (first, rest) = next_field(line)?;
+    let name = name_in(first)?;
+    let (count, pairs) = next_field(rest)?;
+    if is_name(name) && are_digits(count) && are_some_pairs(pairs) {
+        Some((name, pairs))
+    } else {
+        None
+    }
+}
+
+/// What kind of line a line of benchmark output is, by its own characters alone.
+///
+/// A result line has a name that begins with `Benchmark`, a count, and one or more pairs of a value and a unit, all
+/// parted by white space; a line that begins with `Benchmark` and is no result line is broken. A configuration line has
+/// a key in lower case, a colon and a value. The rules are those of docs/FORMATS.md.
+///
+/// Linear in the length of the line; takes no memory.
+pub fn line_kind(line: &str) -> LineKind
+    ensures { IsKind line.now result }
+{
+    if begins(line) {
+        match parts_of(line) {
+            Some(_) => LineKind::Result,
+            None => LineKind::Broken,
+        }
+    } else {
+        match setting_of(line) {
+            Some(_) => LineKind::Config,
+            None => LineKind::Other,
+        }
+    }
+}
