@@ -1,6 +1,6 @@
 -- The rule of a lock: one history, whose length is the count, turns that are all different, and what each pass knows.
 use Rattle.std.specs.Prelude.{◌≡◌, ◌≢◌, ℕ, ◌+◌, ◌%◌, ◌^◌, ◌<◌, ◌≤◌, ◌⊎◌, List, [], ◌∷◌, length, slice_index, Option, Some, None}
-use mathlib.Core.Option.{none, some}
+use mathlib.Core.Option.{Option as Maybe, none, some}
 use lib.ListN.{get_elem?}
 use Rattle.atomic_table.specs.Table.{State}
 use Rattle.history_lock.specs.Marks.{IsNoneOf, entries, unmarked, Follows, HaveMarksUpTo}
@@ -127,12 +127,13 @@ listed (Turn t es) = es
 listed (Inside t) = []
 listed (Meeting met) = []
 
-module _ {S E L : Type 0} (history : S → List E) (label : S → L) (name : L) where
-  -- what the words, the slot and the passes of a lock keep: one history, its length, and the turns drawn and served
-  pub record Kept (s : State (Option S) (View E L)) : Type 0 where
-    pub log : List (Marked E)
-    pub drawn : ℕ
-    pub served : ℕ
+-- a lock as its table has it: its words, its slot and what each pass knows
+abbrev pub LockState : Type 0 → Type 0 → Type 0 → Type 0
+LockState S E L = State (Option S) (View E L)
+
+module _ {S E L : Type 0} where
+  -- the words are the history's length and the turns drawn and served, and no two passes have one turn
+  pub record KeptTurns (name : L) (log : List (Marked E)) (drawn served : ℕ) (s : LockState S E L) : Type 0 where
     pub wide : length s.words ≡ 3
     pub count_is : slice_index s.words 0 ≡ length log
     pub ticket_is : slice_index s.words 1 ≡ drawn % 2 ^ 64
@@ -140,16 +141,42 @@ module _ {S E L : Type 0} (history : S → List E) (label : S → L) (name : L) 
     pub turns : drawn ≡ served + waiting s.views
     pub each : (j : ℕ) (v : View E L) → get_elem? s.views j ≡ some v → Knows drawn served log v v.stage
     pub named : (j : ℕ) (v : View E L) → get_elem? s.views j ≡ some v → alive v.stage ≡ 1 → v.label ≡ Some name
-    pub apart : (t i j : ℕ) (v w : View E L) → get_elem? s.views i ≡ some v → get_elem? s.views j ≡ some w → HasTurn t v.stage → HasTurn t w.stage → i ≡ j
-    pub slot : ((y : S) × (get_elem? s.homes 0 ≡ some (some (Some y))) × (history y ≡ entries log) × (label y ≡ name) × ((j : ℕ) (v : View E L) → get_elem? s.views j ≡ some v → ¬ (Holds v.stage)))
-        ⊎ ((get_elem? s.homes 0 ≡ some none) × ((j : ℕ) × (v : View E L) × (get_elem? s.views j ≡ some v) × Holds v.stage))
+    pub apart : (t i j : ℕ) (v w : View E L) → get_elem? s.views i ≡ some v → get_elem? s.views j ≡ some w
+        → HasTurn t v.stage → HasTurn t w.stage → i ≡ j
+
+  -- no two passes have one mark, and the first one has given each that there is
+  pub record KeptMarks (log : List (Marked E)) (s : LockState S E L) : Type 0 where
     pub first : View E L
     pub first_here : get_elem? s.views 0 ≡ some first
     pub first_lives : alive first.stage ≡ 1
     pub first_mark : first.mark ≡ 0
     pub badges : (j : ℕ) (v : View E L) → get_elem? s.views j ≡ some v → j ≢ 0 → alive v.stage ≡ 1 → IsBadge first v
-    pub own_marks : (i j : ℕ) (v w : View E L) → get_elem? s.views i ≡ some v → get_elem? s.views j ≡ some w → alive v.stage ≡ 1 → alive w.stage ≡ 1 → v.mark ≡ w.mark → i ≡ j
+    pub own_marks : (i j : ℕ) (v w : View E L) → get_elem? s.views i ≡ some v → get_elem? s.views j ≡ some w
+        → alive v.stage ≡ 1 → alive w.stage ≡ 1 → v.mark ≡ w.mark → i ≡ j
     pub census : living s.views + length first.joined ≡ first.given + 1
     pub few : first.given + 1 < 2 ^ 64
     pub joined_given : (m : ℕ) → first.given < m → IsNoneOf m first.joined
     pub given_marks : HaveMarksUpTo first.given log
+
+module _ {S E L : Type 0} (history : S → List E) (label : S → L) (name : L) where
+  -- the slot has a state of this history and label where no pass holds it, and else it is empty
+  abbrev pub KeptSlot : List (Marked E) → List (Maybe (Option S)) → List (View E L) → Type 0
+  KeptSlot log homes views =
+      ((y : S) × (get_elem? homes 0 ≡ some (some (Some y))) × (history y ≡ entries log) × (label y ≡ name)
+      × ((j : ℕ) (v : View E L) → get_elem? views j ≡ some v → ¬ (Holds v.stage)))
+      ⊎ ((get_elem? homes 0 ≡ some none) × ((j : ℕ) × (v : View E L) × (get_elem? views j ≡ some v) × Holds v.stage))
+
+  -- what the words, the slot and the passes of a lock keep: one history, its length, and the turns drawn and served
+  pub record Kept (s : LockState S E L) : Type 0 where
+    pub log : List (Marked E)
+    pub drawn : ℕ
+    pub served : ℕ
+    pub words : KeptTurns name log drawn served s
+    pub slot : KeptSlot log s.homes s.views
+    pub marks : KeptMarks log s
+
+  -- in every state that the lock can be in, a whole first pass is the only one that was not joined
+  abbrev pub WholeIsAlone : Type 0
+  WholeIsAlone = (s : LockState S E L) → Kept s → (i j : ℕ) (v w : View E L)
+      → get_elem? s.views i ≡ some v → alive v.stage ≡ 1 → IsWholeView v
+      → get_elem? s.views j ≡ some w → alive w.stage ≡ 1 → j ≡ i

@@ -1,4 +1,4 @@
--- What each step of a lock tells its caller.
+-- Private: no public contract cites this. What each step of a lock tells its caller.
 use Rattle.std.specs.Prelude.{◌≡◌, ◌≢◌, ℕ, ◌+◌, ◌%◌, ◌^◌, ◌<◌, ◌⊎◌, Bool, true, false, List, [], ◌∷◌, ◌++◌, length, Option, Some, None}
 use Rattle.atomic_table.specs.Table.{Me, Step}
 use Rattle.history_lock.specs.declared.view.View.{View}
@@ -9,7 +9,7 @@ use Rattle.history_lock.specs.Marks.{marked, entries, HaveMarksUpTo, Follows, Is
 use Rattle.history_lock.specs.Rule.{at_stage, seeing, turn_of, listed}
 
 -- a pass at its seat: what it knows, and what it took from the slot
-abbrev Sat : Type 0 → Type 0 → Type 0 → Type 0
+abbrev pub Sat : Type 0 → Type 0 → Type 0 → Type 0
 Sat S E L = Me (Option S) (View E L)
 
 -- the entries of the state in the slot that was taken last

@@ -27,4 +27,5 @@ mod tests;
 mod view;
 
 pub use historied::Historied;
-pub use lock::{HistoryLock, InUse, NoMemory, Pass};
+pub use lock::{HistoryLock, InUse, Pass};
+pub use std::alloc::AllocError as NoMemory;

@@ -1,6 +1,7 @@
 //! The lock and its passes.
 ghost use Rattle.std.specs.Prelude.{◌≡◌, ◌≢◌, ◌+◌, ◌-◌, ◌^◌, ◌≤◌, ◌⊎◌, ◌↔◌, [], IfOk, IfErr, OnOk, OnErr, IsErr, IsOkAnd, Some};
 
+use crate::NoMemory;
 use crate::historied::Historied;
 use crate::law::Law;
 use crate::plays::{CountEntry, Draw, JoinIn, Look, Meet, PassOn, ReadCount, Recall, SplitOff};
@@ -37,10 +38,6 @@ fn rest(looks: u32) {
     }
 }
 
-/// There was no memory for what was asked.
-#[derive(Clone, Copy, Debug, PartialEq, Eq)]
-pub struct NoMemory;
-
 /// A turn was drawn and not served yet: some pass is inside, waits, or was dropped while it was inside. The two counts
 /// are modulo 2^64, and differ.
 #[derive(Clone, Copy, Debug, PartialEq, Eq)]
@@ -74,14 +71,15 @@ impl<S: Historied> HistoryLock<S> {
     ghost use Rattle.history_lock.specs.Marks.{AreBy, Follows, HaveMarksUpTo, entries, unmarked};
     ghost use Rattle.history_lock.specs.Steps.{Carries, Catches, HasCome, MayAdd, Waits};
     ghost use Rattle.history_lock.specs.Steps.{in_slot};
-    ghost use Rattle.history_lock.specs.Rule.{at_stage};
+    ghost use Rattle.history_lock.specs.Rule.{at_stage, WholeIsAlone};
     ghost use Rattle.history_lock.specs.declared.view.Stage.TheVariants.{Outside};
 
     /// The lock of this state, and its first pass, which has seen the entries that the state has; these have no mark.
     /// Without memory the state is dropped. O(1).
     pub fn new(alloc: Global, state: S) -> Result<(HistoryLock<S>, Pass<S>), NoMemory>
         ensures pass { IfOk result (λ l. IsPassOf l.0 l.1 × IsOutside l.1) }
-        ensures seen { IfOk result (λ l. (seen l.1 ≡ unmarked (S.history state)) × (label l.1 ≡ Some (S.label state))) }
+        ensures seen { IfOk result (λ l.
+            (seen l.1 ≡ unmarked (S.history state)) × (label l.1 ≡ Some (S.label state))) }
         ensures marks { IfOk result (λ l. (mark l.1 ≡ 0) × (given l.1 ≡ 0) × (joined l.1 ≡ [])) }
     {
         let about = Snapshot::of(&state);
@@ -102,6 +100,11 @@ impl<S: Historied> HistoryLock<S> {
             Err(_) => Err(NoMemory),
         }
     }
+
+    /// A law: in every state that a lock can be in, a whole pass is the only one; each other pass was joined into it.
+    pub fn whole_pass_law()
+        ensures alone { (name : S.Label) → WholeIsAlone S.history S.label name }
+    {}
 
     // Waits until the turn is served. It looks some times, and then it sleeps until a pass leaves.
     fn wait_for<R: Wait>(
@@ -139,7 +142,8 @@ impl<S: Historied> HistoryLock<S> {
         requires outside { IsOutside pass.old }
         ensures pass { IsSame pass.old pass.new × IsInside pass.new }
         ensures seen { Follows (own_marks pass.old) (seen pass.old) (seen pass.new) }
-        ensures state { (S.history result ≡ entries (seen pass.new)) × (label pass.old ≡ Some (S.label result)) }
+        ensures state { (S.history result ≡ entries (seen pass.new))
+            × (label pass.old ≡ Some (S.label result)) }
     {
         let shared = &self.table.shared;
         let turn = shared.fetch_add::<Draw>(&mut pass.seat, TICKET, 1);
@@ -201,8 +205,13 @@ impl<S: Historied> HistoryLock<S> {
     pub fn split(&self, alloc: Global, pass: &mut Pass<S>) -> Result<Pass<S>, NoMemory>
         requires lock { IsPassOf self.now pass.old }
         requires first { IsFirst pass.old × IsOutside pass.old }
-        ensures ok { IfOk result (λ p. IsPassOf self.now p × IsOutside p × (seen p ≡ seen pass.old) × (label p ≡ label pass.old) × (mark p ≡ given pass.old + 1) × (joined p ≡ [])) }
-        ensures pass { OnOk result (IsPassOf self.now pass.new × IsOutside pass.new × (seen pass.new ≡ seen pass.old) × (label pass.new ≡ label pass.old) × (mark pass.new ≡ mark pass.old) × (given pass.new ≡ given pass.old + 1) × (joined pass.new ≡ joined pass.old)) }
+        ensures ok { IfOk result (λ p. IsPassOf self.now p × IsOutside p
+            × (seen p ≡ seen pass.old) × (label p ≡ label pass.old)
+            × (mark p ≡ given pass.old + 1) × (joined p ≡ [])) }
+        ensures pass { OnOk result (IsPassOf self.now pass.new × IsOutside pass.new
+            × (seen pass.new ≡ seen pass.old) × (label pass.new ≡ label pass.old)
+            × (mark pass.new ≡ mark pass.old) × (given pass.new ≡ given pass.old + 1)
+            × (joined pass.new ≡ joined pass.old)) }
         ensures new { IfOk result (λ p. HaveMarksUpTo (given pass.old) (seen p)) }
         ensures full { IsErr result ↔ (2 ^ 64 - 2 ≤ given pass.old) }
         ensures err { OnErr result (pass.new ≡ pass.old) }
@@ -226,7 +235,9 @@ impl<S: Historied> HistoryLock<S> {
         requires lock { IsPassOf self.now pass.old × IsPassOf self.now other }
         requires first { IsFirst pass.old × IsOutside pass.old }
         requires other { IsOutside other }
-        ensures pass { IsPassOf self.now pass.new × IsOutside pass.new × (label pass.new ≡ label pass.old) × (mark pass.new ≡ mark pass.old) × (given pass.new ≡ given pass.old) }
+        ensures pass { IsPassOf self.now pass.new × IsOutside pass.new
+            × (label pass.new ≡ label pass.old) × (mark pass.new ≡ mark pass.old)
+            × (given pass.new ≡ given pass.old) }
         ensures joined { Joins pass.old other pass.new }
     {
         let shared = &self.table.shared;
@@ -243,7 +254,8 @@ impl<S: Historied> HistoryLock<S> {
         ensures ok { IfOk result (Extends S.history S.label pass) }
         ensures err { IfErr result (λ r. r.ticket ≢ r.serving) }
         ensures inside { IsInside pass → IsErr result }
-        ensures whole { IsWhole pass → IsOutside pass → IsOkAnd result (λ y. (S.history y ≡ entries (seen pass)) × AreBy (own_marks pass) (seen pass)) }
+        ensures whole { IsWhole pass → IsOutside pass → IsOkAnd result (λ y.
+            (S.history y ≡ entries (seen pass)) × AreBy (own_marks pass) (seen pass)) }
     {
         let HistoryLock { table } = self;
         let mut closed = table.close_with(pass.seat);

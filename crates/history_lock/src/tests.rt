@@ -1,3 +1,4 @@
+//! What enters, leaves and closes, and with which numbers.
 ghost use Rattle.std.specs.Prelude.{◌≡◌, ◌+◌, ◌⊎◌, [], ◌∷◌, ◌++◌, IfOk, IfErr, OnErr, OnOk};
 ghost use Rattle.history_lock.specs.Passes.{seen, mark, given, joined, label, own_marks, IsFirst, IsWhole, IsPassOf, IsOutside, IsInside, IsSame};
 
@@ -56,10 +57,11 @@ fn two_passes_see_one_history(rt: HostRuntime) -> Result<(), Fail> {
     let Ok(mut second) = lock.split(rt.alloc(), &mut first) else {
         panic!(rt; "no memory")
     };
-    let state = lock.enter(&rt, &mut second);
+    let mut state = lock.enter(&rt, &mut second);
     assert!(rt; state.items.as_slice() == [5].as_slice());
+    let added = state.items.push(7).is_ok();
     lock.leave(&mut second, state);
-    assert!(rt; add(&rt, &lock, &mut second, 7));
+    assert!(rt; added);
     lock.join(&mut first, second);
     let state = lock.enter(&rt, &mut first);
     assert!(rt; state.items.as_slice() == [5, 7].as_slice());
@@ -85,6 +87,21 @@ fn a_pass_that_is_dropped_inside_keeps_the_turn(rt: HostRuntime) -> Result<(), F
         panic!(rt; "closed")
     };
     assert!(rt; in_use.ticket == 1 && in_use.serving == 0);
+    Ok(())
+}
+
+#[test]
+fn the_counts_of_a_lock_in_use_are_its_turns(rt: HostRuntime) -> Result<(), Fail> {
+    let Ok((lock, mut first)) = HistoryLock::new(rt.alloc(), no_numbers(rt.alloc())) else {
+        panic!(rt; "no memory")
+    };
+    assert!(rt; add(&rt, &lock, &mut first, 5));
+    assert!(rt; add(&rt, &lock, &mut first, 7));
+    drop(lock.enter(&rt, &mut first));
+    let Err(in_use) = lock.close(first) else {
+        panic!(rt; "closed")
+    };
+    assert!(rt; in_use.ticket == 3 && in_use.serving == 2);
     Ok(())
 }
 
@@ -114,7 +131,8 @@ fn add_side_by_side<R: Threads + Wait + Sync>(
     requires first { IsPassOf lock.now first × IsOutside first }
     requires second { IsPassOf lock.now second × IsOutside second }
     ensures first { IsPassOf lock.now result.0 × IsOutside result.0 × (mark result.0 ≡ mark first) }
-    ensures second { IsPassOf lock.now result.1 × IsOutside result.1 × (mark result.1 ≡ mark second) }
+    ensures second { IsPassOf lock.now result.1 × IsOutside result.1
+        × (mark result.1 ≡ mark second) }
 {
     let (one, two) = join(
         rt,

@@ -4,17 +4,22 @@
 //! with the real objects of `track_outside`; it ends with the status' number.
 #![tactic(auto)]
 
-use std::env;
-use std::io::ErrorKind;
+ghost use Rattle.std.specs.Prelude.{◌≡◌};
+ghost use Rattle.std.specs.Process.{exit_status};
+ghost use Rattle.tracker_top.specs.Statuses.{number_of};
+
+mod words;
+
 use std::process::ExitCode;
 use track_outside::{RealSink, RealSource};
 use tracker_top::{Status, alone, put_status};
+use words::words_of;
 
 fn main(rt: HostRuntime) -> ExitCode {
     let mut input = RealSource::input(&rt);
     let mut out = RealSink::output(&rt);
     let mut err = RealSink::error(&rt);
-    let status = match words_of(&rt) {
+    let status = match words_of(&rt, rt.alloc()) {
         Ok(words) => alone(rt.alloc(), &words, &mut input, &mut out, &mut err),
         Err(status) => {
             // A status stands also where it can't be told.
@@ -22,14 +27,12 @@ fn main(rt: HostRuntime) -> ExitCode {
             status
         }
     };
-    ExitCode::from(status.number())
+    exit_code(status)
 }
 
-// The words behind the program's name. Where one is no UTF-8, the words are no command.
-fn words_of(rt: &HostRuntime) -> Result<Vec<String>, Status> {
-    match env::args(rt) {
-        Ok(args) => Ok(args.skip(1).collect(rt.alloc())?),
-        Err(error) if error.kind() == ErrorKind::OutOfMemory => Err(Status::NoMemory),
-        Err(_) => Err(Status::BadWords),
-    }
+// What the process ends with.
+fn exit_code(status: Status) -> ExitCode
+    ensures exit_status { exit_status result ≡ number_of status }
+{
+    ExitCode::from(status.number())
 }

@@ -1,23 +1,46 @@
-//! The outside as the program sees it: sources and sinks of bytes that count their faults.
+//! The outside as the program sees it: objects that bytes come from and go to, and that count their faults.
 //!
-//! A [`Source`] gives bytes and a [`Sink`] takes them. Each may fail, counts how often it did, and may tell contracts
-//! its bytes; whoever uses one through the traits learns that `Failed` comes only where the count rose in that call, and,
-//! where bytes are told, which of them moved. [`MemSource`] and [`MemSink`] are in memory and tell their bytes;
-//! [`RealSource`] and [`RealSink`] are the standard streams, and tell none: what a terminal or a file really gives or
-//! keeps, no contract can say.
+//! Four traits: [`Source`] gives bytes, [`Sink`] takes them, [`Files`] opens inputs and creates outputs by name, [`Keeper`]
+//! keeps rows of bytes. Each promises that `Failed` comes only where the object's own count rose in that call, and, where
+//! the object tells contracts what it holds, what moved. Those in memory tell it, those of the system tell nothing: what a
+//! terminal or a file really gives or keeps, no contract can say.
 //!
 //! Stands on std alone.
 #![tactic(auto)]
 
 mod fault_count;
-mod memory;
+mod files;
+mod keeper;
+mod mem_files;
+mod mem_keeper;
+mod mem_sink;
+mod mem_source;
+mod out_error;
+mod put;
 mod real;
+mod real_files;
+mod repeat_source;
+mod room;
 mod sink;
 mod source;
+mod sure_sink;
+mod sure_source;
 #[cfg(test)]
 mod tests;
 
-pub use memory::{MemSink, MemSource, NoMemory};
+pub use files::Files;
+pub use keeper::Keeper;
+pub use mem_files::MemFiles;
+pub use mem_keeper::MemKeeper;
+pub use mem_sink::MemSink;
+pub use mem_source::MemSource;
+pub use out_error::OutError;
+pub use put::put_all;
 pub use real::{RealSink, RealSource};
-pub use sink::{Sink, put_all};
+pub use real_files::RealFiles;
+pub use repeat_source::RepeatSource;
+pub use sink::Sink;
 pub use source::{Failed, Source};
+pub use std::alloc::AllocError as NoMemory;
+pub use sure_sink::SureSink;
+pub use sure_source::SureSource;

@@ -1,0 +1,57 @@
+//! The program's words, those behind its name.
+ghost use Rattle.std.specs.Prelude.{◌≡◌, ◌⊎◌, Err, IsUtf8, string_bytes, IfOk, IfErr};
+ghost use Rattle.tracker_top.specs.declared.status.Status.{Status};
+
+use std::alloc::{AllocError, Global};
+use std::env::{Env, FillError};
+use std::str;
+use tracker_top::Status;
+
+/// The words behind the program's name. One that is no text makes them no command; the name itself may be none.
+pub(crate) fn words_of<E: Env>(env: &E, alloc: Global) -> Result<Vec<String>, Status>
+    ensures only { IfErr result (λ status. (status ≡ Status.BadWords)
+        ⊎ (status ≡ Status.NoMemory)) }
+{
+    let mut words = Vec::new(alloc);
+    for i in 1..usize::MAX {
+        let Some(bytes) = word_bytes(env, alloc, i)? else {
+            break;
+        };
+        let text = text_of(alloc, &bytes)?;
+        if words.push(text).is_err() {
+            return Err(Status::NoMemory);
+        }
+    }
+    Ok(words)
+}
+
+// The bytes of a word, if it is there. The room for them is doubled until they fit.
+fn word_bytes<E: Env>(env: &E, alloc: Global, i: usize) -> Result<Option<Vec<u8>>, AllocError> {
+    let mut bytes = Vec::new(alloc);
+    let mut room = 256usize;
+    for _ in 0..usize::BITS {
+        bytes.resize(room, 0u8)?;
+        match env.arg(i, &mut bytes) {
+            Ok(count) => {
+                bytes.truncate(count);
+                return Ok(Some(bytes));
+            }
+            Err(FillError::NotPresent) => return Ok(None),
+            Err(FillError::TooLong) => room = room.saturating_mul(2),
+        }
+    }
+    Err(AllocError)
+}
+
+// The text of a word's bytes: bad words exactly where they are none.
+fn text_of(alloc: Global, bytes: &[u8]) -> Result<String, Status>
+    ensures text { IfOk result (λ word. (string_bytes word ≡ bytes.now) × IsUtf8 bytes.now) }
+    ensures bad { result ≡ Err Status.BadWords → ¬ IsUtf8 bytes.now }
+    ensures only { IfErr result (λ status. (status ≡ Status.BadWords)
+        ⊎ (status ≡ Status.NoMemory)) }
+{
+    match str::from_utf8(bytes) {
+        Ok(text) => Ok(String::from_str(alloc, text)?),
+        Err(_) => Err(Status::BadWords),
+    }
+}
