@@ -1,28 +1,23 @@
+//! Small certificates, from outside.
 use crate::part;
-use crate::sums::Sums;
-use segment_cost::{Points, with_last_law};
+use point_list::steps_law;
+use segment_cost::Points;
 use std::alloc::Global;
 use std::test::Fail;
 
 const BIG: i64 = 10_000_000_000_000_000;
 
-// The points of some commits and values, in order; none where they aren't in order or there is no memory.
+// The points of some commits and values, in any order; none where a value is out of range or there is no memory.
 fn points_of(alloc: Global, lines: &[(u64, i64)]) -> Option<Points> {
     let mut points = Points::new(alloc);
-    let mut last = 0;
+    steps_law();
     for (i, (commit, value)) in lines.iter().enumerate() {
-        if *commit < last
-            || value.unsigned_abs() > BIG as u64
-            || i >= 1000
-            || points.len() >= 1000
-        {
+        if value.unsigned_abs() > BIG as u64 {
             return None;
         }
-        with_last_law();
-        if points.push_last(*commit, i as u64, *value).is_err() {
+        if points.insert(*commit, i as u64, *value).is_err() {
             return None;
         }
-        last = *commit;
     }
     Some(points)
 }
@@ -99,29 +94,4 @@ fn ties_and_the_greatest_values(rt: HostRuntime) {
     for case in &CASES {
         assert!(rt; holds(rt.alloc(), case), "{}", case.name);
     }
-}
-
-// The least sum of squares of some values, and their centre; none for no values.
-fn least_sum_and_centre(values: &[i64]) -> Option<(i128, i128)> {
-    let mut sums = Sums::NONE;
-    for value in values {
-        if value.unsigned_abs() > BIG as u64 || sums.count >= 1000 {
-            return None;
-        }
-        sums = sums.with_value(*value);
-    }
-    if sums.count == 0 {
-        return None;
-    }
-    Some((sums.least_sum(), sums.centre()))
-}
-
-// The centre is the whole number nearest to the mean, and the smaller of two that are as near.
-#[test]
-fn centres_are_nearest_to_the_mean(rt: HostRuntime) {
-    assert_eq!(rt; least_sum_and_centre(&[0, 1]), Some((1, 0)));
-    assert_eq!(rt; least_sum_and_centre(&[-1, 0]), Some((1, -1)));
-    assert_eq!(rt; least_sum_and_centre(&[0, 0, 1]), Some((1, 0)));
-    assert_eq!(rt; least_sum_and_centre(&[0, 1, 1]), Some((1, 1)));
-    assert_eq!(rt; least_sum_and_centre(&[-1, 0, 0]), Some((1, 0)));
 }

@@ -1,4 +1,2 @@
-pub mod Samples
-pub mod LastPosition
-pub mod KeptLimits
-pub mod OneCertificate
+mod OneCertificate
+mod Squares

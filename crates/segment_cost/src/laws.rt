@@ -1,15 +1,9 @@
-ghost use Rattle.segment_cost.specs.Certificate.{OneCertificate};
-ghost use Rattle.segment_cost.specs.Positions.{LastHasCommit, LastHasStep, OneValueMore, OnePositionMore};
+//! Laws of certificates.
+ghost use Rattle.segment_cost.specs.Certificate.{OneCertificate, CertificateStands, StandingIsCertificate};
 
-use segment_model::{agreeing_costs_law, best_list_law, cost_law, table_law};
-
-/// What one value more at the end of some positions makes of their last commit, last step and counts.
-pub fn with_last_law()
-    ensures commit { LastHasCommit }
-    ensures step { LastHasStep }
-    ensures values { OneValueMore }
-    ensures positions { OnePositionMore }
-{}
+use segment_model::{
+    agreeing_costs_law, best_list_law, cost_law, squares_law, table_law, values_law,
+};
 
 /// No points and penalty have two certificates that stand for them.
 pub fn one_certificate_law()
@@ -19,4 +13,15 @@ pub fn one_certificate_law()
     best_list_law();
     agreeing_costs_law();
     table_law();
+}
+
+/// A certificate stands for points where it is one for the least sums of squares of their segments.
+pub fn certificate_law()
+    ensures stands { CertificateStands }
+    ensures standing { StandingIsCertificate }
+{
+    cost_law();
+    agreeing_costs_law();
+    squares_law();
+    values_law();
 }

@@ -1,24 +1,31 @@
 //! The values that the segmentation works on, and what it answers.
 //!
-//! `Points` is a list of positions, each a commit with its values; its type keeps the limits, and `Points::limits`
-//! says so. `Cert` is a certificate: a cut list, its total and the tables that show it to be the best.
+//! `Points` is a list of positions, each a commit with its values, from `point_list`. `Cert` is a certificate: a cut
+//! list, its total and the tables that show it to be the best.
 //! `specs/Certificate.antt` says when a certificate stands for points and a penalty, and `one_certificate_law` that no
 //! points and penalty have two.
 //!
-//! It stands on the definitions of `segment_model` and the lists of `line_text`.
+//! `Cost` says what each segment of some positions costs; `Square` is the least sum of squares about a whole number.
+//!
+//! It stands on the definitions of `segment_model`, the points of `point_list`, the sums of `prefix_sums` and the lists
+//! of `line_text`.
 #![tactic(auto)]
 
 mod cert;
-mod costs;
+mod cost;
+mod done;
 mod laws;
-mod memory;
-mod points;
-mod stored;
+mod square;
 #[cfg(test)]
 mod tests;
 
 pub use cert::Cert;
-pub use costs::Costs;
-pub use laws::{one_certificate_law, with_last_law};
-pub use memory::NoMemory;
-pub use points::Points;
+pub use cost::Cost;
+pub use done::Done;
+pub use laws::{certificate_law, one_certificate_law};
+pub use point_list::{PointFault, Points};
+pub use square::Square;
+pub use std::alloc::AllocError as NoMemory;
+
+/// A list of whole numbers of 128 bits: costs and totals.
+pub type Costs = line_text::Items<i128>;

@@ -4,3 +4,6 @@ pub mod Computed
 pub mod Cuts
 pub mod Tables
 pub mod Laws
+pub mod Values
+pub mod Edits
+pub mod Brought

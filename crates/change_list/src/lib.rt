@@ -1,0 +1,17 @@
+//! The changes that a finished segmentation shows: one for each of its cuts.
+//!
+//! `specs/Changes.antt` says what a change is. The centres beside a cut are never equal: joining two segments
+//! about one centre would cost no more, and of several cut lists of least total the one with the earlier last cut is
+//! taken. It stands on `segment_cost` and the directions of `metric_table`.
+#![tactic(auto)]
+
+mod change;
+mod made;
+#[cfg(test)]
+mod tests;
+
+pub use change::Change;
+pub use made::changes;
+
+/// A list of changes.
+pub type ChangeItems = line_text::Items<Change>;

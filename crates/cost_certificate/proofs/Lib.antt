@@ -1,0 +1,6 @@
+mod Loops
+mod Whole
+mod Certificates
+mod Floors
+mod Needs
+mod Watches

@@ -1,0 +1,53 @@
+-- Rows and places that hold are the whole tables.
+use Rattle.std.proofs.Common.{◌≡◌, ℕ, ℤ, ◌+◌, ◌^◌, ◌<◌, ◌≤◌, List, length, slice_index, inl, inr, pos, neg_ℤ, ◌≤ℤ◌, arith}
+use Rattle.std.proofs.lemmas.Int.{ints}
+use Rattle.std.proofs.lemmas.Bool.{cases_eq}
+use Rattle.segment_model.specs.Tables.{int_at, IsTable, IsVerified}
+use Rattle.segment_model.specs.Laws.{TotalsAreInRange}
+use Rattle.cost_certificate.specs.Checks.{AreTotals, RowHolds, PlaceHolds}
+
+module _ (cost : ℕ → ℕ → ℤ) (n : ℕ) (b : ℤ) (least : List ℤ) (back pruned : List ℕ) where
+  pub verified : length least ≡ n + 1 → length back ≡ n + 1 → length pruned ≡ n + 1 → int_at least 0 ≡ neg_ℤ b → slice_index back 0 ≡ 0
+      → ((t : ℕ) → 0 < t → t ≤ n → RowHolds cost b least back t) → ((s : ℕ) → s ≤ n → PlaceHolds cost n b least back pruned s) → IsVerified cost n b least back pruned
+  verified least_size back_size pruned_size first first_back rows places = record {
+    least_length = least_size;
+    back_length = back_size;
+    pruned_length = pruned_size;
+    least_at_none = first;
+    back_at_none = first_back;
+    before = λ t some le. (rows t some le).0;
+    made = λ t some le. (rows t some le).1;
+    at_most = λ s t lt le open'. ((places s (omega arith)).1 t lt le open').0;
+    earlier = λ s t lt le open'. let lt' = before_row s t lt le in ((places s (omega arith)).1 t lt' le open').1 lt;
+    marked = λ s le. (places s le).0;
+    dear = λ s t lt le open'. let lt' = before_row s t lt le in ((places s (omega arith)).1 t lt' le open').2 lt;
+    cheap = λ s t from lt le open'. ((places s (omega arith)).1 t lt le open').3 from;
+  }
+    where
+      before_row : (s t : ℕ) → s < slice_index back t → t ≤ n → s < t
+      before_row s t lt le = elim (cases_eq t 0) [
+        | inl at ↦ let lt' = rw at at lt in absurd (omega (arith, lt', first_back))
+        | inr apart ↦ omega (arith, lt, (rows t (omega arith) le).0)
+      ]
+
+  module _ (h : IsVerified cost n b least back pruned) where
+    pub rows-hold : (t : ℕ) → 0 < t → t ≤ n → RowHolds cost b least back t
+    rows-hold t some le = (h.before t some le, h.made t some le)
+
+    pub places-hold : (s : ℕ) → s ≤ n → PlaceHolds cost n b least back pruned s
+    places-hold s le = (
+      h.marked s le,
+      λ t above within open'. (
+        h.at_most s t above within open',
+        (λ lt. h.earlier s t lt within open'),
+        (λ lt. h.dear s t lt within open'),
+        (λ from. h.cheap s t from above within open'),
+      ),
+    )
+
+-- the totals of the tables are in their range
+pub totals-are : TotalsAreInRange → (cost : ℕ → ℕ → ℤ) (n : ℕ) (b : ℤ) (least : List ℤ) (back pruned : List ℕ) → IsTable cost n b least back pruned
+    → pos 0 ≤ℤ b → b ≤ℤ pos (10 ^ 36) → ((s t : ℕ) → s ≤ t → t ≤ n → (pos 0 ≤ℤ cost s t) × (cost s t ≤ℤ pos (10 ^ 37))) → AreTotals least
+totals-are in_range cost n b least back pruned h low high range s lt =
+    let there = in_range cost n (10 ^ 37) b least back pruned low range h s (omega (arith, h.least_length)) in
+    (omega (arith, ints, high, there.0), there.1)

@@ -1,0 +1,600 @@
+//! The pairs of places, block by block.
+//!
+//! What a last segment from a place makes to the places of a block is at least what it makes to the block's beginning and
+//! the cost of the segment from there on, since neighbouring segments cost together at most what their union costs. So
+//! for each block it is computed once what must be made to its beginning, and most places need no other look. Nor do most
+//! blocks of places before it: what their places make to a place, looked at once, is a floor of what they make behind it.
+ghost use Rattle.std.specs.Prelude.{◌≡◌, ◌≢◌, ℕ, ◌+◌, ◌*◌, ◌^◌, ◌<◌, ◌≤◌, length, pos, neg_ℤ, ◌+ℤ◌, ◌≤ℤ◌, ◌<ℤ◌, ◌↔◌, ◌⊎◌, IfNone, IfSome, IsTrue, slice_index, false, true};
+ghost use Rattle.segment_model.specs.Values.{cost_between};
+ghost use Rattle.segment_model.specs.Tables.{int_at, IsMark};
+ghost use Rattle.segment_model.specs.Computed.{least_sum_of};
+ghost use Rattle.cost_certificate.specs.Checks.{AreTotals, AreWatches, IsNeed, IsWatch, PlaceHolds, PlaceHoldsInBlock, watch_at};
+
+use crate::entries::{is_mark, last_open, made_from, pairs_hold};
+use segment_cost::{Cost, Square};
+use segment_model::{squares_law, value_costs_law};
+
+// How many places a block has.
+const BLOCK: usize = 32;
+
+// At most each total, and the cost of a segment less.
+const LOWEST: i128 = -20_000_000_000_000_000_000_000_000_000_000_000_000;
+
+// At least what a last segment makes.
+const HIGHEST: i128 = 20_000_000_000_000_000_000_000_000_000_000_000_000;
+
+// How many blocks there are: enough for the places of 16,384 positions.
+const BLOCKS: usize = 512;
+
+// What must be made to a block's beginning, and the last of its last cuts.
+#[derive(Clone, Copy, Drop)]
+pub struct Need {
+    pub total: i128,
+    pub last_cut: usize,
+}
+
+// What must be made to place `from` so that no pair with a place behind it, up to `end`, needs a look.
+fn need_of(square: &Square, least: &[i128], back: &[u64], from: usize, end: usize) -> Need
+    requires inside { from ≤ end }
+    requires placed { end ≤ length square.now.positions }
+    requires few { length square.now.positions ≤ 16_384 }
+    requires totals { AreTotals least.now }
+    requires least { length least.now ≡ length square.now.positions + 1 }
+    requires back { length back.now ≡ length square.now.positions + 1 }
+    ensures { IsNeed (cost_between least_sum_of square.now.positions) least.now back.now from end result }
+{
+    square.limits();
+    squares_law();
+    value_costs_law();
+    let mut need = Need {
+        total: LOWEST,
+        last_cut: 0,
+    };
+    for t in from + 1..end + 1 {
+        need = need_with(need, least[t] - square.cost(from, t), back[t] as usize);
+    }
+    need
+}
+
+// The need with a place more.
+fn need_with(need: Need, total: i128, last_cut: usize) -> Need
+    ensures total { (need.total ≤ℤ result.total) × (total ≤ℤ result.total) × ((result.total ≡ need.total) ⊎ (result.total ≡ total)) }
+    ensures last_cut { (need.last_cut ≤ result.last_cut) × (last_cut ≤ result.last_cut) }
+{
+    Need {
+        total: if total > need.total {
+            total
+        } else {
+            need.total
+        },
+        last_cut: if last_cut > need.last_cut {
+            last_cut
+        } else {
+            need.last_cut
+        },
+    }
+}
+
+// Whether what place s makes to the beginning of a block tells that each pair with a place of the block holds.
+fn needs_no_look(need: Need, made: i128, penalty: i128, s: usize) -> bool
+    requires low { pos 0 ≤ℤ penalty }
+    requires high { penalty ≤ℤ pos (10 ^ 36) }
+    requires made_low { neg_ℤ (pos (2 * 10 ^ 37)) ≤ℤ made }
+    requires made_high { made ≤ℤ pos (3 * 10 ^ 37) }
+    ensures total { IsTrue result → need.total ≤ℤ (made +ℤ penalty) }
+    ensures last_cut { IsTrue result → need.last_cut ≤ s }
+{
+    need.last_cut <= s && need.total <= made + penalty
+}
+
+// Whether it is told without a look at each that the pairs of s with places behind `from`, up to `end`, at which s is open,
+// hold.
+fn is_told(
+    square: &Square,
+    penalty: i128,
+    least: &[i128],
+    back: &[u64],
+    pruned: &[u64],
+    need: Need,
+    s: usize,
+    from: usize,
+    end: usize,
+) -> bool
+    requires placed { end ≤ length square.now.positions }
+    requires inside { from ≤ end }
+    requires few { length square.now.positions ≤ 16_384 }
+    requires low { pos 0 ≤ℤ penalty }
+    requires high { penalty ≤ℤ pos (10 ^ 36) }
+    requires totals { AreTotals least.now }
+    requires least { length least.now ≡ length square.now.positions + 1 }
+    requires back { length back.now ≡ length square.now.positions + 1 }
+    requires pruned { length pruned.now ≡ length square.now.positions + 1 }
+    requires need { IsNeed (cost_between least_sum_of square.now.positions) least.now back.now from end need }
+    ensures { IsTrue result → PlaceHoldsInBlock (cost_between least_sum_of square.now.positions) penalty least.now back.now pruned.now s from end }
+{
+    squares_law();
+    value_costs_law();
+    square.limits();
+    let _ = back;
+    if s >= from {
+        return false;
+    }
+    let mark = pruned[s] as usize;
+    if is_closed(mark, from) {
+        return true;
+    }
+    if !is_open_behind(mark, end) {
+        return false;
+    }
+    needs_no_look(need, made_from(square, least, s, from), penalty, s)
+}
+
+// Whether a place with that mark is closed from the place behind `from` on.
+fn is_closed(mark: usize, from: usize) -> bool
+    ensures { IsTrue result ↔ ((mark ≢ 0) × (mark ≤ from)) }
+{
+    mark != 0 && mark <= from
+}
+
+// Whether a place with that mark is open at `end` and behind it.
+fn is_open_behind(mark: usize, end: usize) -> bool
+    ensures { IsTrue result ↔ ((mark ≡ 0) ⊎ (end < mark)) }
+{
+    mark == 0 || mark > end
+}
+
+// Whether each pair of s with a place behind `from`, up to `end`, at which s is open, holds.
+fn place_holds(
+    square: &Square,
+    penalty: i128,
+    least: &[i128],
+    back: &[u64],
+    pruned: &[u64],
+    need: Need,
+    s: usize,
+    from: usize,
+    end: usize,
+) -> bool
+    requires placed { end ≤ length square.now.positions }
+    requires inside { from ≤ end }
+    requires below { s < end }
+    requires few { length square.now.positions ≤ 16_384 }
+    requires low { pos 0 ≤ℤ penalty }
+    requires high { penalty ≤ℤ pos (10 ^ 36) }
+    requires totals { AreTotals least.now }
+    requires least { length least.now ≡ length square.now.positions + 1 }
+    requires back { length back.now ≡ length square.now.positions + 1 }
+    requires pruned { length pruned.now ≡ length square.now.positions + 1 }
+    requires need { IsNeed (cost_between least_sum_of square.now.positions) least.now back.now from end need }
+    ensures { IsTrue result ↔ PlaceHoldsInBlock (cost_between least_sum_of square.now.positions) penalty least.now back.now pruned.now s from end }
+{
+    if is_told(square, penalty, least, back, pruned, need, s, from, end) {
+        return true;
+    }
+    let mark = pruned[s] as usize;
+    pairs_hold(
+        square,
+        penalty,
+        least,
+        back,
+        pruned,
+        s,
+        s.max(from),
+        last_open(end, mark).min(end),
+    )
+}
+
+// What was seen of the places of a block at place `at`: those that aren't closed there have no mark up to `until`, and make
+// at least `total`; there are none of them where the block is shut.
+#[derive(Clone, Copy, Drop)]
+pub struct Watch {
+    pub at: usize,
+    pub total: i128,
+    pub until: usize,
+    pub is_shut: bool,
+}
+
+// What is known of any block.
+const NOTHING: Watch = Watch {
+    at: 0,
+    total: LOWEST,
+    until: 0,
+    is_shut: false,
+};
+
+// At most what each watched place makes to place `from`.
+fn floor_at(square: &Square, watch: Watch, from: usize) -> i128
+    requires placed { from ≤ length square.now.positions }
+    requires before { watch.at ≤ from }
+    requires low { neg_ℤ (pos (2 * 10 ^ 37)) ≤ℤ watch.total }
+    requires high { watch.total ≤ℤ pos (2 * 10 ^ 37) }
+    ensures total { result ≤ℤ (watch.total +ℤ cost_between least_sum_of square.now.positions watch.at from) }
+    ensures low { neg_ℤ (pos (2 * 10 ^ 37)) ≤ℤ result }
+    ensures high { result ≤ℤ pos (3 * 10 ^ 37) }
+{
+    square.limits();
+    squares_law();
+    value_costs_law();
+    if watch.at == from {
+        return watch.total;
+    }
+    watch.total + square.cost(watch.at, from)
+}
+
+// Whether it is told of each place of a block of places, from `start` on, that its pairs with the places behind `from`, up
+// to `end`, hold.
+fn passes(
+    square: &Square,
+    need: Need,
+    watch: Watch,
+    penalty: i128,
+    start: usize,
+    from: usize,
+    end: usize,
+) -> bool
+    requires placed { from ≤ length square.now.positions }
+    requires before { watch.at ≤ from }
+    requires low { pos 0 ≤ℤ penalty }
+    requires high { penalty ≤ℤ pos (10 ^ 36) }
+    requires total_low { neg_ℤ (pos (2 * 10 ^ 37)) ≤ℤ watch.total }
+    requires total_high { watch.total ≤ℤ pos (2 * 10 ^ 37) }
+    ensures { IsTrue result → (watch.is_shut ≡ true)
+        ⊎ ((need.last_cut ≤ start) × (end ≤ watch.until)
+        × (need.total ≤ℤ (watch.total +ℤ cost_between least_sum_of square.now.positions watch.at from +ℤ penalty))) }
+{
+    square.limits();
+    squares_law();
+    value_costs_law();
+    if watch.is_shut {
+        return true;
+    }
+    if end > watch.until {
+        return false;
+    }
+    if needs_no_look(need, watch.total, penalty, start) {
+        return true;
+    }
+    needs_no_look(need, floor_at(square, watch, from), penalty, start)
+}
+
+// What is known of a block with a place more, which isn't closed, has that mark, and makes that.
+fn watch_with(watch: Watch, made: i128, mark: usize) -> Watch
+    ensures total { (result.total ≤ℤ watch.total) × (result.total ≤ℤ made) × ((result.total ≡ watch.total) ⊎ (result.total ≡ made)) }
+    ensures until { (result.until ≤ watch.until) × ((mark ≡ 0) ⊎ (result.until < mark)) }
+    ensures open { result.is_shut ≡ false }
+    ensures at { result.at ≡ watch.at }
+{
+    Watch {
+        at: watch.at,
+        total: made.min(watch.total),
+        until: if mark == 0 {
+            watch.until
+        } else {
+            watch.until.min(mark - 1)
+        },
+        is_shut: false,
+    }
+}
+
+// What was seen of a block with place s more.
+fn next_watch(
+    square: &Square,
+    least: &[i128],
+    pruned: &[u64],
+    watch: Watch,
+    start: usize,
+    s: usize,
+) -> Watch
+    requires placed { watch.at ≤ length square.now.positions }
+    requires below { s < watch.at }
+    requires totals { AreTotals least.now }
+    requires least { length least.now ≡ length square.now.positions + 1 }
+    requires pruned { length pruned.now ≡ length square.now.positions + 1 }
+    requires watch { IsWatch (cost_between least_sum_of square.now.positions) (length square.now.positions) least.now pruned.now start s watch.at watch }
+    ensures watch { IsWatch (cost_between least_sum_of square.now.positions) (length square.now.positions) least.now pruned.now start (s + 1) watch.at result }
+    ensures at { result.at ≡ watch.at }
+{
+    square.limits();
+    squares_law();
+    value_costs_law();
+    let mark = pruned[s] as usize;
+    if is_closed(mark, watch.at) {
+        return watch;
+    }
+    watch_with(watch, made_from(square, least, s, watch.at), mark)
+}
+
+// What is seen at place `from` of the places from `start` on, before `stop`.
+fn watch_of(
+    square: &Square,
+    least: &[i128],
+    pruned: &[u64],
+    start: usize,
+    stop: usize,
+    from: usize,
+) -> Watch
+    requires placed { from ≤ length square.now.positions }
+    requires block { start ≤ stop }
+    requires front { stop ≤ from }
+    requires totals { AreTotals least.now }
+    requires least { length least.now ≡ length square.now.positions + 1 }
+    requires pruned { length pruned.now ≡ length square.now.positions + 1 }
+    ensures { IsWatch (cost_between least_sum_of square.now.positions) (length square.now.positions) least.now pruned.now start stop from result }
+{
+    let mut watch = Watch {
+        at: from,
+        total: HIGHEST,
+        until: square.len(),
+        is_shut: true,
+    };
+    for s in start..stop {
+        watch = next_watch(square, least, pruned, watch, start, s);
+    }
+    watch
+}
+
+// Whether each pair holds whose first place lies from `start` on, before `stop`, and whose second one behind `from`, up to
+// `end`.
+fn range_holds(
+    square: &Square,
+    penalty: i128,
+    least: &[i128],
+    back: &[u64],
+    pruned: &[u64],
+    need: Need,
+    start: usize,
+    stop: usize,
+    from: usize,
+    end: usize,
+) -> bool
+    requires placed { end ≤ length square.now.positions }
+    requires inside { from ≤ end }
+    requires below { stop ≤ end }
+    requires few { length square.now.positions ≤ 16_384 }
+    requires low { pos 0 ≤ℤ penalty }
+    requires high { penalty ≤ℤ pos (10 ^ 36) }
+    requires totals { AreTotals least.now }
+    requires least { length least.now ≡ length square.now.positions + 1 }
+    requires back { length back.now ≡ length square.now.positions + 1 }
+    requires pruned { length pruned.now ≡ length square.now.positions + 1 }
+    requires need { IsNeed (cost_between least_sum_of square.now.positions) least.now back.now from end need }
+    ensures { IsTrue result
+        ↔ ((s : ℕ) → start ≤ s → s < stop → PlaceHoldsInBlock (cost_between least_sum_of square.now.positions) penalty least.now back.now pruned.now s from end) }
+{
+    for s in start..stop {
+        if !place_holds(square, penalty, least, back, pruned, need, s, from, end) {
+            return false;
+        }
+    }
+    true
+}
+
+// What is known of a block of places from place `from` on, where each of its pairs holds whose second place lies behind it,
+// up to `end`; none where one doesn't.
+//
+// The single places are looked at only where what was known of the block doesn't tell.
+fn front_holds(
+    square: &Square,
+    penalty: i128,
+    least: &[i128],
+    back: &[u64],
+    pruned: &[u64],
+    need: Need,
+    watch: Watch,
+    start: usize,
+    stop: usize,
+    from: usize,
+    end: usize,
+) -> Option<Watch>
+    requires placed { end ≤ length square.now.positions }
+    requires inside { from ≤ end }
+    requires block { start ≤ stop }
+    requires front { stop ≤ from }
+    requires few { length square.now.positions ≤ 16_384 }
+    requires low { pos 0 ≤ℤ penalty }
+    requires high { penalty ≤ℤ pos (10 ^ 36) }
+    requires totals { AreTotals least.now }
+    requires least { length least.now ≡ length square.now.positions + 1 }
+    requires back { length back.now ≡ length square.now.positions + 1 }
+    requires pruned { length pruned.now ≡ length square.now.positions + 1 }
+    requires need { IsNeed (cost_between least_sum_of square.now.positions) least.now back.now from end need }
+    requires watch { IsWatch (cost_between least_sum_of square.now.positions) (length square.now.positions) least.now pruned.now start stop from watch }
+    ensures holds { IfSome result (λ next. (s : ℕ) → start ≤ s → s < stop → PlaceHoldsInBlock (cost_between least_sum_of square.now.positions) penalty least.now back.now pruned.now s from end) }
+    ensures watch { IfSome result (λ next. IsWatch (cost_between least_sum_of square.now.positions) (length square.now.positions) least.now pruned.now start stop from next) }
+    ensures none { IfNone result (¬ ((s : ℕ) → start ≤ s → s < stop → PlaceHoldsInBlock (cost_between least_sum_of square.now.positions) penalty least.now back.now pruned.now s from end)) }
+{
+    square.limits();
+    squares_law();
+    value_costs_law();
+    if passes(square, need, watch, penalty, start, from, end) {
+        return Some(watch);
+    }
+    let seen = watch_of(square, least, pruned, start, stop, from);
+    if passes(square, need, seen, penalty, start, from, end) {
+        return Some(seen);
+    }
+    if !range_holds(
+        square, penalty, least, back, pruned, need, start, stop, from, end,
+    ) {
+        return None;
+    }
+    Some(seen)
+}
+
+// Whether each pair holds whose first place lies before block k and whose second one in it, up to `end`. Afterwards the
+// watches hold from the block's beginning on.
+fn fronts_hold(
+    square: &Square,
+    penalty: i128,
+    least: &[i128],
+    back: &[u64],
+    pruned: &[u64],
+    need: Need,
+    watches: &mut [Watch],
+    k: usize,
+    end: usize,
+) -> bool
+    requires block { k < 512 }
+    requires placed { end ≤ length square.now.positions }
+    requires inside { k * 32 ≤ end }
+    requires few { length square.now.positions ≤ 16_384 }
+    requires low { pos 0 ≤ℤ penalty }
+    requires high { penalty ≤ℤ pos (10 ^ 36) }
+    requires totals { AreTotals least.now }
+    requires least { length least.now ≡ length square.now.positions + 1 }
+    requires back { length back.now ≡ length square.now.positions + 1 }
+    requires pruned { length pruned.now ≡ length square.now.positions + 1 }
+    requires need { IsNeed (cost_between least_sum_of square.now.positions) least.now back.now (k * 32) end need }
+    requires watches { AreWatches (cost_between least_sum_of square.now.positions) (length square.now.positions) least.now pruned.now (k * 32) watches.old }
+    ensures holds { IsTrue result
+        ↔ ((s : ℕ) → s < k * 32 → PlaceHoldsInBlock (cost_between least_sum_of square.now.positions) penalty least.now back.now pruned.now s (k * 32) end) }
+    ensures watches { AreWatches (cost_between least_sum_of square.now.positions) (length square.now.positions) least.now pruned.now (k * 32) watches.new }
+{
+    for j in 0..k {
+        let known = front_holds(
+            square,
+            penalty,
+            least,
+            back,
+            pruned,
+            need,
+            watches[j],
+            j * BLOCK,
+            j * BLOCK + BLOCK,
+            k * BLOCK,
+            end,
+        );
+        let Some(watch) = known else {
+            return false;
+        };
+        watches[j] = watch;
+    }
+    true
+}
+
+// Whether each pair of places holds whose second one lies in block k, up to `end`. Afterwards the watches hold from `end` on.
+fn block_holds(
+    square: &Square,
+    penalty: i128,
+    least: &[i128],
+    back: &[u64],
+    pruned: &[u64],
+    watches: &mut [Watch],
+    k: usize,
+    end: usize,
+) -> bool
+    requires block { k < 512 }
+    requires placed { end ≤ length square.now.positions }
+    requires inside { k * 32 ≤ end }
+    requires few { length square.now.positions ≤ 16_384 }
+    requires low { pos 0 ≤ℤ penalty }
+    requires high { penalty ≤ℤ pos (10 ^ 36) }
+    requires totals { AreTotals least.now }
+    requires least { length least.now ≡ length square.now.positions + 1 }
+    requires back { length back.now ≡ length square.now.positions + 1 }
+    requires pruned { length pruned.now ≡ length square.now.positions + 1 }
+    requires watches { AreWatches (cost_between least_sum_of square.now.positions) (length square.now.positions) least.now pruned.now (k * 32) watches.old }
+    ensures holds { IsTrue result
+        ↔ ((s : ℕ) → s < end → PlaceHoldsInBlock (cost_between least_sum_of square.now.positions) penalty least.now back.now pruned.now s (k * 32) end) }
+    ensures watches { AreWatches (cost_between least_sum_of square.now.positions) (length square.now.positions) least.now pruned.now (k * 32 + 32) watches.new }
+{
+    let from = k * BLOCK;
+    let need = need_of(square, least, back, from, end);
+    if !fronts_hold(square, penalty, least, back, pruned, need, watches, k, end) {
+        return false;
+    }
+    range_holds(
+        square, penalty, least, back, pruned, need, from, end, from, end,
+    )
+}
+
+// How many blocks so many places fill.
+fn blocks_of(count: usize) -> usize
+    requires few { count ≤ 16_384 }
+    ensures enough { count ≤ 32 * result }
+    ensures needed { 32 * result < count + 32 }
+{
+    (count + (BLOCK - 1)) / BLOCK
+}
+
+// The watches before any block was seen.
+fn no_watches(square: &Square, least: &[i128], pruned: &[u64]) -> [Watch; BLOCKS]
+    requires totals { AreTotals least.now }
+    requires least { length least.now ≡ length square.now.positions + 1 }
+    ensures { AreWatches (cost_between least_sum_of square.now.positions) (length square.now.positions) least.now pruned.now 0 result }
+{
+    square.limits();
+    squares_law();
+    value_costs_law();
+    let _ = least;
+    let _ = pruned;
+    [NOTHING; BLOCKS]
+}
+
+// Whether each pair of places holds.
+fn blocks_hold(square: &Square, penalty: i128, least: &[i128], back: &[u64], pruned: &[u64]) -> bool
+    requires few { length square.now.positions ≤ 16_384 }
+    requires low { pos 0 ≤ℤ penalty }
+    requires high { penalty ≤ℤ pos (10 ^ 36) }
+    requires totals { AreTotals least.now }
+    requires least { length least.now ≡ length square.now.positions + 1 }
+    requires back { length back.now ≡ length square.now.positions + 1 }
+    requires pruned { length pruned.now ≡ length square.now.positions + 1 }
+    ensures { IsTrue result
+        ↔ ((s : ℕ) → PlaceHoldsInBlock (cost_between least_sum_of square.now.positions) penalty least.now back.now pruned.now s 0 (length square.now.positions)) }
+{
+    let n = square.len();
+    let mut watches = no_watches(square, least, pruned);
+    for k in 0..blocks_of(n) {
+        if !block_holds(
+            square,
+            penalty,
+            least,
+            back,
+            pruned,
+            &mut watches,
+            k,
+            n.min(k * BLOCK + BLOCK),
+        ) {
+            return false;
+        }
+    }
+    true
+}
+
+// Whether each mark may be one.
+fn marks_hold(n: usize, pruned: &[u64]) -> bool
+    requires { length pruned.now ≡ n + 1 }
+    ensures { IsTrue result ↔ ((s : ℕ) → s ≤ n → IsMark n s (slice_index pruned.now s)) }
+{
+    for s in 0..pruned.len() {
+        if !is_mark(n, s, pruned[s] as usize) {
+            return false;
+        }
+    }
+    true
+}
+
+// Whether each place holds.
+pub fn places_hold(
+    square: &Square,
+    penalty: i128,
+    least: &[i128],
+    back: &[u64],
+    pruned: &[u64],
+) -> bool
+    requires few { length square.now.positions ≤ 16_384 }
+    requires low { pos 0 ≤ℤ penalty }
+    requires high { penalty ≤ℤ pos (10 ^ 36) }
+    requires totals { AreTotals least.now }
+    requires least { length least.now ≡ length square.now.positions + 1 }
+    requires back { length back.now ≡ length square.now.positions + 1 }
+    requires pruned { length pruned.now ≡ length square.now.positions + 1 }
+    ensures { IsTrue result ↔ ((s : ℕ) → s ≤ length square.now.positions
+        → PlaceHolds (cost_between least_sum_of square.now.positions) (length square.now.positions) penalty least.now back.now pruned.now s) }
+{
+    if !marks_hold(square.len(), pruned) {
+        return false;
+    }
+    blocks_hold(square, penalty, least, back, pruned)
+}

@@ -1,0 +1,110 @@
+//! Whether a certificate stands for points.
+ghost use Rattle.std.specs.Prelude.{◌≡◌, ℕ, ◌<◌, ◌+◌, ◌^◌, ◌≤◌, ◌⊎◌, length, reverse, pos, neg_ℤ, ◌≤ℤ◌, ◌↔◌, IsTrue, slice_index};
+ghost use Rattle.segment_model.specs.Values.{values_by_position, cost_between};
+ghost use Rattle.segment_model.specs.Computed.{least_sum_of};
+ghost use Rattle.segment_model.specs.Tables.{int_at, IsTable, IsWalk};
+ghost use Rattle.segment_cost.specs.Certificate.{StandsFor};
+
+use crate::blocks::places_hold;
+use crate::entries::{are_totals, rows_hold};
+use crate::walk::cuts_hold;
+use segment_cost::{Cert, Cost, Points, Square, certificate_law};
+use segment_model::{
+    best_list_law, least_sum_law, squares_law, table_law, value_costs_law, verifying_law, walk_law,
+};
+
+const GREATEST_PENALTY: i128 = 1_000_000_000_000_000_000_000_000_000_000_000_000;
+
+/// Whether the certificate stands for the points and its penalty, which is from 0 to 10^36.
+///
+/// Goes over the blocks of 32 places, each with those before it, and looks at the single places of one only where its
+/// summary doesn't tell: linear in the positions where changes come at bounded distances, but for one step for each pair
+/// of blocks; quadratic at worst. Takes no memory.
+pub fn check(cert: &Cert, points: &Points, sums: &Square) -> bool
+    requires { sums.now.positions ≡ values_by_position points.now }
+    ensures { IsTrue result
+        ↔ ((pos 0 ≤ℤ cert.now.penalty) × (cert.now.penalty ≤ℤ pos (10 ^ 36)) × StandsFor points.now cert.now.penalty cert.now) }
+{
+    best_list_law();
+    least_sum_law();
+    walk_law();
+    squares_law();
+    certificate_law();
+    let n = points.len();
+    let penalty = cert.penalty;
+    let least = cert.least.as_slice();
+    let back = cert.back.as_slice();
+    if cert.points != n as u64 || penalty < 0 || penalty > GREATEST_PENALTY {
+        return false;
+    }
+    if !are_tables(sums, penalty, least, back, cert.pruned.as_slice()) {
+        return false;
+    }
+    if !cuts_hold(cert.cuts.as_slice(), back, n) {
+        return false;
+    }
+    are_equal(cert.total, total_of(least, n))
+}
+
+// Whether two numbers are equal.
+fn are_equal(one: i128, other: i128) -> bool
+    ensures { IsTrue result ↔ (one ≡ other) }
+{
+    one == other
+}
+
+// The least total of all positions; no positions have a total of 0.
+fn total_of(least: &[i128], n: usize) -> i128
+    requires { n < length least.now }
+    ensures none { n ≡ 0 → result ≡ pos 0 }
+    ensures some { 0 < n → result ≡ int_at least.now n }
+{
+    if n == 0 { 0 } else { least[n] }
+}
+
+// Whether the three lists are the tables of the positions for that penalty.
+fn are_tables(square: &Square, penalty: i128, least: &[i128], back: &[u64], pruned: &[u64]) -> bool
+    requires low { pos 0 ≤ℤ penalty }
+    requires high { penalty ≤ℤ pos (10 ^ 36) }
+    ensures { IsTrue result ↔ IsTable (cost_between least_sum_of square.now.positions) (length square.now.positions) penalty
+        least.now back.now pruned.now }
+{
+    square.limits();
+    squares_law();
+    table_law();
+    value_costs_law();
+    verifying_law();
+    let places = square.len() + 1;
+    if least.len() != places || back.len() != places || pruned.len() != places {
+        return false;
+    }
+    if !are_totals(least) {
+        return false;
+    }
+    if !is_first(least[0], penalty) {
+        return false;
+    }
+    if !is_none(back[0]) {
+        return false;
+    }
+    if !rows_hold(square, penalty, least, back) {
+        return false;
+    }
+    places_hold(square, penalty, least, back, pruned)
+}
+
+// Whether the total of place 0 is minus the penalty.
+fn is_first(total: i128, penalty: i128) -> bool
+    requires low { pos 0 ≤ℤ penalty }
+    requires high { penalty ≤ℤ pos (10 ^ 36) }
+    ensures { IsTrue result ↔ (total ≡ neg_ℤ penalty) }
+{
+    total == -penalty
+}
+
+// Whether there is no last cut.
+fn is_none(last_cut: u64) -> bool
+    ensures { IsTrue result ↔ (last_cut ≡ 0) }
+{
+    last_cut == 0
+}

@@ -1,0 +1,76 @@
+//! A certificate's text.
+ghost use Rattle.std.specs.Prelude.{◌≡◌, List, [], ◌∷◌, ◌++◌, map, decimal, OnOk};
+ghost use Rattle.std.specs.Fmt.{signed_decimal};
+ghost use Rattle.cost_certificate.specs.Text.{row, text_of};
+
+use line_text::{Numbers, put_i128, put_u64};
+use segment_cost::{Cert, Costs, NoMemory};
+use std::alloc::Global;
+
+/// Puts a certificate's text behind some bytes: seven lines, each a name and numbers after single spaces.
+///
+/// Where there is no memory, a part of it may stand behind them. Linear in the certificate.
+pub fn put_cert(alloc: Global, out: &mut Vec<u8>, cert: &Cert) -> Result<(), NoMemory>
+    ensures { OnOk result (out.new.items ≡ out.old.items ++ text_of cert.now) }
+{
+    put_number(alloc, out, b"points", cert.points)?;
+    put_cost(alloc, out, b"penalty", cert.penalty)?;
+    put_numbers(alloc, out, b"cuts", &cert.cuts)?;
+    put_cost(alloc, out, b"total", cert.total)?;
+    put_costs(alloc, out, b"least", &cert.least)?;
+    put_numbers(alloc, out, b"back", &cert.back)?;
+    put_numbers(alloc, out, b"pruned", &cert.pruned)
+}
+
+// A line of one number behind a name.
+fn put_number(alloc: Global, out: &mut Vec<u8>, name: &[u8], number: u64) -> Result<(), NoMemory>
+    ensures { OnOk result (out.new.items ≡ out.old.items ++ row name.now (decimal number ∷ [])) }
+{
+    out.extend_from_slice(name)?;
+    out.push(b' ')?;
+    put_u64(alloc, out, number)?;
+    out.push(b'\n')?;
+    Ok(())
+}
+
+// A line of one cost behind a name.
+fn put_cost(alloc: Global, out: &mut Vec<u8>, name: &[u8], cost: i128) -> Result<(), NoMemory>
+    ensures { OnOk result (out.new.items ≡ out.old.items ++ row name.now (signed_decimal cost ∷ [])) }
+{
+    out.extend_from_slice(name)?;
+    out.push(b' ')?;
+    put_i128(alloc, out, cost)?;
+    out.push(b'\n')?;
+    Ok(())
+}
+
+// A line of numbers behind a name.
+fn put_numbers(
+    alloc: Global,
+    out: &mut Vec<u8>,
+    name: &[u8],
+    numbers: &Numbers,
+) -> Result<(), NoMemory>
+    ensures { OnOk result (out.new.items ≡ out.old.items ++ row name.now (map decimal numbers.now)) }
+{
+    out.extend_from_slice(name)?;
+    for number in numbers.as_slice() {
+        out.push(b' ')?;
+        put_u64(alloc, out, *number)?;
+    }
+    out.push(b'\n')?;
+    Ok(())
+}
+
+// A line of costs behind a name.
+fn put_costs(alloc: Global, out: &mut Vec<u8>, name: &[u8], costs: &Costs) -> Result<(), NoMemory>
+    ensures { OnOk result (out.new.items ≡ out.old.items ++ row name.now (map signed_decimal costs.now)) }
+{
+    out.extend_from_slice(name)?;
+    for cost in costs.as_slice() {
+        out.push(b' ')?;
+        put_i128(alloc, out, *cost)?;
+    }
+    out.push(b'\n')?;
+    Ok(())
+}

@@ -1,0 +1,234 @@
+-- The bounds of the blocks of candidates.
+use Rattle.std.proofs.Common.{◌≡◌, ◌≢◌, ℕ, ℤ, zero, suc, ◌+◌, ◌-◌, ◌*◌, ◌^◌, ◌<◌, ◌≤◌, List, [], ◌∷◌, ◌++◌, length, set, slice_index, inl, inr, refl, sym, ◌∙◌, pos, neg_ℤ, ◌+ℤ◌, ◌≤ℤ◌, get_or-set_same, get_or-set_other, arith}
+use Rattle.std.proofs.Math.ListN.{length-set}
+use Rattle.std.proofs.lemmas.Int.{ints}
+use Rattle.std.proofs.lemmas.Bool.{cases_lt, cases_eq}
+use Rattle.std.proofs.lemmas.List.{length-append, get_or_append_left, get_or_push}
+use Rattle.segment_model.specs.Cuts.{Agree, Merges}
+use Rattle.segment_model.specs.Tables.{int_at, IsFirstLeast}
+use Rattle.pelt_core.specs.declared.bounds.Bound.{Bound}
+use Rattle.pelt_core.specs.declared.bounds.Found.{Found}
+use Rattle.pelt_core.specs.Candidates.{total_from}
+use Rattle.pelt_core.specs.Bounds.{bound_at, IsBound, HaveBounds, IsFirst, IsBelowBlock, IsLowered, AreInRange}
+
+abbrev pub no_bound : Bound
+no_bound = record { at = 0; total = pos 0 }
+
+module _ (cost : ℕ → ℕ → ℤ) (least : List ℤ) (t : ℕ) (merges : Merges cost t) (range : AreInRange cost t) where
+  -- a bound that is lowered is one for a later place
+  pub bound-later : (s : ℕ) (total : ℤ) (old new : Bound) → old.at ≤ t → IsLowered old t total new → IsBound cost least s old → IsBound cost least s new
+  bound-later s total old new placed h is =
+      let more = merges s old.at t is.behind placed (omega arith) in
+      let last = (range old.at t placed (omega arith)).0 in
+      record {
+        behind = omega (arith, is.behind, placed, h.at);
+        at_most = rw h.at (omega (arith, ints, is.at_most, more, last, h.at_most));
+      }
+
+  -- what a bound allows at place t
+  pub allowed : (s : ℕ) (bound : Bound) → bound.at ≤ t → IsBound cost least s bound
+      → (bound.total ≤ℤ total_from cost least t s) × (bound.at < t → (bound.total +ℤ cost bound.at t) ≤ℤ total_from cost least t s)
+  allowed s bound placed is =
+      let more = merges s bound.at t is.behind placed (omega arith) in
+      let last = (range bound.at t placed (omega arith)).0 in
+      (omega (arith, ints, is.at_most, more, last), λ lt. omega (arith, ints, is.at_most, more, last))
+
+  module _ (cs : List ℕ) (below : (i : ℕ) → i < length cs → slice_index cs i < t) where
+    -- one bound was lowered by the total of the candidate for which none held
+    pub apart-moves : (guess k : ℕ) (total : ℤ) (bounds bounds' : List Bound) → HaveBounds cost t least cs guess bounds → 256 * k ≤ guess → guess < 256 * k + 256 → k < 65
+        → neg_ℤ (pos (10 ^ 36)) ≤ℤ total → total ≤ℤ pos (2 * 10 ^ 37) → total ≡ total_from cost least t (slice_index cs guess)
+        → length bounds' ≡ length bounds → IsLowered (bound_at bounds k) t total (bound_at bounds' k) → ((j : ℕ) → j ≢ k → bound_at bounds' j ≡ bound_at bounds j)
+        → (other : ℕ) → HaveBounds cost t least cs other bounds'
+    apart-moves guess k total bounds bounds' h start end in' low high is size lowered others other = record {
+      enough = size ∙ h.enough;
+      placed = λ j lt. elim (cases_eq j k) [ inl at ↦ rw at (omega (arith, lowered.at)) | inr away ↦ rw (others j away) (h.placed j lt) ];
+      low = λ j lt. elim (cases_eq j k) [
+        | inl at ↦ rw at (elim lowered.one [ inl same ↦ rw same (h.low k in') | inr same ↦ rw same low ])
+        | inr away ↦ rw (others j away) (h.low j lt)
+      ];
+      high = λ j lt. elim (cases_eq j k) [
+        | inl at ↦ rw at (elim lowered.one [ inl same ↦ rw same (h.high k in') | inr same ↦ rw same high ])
+        | inr away ↦ rw (others j away) (h.high j lt)
+      ];
+      holds = λ j i lt from upto inside apart. elim (cases_eq j k) [
+        | inl at ↦ rw at (elim (cases_eq i guess) [
+          | inl here ↦ rw here (here_too (below guess (rw here at inside)))
+          | inr there ↦ bound-later (slice_index cs i) total (bound_at bounds k) (bound_at bounds' k) (h.placed k in') lowered (h.holds k i in' (rw at at from) (rw at at upto) inside there)
+        ])
+        | inr away ↦ rw (others j away) (h.holds j i lt from upto inside (λ here. away (omega (arith, start, end, from, upto, here))))
+      ];
+    }
+      where
+        here_too : slice_index cs guess < t → IsBound cost least (slice_index cs guess) (bound_at bounds' k)
+        here_too lt = record { behind = omega (arith, lt, lowered.at); at_most = rw lowered.at (omega (arith, ints, lowered.below, is)) }
+
+    -- a block was looked at
+    pub looked-at : (guess k : ℕ) (total : ℤ) (bounds : List Bound) → HaveBounds cost t least cs guess bounds → k < 65
+        → neg_ℤ (pos (10 ^ 36)) ≤ℤ total → total ≤ℤ pos (2 * 10 ^ 37)
+        → ((i : ℕ) → 256 * k ≤ i → i < 256 * k + 256 → i < length cs → i ≢ guess → total ≤ℤ total_from cost least t (slice_index cs i))
+        → HaveBounds cost t least cs guess (set bounds k (record { at = t; total = total }))
+    looked-at guess k total bounds h in' low high at_most =
+        let inside : k < length bounds = omega (arith, in', h.enough) in
+        let new : bound_at (set bounds k (record { at = t; total = total })) k ≡ record { at = t; total = total } = get_or-set_same bounds k (record { at = t; total = total }) no_bound inside in
+        let others : (j : ℕ) → j ≢ k → bound_at (set bounds k (record { at = t; total = total })) j ≡ bound_at bounds j = λ j away. get_or-set_other bounds k j (record { at = t; total = total }) no_bound away in
+        record {
+          enough = length-set bounds k (record { at = t; total = total }) ∙ h.enough;
+          placed = λ j lt. elim (cases_eq j k) [ inl at ↦ rw (at, new) (omega arith) | inr away ↦ rw (others j away) (h.placed j lt) ];
+          low = λ j lt. elim (cases_eq j k) [ inl at ↦ rw (at, new) low | inr away ↦ rw (others j away) (h.low j lt) ];
+          high = λ j lt. elim (cases_eq j k) [ inl at ↦ rw (at, new) high | inr away ↦ rw (others j away) (h.high j lt) ];
+          holds = λ j i lt from upto inside' apart. elim (cases_eq j k) [
+            | inl at ↦ rw (at, new) (record { behind = omega (arith, below i inside'); at_most = at_most i (rw at at from) (rw at at upto) inside' apart })
+            | inr away ↦ rw (others j away) (h.holds j i lt from upto inside' apart)
+          ];
+        }
+
+    -- a block was passed over
+    pub passed-over : (guess k : ℕ) (bounds : List Bound) (best : Found) → HaveBounds cost t least cs guess bounds → k < 65 → IsFirst cost least t cs guess (256 * k) best
+        → IsBelowBlock cost t (bound_at bounds k) (256 * k) best → IsFirst cost least t cs guess (256 * k + 256) best
+    passed-over guess k bounds best h in' first above = record {
+      inside = first.inside;
+      exact = first.exact;
+      low = first.low;
+      high = first.high;
+      before = λ i inside which. elim (cases_eq i guess) [
+        | inl here ↦ first.before i inside (inr here)
+        | inr there ↦ elim (cases_lt i (256 * k)) [
+          | inl before ↦ first.before i inside (inl before)
+          | inr behind ↦ elim which [
+            | inl upto ↦
+                let may = allowed (slice_index cs i) (bound_at bounds k) (h.placed k in') (h.holds k i in' behind upto inside there) in
+                above (total_from cost least t (slice_index cs i)) i behind may.0 may.1
+            | inr here ↦ absurd (there here)
+          ]
+        ]
+      ];
+    }
+
+-- another index apart, where that is the one or the one lies behind the candidates
+pub apart-same : (cost : ℕ → ℕ → ℤ) (t : ℕ) (least : List ℤ) (cs : List ℕ) (apart other : ℕ) (bounds : List Bound) → (apart < length cs → other ≡ apart)
+    → HaveBounds cost t least cs apart bounds → HaveBounds cost t least cs other bounds
+apart-same cost t least cs apart other bounds same h = record {
+  enough = h.enough;
+  placed = h.placed;
+  low = h.low;
+  high = h.high;
+  holds = λ k i lt from upto inside away. h.holds k i lt from upto inside (λ here. away (here ∙ sym (same (omega (arith, here, inside)))));
+}
+
+-- one position more, where the costs agree
+pub bounds-agree : (cost other : ℕ → ℕ → ℤ) (n t : ℕ) (least : List ℤ) (cs : List ℕ) (apart : ℕ) (bounds : List Bound) → Agree cost other n → n ≤ t
+    → HaveBounds cost n least cs apart bounds → HaveBounds other t least cs apart bounds
+bounds-agree cost other n t least cs apart bounds agree le h = record {
+  enough = h.enough;
+  placed = λ k lt. omega (arith, h.placed k lt, le);
+  low = h.low;
+  high = h.high;
+  holds = λ k i lt from upto inside away.
+      let is = h.holds k i lt from upto inside away in
+      record { behind = is.behind; at_most = rw (agree (slice_index cs i) (bound_at bounds k).at is.behind (h.placed k lt)) is.at_most };
+}
+
+-- one total more
+pub bounds-from : (cost : ℕ → ℕ → ℤ) (t : ℕ) (least : List ℤ) (x : ℤ) (cs : List ℕ) (apart : ℕ) (bounds : List Bound) → ((i : ℕ) → i < length cs → slice_index cs i < length least)
+    → HaveBounds cost t least cs apart bounds → HaveBounds cost t (least ++ x ∷ []) cs apart bounds
+bounds-from cost t least x cs apart bounds below h = record {
+  enough = h.enough;
+  placed = h.placed;
+  low = h.low;
+  high = h.high;
+  holds = λ k i lt from upto inside away.
+      let is = h.holds k i lt from upto inside away in
+      record { behind = is.behind; at_most = rw (get_or_append_left least (x ∷ []) (pos 0) (slice_index cs i) (below i inside)) is.at_most };
+}
+
+-- each bound is the same
+pub bounds-reset : (cost : ℕ → ℕ → ℤ) (t : ℕ) (least : List ℤ) (cs : List ℕ) (apart : ℕ) (total : ℤ) (bounds : List Bound) → length bounds ≡ 65
+    → ((k : ℕ) → k < 65 → bound_at bounds k ≡ record { at = t; total = total }) → neg_ℤ (pos (10 ^ 36)) ≤ℤ total → total ≤ℤ pos (2 * 10 ^ 37)
+    → ((i : ℕ) → i < length cs → (slice_index cs i ≤ t) × (total ≤ℤ total_from cost least t (slice_index cs i))) → HaveBounds cost t least cs apart bounds
+bounds-reset cost t least cs apart total bounds size same low high at_most = record {
+  enough = size;
+  placed = λ k lt. rw (same k lt) (omega arith);
+  low = λ k lt. rw (same k lt) low;
+  high = λ k lt. rw (same k lt) high;
+  holds = λ k i lt from upto inside away. rw (same k lt) (record { behind = (at_most i inside).0; at_most = (at_most i inside).1 });
+}
+
+-- one candidate more, whose total lowered the bound of its block
+pub bounds-push : (cost : ℕ → ℕ → ℤ) (t : ℕ) (least : List ℤ) (cs : List ℕ) (apart k : ℕ) (x : ℤ) (bounds bounds' : List Bound) → Merges cost t → AreInRange cost t
+    → HaveBounds cost t least cs apart bounds → 256 * k ≤ length cs → length cs < 256 * k + 256 → k < 65 → length bounds' ≡ length bounds
+    → neg_ℤ (pos (10 ^ 36)) ≤ℤ x → x ≤ℤ pos (2 * 10 ^ 37) → x ≤ℤ total_from cost least t t
+    → IsLowered (bound_at bounds k) t x (bound_at bounds' k) → ((j : ℕ) → j ≢ k → bound_at bounds' j ≡ bound_at bounds j)
+    → HaveBounds cost t least (cs ++ t ∷ []) apart bounds'
+bounds-push cost t least cs apart k x bounds bounds' merges range h start end in' size low high at_most lowered others = record {
+  enough = size ∙ h.enough;
+  placed = λ j lt. elim (cases_eq j k) [ inl at ↦ rw at (omega (arith, lowered.at)) | inr away ↦ rw (others j away) (h.placed j lt) ];
+  low = λ j lt. elim (cases_eq j k) [
+    | inl at ↦ rw at (elim lowered.one [ inl same ↦ rw same (h.low k in') | inr same ↦ rw same low ])
+    | inr away ↦ rw (others j away) (h.low j lt)
+  ];
+  high = λ j lt. elim (cases_eq j k) [
+    | inl at ↦ rw at (elim lowered.one [ inl same ↦ rw same (h.high k in') | inr same ↦ rw same high ])
+    | inr away ↦ rw (others j away) (h.high j lt)
+  ];
+  holds = λ j i lt from upto inside apart'. elim (cases_lt i (length cs)) [
+    | inl before ↦
+        rw (get_or_append_left cs (t ∷ []) 0 i before) (elim (cases_eq j k) [
+          | inl at ↦ rw at (bound-later cost least t merges range (slice_index cs i) x (bound_at bounds k) (bound_at bounds' k) (h.placed k in') lowered (h.holds k i in' (rw at at from) (rw at at upto) before apart'))
+          | inr away ↦ rw (others j away) (h.holds j i lt from upto before apart')
+        ])
+    | inr behind ↦
+        let at : i ≡ length cs = omega (arith, behind, inside, length-append cs (t ∷ [])) in
+        let here : j ≡ k = omega (arith, at, from, upto, start, end) in
+        rw (at, here, get_or_push cs t 0 (length cs) refl) (record { behind = omega (arith, lowered.at); at_most = rw lowered.at (omega (arith, ints, lowered.below, at_most)) })
+  ];
+}
+
+-- each place before t makes at least the total of the first least one, and so does t
+pub least-made : (cost : ℕ → ℕ → ℤ) (t best : ℕ) (least : List ℤ) (b x total : ℤ) → length least ≡ t → IsFirstLeast cost (int_at least) t best → total ≡ total_from cost least t best
+    → x ≡ total +ℤ b → pos 0 ≤ℤ b → pos 0 ≤ℤ cost t t → (s : ℕ) → s ≤ t → total ≤ℤ total_from cost (least ++ x ∷ []) t s
+least-made cost t best least b x total size found is x_is low none s le = elim (cases_lt s t) [
+  | inl before ↦
+      let most = found.at_most s before in
+      rw (get_or_append_left least (x ∷ []) (pos 0) s (omega (arith, before, size))) (omega (arith, ints, is, most))
+  | inr behind ↦
+      let at : s ≡ t = omega arith in
+      rw (at, get_or_push least x (pos 0) t size) (omega (arith, ints, x_is, low, none))
+]
+
+-- the bounds with one candidate more, where some of the candidates were dropped or none was
+pub bounds-renewed : (cost : ℕ → ℕ → ℤ) (t : ℕ) (least : List ℤ) (cs left : List ℕ) (best k marked : ℕ) (m x : ℤ) (bounds bounds' : List Bound) → Merges cost t → AreInRange cost t
+    → HaveBounds cost t least cs best bounds → 256 * k ≤ length left → length left < 256 * k + 256 → k < 65 → length bounds' ≡ length bounds
+    → neg_ℤ (pos (10 ^ 36)) ≤ℤ m → m ≤ℤ pos (2 * 10 ^ 37) → neg_ℤ (pos (10 ^ 36)) ≤ℤ x → x ≤ℤ pos (2 * 10 ^ 37) → x ≤ℤ total_from cost least t t
+    → ((s : ℕ) → s ≤ t → m ≤ℤ total_from cost least t s) → ((i : ℕ) → i < length left → slice_index left i < t)
+    → (0 < marked → (j : ℕ) → j < length bounds → bound_at bounds' j ≡ record { at = t; total = m })
+    → (marked ≡ 0 → IsLowered (bound_at bounds k) t x (bound_at bounds' k)) → (marked ≡ 0 → (j : ℕ) → j ≢ k → bound_at bounds' j ≡ bound_at bounds j)
+    → (marked ≡ 0 → left ≡ cs) → HaveBounds cost t least (left ++ t ∷ []) (best - marked) bounds'
+bounds-renewed cost t least cs left best k zero m x bounds bounds' merges range h start end in' size m_low m_high low high at_most all below some none others same =
+    let e : best - 0 ≡ best = omega arith in
+    rw e (bounds-push cost t least left best k x bounds bounds' merges range (rw (same refl) h) start end in' size low high at_most (none refl) (others refl))
+bounds-renewed cost t least cs left best k (suc marked) m x bounds bounds' merges range h start end in' size m_low m_high low high at_most all below some none others same =
+    bounds-reset cost t least (left ++ t ∷ []) (best - suc marked) m bounds' (size ∙ h.enough) (λ j lt. some (omega arith) j (omega (arith, lt, h.enough))) m_low m_high
+    (λ i lt. elim (cases_lt i (length left)) [
+      | inl before ↦ rw (get_or_append_left left (t ∷ []) 0 i before) (omega (arith, below i before), all (slice_index left i) (omega (arith, below i before)))
+      | inr behind ↦
+          let at : i ≡ length left = omega (arith, behind, lt, length-append left (t ∷ [])) in
+          rw (at, get_or_push left t 0 (length left) refl) (omega arith, all t (omega arith))
+    ])
+
+abbrev first_place : List ℕ
+first_place = 0 ∷ []
+
+-- the bounds of the first place
+pub first-bounds : (cost : ℕ → ℕ → ℤ) (b : ℤ) (least : List ℤ) (cs : List ℕ) (bounds : List Bound) → cost 0 0 ≡ pos 0 → b ≤ℤ pos (10 ^ 36) → least ≡ neg_ℤ b ∷ [] → cs ≡ 0 ∷ [] → length bounds ≡ 65
+    → ((k : ℕ) → k < length bounds → bound_at bounds k ≡ record { at = 0; total = neg_ℤ (pos (10 ^ 36)) }) → HaveBounds cost 0 least cs 0 bounds
+first-bounds cost b least cs bounds none high is are size same =
+    bounds-reset cost 0 least cs 0 (neg_ℤ (pos (10 ^ 36))) bounds size (λ k lt. same k (omega (arith, lt, size))) (omega (arith, ints)) (omega (arith, ints)) (rw (is, are) one)
+  where
+    one : (i : ℕ) → i < length first_place → (slice_index first_place i ≤ 0) × (neg_ℤ (pos (10 ^ 36)) ≤ℤ total_from cost (neg_ℤ b ∷ []) 0 (slice_index first_place i))
+    one zero lt = (omega arith, omega (arith, ints, none, high))
+    one (suc i) lt = absurd (omega arith)
+
+-- equal bounds
+pub bounds-by : (cost : ℕ → ℕ → ℤ) (t : ℕ) (least least' : List ℤ) (cs cs' : List ℕ) (apart apart' : ℕ) (bounds bounds' : List Bound) → least' ≡ least → cs' ≡ cs → apart' ≡ apart → bounds' ≡ bounds
+    → HaveBounds cost t least cs apart bounds → HaveBounds cost t least' cs' apart' bounds'
+bounds-by cost t least least' cs cs' apart apart' bounds bounds' e f g i h = rw (e, f, g, i) h

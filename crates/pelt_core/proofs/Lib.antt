@@ -1,0 +1,7 @@
+mod Search
+mod Blocks
+mod Marks
+mod Open
+mod Growth
+mod Tables
+mod Shared

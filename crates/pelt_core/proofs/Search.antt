@@ -1,0 +1,114 @@
+-- The search for the first least of the candidates.
+use Rattle.std.proofs.Common.{◌≡◌, ◌≢◌, ℕ, ℤ, ◌+◌, ◌*◌, ◌^◌, ◌<◌, ◌≤◌, List, length, slice_index, ◌⊎◌, inl, inr, sym, ◌∙◌, pos, neg_ℤ, ◌≤ℤ◌, ◌<ℤ◌, arith}
+use Rattle.std.proofs.lemmas.Int.{ints, by_lt_z}
+use Rattle.std.proofs.lemmas.Bool.{cases_lt, cases_eq}
+use Rattle.pelt_core.specs.declared.bounds.Found.{Found}
+use Rattle.pelt_core.specs.Candidates.{total_from}
+use Rattle.pelt_core.specs.Bounds.{IsNoLater, IsFirst}
+
+-- no later than more at a later index
+pub no-later : (found : Found) (x y : ℤ) (i j : ℕ) → IsNoLater found x i → x ≤ℤ y → i ≤ j → IsNoLater found y j
+no-later found x y i j h le from = elim h [
+  | inl less ↦ inl (omega (arith, ints, less, le))
+  | inr tied ↦ by_lt_z found.total y (λ less. inl less) (λ ge. inr (omega (arith, ints, ge, le, tied.0), omega (arith, tied.1, from)))
+]
+
+module _ (cost : ℕ → ℕ → ℤ) (least : List ℤ) (t : ℕ) (cs : List ℕ) (guess : ℕ) where
+  -- the guess was looked at
+  pub begun : (total : ℤ) → guess < length cs → total ≡ total_from cost least t (slice_index cs guess) → neg_ℤ (pos (10 ^ 36)) ≤ℤ total → total ≤ℤ pos (2 * 10 ^ 37)
+      → IsFirst cost least t cs guess 0 (record { index = guess; total = total })
+  begun total lt is low high = record {
+    inside = lt;
+    exact = is;
+    low = low;
+    high = high;
+    before = λ i inside which. elim which [ inl none ↦ absurd (omega (arith, none)) | inr here ↦ rw here (inr (is, omega arith)) ];
+  }
+
+  -- one candidate more was looked at
+  pub next : (upto : ℕ) (best here r : Found) → IsFirst cost least t cs guess upto best → upto < length cs → here.index ≡ upto → here.total ≡ total_from cost least t (slice_index cs upto)
+      → neg_ℤ (pos (10 ^ 36)) ≤ℤ here.total → here.total ≤ℤ pos (2 * 10 ^ 37)
+      → ((here.total <ℤ best.total) ⊎ ((here.total ≡ best.total) × (here.index < best.index)) → r ≡ here) → (IsNoLater best here.total here.index → r ≡ best)
+      → IsFirst cost least t cs guess (upto + 1) r
+  next upto best here r h inside at is low high if_here if_best =
+      by_lt_z here.total best.total
+      (λ less. rw (if_here (inl less)) (taken (λ x i later. inl (above x i less later))))
+      (λ ge. by_lt_z best.total here.total
+      (λ less. rw (if_best (inl less)) (kept (inl less)))
+      (λ le.
+      let e : here.total ≡ best.total = omega (arith, ints, ge, le) in
+      elim (cases_lt here.index best.index) [
+        | inl earlier ↦ rw (if_here (inr (e, earlier))) (taken (λ x i later. tied x i e earlier later))
+        | inr later ↦ let e' : best.total ≡ here.total = sym e in rw (if_best (inr (e', later))) (kept (inr (e', later)))
+      ]))
+    where
+      above : (x : ℤ) (i : ℕ) → here.total <ℤ best.total → IsNoLater best x i → here.total <ℤ x
+      above x i less later = elim later [ inl more ↦ omega (arith, ints, less, more) | inr same ↦ omega (arith, ints, less, same.0) ]
+
+      tied : (x : ℤ) (i : ℕ) → here.total ≡ best.total → here.index < best.index → IsNoLater best x i → IsNoLater here x i
+      tied x i e earlier later = elim later [ inl more ↦ inl (omega (arith, ints, e, more)) | inr same ↦ inr (e ∙ same.0, omega (arith, earlier, same.1)) ]
+
+      taken : ((x : ℤ) (i : ℕ) → IsNoLater best x i → IsNoLater here x i) → IsFirst cost least t cs guess (upto + 1) here
+      taken better = record {
+        inside = omega (arith, at, inside);
+        exact = rw at is;
+        low = low;
+        high = high;
+        before = λ i in' which. elim (cases_eq i upto) [
+          | inl now ↦ rw now (inr (is, omega (arith, at)))
+          | inr apart ↦ better _ i (h.before i in' (elim which [ inl before ↦ inl (omega (arith, before, apart)) | inr same ↦ inr same ]))
+        ];
+      }
+
+      kept : IsNoLater best here.total here.index → IsFirst cost least t cs guess (upto + 1) best
+      kept later = record {
+        inside = h.inside;
+        exact = h.exact;
+        low = h.low;
+        high = h.high;
+        before = λ i in' which. elim (cases_eq i upto) [
+          | inl now ↦ rw (now, ← is, ← at) later
+          | inr apart ↦ h.before i in' (elim which [ inl before ↦ inl (omega (arith, before, apart)) | inr same ↦ inr same ])
+        ];
+      }
+
+  -- the candidates before a later index are the same ones where there are no more
+  pub widened : (upto more : ℕ) (best : Found) → IsFirst cost least t cs guess upto best → ((i : ℕ) → i < length cs → i < more → i < upto) → IsFirst cost least t cs guess more best
+  widened upto more best h fewer = record {
+    inside = h.inside;
+    exact = h.exact;
+    low = h.low;
+    high = h.high;
+    before = λ i inside which. h.before i inside (elim which [ inl before ↦ inl (fewer i inside before) | inr same ↦ inr same ]);
+  }
+
+  -- when all were looked at
+  pub found : (best : Found) → IsFirst cost least t cs guess (length cs) best
+      → ((k : ℕ) → k < length cs → total_from cost least t (slice_index cs best.index) ≤ℤ total_from cost least t (slice_index cs k))
+      × ((k : ℕ) → k < best.index → total_from cost least t (slice_index cs best.index) <ℤ total_from cost least t (slice_index cs k))
+  found best h = (
+    λ k lt. elim (h.before k lt (inl lt)) [ inl above ↦ omega (arith, ints, above, h.exact) | inr tied ↦ omega (arith, ints, tied.0, h.exact) ],
+    λ k lt. elim (h.before k (omega (arith, lt, h.inside)) (inl (omega (arith, lt, h.inside)))) [ inl above ↦ omega (arith, ints, above, h.exact) | inr tied ↦ absurd (omega (arith, tied.1, lt)) ],
+  )
+
+-- the candidates of a block that were looked at: their best, and their least total without the one apart
+pub record AreLooked (cost : ℕ → ℕ → ℤ) (least : List ℤ) (t : ℕ) (cs : List ℕ) (guess start upto : ℕ) (best : Found) (lowest : ℤ) : Type 0 where
+  pub first : IsFirst cost least t cs guess upto best
+  pub at_most : (i : ℕ) → start ≤ i → i < upto → i < length cs → i ≢ guess → lowest ≤ℤ total_from cost least t (slice_index cs i)
+  pub low : neg_ℤ (pos (10 ^ 36)) ≤ℤ lowest
+  pub high : lowest ≤ℤ pos (2 * 10 ^ 37)
+
+pub looked-next : (cost : ℕ → ℕ → ℤ) (least : List ℤ) (t : ℕ) (cs : List ℕ) (guess start upto : ℕ) (best here r : Found) (lowest r_low : ℤ) → AreLooked cost least t cs guess start upto best lowest
+    → upto < length cs → here.index ≡ upto → here.total ≡ total_from cost least t (slice_index cs upto) → neg_ℤ (pos (10 ^ 36)) ≤ℤ here.total → here.total ≤ℤ pos (2 * 10 ^ 37)
+    → ((here.total <ℤ best.total) ⊎ ((here.total ≡ best.total) × (here.index < best.index)) → r ≡ here) → (IsNoLater best here.total here.index → r ≡ best)
+    → r_low ≤ℤ lowest → (here.index ≢ guess → r_low ≤ℤ here.total) → (r_low ≡ lowest) ⊎ (r_low ≡ here.total)
+    → AreLooked cost least t cs guess start (upto + 1) r r_low
+looked-next cost least t cs guess start upto best here r lowest r_low h inside at is low high if_here if_best no_more at_here one = record {
+  first = next cost least t cs guess upto best here r h.first inside at is low high if_here if_best;
+  at_most = λ i from before in' apart. elim (cases_eq i upto) [
+    | inl now ↦ let most = at_here (λ same. apart (now ∙ sym at ∙ same)) in rw (now, ← is) most
+    | inr earlier ↦ let most = h.at_most i from (omega (arith, before, earlier)) in' apart in omega (arith, ints, most, no_more)
+  ];
+  low = elim one [ inl same ↦ rw same h.low | inr same ↦ rw same low ];
+  high = elim one [ inl same ↦ rw same h.high | inr same ↦ rw same high ];
+}

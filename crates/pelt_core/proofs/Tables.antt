@@ -1,0 +1,103 @@
+-- Pruned tables of positions: of none, before one more, and of the first ones.
+use Rattle.std.proofs.Common.{◌≡◌, ℕ, ℤ, ◌+◌, ◌-◌, ◌^◌, ◌≤◌, List, [], ◌∷◌, ◌++◌, length, take, drop, sym, ap, ◌∙◌, pos, ◌≤ℤ◌, arith}
+use Rattle.std.proofs.lemmas.Int.{ints}
+use Rattle.std.proofs.lemmas.List.{length-append, length-take, take-append-drop}
+use Rattle.segment_model.specs.Cuts.{Agree, IsBest, total}
+use Rattle.segment_model.specs.Laws.{AgreeingCostsHaveOneTable, BestOfNoneIsEmpty}
+use Rattle.segment_model.specs.Values.{AreWithinLimits, values_between, cost_between, MergesValues, CostsInRange, FrontHasSameValues, FrontIsWithinLimits, SegmentsMerge, SegmentsAreInRange}
+use Rattle.pelt_core.specs.declared.rows.Rows.{Rows}
+use Rattle.pelt_core.specs.Rows.{ArePruned, IsPrunedTable, SameLists}
+use Rattle.pelt_core.specs.Bounds.{AreInRange}
+use Rattle.pelt_core.proofs.Growth.{table-by, candidates-by}
+use Rattle.pelt_core.proofs.Blocks.{bounds-by, bounds-agree}
+
+-- no values cost nothing
+pub nothing-costs : (f : List ℤ → ℤ) → MergesValues f → CostsInRange f → f [] ≡ pos 0
+nothing-costs f merging in_range =
+    let twice = merging [] [] in
+    let range = in_range [] (λ k d lt. absurd (omega arith)) (omega arith) in
+    omega (arith, ints, twice, range.0)
+
+pub none-within : AreWithinLimits []
+none-within = record {
+  few_positions = omega arith;
+  few_values = omega arith;
+  small = λ k d lt. absurd (omega arith);
+  none_empty = λ k d lt. absurd (omega arith);
+}
+
+pub table-of-none : (f : List ℤ → ℤ) → MergesValues f → CostsInRange f → (ps : List (List ℤ)) → ps ≡ [] → (b : ℤ) (rows : Rows) → pos 0 ≤ℤ b → b ≤ℤ pos (10 ^ 36)
+    → ((cost : ℕ → ℕ → ℤ) → cost 0 0 ≡ pos 0 → ArePruned cost 0 b rows) → IsPrunedTable f ps b rows
+table-of-none f merging in_range ps none b rows low high are = rw none (record {
+  low = low;
+  high = high;
+  within = none-within;
+  pruned = are (cost_between f []) (nothing-costs f merging in_range);
+})
+
+-- the same lists are pruned alike
+pub pruned-same : (cost : ℕ → ℕ → ℤ) (n : ℕ) (b : ℤ) (rows rows' : Rows) → SameLists rows rows' → ArePruned cost n b rows → ArePruned cost n b rows'
+pruned-same cost n b rows rows' same h = record {
+  table = table-by cost n b rows.least.items rows'.least.items rows.back.items rows'.back.items rows.pruned.items rows'.pruned.items same.least same.back same.pruned h.table;
+  candidates = candidates-by rows.candidates.items rows'.candidates.items rows.pruned.items rows'.pruned.items (n + 1) same.candidates same.pruned h.candidates;
+  bounds = bounds-by cost n rows.least.items rows'.least.items rows.candidates.items rows'.candidates.items rows.leader rows'.leader rows.bounds.items rows'.bounds.items
+      same.least same.candidates same.leader same.bounds h.bounds;
+  room = omega (arith, h.room, same.capacity);
+}
+
+pub table-same : (f : List ℤ → ℤ) (ps ps' : List (List ℤ)) (b : ℤ) (rows rows' : Rows) → ps' ≡ ps → SameLists rows rows' → IsPrunedTable f ps b rows → IsPrunedTable f ps' b rows'
+table-same f ps ps' b rows rows' e same h = rw e (record {
+  low = h.low;
+  high = h.high;
+  within = h.within;
+  pruned = pruned-same (cost_between f ps) (length ps) b rows rows' same h.pruned;
+})
+
+-- costs that agree prune alike
+pub pruned-agree : AgreeingCostsHaveOneTable → (cost other : ℕ → ℕ → ℤ) (n : ℕ) (b : ℤ) (rows : Rows) → Agree cost other n → ArePruned cost n b rows → ArePruned other n b rows
+pruned-agree agreeing cost other n b rows agree h = record {
+  table = agreeing cost other n b rows.least.items rows.back.items rows.pruned.items agree h.table;
+  candidates = h.candidates;
+  bounds = bounds-agree cost other n n rows.least.items rows.candidates.items rows.leader rows.bounds.items agree (omega arith) h.bounds;
+  room = h.room;
+}
+
+module _ (f : List ℤ → ℤ) (merging : MergesValues f) (in_range : CostsInRange f) (agreeing : AgreeingCostsHaveOneTable) (merge : SegmentsMerge) (ranges : SegmentsAreInRange)
+    (ps : List (List ℤ)) (b : ℤ) (rows : Rows) (h : IsPrunedTable f ps b rows) where
+  -- before one position more
+  pub before-push : FrontHasSameValues → (v : List ℤ) (ps' : List (List ℤ)) → ps' ≡ ps ++ v ∷ [] → AreWithinLimits (ps ++ v ∷ []) → (rows' : Rows) → SameLists rows rows'
+      → ArePruned (cost_between f ps') (length ps' - 1) b rows'
+  before-push front v ps' e within rows' same =
+      let size : length (ps ++ v ∷ []) ≡ length ps + 1 = length-append ps (v ∷ []) in
+      let less : length (ps ++ v ∷ []) - 1 ≡ length ps = omega arith in
+      let agree : Agree (cost_between f ps) (cost_between f (ps ++ v ∷ [])) (length ps) = λ s t le fits. ap f (front ps (v ∷ []) s t le fits) in
+      rw (e, less) (pruned-same (cost_between f (ps ++ v ∷ [])) (length ps) b rows rows' same (pruned-agree agreeing (cost_between f ps) (cost_between f (ps ++ v ∷ [])) (length ps) b rows agree h.pruned))
+
+  pub after-push : (v : List ℤ) (ps' : List (List ℤ)) → ps' ≡ ps ++ v ∷ [] → AreWithinLimits (ps ++ v ∷ []) → (rows' : Rows)
+      → ArePruned (cost_between f ps') (length ps') b rows' → IsPrunedTable f ps' b rows'
+  after-push v ps' e within rows' are = record { low = h.low; high = h.high; within = rw e within; pruned = are }
+
+  -- of the first positions
+  pub first-ones : FrontHasSameValues → FrontIsWithinLimits → (k : ℕ) → k ≤ length ps → (ps' : List (List ℤ)) → ps' ≡ take k ps → (rows' : Rows)
+      → ((cost : ℕ → ℕ → ℤ) (n : ℕ) (b' : ℤ) → k ≤ n → pos 0 ≤ℤ b' → b' ≤ℤ pos (10 ^ 36) → AreInRange cost n → ArePruned cost n b' rows → ArePruned cost k b' rows')
+      → IsPrunedTable f ps' b rows'
+  first-ones front limits k le ps' e rows' cut =
+      let whole : take k ps ++ drop k ps ≡ ps = take-append-drop k ps in
+      let size : length (take k ps) ≡ k = length-take k ps ∙ omega arith in
+      let within : AreWithinLimits (take k ps) = limits (take k ps) (drop k ps) (rw whole h.within) in
+      let agree : Agree (cost_between f ps) (cost_between f (take k ps)) k =
+      λ s t le' fits. ap f (sym (front (take k ps) (drop k ps) s t le' (omega (arith, size))) ∙ ap (λ (qs : List (List ℤ)). values_between qs s t) whole) in
+      let are : ArePruned (cost_between f ps) k b rows' = cut (cost_between f ps) (length ps) b le h.low h.high (ranges f in_range ps h.within) h.pruned in
+      rw e (record {
+        low = h.low;
+        high = h.high;
+        within = within;
+        pruned = rw size (pruned-agree agreeing (cost_between f ps) (cost_between f (take k ps)) k b rows' agree are);
+      })
+
+-- no positions have a total of 0
+pub total-of-none : (f : List ℤ → ℤ) → MergesValues f → CostsInRange f → BestOfNoneIsEmpty → (ps : List (List ℤ)) (b : ℤ) (n : ℕ) (cuts : List ℕ) → n ≡ 0
+    → IsBest (cost_between f ps) b n cuts → total (cost_between f ps) b n cuts ≡ pos 0
+total-of-none f merging in_range empty ps b n cuts none best =
+    let best' : IsBest (cost_between f ps) b 0 cuts = rw none at best in
+    rw (none, empty (cost_between f ps) b cuts best') (nothing-costs f merging in_range)

@@ -1,0 +1,34 @@
+use Rattle.std.proofs.Common.{◌<◌, inl, inr, length, FitsSigned, refl, arith}
+use Rattle.std.specs.Int.{w128}
+use Rattle.std.proofs.lemmas.Int.{to_z-of_z}
+use Rattle.std.proofs.lemmas.Bool.{cases_eq}
+use Rattle.segment_model.specs.Cuts.{Merges}
+use Rattle.segment_model.specs.Values.{cost_between}
+use Rattle.pelt_core.specs.Bounds.{AreInRange}
+use Rattle.pelt_core.proofs.Blocks.{apart-moves, bounds-by}
+use Rattle.pelt_core.proofs.bounds.first_least.Goals as goal
+use Rattle.pelt_core.proofs.bounds.first_least.Goals.{After-value_costs_law}
+
+module _ (g : _) (c : After-value_costs_law g) where
+  merges : Merges (cost_between g.C.Cost.cost_of (g.C.Cost.positions c.args.cost.now)) (length (g.C.Cost.positions c.args.cost.now))
+  merges = c.value_costs_law.ensures.merge g.C.Cost.cost_of g.met.C.Cost.merging (g.C.Cost.positions c.args.cost.now) (length (g.C.Cost.positions c.args.cost.now))
+
+  range : AreInRange (cost_between g.C.Cost.cost_of (g.C.Cost.positions c.args.cost.now)) (length (g.C.Cost.positions c.args.cost.now))
+  range = c.value_costs_law.ensures.in_range g.C.Cost.cost_of g.met.C.Cost.in_range (g.C.Cost.positions c.args.cost.now) c.requires.limits
+
+pub returns-clause-bounds : goal.returns-clause-bounds
+returns-clause-bounds g c =
+    let k = (goal.at.returns-clause-bounds g c).After-value_costs_law in
+    let made = c.last_total.ensures in
+    let fits : FitsSigned w128 c.last_total.result = record { sfits = c.last_total.type_inv } in
+    let block_in : c.block_of.result < 65 = omega (arith, c.block_of.ensures.start, c.requires.some, c.requires.few) in
+    elim (cases_eq c.loop-k.best.index c.args.guess) [
+      | inl same ↦
+          bounds-by (cost_between g.C.Cost.cost_of (g.C.Cost.positions c.args.cost.now)) (length (g.C.Cost.positions c.args.cost.now)) c.args.least.now _ c.args.candidates.now _ c.args.guess _ c.loop-k.bounds _
+          refl refl same (c.release.ensures.same same) c.loop-k.invariant.0
+      | inr apart ↦
+          let lowered = rw c.len.ensures at (simp to_z-of_z at (c.release.ensures.lowered apart)) in
+          apart-moves (cost_between g.C.Cost.cost_of (g.C.Cost.positions c.args.cost.now)) c.args.least.now (length (g.C.Cost.positions c.args.cost.now)) (merges g k) (range g k) c.args.candidates.now c.requires.below
+          c.args.guess c.block_of.result c.last_total.result c.loop-k.bounds c.release.new.bounds c.loop-k.invariant.0 c.block_of.ensures.start c.block_of.ensures.end block_in made.low made.high made.total
+          c.release.auto.bounds lowered c.release.ensures.others c.loop-k.best.index
+    ]

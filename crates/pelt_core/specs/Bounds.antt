@@ -1,0 +1,51 @@
+-- Private: no public contract cites this. Lower bounds of what the candidates of each block make.
+use Rattle.std.specs.Prelude.{◌≡◌, ◌≢◌, ℕ, ℤ, ◌+◌, ◌*◌, ◌^◌, ◌<◌, ◌≤◌, List, length, slice_index, slice_index_or, ◌⊎◌, pos, neg_ℤ, ◌+ℤ◌, ◌≤ℤ◌, ◌<ℤ◌}
+use Rattle.pelt_core.specs.declared.bounds.Bound.{Bound}
+use Rattle.pelt_core.specs.declared.bounds.Found.{Found}
+use Rattle.pelt_core.specs.Candidates.{total_from}
+
+-- the bound of block k
+abbrev pub bound_at : List Bound → ℕ → Bound
+bound_at bounds k = slice_index_or bounds k (record { at = 0; total = pos 0 })
+
+-- the bound is at most what a last segment from place s makes to the bound's place, which lies at s or behind it
+pub record IsBound (cost : ℕ → ℕ → ℤ) (least : List ℤ) (s : ℕ) (bound : Bound) : Type 0 where
+  pub behind : s ≤ bound.at
+  pub at_most : bound.total ≤ℤ total_from cost least bound.at s
+
+-- there are 65 bounds, for places up to t; each holds for the candidates of its block, but for the one at index `apart`
+pub record HaveBounds (cost : ℕ → ℕ → ℤ) (t : ℕ) (least : List ℤ) (candidates : List ℕ) (apart : ℕ) (bounds : List Bound) : Type 0 where
+  pub enough : length bounds ≡ 65
+  pub placed : (k : ℕ) → k < 65 → (bound_at bounds k).at ≤ t
+  pub low : (k : ℕ) → k < 65 → neg_ℤ (pos (10 ^ 36)) ≤ℤ (bound_at bounds k).total
+  pub high : (k : ℕ) → k < 65 → (bound_at bounds k).total ≤ℤ pos (2 * 10 ^ 37)
+  pub holds : (k i : ℕ) → k < 65 → 256 * k ≤ i → i < 256 * k + 256 → i < length candidates → i ≢ apart
+      → IsBound cost least (slice_index candidates i) (bound_at bounds k)
+
+-- what was found is less than a total at an index, or equal to it and at no later index
+abbrev pub IsNoLater : Found → ℤ → ℕ → Type 0
+IsNoLater found x i = (found.total <ℤ x) ⊎ ((found.total ≡ x) × (found.index ≤ i))
+
+-- what was found is made by its candidate, and comes no later than what the first `upto` make and the one at `guess`
+pub record IsFirst (cost : ℕ → ℕ → ℤ) (least : List ℤ) (t : ℕ) (candidates : List ℕ) (guess upto : ℕ) (found : Found) : Type 0 where
+  pub inside : found.index < length candidates
+  pub exact : found.total ≡ total_from cost least t (slice_index candidates found.index)
+  pub low : neg_ℤ (pos (10 ^ 36)) ≤ℤ found.total
+  pub high : found.total ≤ℤ pos (2 * 10 ^ 37)
+  pub before : (i : ℕ) → i < length candidates → (i < upto) ⊎ (i ≡ guess) → IsNoLater found (total_from cost least t (slice_index candidates i)) i
+
+-- what was found comes no later than each total to place t that the bound allows, at an index from `start` on
+abbrev pub IsBelowBlock : (ℕ → ℕ → ℤ) → ℕ → Bound → ℕ → Found → Type 0
+IsBelowBlock cost t bound start found =
+    (x : ℤ) (i : ℕ) → start ≤ i → bound.total ≤ℤ x → (bound.at < t → (bound.total +ℤ cost bound.at t) ≤ℤ x) → IsNoLater found x i
+
+-- the bound for place t that is at most the old one and a total
+pub record IsLowered (old : Bound) (t : ℕ) (total : ℤ) (new : Bound) : Type 0 where
+  pub at : new.at ≡ t
+  pub at_most : new.total ≤ℤ old.total
+  pub below : new.total ≤ℤ total
+  pub one : (new.total ≡ old.total) ⊎ (new.total ≡ total)
+
+-- each segment up to place n costs from 0 to 10^37
+abbrev pub AreInRange : (ℕ → ℕ → ℤ) → ℕ → Type 0
+AreInRange cost n = (s t : ℕ) → s ≤ t → t ≤ n → (pos 0 ≤ℤ cost s t) × (cost s t ≤ℤ pos (10 ^ 37))

@@ -1,0 +1,4 @@
+pub mod Seen
+pub mod Candidates
+pub mod Bounds
+pub mod Rows

@@ -1,0 +1,272 @@
+//! The search for the candidate with the least total, which passes over whole blocks of candidates.
+//!
+//! It begins with the candidate that won last, and no bound need hold for that one. Where another one wins, the bound
+//! of the first one's block is lowered by what the first one made.
+ghost use Rattle.std.specs.Prelude.{◌≡◌, ◌≢◌, ℕ, ◌+◌, ◌*◌, ◌^◌, ◌<◌, ◌≤◌, length, pos, neg_ℤ, ◌+ℤ◌, ◌≤ℤ◌, ◌<ℤ◌, ◌↔◌, ◌⊎◌, IsTrue, slice_index};
+ghost use Rattle.segment_model.specs.Tables.{int_at};
+ghost use Rattle.segment_model.specs.Values.{AreWithinLimits, cost_between};
+ghost use Rattle.pelt_core.specs.Candidates.{AreTotals, total_from};
+ghost use Rattle.pelt_core.specs.Bounds.{bound_at, HaveBounds, IsFirst, IsBelowBlock, IsLowered, IsNoLater};
+
+use crate::candidates::last_total;
+use segment_cost::Cost;
+use segment_model::value_costs_law;
+
+// How many candidates a block has.
+const BLOCK: usize = 256;
+
+// How many blocks there are: enough for each place of 16,384 positions.
+pub const BLOCKS: usize = 65;
+
+// At least what each last segment can make.
+const LOWEST: i128 = -1_000_000_000_000_000_000_000_000_000_000_000_000;
+
+// At most what each last segment can make.
+const HIGHEST: i128 = 20_000_000_000_000_000_000_000_000_000_000_000_000;
+
+// A place, and at most what a last segment to it makes from each candidate of a block.
+#[derive(Clone, Copy, Drop)]
+pub struct Bound {
+    pub at: usize,
+    pub total: i128,
+}
+
+// The index of a candidate, and what a last segment from it makes.
+#[derive(Clone, Copy, Drop)]
+pub struct Found {
+    pub index: usize,
+    pub total: i128,
+}
+
+// The best of some candidates, and the least total of those of one block.
+#[derive(Clone, Copy, Drop)]
+struct Looked {
+    best: Found,
+    low: i128,
+}
+
+// The first of the candidates from which a last segment to the end makes the least total.
+//
+// The one at `guess` is looked at first. Afterwards the bounds hold for all but the one that was found.
+pub fn first_least<C: Cost>(
+    cost: &C,
+    least: &[i128],
+    candidates: &[usize],
+    bounds: &mut [Bound],
+    guess: usize,
+) -> Found
+    requires some { guess < length candidates.now }
+    requires few { length candidates.now ≤ 16_385 }
+    requires limits { AreWithinLimits (C.positions cost.now) }
+    requires below { (i : ℕ) → i < length candidates.now → slice_index candidates.now i < length (C.positions cost.now) }
+    requires lengths { length least.now ≡ length (C.positions cost.now) }
+    requires totals { AreTotals least.now }
+    requires bounds { HaveBounds (cost_between C.cost_of (C.positions cost.now)) (length (C.positions cost.now)) least.now candidates.now guess bounds.old }
+    ensures bounds { HaveBounds (cost_between C.cost_of (C.positions cost.now)) (length (C.positions cost.now)) least.now candidates.now result.index bounds.new }
+    ensures found { IsFirst (cost_between C.cost_of (C.positions cost.now)) least.now (length (C.positions cost.now)) candidates.now guess (length candidates.now) result }
+{
+    value_costs_law();
+    let first = Found {
+        index: guess,
+        total: last_total(cost, least, candidates[guess]),
+    };
+    let mut best = first;
+    for k in 0..blocks_of(candidates.len()) {
+        best = look_at_block(cost, least, candidates, bounds, guess, k, best);
+    }
+    release(bounds, block_of(guess), first, best.index, cost.len());
+    best
+}
+
+// Lowers the bound of block k by the total to place t of its candidate at which the search began, where another one was
+// found.
+fn release(bounds: &mut [Bound], k: usize, first: Found, found: usize, t: usize)
+    requires { k < length bounds.old }
+    ensures same { found ≡ first.index → bounds.new ≡ bounds.old }
+    ensures lowered { found ≢ first.index → IsLowered (bound_at bounds.old k) t first.total (bound_at bounds.new k) }
+    ensures others { (j : ℕ) → j ≢ k → bound_at bounds.new j ≡ bound_at bounds.old j }
+{
+    if found != first.index {
+        lower(bounds, k, t, first.total);
+    }
+}
+
+// How many blocks so many candidates fill.
+fn blocks_of(count: usize) -> usize
+    requires few { count ≤ 16_640 }
+    ensures enough { count ≤ 256 * result }
+    ensures needed { result ≤ 65 }
+{
+    (count + (BLOCK - 1)) / BLOCK
+}
+
+// The block in which a candidate stands.
+pub fn block_of(index: usize) -> usize
+    ensures start { 256 * result ≤ index }
+    ensures end { index < 256 * result + 256 }
+{
+    index / BLOCK
+}
+
+// The better of `best` and the candidates of block k, which are looked at only where its bound doesn't tell.
+fn look_at_block<C: Cost>(
+    cost: &C,
+    least: &[i128],
+    candidates: &[usize],
+    bounds: &mut [Bound],
+    guess: usize,
+    k: usize,
+    best: Found,
+) -> Found
+    requires block { k < 65 }
+    requires limits { AreWithinLimits (C.positions cost.now) }
+    requires below { (i : ℕ) → i < length candidates.now → slice_index candidates.now i < length (C.positions cost.now) }
+    requires lengths { length least.now ≡ length (C.positions cost.now) }
+    requires totals { AreTotals least.now }
+    requires bounds { HaveBounds (cost_between C.cost_of (C.positions cost.now)) (length (C.positions cost.now)) least.now candidates.now guess bounds.old }
+    requires found { IsFirst (cost_between C.cost_of (C.positions cost.now)) least.now (length (C.positions cost.now)) candidates.now guess (256 * k) best }
+    ensures bounds { HaveBounds (cost_between C.cost_of (C.positions cost.now)) (length (C.positions cost.now)) least.now candidates.now guess bounds.new }
+    ensures found { IsFirst (cost_between C.cost_of (C.positions cost.now)) least.now (length (C.positions cost.now)) candidates.now guess (256 * k + 256) result }
+{
+    value_costs_law();
+    if is_behind(cost, bounds[k], k * BLOCK, best) {
+        return best;
+    }
+    let looked = best_of_block(cost, least, candidates, guess, k, best);
+    bounds[k] = Bound {
+        at: cost.len(),
+        total: looked.low,
+    };
+    looked.best
+}
+
+// Whether each total that a bound allows, at an index from `start` on, comes behind the best: it is more, or equal at no
+// earlier index.
+fn is_behind<C: Cost>(cost: &C, bound: Bound, start: usize, best: Found) -> bool
+    requires limits { AreWithinLimits (C.positions cost.now) }
+    requires placed { bound.at ≤ length (C.positions cost.now) }
+    requires low { neg_ℤ (pos (10 ^ 36)) ≤ℤ bound.total }
+    requires high { bound.total ≤ℤ pos (2 * 10 ^ 37) }
+    ensures { IsTrue result → IsBelowBlock (cost_between C.cost_of (C.positions cost.now)) (length (C.positions cost.now)) bound start best }
+{
+    value_costs_law();
+    if comes_first(best, bound.total, start) {
+        return true;
+    }
+    if bound.at >= cost.len() {
+        return false;
+    }
+    comes_first(best, bound.total + cost.cost(bound.at, cost.len()), start)
+}
+
+// Whether the best is less than a total, or equal to it and at no later index.
+fn comes_first(best: Found, total: i128, index: usize) -> bool
+    ensures { IsTrue result ↔ IsNoLater best total index }
+{
+    best.total <= total && (best.total < total || best.index <= index)
+}
+
+// The better of `best` and the candidates of block k, and the least total of these without the one at `guess`.
+fn best_of_block<C: Cost>(
+    cost: &C,
+    least: &[i128],
+    candidates: &[usize],
+    guess: usize,
+    k: usize,
+    best: Found,
+) -> Looked
+    requires block { k < 65 }
+    requires limits { AreWithinLimits (C.positions cost.now) }
+    requires below { (i : ℕ) → i < length candidates.now → slice_index candidates.now i < length (C.positions cost.now) }
+    requires lengths { length least.now ≡ length (C.positions cost.now) }
+    requires totals { AreTotals least.now }
+    requires found { IsFirst (cost_between C.cost_of (C.positions cost.now)) least.now (length (C.positions cost.now)) candidates.now guess (256 * k) best }
+    ensures found { IsFirst (cost_between C.cost_of (C.positions cost.now)) least.now (length (C.positions cost.now)) candidates.now guess (256 * k + 256) result.best }
+    ensures at_most { (i : ℕ) → 256 * k ≤ i → i < 256 * k + 256 → i < length candidates.now → i ≢ guess
+        → result.low ≤ℤ total_from (cost_between C.cost_of (C.positions cost.now)) least.now (length (C.positions cost.now)) (slice_index candidates.now i) }
+    ensures low { neg_ℤ (pos (10 ^ 36)) ≤ℤ result.low }
+    ensures high { result.low ≤ℤ pos (2 * 10 ^ 37) }
+{
+    let start = k * BLOCK;
+    let mut best = best;
+    let mut low = HIGHEST;
+    for i in start..candidates.len().min(start + BLOCK) {
+        let here = Found {
+            index: i,
+            total: last_total(cost, least, candidates[i]),
+        };
+        best = better(best, here);
+        low = lower_of(low, here, guess);
+    }
+    Looked { best, low }
+}
+
+// The one with the smaller total; of equal totals the one at the smaller index.
+fn better(best: Found, here: Found) -> Found
+    ensures here { ((here.total <ℤ best.total) ⊎ ((here.total ≡ best.total) × (here.index < best.index))) → result ≡ here }
+    ensures best { IsNoLater best here.total here.index → result ≡ best }
+{
+    if comes_first(best, here.total, here.index) {
+        best
+    } else {
+        here
+    }
+}
+
+// The smaller total, without regard to the one at `guess`.
+fn lower_of(low: i128, here: Found, guess: usize) -> i128
+    ensures kept { result ≤ℤ low }
+    ensures here { here.index ≢ guess → result ≤ℤ here.total }
+    ensures one { (result ≡ low) ⊎ (result ≡ here.total) }
+{
+    if here.index != guess && here.total < low {
+        here.total
+    } else {
+        low
+    }
+}
+
+// Lowers a block's bound by a total to place t.
+pub fn lower(bounds: &mut [Bound], k: usize, t: usize, total: i128)
+    requires { k < length bounds.old }
+    ensures lowered { IsLowered (bound_at bounds.old k) t total (bound_at bounds.new k) }
+    ensures others { (j : ℕ) → j ≢ k → bound_at bounds.new j ≡ bound_at bounds.old j }
+{
+    bounds[k] = lowered(bounds[k], t, total);
+}
+
+// A bound, lowered by a total to place t.
+fn lowered(bound: Bound, t: usize, total: i128) -> Bound
+    ensures { IsLowered bound t total result }
+{
+    if total < bound.total {
+        Bound { at: t, total }
+    } else {
+        Bound {
+            at: t,
+            total: bound.total,
+        }
+    }
+}
+
+// Makes each bound the same.
+pub fn reset(bounds: &mut [Bound], bound: Bound)
+    ensures { (k : ℕ) → k < length bounds.old → bound_at bounds.new k ≡ bound }
+{
+    for k in 0..bounds.len() {
+        bounds[k] = bound;
+    }
+}
+
+// Makes each bound one that holds for any places up to place t.
+pub fn forget(bounds: &mut [Bound], t: usize)
+    ensures { (k : ℕ) → k < length bounds.old → bound_at bounds.new k ≡ record { at = t; total = neg_ℤ (pos (10 ^ 36)) } }
+{
+    reset(
+        bounds,
+        Bound {
+            at: t,
+            total: LOWEST,
+        },
+    );
+}

@@ -1,0 +1,22 @@
+//! The best segmentation of points, by a pruned table.
+ghost use Rattle.std.specs.Prelude.{◌≡◌, ◌^◌, pos, ◌≤ℤ◌, IfOk};
+ghost use Rattle.segment_cost.specs.Certificate.{StandsFor};
+
+use crate::table::Table;
+use segment_cost::{Cert, NoMemory, Points, Square, certificate_law};
+use std::alloc::Global;
+
+/// The certificate that stands for the points and a penalty from 0 to 10^36, by a pruned table.
+///
+/// At most O(n² + v) time for n positions with v values, O(n + v) where changes come at bounded distances, and O(n)
+/// memory. The only error is want of memory.
+pub fn segmentation(alloc: Global, points: &Points, penalty: i128) -> Result<Cert, NoMemory>
+    requires low { pos 0 ≤ℤ penalty }
+    requires high { penalty ≤ℤ pos (10 ^ 36) }
+    ensures { IfOk result (λ cert. StandsFor points.now penalty cert) }
+{
+    certificate_law();
+    let table = Table::<Square>::of_points(alloc, points, penalty)?;
+    let cert = table.certificate(alloc)?;
+    Ok(cert)
+}

@@ -1,0 +1,248 @@
+//! The list of positions: values put in and taken out.
+ghost use Rattle.std.specs.Prelude.{◌≡◌, ◌≢◌, ◌+◌, ◌<◌, ◌≤◌, ◌↔◌, List, [], ◌∷◌, length, OnOk, OnErr, IfOk, IsTrue, slice_index, Err, false, true, get_or, All};
+ghost use Rattle.std.specs.List.Sorted.{IsStrictlyIncreasing};
+ghost use Rattle.segment_model.specs.Segments.{Position, segment, values_of};
+ghost use Rattle.segment_model.specs.Limits.{commits_of, HasValue, WithinLimits};
+ghost use Rattle.segment_model.specs.Edits.{inserted, removed, has_commit};
+ghost use Rattle.point_list.specs.Places.{MayCome};
+ghost use Rattle.point_list.specs.Searches.{StandsAt};
+
+use crate::NoMemory;
+use crate::fault::PointFault;
+use crate::stored::StoredPosition;
+use std::alloc::Global;
+use std::marker::Model;
+
+const MOST_VALUES: usize = 65_536;
+
+const MOST_POSITIONS: usize = 16_384;
+
+/// The positions of a series: commits in rising order, each with its values and the steps that brought them.
+///
+/// Contracts see a list of positions. The type keeps the limits: at most 16,384 positions and 65,536 values of
+/// magnitudes up to 10^16, no position without a value, rising commits, and in each position steps that don't fall.
+#[derive(Drop)]
+pub struct Points {
+    alloc: Global,
+    positions: Vec<StoredPosition>,
+    values: usize,
+}
+
+impl Model for Points {
+    ghost use Rattle.std.specs.Prelude.{◌≡◌, List, length};
+    ghost use Rattle.segment_model.specs.Segments.{Position, values_of};
+    ghost use Rattle.segment_model.specs.Limits.{WithinLimits};
+
+    ghost Value = { List Position };
+
+    ghost view = { λ p. p.positions.items };
+
+    ghost invariant = { λ p. WithinLimits p.positions.items
+        × (p.values ≡ length (values_of p.positions.items)) };
+}
+
+impl Points {
+    /// No positions. The value keeps its allocator.
+    pub fn new(alloc: Global) -> Points
+        ensures { result ≡ [] }
+    {
+        Points {
+            alloc,
+            positions: Vec::new(alloc),
+            values: 0,
+        }
+    }
+
+    /// Says what the type keeps; does nothing.
+    pub fn limits(&self)
+        ensures { WithinLimits self.now }
+    {
+        let _ = &self.positions;
+    }
+
+    /// How many positions there are.
+    pub fn len(&self) -> usize
+        ensures { result ≡ length self.now }
+    {
+        self.positions.len()
+    }
+
+    /// Whether there are no positions.
+    pub fn is_empty(&self) -> bool
+        ensures { IsTrue result ↔ (self.now ≡ []) }
+    {
+        self.positions.is_empty()
+    }
+
+    /// How many values there are. Constant time.
+    pub fn count(&self) -> usize
+        ensures { result ≡ length (values_of self.now) }
+    {
+        self.values
+    }
+
+    /// Whether the commit has a position. Logarithmic time.
+    pub fn has(&self, commit: u64) -> bool
+        ensures { result ≡ has_commit commit self.now }
+    {
+        let place = place_of(&self.positions, commit);
+        is_at(&self.positions, place, commit)
+    }
+
+    /// The commit of position i, from 0.
+    pub fn commit(&self, i: usize) -> u64
+        requires { i < length self.now }
+        ensures { result ≡ slice_index (commits_of self.now) i }
+    {
+        let position = &self.positions[i];
+        position.commit()
+    }
+
+    /// The values of position i, from 0.
+    pub fn values(&self, i: usize) -> &[i64]
+        requires { i < length self.now }
+        ensures { result.now ≡ segment self.now i (i + 1) }
+    {
+        let position = &self.positions[i];
+        position.values()
+    }
+
+    /// Puts a value into its commit's position, as the last one, or into a new position in its place.
+    ///
+    /// Changes nothing where it fails. `SamplesFull` comes exactly where there are 65,536 values, `PositionsFull` exactly
+    /// where else the commit has no position and there are 16,384. Logarithmic time, but for growing and for moving the
+    /// positions behind a new one.
+    pub fn insert(&mut self, commit: u64, step: u64, value: i64) -> Result<(), PointFault>
+        requires { MayCome self.old commit step value }
+        ensures ok { OnOk result
+            (self.new ≡ inserted commit (record { step = step; value = value }) self.old) }
+        ensures err { OnErr result (self.new ≡ self.old) }
+        ensures samples_full { result ≡ Err PointFault.SamplesFull
+            ↔ (65_536 ≤ length (values_of self.old)) }
+        ensures positions_full { result ≡ Err PointFault.PositionsFull
+            ↔ ((length (values_of self.old) < 65_536) × (has_commit commit self.old ≡ false)
+            × (16_384 ≤ length self.old)) }
+    {
+        if self.values >= MOST_VALUES {
+            return Err(PointFault::SamplesFull);
+        }
+        let there = self.has(commit);
+        if !there && self.positions.len() >= MOST_POSITIONS {
+            return Err(PointFault::PositionsFull);
+        }
+        put_in(self.alloc, &mut self.positions, commit, step, value)?;
+        self.values += 1;
+        Ok(())
+    }
+
+    /// Takes away all values of a step at a commit, and the position where none is left. Takes no memory.
+    ///
+    /// Logarithmic time, but for the values of the position and for moving the positions behind one that goes.
+    pub fn remove(&mut self, commit: u64, step: u64)
+        ensures { self.new ≡ removed commit step self.old }
+    {
+        let gone = take_out(&mut self.positions, commit, step);
+        self.values -= gone;
+    }
+
+    // The positions, in order.
+    pub(crate) fn as_slice(&self) -> &[StoredPosition]
+        ensures { result.now ≡ self.now }
+    {
+        &self.positions
+    }
+
+    /// Equal points of their own. Linear in the number of values.
+    pub fn copy(&self, alloc: Global) -> Result<Points, NoMemory>
+        ensures { IfOk result (λ made. made ≡ self.now) }
+    {
+        let mut positions = Vec::with_capacity(alloc, self.positions.len())?;
+        for position in &self.positions {
+            positions.push(position.copy(alloc)?)?;
+        }
+        Ok(Points {
+            alloc,
+            positions,
+            values: self.values,
+        })
+    }
+}
+
+// Puts a value into the commit's position, or into a new one in its place; changes nothing where there is no memory.
+fn put_in(
+    alloc: Global,
+    positions: &mut Vec<StoredPosition>,
+    commit: u64,
+    step: u64,
+    value: i64,
+) -> Result<(), NoMemory>
+    requires { IsStrictlyIncreasing (commits_of positions.old.items) }
+    ensures ok { OnOk result (positions.new.items
+        ≡ inserted commit (record { step = step; value = value }) positions.old.items) }
+    ensures err { OnErr result (positions.new.items ≡ positions.old.items) }
+{
+    let place = place_of(positions, commit);
+    if is_at(positions, place, commit) {
+        let position = &mut positions[place];
+        return position.push(step, value);
+    }
+    let position = StoredPosition::of(alloc, commit, step, value)?;
+    positions.insert(place, position)?;
+    Ok(())
+}
+
+// Takes the values of a step out of the commit's position, and the position where none is left; gives their count.
+fn take_out(positions: &mut Vec<StoredPosition>, commit: u64, step: u64) -> usize
+    requires rising { IsStrictlyIncreasing (commits_of positions.old.items) }
+    requires filled { All HasValue positions.old.items }
+    ensures left { positions.new.items ≡ removed commit step positions.old.items }
+    ensures gone { length (values_of positions.new.items) + result
+        ≡ length (values_of positions.old.items) }
+{
+    let place = place_of(positions, commit);
+    if !is_at(positions, place, commit) {
+        return 0;
+    }
+    let position = &mut positions[place];
+    let gone = position.take_step(step);
+    if position.len() == 0 {
+        let _ = positions.remove(place);
+    }
+    gone
+}
+
+// The first place whose commit is not below this one.
+fn place_of(positions: &[StoredPosition], commit: u64) -> usize
+    requires { IsStrictlyIncreasing (commits_of positions.now) }
+    ensures stands { StandsAt commit positions.now result }
+    ensures within { result ≤ length positions.now }
+{
+    let mut low = 0;
+    let mut high = positions.len();
+    while low < high {
+        let middle = low + (high - low) / 2;
+        let position = &positions[middle];
+        if position.commit() < commit {
+            low = middle + 1;
+        } else {
+            high = middle;
+        }
+    }
+    low
+}
+
+// Whether the commit's position stands at its place.
+fn is_at(positions: &[StoredPosition], place: usize, commit: u64) -> bool
+    requires rising { IsStrictlyIncreasing (commits_of positions.now) }
+    requires place { StandsAt commit positions.now place }
+    requires within { place ≤ length positions.now }
+    ensures has { result ≡ has_commit commit positions.now }
+    ensures there { result ≡ true → place < length positions.now }
+    ensures same { result ≡ true → (d : Position) → (get_or positions.now place d).commit ≡ commit }
+{
+    if place == positions.len() {
+        return false;
+    }
+    let position = &positions[place];
+    position.commit() == commit
+}

@@ -1,0 +1,30 @@
+//! How far two lists of positions agree.
+ghost use Rattle.std.specs.Prelude.{◌≡◌};
+ghost use Rattle.point_list.specs.Places.{common};
+
+use crate::points::Points;
+use crate::stored::StoredPosition;
+
+/// The greatest number of first positions with equal commits and values, whatever steps brought these.
+///
+/// Linear in the values; takes no memory.
+pub fn common_prefix(a: &Points, b: &Points) -> usize
+    ensures { result ≡ common a.now b.now }
+{
+    common_positions(a.as_slice(), b.as_slice())
+}
+
+fn common_positions(a: &[StoredPosition], b: &[StoredPosition]) -> usize
+    ensures { result ≡ common a.now b.now }
+{
+    let mut k = 0;
+    while k < a.len() && k < b.len() {
+        let one = &a[k];
+        let other = &b[k];
+        if !one.is_same(other) {
+            return k;
+        }
+        k += 1;
+    }
+    k
+}

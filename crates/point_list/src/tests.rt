@@ -1,0 +1,62 @@
+//! Positions in any order and at their limits, with ample memory.
+use crate::{PointFault, Points, common_prefix, steps_law};
+use std::alloc::Global;
+
+// The points of some commits and values that come in this order, by the steps 0, 1 and so on.
+fn points_of(alloc: Global, lines: &[(u64, i32)]) -> Result<Points, PointFault> {
+    let mut points = Points::new(alloc);
+    steps_law();
+    for (i, (commit, value)) in lines.iter().enumerate() {
+        points.insert(*commit, i as u64, i64::from(*value))?;
+    }
+    Ok(points)
+}
+
+#[test]
+fn values_come_and_go_in_any_order(rt: HostRuntime) -> Result<(), PointFault> {
+    let alloc = rt.alloc();
+    let mut points = points_of(alloc, &[(40, 10), (10, 0), (40, 10), (20, 3), (20, 4)])?;
+    let live = points_of(alloc, &[(10, 0), (20, 3), (20, 4), (40, 10)])?;
+    assert_eq!(rt; common_prefix(&points, &live), 2);
+    points.remove(40, 0);
+    points.remove(10, 0);
+    assert_eq!(rt; points.len(), 3);
+    assert_eq!(rt; points.count(), 4);
+    assert_eq!(rt; common_prefix(&points, &live), 3);
+    assert_eq!(rt; points.values(1), [3, 4].as_slice());
+    points.remove(20, 4);
+    points.remove(10, 1);
+    assert_eq!(rt; points.len(), 2);
+    assert_eq!(rt; (points.commit(0), points.commit(1)), (20, 40));
+    assert_eq!(rt; points.values(0), [3].as_slice());
+    assert_eq!(rt; common_prefix(&points, &live), 0);
+    Ok(())
+}
+
+// A value more is refused where there are 65,536.
+fn is_full_of_values(alloc: Global) -> Result<bool, PointFault> {
+    let mut points = Points::new(alloc);
+    steps_law();
+    for step in 0..65_536 {
+        points.insert(1, step, 0)?;
+    }
+    Ok(points.insert(1, 65_536, 0) == Err(PointFault::SamplesFull))
+}
+
+// A position more is refused where there are 16,384, a value more is not.
+fn is_full_of_positions(alloc: Global) -> Result<bool, PointFault> {
+    let mut points = Points::new(alloc);
+    steps_law();
+    for step in 0..16_384 {
+        points.insert(20_000 - step, step, 0)?;
+    }
+    let refused = points.insert(1, 16_384, 0) == Err(PointFault::PositionsFull);
+    points.insert(20_000, 16_384, 0)?;
+    Ok(refused)
+}
+
+#[test]
+fn limits_are_kept(rt: HostRuntime) {
+    assert_eq!(rt; is_full_of_values(rt.alloc()), Ok(true));
+    assert_eq!(rt; is_full_of_positions(rt.alloc()), Ok(true));
+}

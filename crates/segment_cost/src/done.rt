@@ -1,0 +1,27 @@
+//! A finished segmentation of a series.
+ghost use Rattle.std.specs.Prelude.{pos, ◌≤ℤ◌, ◌^◌};
+ghost use Rattle.segment_cost.specs.Certificate.{StandsFor};
+
+use crate::Points;
+use crate::cert::Cert;
+use line_text::Name;
+
+/// A finished segmentation of a series, as it is published.
+#[derive(Drop)]
+pub struct Done {
+    /// The test of the series.
+    pub test: Name,
+    /// Its metric.
+    pub metric: Name,
+    /// How many entries of the history it was made from.
+    pub version: u64,
+    /// The version of the publication whose table it began with, or 0.
+    pub base: u64,
+    /// How many positions were looked at anew.
+    pub redone: u64,
+    /// The best segmentation of the points, with its table, at a penalty from 0 to 10^36.
+    pub cert: Cert,
+    /// The positions of the series.
+    pub points: Points,
+    pub ghost stands: { ∥ (pos 0 ≤ℤ cert.penalty) × (cert.penalty ≤ℤ pos (10 ^ 36)) × StandsFor points cert.penalty cert ∥₁ },
+}

@@ -1,0 +1,152 @@
+-- Segments of positions as lists of values.
+use Rattle.std.proofs.Common.{◌≡◌, ℕ, ℤ, zero, suc, ◌+◌, ◌-◌, ◌^◌, ◌<◌, ◌≤◌, List, [], ◌∷◌, ◌++◌, length, get_or, take, drop, map, flat_map, All, refl, sym, ap, ◌∙◌, pos, ◌+ℤ◌, ◌≤ℤ◌, arith}
+use Rattle.std.proofs.lemmas.Int.{ints}
+use Rattle.std.proofs.lemmas.List.{length-append, length-drop, length-map, drop-drop, take-append-drop, take_all, take_more, take-append-le, drop-append-le}
+use Rattle.std.proofs.lemmas.List.Concat.{flat_map-append}
+use Rattle.segment_model.specs.Segments.{Observation, Position, position_values, values_of, segment, IsLeastSum}
+use Rattle.segment_model.specs.Limits.{IsSmall, HasValue, WithinLimits}
+use Rattle.segment_model.specs.Computed.{least_sum_of}
+use Rattle.segment_model.specs.Cuts.{Merges}
+use Rattle.segment_model.specs.Values.{joined, values_between, values_by_position, IsSome, AreWithinLimits, cost_between, MergesValues, CostsInRange, ValuesHaveParts, ValuesAreWithinLimits, ValuesAreSome, FrontHasSameValues, FrontIsWithinLimits, FirstAreWithinLimits, NextOfPoints, AllOfPoints, NextValuesFollow, ValuesOfPoints, PointsAreWithinLimits, SegmentsMerge, SegmentsAreInRange, LeastSumsMerge, LeastSumsAreInRange}
+use Rattle.segment_model.proofs.Segments.{take-sum, one-position}
+use Rattle.segment_model.proofs.Bounds.{all-left, all-right, least_sum-low, least_sum-high}
+use Rattle.segment_model.proofs.Centres.{least_sum_of-is, least_sum-append}
+
+joined-append : (xs ys : List (List ℤ)) → joined (xs ++ ys) ≡ joined xs ++ joined ys
+joined-append xs ys = flat_map-append (λ (v : List ℤ). v) xs ys
+
+pub values-parts : ValuesHaveParts
+values-parts positions s u t lo hi =
+    let parts = take-sum (drop s positions) (u - s) (t - u) in
+    let size : (u - s) + (t - u) ≡ t - s = omega arith in
+    let start : s + (u - s) ≡ u = omega arith in
+    let parts' = rw (size, drop-drop (u - s) s positions, start) at parts in
+    rw parts' (joined-append (take (u - s) (drop s positions)) (take (t - u) (drop u positions)))
+
+values-whole : (positions : List (List ℤ)) → values_between positions 0 (length positions) ≡ joined positions
+values-whole positions = ap joined (take_all (length positions - 0) positions (omega arith))
+
+pub front-within : FrontIsWithinLimits
+front-within xs ys h = record {
+  few_positions = omega (arith, h.few_positions, length-append xs ys);
+  few_values = omega (arith, h.few_values, ap length (joined-append xs ys) ∙ length-append (joined xs) (joined ys));
+  small = all-left IsSmall (joined xs) (joined ys) (rw (joined-append xs ys) at h.small);
+  none_empty = all-left IsSome xs ys h.none_empty;
+}
+
+module _ (positions : List (List ℤ)) (within : AreWithinLimits positions) where
+  whole : (s t : ℕ) → s ≤ t → t ≤ length positions
+      → joined positions ≡ (values_between positions 0 s ++ values_between positions s t) ++ values_between positions t (length positions)
+  whole s t le fits =
+      sym (values-whole positions)
+      ∙ values-parts positions 0 t (length positions) (omega arith) fits
+      ∙ ap (λ xs. xs ++ values_between positions t (length positions)) (values-parts positions 0 s t (omega arith) le)
+
+  pub values-small : (s t : ℕ) → s ≤ t → t ≤ length positions → All IsSmall (values_between positions s t)
+  values-small s t le fits =
+      all-right IsSmall (values_between positions 0 s) (values_between positions s t)
+      (all-left IsSmall (values_between positions 0 s ++ values_between positions s t) (values_between positions t (length positions)) (rw (whole s t le fits) at within.small))
+
+  pub values-few : (s t : ℕ) → s ≤ t → t ≤ length positions → length (values_between positions s t) ≤ 65_536
+  values-few s t le fits =
+      omega (
+        arith,
+        within.few_values,
+        ap length (whole s t le fits),
+        length-append (values_between positions 0 s ++ values_between positions s t) (values_between positions t (length positions)),
+        length-append (values_between positions 0 s) (values_between positions s t),
+      )
+
+pub values-within : ValuesAreWithinLimits
+values-within positions within s t le fits = (values-small positions within s t le fits, values-few positions within s t le fits)
+
+one-list : (positions : List (List ℤ)) (i : ℕ) → i < length positions → values_between positions i (i + 1) ≡ get_or positions i [] ++ []
+one-list [] i h = absurd (omega arith)
+one-list (p ∷ positions) zero h = refl
+one-list (p ∷ positions) (suc i) h =
+    let e : suc i + 1 - suc i ≡ i + 1 - i = omega arith in
+    rw e (one-list positions i (omega arith))
+
+pub values-some : ValuesAreSome
+values-some positions within s t lt fits =
+    let first : values_between positions s t ≡ values_between positions s (s + 1) ++ values_between positions (s + 1) t = values-parts positions s (s + 1) t (omega arith) (omega arith) in
+    let some : 0 < length (get_or positions s []) = within.none_empty s [] (omega arith) in
+    omega (
+      arith,
+      some,
+      ap length (one-list positions s (omega arith)) ∙ length-append (get_or positions s []) [],
+      ap length first ∙ length-append (values_between positions s (s + 1)) (values_between positions (s + 1) t),
+    )
+
+pub front-values : FrontHasSameValues
+front-values front rest s t le fits =
+    let e : drop s (front ++ rest) ≡ drop s front ++ rest = drop-append-le s front rest (omega arith) in
+    let g : take (t - s) (drop s front ++ rest) ≡ take (t - s) (drop s front) = take-append-le (t - s) (drop s front) rest (omega (arith, length-drop s front)) in
+    ap joined (ap (take (t - s)) e ∙ g)
+
+pub next-values : NextValuesFollow
+next-values positions values =
+    let size : length (positions ++ values ∷ []) ≡ length positions + 1 = length-append positions (values ∷ []) in
+    let all : values_between (positions ++ values ∷ []) 0 (length positions + 1) ≡ joined (positions ++ values ∷ []) =
+    ap (λ (n : ℕ). values_between (positions ++ values ∷ []) 0 n) (sym size) ∙ values-whole (positions ++ values ∷ []) in
+    all ∙ joined-append positions (values ∷ []) ∙ ap (λ xs. xs ++ (values ++ [])) (sym (values-whole positions)) ∙ ap (λ xs. values_between positions 0 (length positions) ++ xs) (append-empty values)
+  where
+    append-empty : (xs : List ℤ) → xs ++ [] ≡ xs
+    append-empty [] = refl
+    append-empty (x ∷ xs) = ap (λ ys. x ∷ ys) (append-empty xs)
+
+joined-map : (points : List Position) → joined (values_by_position points) ≡ values_of points
+joined-map [] = refl
+joined-map (p ∷ points) = ap (λ xs. position_values p ++ xs) (joined-map points)
+
+take-map : (n : ℕ) (points : List Position) → take n (values_by_position points) ≡ values_by_position (take n points)
+take-map zero points = refl
+take-map (suc n) [] = refl
+take-map (suc n) (p ∷ points) = ap (λ xs. position_values p ∷ xs) (take-map n points)
+
+drop-map : (n : ℕ) (points : List Position) → drop n (values_by_position points) ≡ values_by_position (drop n points)
+drop-map zero points = refl
+drop-map (suc n) [] = refl
+drop-map (suc n) (p ∷ points) = drop-map n points
+
+pub points-values : ValuesOfPoints
+points-values points s t =
+    ap (λ xs. joined (take (t - s) xs)) (drop-map s points) ∙ ap joined (take-map (t - s) (drop s points)) ∙ joined-map (take (t - s) (drop s points))
+
+some-map : (points : List Position) → All HasValue points → All IsSome (values_by_position points)
+some-map [] h k d lt = absurd (omega arith)
+some-map (p ∷ points) h zero d lt =
+    let here : 0 < length p.samples = h zero p (omega arith) in
+    omega (arith, here, length-map p.samples (λ (x : Observation). x.value))
+some-map (p ∷ points) h (suc k) d lt = some-map points (λ k' d' lt'. h (suc k') d' (omega arith)) k d (omega arith)
+
+pub points-within : PointsAreWithinLimits
+points-within points h = record {
+  few_positions = omega (arith, h.few_positions, length-map points position_values);
+  few_values = rw (joined-map points) h.few_values;
+  small = rw (joined-map points) h.small;
+  none_empty = some-map points h.none_empty;
+}
+
+pub segments-merge : SegmentsMerge
+segments-merge cost merges positions n s u t lo hi fits = rw (values-parts positions s u t lo hi) (merges (values_between positions s u) (values_between positions u t))
+
+pub segments-range : SegmentsAreInRange
+segments-range cost range positions within s t le fits = range (values_between positions s t) (values-small positions within s t le fits) (values-few positions within s t le fits)
+
+pub first-within : FirstAreWithinLimits
+first-within positions k h = front-within (take k positions) (drop k positions) (rw (take-append-drop k positions) h)
+
+read-map : (points : List Position) (i : ℕ) → i < length points → get_or (values_by_position points) i [] ≡ position_values (get_or points i (record { commit = 0; samples = [] }))
+read-map [] i lt = absurd (omega arith)
+read-map (p ∷ points) zero lt = refl
+read-map (p ∷ points) (suc i) lt = read-map points i (omega arith)
+
+pub next-of-points : NextOfPoints
+next-of-points points i lt =
+    let more = take_more (values_by_position points) i [] (omega (arith, lt, length-map points position_values)) in
+    let one = one-position points i (record { commit = 0; samples = [] }) lt in
+    ap (λ (v : List ℤ). take i (values_by_position points) ++ v ∷ []) (one ∙ sym (read-map points i lt)) ∙ sym more
+
+pub all-of-points : AllOfPoints
+all-of-points points = take_all (length points) (values_by_position points) (omega (arith, length-map points position_values))
