@@ -1,11 +1,25 @@
 -- Which words are a command.
 use Rattle.std.specs.Prelude.{◌≡◌, ℕ, ◌^◌, ◌≤◌, List, [], ◌∷◌, map, codes, decimal, String, string_bytes}
+use Rattle.tracker_top.specs.declared.command.Command.{Command}
+use Rattle.tracker_top.specs.declared.command.Command.TheVariants.{Cut}
 
 -- the bytes of the words
 abbrev pub texts : {A : Type 0} → List (String A) → List (List ℕ)
 texts words = map string_bytes words
 
 -- `cut` and a penalty of at most 10^36
-pub record IsCut (words : List (List ℕ)) (penalty : ℕ) : Type 0 where
+pub record IsCutCommand (words : List (List ℕ)) (penalty : ℕ) : Type 0 where
   pub spelled : words ≡ codes "cut" ∷ decimal penalty ∷ []
   pub small : penalty ≤ 10 ^ 36
+
+-- the words are this command
+abbrev pub IsSpelled : List (List ℕ) → Command → Type 0
+IsSpelled words (Cut penalty) = IsCutCommand words penalty
+
+-- the words are no command
+abbrev pub AreNoCommand : List (List ℕ) → Type 0
+AreNoCommand words = (command : Command) → ¬ IsSpelled words command
+
+-- the numbers of the command are within their limits
+abbrev pub IsInRange : Command → Type 0
+IsInRange (Cut penalty) = penalty ≤ 10 ^ 36

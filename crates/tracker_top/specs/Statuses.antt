@@ -1,43 +1,45 @@
--- What a status says of the words and of the input's bytes.
-use Rattle.std.specs.Prelude.{◌≡◌, ℕ, List}
+-- Which status is due, by the words and by the input's bytes.
+use Rattle.std.specs.Prelude.{◌≡◌, ℕ, ◌⊎◌, List}
+use Rattle.segment_model.specs.Segments.{Position}
+use Rattle.cut_lines.specs.declared.stop.Refusal.TheVariants as refusal
+use Rattle.cut_lines.specs.declared.stop.Stop.{Stop}
+use Rattle.cut_lines.specs.declared.stop.Stop.TheVariants as stop
+use Rattle.cut_lines.specs.Reading.{ArePointsOf}
+use Rattle.cut_lines.specs.Stops.{BytesShow}
+use Rattle.tracker_top.specs.declared.command.Command.{Command}
+use Rattle.tracker_top.specs.declared.command.Command.TheVariants.{Cut}
 use Rattle.tracker_top.specs.declared.status.Status.{Status}
-use Rattle.tracker_top.specs.declared.status.Status.TheVariants.{Done, BadWords, ReadFault, WriteFault, NoMemory, InputTooLong, BadLine, Full, NotYet}
-use Rattle.tracker_top.specs.Lines.{CutLine}
-use Rattle.tracker_top.specs.Reading.{AreCutLinesOf, Refuses, IsBad, IsOutOfOrder, IsOverLimit, IsTooLong}
-use Rattle.tracker_top.specs.Commands.{IsCut}
+use Rattle.tracker_top.specs.declared.status.Status.TheVariants.{Done, BadWords, ReadFault, WriteFault, NoMemory, InputTooLong, BadLine, Full}
+use Rattle.tracker_top.specs.Commands.{IsSpelled, AreNoCommand}
 
--- a status that neither the words nor the bytes tell
-abbrev pub IsFree : Status → Type 0
-IsFree ReadFault = Unit {0}
-IsFree WriteFault = Unit {0}
-IsFree NoMemory = Unit {0}
-IsFree status = ⊥
+-- the status at which a command ends where reading of its cut lines stops
+abbrev pub status_of : Stop → Status
+status_of stop.Fault = ReadFault
+status_of stop.TooLong = InputTooLong 0
+status_of (stop.Refused refusal.Bad k) = BadLine k
+status_of (stop.Refused refusal.Full k) = Full k
+status_of stop.NoMemory = NoMemory
 
--- what the bytes show where the words are a command; nothing of the three that are free
-abbrev pub IsShown : List ℕ → Status → Type 0
-IsShown bytes Done = (cuts : List CutLine) × AreCutLinesOf bytes cuts
-IsShown bytes (InputTooLong script) = (script ≡ 0) × IsTooLong bytes
-IsShown bytes (BadLine k) = Refuses IsBad bytes k
-IsShown bytes (NotYet k) = Refuses IsOutOfOrder bytes k
-IsShown bytes (Full k) = Refuses IsOverLimit bytes k
-IsShown bytes BadWords = ⊥
-IsShown bytes status = Unit {0}
+-- the bytes show this status of `cut`: it is Done and they have points, or they show the stop that it is the status of
+abbrev pub CutShows : List ℕ → Status → Type 0
+CutShows bytes status =
+    ((status ≡ Done) × ((points : List Position) × ArePointsOf bytes points))
+    ⊎ ((stop : Stop) × (status ≡ status_of stop) × BytesShow bytes stop)
 
--- no penalty makes a command of the words
-abbrev pub IsNoCommand : List (List ℕ) → Type 0
-IsNoCommand words = (penalty : ℕ) → ¬ IsCut words penalty
+-- the input's bytes show this status of the command; they never show a fault or want of memory
+abbrev pub Shows : Command → List ℕ → Status → Type 0
+Shows (Cut penalty) bytes status = CutShows bytes status
 
--- what the words and the bytes say of a status
+-- the words and the bytes show this status: the words are no command, or one of which the bytes show it
 abbrev pub IsDue : List (List ℕ) → List ℕ → Status → Type 0
-IsDue words bytes BadWords = IsNoCommand words
-IsDue words bytes status = ((penalty : ℕ) × IsCut words penalty) × IsShown bytes status
+IsDue words bytes status =
+    ((status ≡ BadWords) × AreNoCommand words)
+    ⊎ ((command : Command) × IsSpelled words command × Shows command bytes status)
 
--- a status at which reading of the lines ends early
-abbrev pub StopsReading : Status → Type 0
-StopsReading Done = ⊥
-StopsReading BadWords = ⊥
-StopsReading WriteFault = ⊥
-StopsReading status = Unit {0}
+-- no words and bytes show two statuses
+abbrev pub OneStatusIsDue : Type 0
+OneStatusIsDue =
+    (words : List (List ℕ)) (bytes : List ℕ) (one other : Status) → IsDue words bytes one → IsDue words bytes other → one ≡ other
 
 -- the number that the program ends with
 abbrev pub number_of : Status → ℕ
@@ -49,4 +51,3 @@ number_of NoMemory = 8
 number_of (InputTooLong script) = 9
 number_of (BadLine k) = 10
 number_of (Full k) = 11
-number_of (NotYet k) = 12

@@ -1,7 +1,8 @@
+//! How a command ends.
 ghost use Rattle.std.specs.Prelude.{◌≡◌};
 ghost use Rattle.tracker_top.specs.Statuses.{number_of};
 
-use segment_cost::NoMemory;
+use cut_lines::{Refusal, Stop};
 use std::alloc::AllocError;
 
 /// How a command ends. A line is named by its number, from 1, and an input by its script's number, where standard
@@ -24,12 +25,10 @@ pub enum Status {
     BadLine(u64),
     /// This line would pass a limit of a series.
     Full(u64),
-    /// The order of this line is below that of the cut line before.
-    NotYet(u64),
 }
 
 impl Status {
-    /// The number that the program ends with, from 0 to 12.
+    /// The number that the program ends with, from 0 to 11.
     pub fn number(&self) -> u8
         ensures { result ≡ number_of self.now }
     {
@@ -42,7 +41,6 @@ impl Status {
             Status::InputTooLong(_) => 9,
             Status::BadLine(_) => 10,
             Status::Full(_) => 11,
-            Status::NotYet(_) => 12,
         }
     }
 }
@@ -58,13 +56,20 @@ impl From<AllocError> for Status {
     }
 }
 
-impl From<NoMemory> for Status {
+/// How a command ends where reading of its cut lines stops.
+impl From<Stop> for Status {
     ghost use Rattle.std.specs.Prelude.{◌≡◌};
-    ghost use Rattle.tracker_top.specs.declared.status.Status.{Status};
+    ghost use Rattle.tracker_top.specs.Statuses.{status_of};
 
-    ghost from_gives = { λ _ status. status ≡ Status.NoMemory };
+    ghost from_gives = { λ stop status. status ≡ status_of stop };
 
-    fn from(_: NoMemory) -> Status {
-        Status::NoMemory
+    fn from(stop: Stop) -> Status {
+        match stop {
+            Stop::Fault => Status::ReadFault,
+            Stop::TooLong => Status::InputTooLong(0),
+            Stop::Refused(Refusal::Bad, line) => Status::BadLine(line),
+            Stop::Refused(Refusal::Full, line) => Status::Full(line),
+            Stop::NoMemory => Status::NoMemory,
+        }
     }
 }

@@ -1,28 +1,29 @@
-ghost use Rattle.std.specs.Prelude.{◌≡◌, ◌≢◌, ℕ, ◌+◌, ◌^◌, ◌≤◌, List, [], ◌⊎◌, pos, IfSome, IfNone, IfOk, IfErr, OnOk, OnErr};
-ghost use Rattle.std.specs.Io.KnownBytes.{append_known};
+//! The top call: it runs the command that the words are.
+ghost use Rattle.std.specs.Prelude.{◌≡◌, ◌≢◌, ◌^◌, ◌≤◌, ◌⊎◌, IfSome};
 ghost use Rattle.track_outside.specs.Counts.{Rose};
-ghost use Rattle.tracker_top.specs.Commands.{texts, IsCut};
-ghost use Rattle.tracker_top.specs.Reading.{GivesOpen, GivesFew};
-ghost use Rattle.tracker_top.specs.Statuses.{IsFree, IsNoCommand, IsDue, IsShown};
-ghost use Rattle.tracker_top.specs.Answers.{IsAnswer, OneStatusIsDue};
-ghost use Rattle.tracker_top.specs.Text.{line_of, TookFront};
+ghost use Rattle.tracker_top.specs.declared.command.Command.{Command};
+ghost use Rattle.tracker_top.specs.declared.command.Command.TheVariants.{Cut};
+ghost use Rattle.tracker_top.specs.Commands.{texts, IsSpelled, IsInRange, AreNoCommand};
+ghost use Rattle.tracker_top.specs.Statuses.{IsDue, OneStatusIsDue};
+ghost use Rattle.tracker_top.specs.Answers.{IsAnswer};
+ghost use Rattle.tracker_top.specs.Endings.{EndsInput, EndsOutput, IsTold};
 
-use crate::input::read_points;
-use crate::printing::{certificate_text, put_status};
+use crate::command::{Command, command_of};
+use crate::printing::put_status;
 use crate::status::Status;
-use line_text::read_u128;
-use part_core::part;
+use cost_certificate::put_cert;
+use cut_lines::{one_stop_law, read_points};
+use pelt_core::segmentation;
 use std::alloc::Global;
 use track_outside::{Sink, Source, put_all};
-
-/// The greatest penalty.
-const PENALTY_LIMIT: u128 = 1_000_000_000_000_000_000_000_000_000_000_000_000;
 
 /// No words and bytes of an input have two statuses, but for those that the outside or the memory give. Does nothing:
 /// its contract is what it is for.
 pub fn one_status_law()
     ensures { OneStatusIsDue }
-{}
+{
+    one_stop_law();
+}
 
 /// Runs the command that the words are, those behind the program's name, and answers how it ends.
 ///
@@ -40,124 +41,72 @@ pub fn alone<I: Source, O: Sink>(
     out: &mut O,
     err: &mut O,
 ) -> Status
-    // The status is what the words say, and what the input's bytes show, where it tells them.
-    ensures bad_words { result ≡ Status.BadWords → IsNoCommand (texts words.now) }
-    ensures command { result ≢ Status.BadWords → (penalty : ℕ) × IsCut (texts words.now) penalty }
-    ensures due { IfSome (I.left input.old) (λ bytes. IsDue (texts words.now) bytes result) }
+    // Bad words are no command, and then nothing is read or written but the status' line.
+    ensures bad_words { result ≡ Status.BadWords → AreNoCommand (texts words.now) }
+    ensures untouched { result ≡ Status.BadWords → (input.new ≡ input.old) × (out.new ≡ out.old) }
 
-    // A fault is answered only where the object's own count rose, and of the input only where the lines that it gave
-    // are accepted, and the one that had begun may go on.
-    ensures read_fault { result ≡ Status.ReadFault → Rose (I.faults input.old) (I.faults input.new) }
-    ensures read_open { result ≡ Status.ReadFault → GivesOpen (I.left input.old) (I.left input.new) }
-    ensures write_fault { result ≡ Status.WriteFault → Rose (O.faults out.old) (O.faults out.new) }
-
-    // The input is read to its end where all is done, and up to one byte behind the most that it may have.
-    ensures read_all { result ≡ Status.Done → IfSome (I.left input.new) (λ bytes. bytes ≡ []) }
-    ensures few_read { GivesFew (2 ^ 30 + 1) (I.left input.old) (I.left input.new) }
+    // Else they are a command, which ends so on the input and the output.
+    ensures command { result ≢ Status.BadWords → (command : Command)
+        × IsSpelled (texts words.now) command
+        × EndsInput I.Source command input.old input.new result
+        × EndsOutput O.Sink (IsAnswer command (I.left input.old)) out.old out.new result }
 
     // What is due comes, unless an object fails or memory is wanting. So good words and good input are Done.
-    ensures complete { IfSome (I.left input.old) (λ bytes. (status : Status) → ¬ IsFree status → IsDue (texts words.now) bytes status
+    ensures complete { IfSome (I.left input.old) (λ bytes. (status : Status)
+        → IsDue (texts words.now) bytes status
         → (result ≡ status) ⊎ (result ≡ Status.NoMemory)
-        ⊎ Rose (I.faults input.old) (I.faults input.new) ⊎ Rose (O.faults out.old) (O.faults out.new)) }
+        ⊎ Rose (I.faults input.old) (I.faults input.new)
+        ⊎ Rose (O.faults out.old) (O.faults out.new)) }
 
-    // The output is the answer's text, a first part of it, or nothing.
-    ensures done { result ≡ Status.Done → (penalty : ℕ) × (text : List ℕ) × IsCut (texts words.now) penalty
-        × IsAnswer penalty (I.left input.old) text × (O.taken out.new ≡ append_known (O.taken out.old) text) }
-    ensures part { result ≡ Status.WriteFault → (penalty : ℕ) × (text : List ℕ) × IsCut (texts words.now) penalty
-        × IsAnswer penalty (I.left input.old) text × TookFront (O.taken out.old) (O.taken out.new) text }
-    ensures nothing { result ≢ Status.Done → result ≢ Status.WriteFault → O.taken out.new ≡ O.taken out.old }
-
-    // The status is told in a line, of which a first part is written where `err` fails.
-    ensures told { (O.taken err.new ≡ append_known (O.taken err.old) (line_of result))
-        ⊎ (Rose (O.faults err.old) (O.faults err.new) × TookFront (O.taken err.old) (O.taken err.new) (line_of result)) }
-
-    // No count falls.
-    ensures input_counts { I.faults input.old ≤ I.faults input.new }
-    ensures out_counts { O.faults out.old ≤ O.faults out.new }
-    ensures err_counts { O.faults err.old ≤ O.faults err.new }
+    // The status is told.
+    ensures told { IsTold O.Sink err.old err.new result }
 {
-    let status = outcome(alloc, words, input, out);
+    one_status_law();
+    let Some(command) = command_of(words) else {
+        let _ = put_status(err, Status::BadWords);
+        return Status::BadWords;
+    };
+    let status = run_command(alloc, command, input, out);
     // A status stands also where it can't be told.
     let _ = put_status(err, status);
     status
 }
 
 // Runs the command, and leaves the telling of its status to the caller.
-fn outcome<I: Source, O: Sink>(
+fn run_command<I: Source, O: Sink>(
     alloc: Global,
-    words: &[String],
+    command: Command,
     input: &mut I,
     out: &mut O,
 ) -> Status
-    ensures bad_words { result ≡ Status.BadWords → IsNoCommand (texts words.now) }
-    ensures command { result ≢ Status.BadWords → (penalty : ℕ) × IsCut (texts words.now) penalty }
-    ensures due { IfSome (I.left input.old) (λ bytes. IsDue (texts words.now) bytes result) }
-    ensures read_fault { result ≡ Status.ReadFault → Rose (I.faults input.old) (I.faults input.new) }
-    ensures read_open { result ≡ Status.ReadFault → GivesOpen (I.left input.old) (I.left input.new) }
-    ensures write_fault { result ≡ Status.WriteFault → Rose (O.faults out.old) (O.faults out.new) }
-    ensures done { result ≡ Status.Done → (penalty : ℕ) × (text : List ℕ) × IsCut (texts words.now) penalty
-        × IsAnswer penalty (I.left input.old) text × (O.taken out.new ≡ append_known (O.taken out.old) text) }
-    ensures part { result ≡ Status.WriteFault → (penalty : ℕ) × (text : List ℕ) × IsCut (texts words.now) penalty
-        × IsAnswer penalty (I.left input.old) text × TookFront (O.taken out.old) (O.taken out.new) text }
-    ensures nothing { result ≢ Status.Done → result ≢ Status.WriteFault → O.taken out.new ≡ O.taken out.old }
-    ensures read_all { result ≡ Status.Done → IfSome (I.left input.new) (λ bytes. bytes ≡ []) }
-    ensures few_read { GivesFew (2 ^ 30 + 1) (I.left input.old) (I.left input.new) }
-    ensures input_counts { I.faults input.old ≤ I.faults input.new }
-    ensures out_counts { O.faults out.old ≤ O.faults out.new }
+    requires { IsInRange command }
+    ensures input { EndsInput I.Source command input.old input.new result }
+    ensures output { EndsOutput O.Sink (IsAnswer command (I.left input.old))
+        out.old out.new result }
 {
-    match penalty_of(words) {
-        Some(penalty) => cut(alloc, penalty, input, out),
-        None => Status::BadWords,
-    }
-}
-
-// The penalty, where the words are `cut` and one of at most 10^36.
-fn penalty_of(words: &[String]) -> Option<u128>
-    ensures some { IfSome result (IsCut (texts words.now)) }
-    ensures none { IfNone result (IsNoCommand (texts words.now)) }
-{
-    let [command, word] = words else {
-        return None;
-    };
-    if command.as_str() != "cut" {
-        return None;
-    }
-    let penalty = read_u128(word.as_bytes())?;
-    if penalty <= PENALTY_LIMIT {
-        Some(penalty)
-    } else {
-        None
+    match command {
+        Command::Cut(penalty) => cut(alloc, penalty, input, out),
     }
 }
 
 // Reads the lines, and prints the certificate of their points.
 fn cut<I: Source, O: Sink>(alloc: Global, penalty: u128, input: &mut I, out: &mut O) -> Status
     requires { penalty ≤ 10 ^ 36 }
-    ensures words { result ≢ Status.BadWords }
-    ensures shown { IfSome (I.left input.old) (λ bytes. IsShown bytes result) }
-    ensures read_fault { result ≡ Status.ReadFault → Rose (I.faults input.old) (I.faults input.new) }
-    ensures read_open { result ≡ Status.ReadFault → GivesOpen (I.left input.old) (I.left input.new) }
-    ensures write_fault { result ≡ Status.WriteFault → Rose (O.faults out.old) (O.faults out.new) }
-    ensures done { result ≡ Status.Done → (text : List ℕ)
-        × IsAnswer penalty (I.left input.old) text × (O.taken out.new ≡ append_known (O.taken out.old) text) }
-    ensures part { result ≡ Status.WriteFault → (text : List ℕ)
-        × IsAnswer penalty (I.left input.old) text × TookFront (O.taken out.old) (O.taken out.new) text }
-    ensures nothing { result ≢ Status.Done → result ≢ Status.WriteFault → O.taken out.new ≡ O.taken out.old }
-    ensures read_all { result ≡ Status.Done → IfSome (I.left input.new) (λ bytes. bytes ≡ []) }
-    ensures few_read { GivesFew (2 ^ 30 + 1) (I.left input.old) (I.left input.new) }
-    ensures input_counts { I.faults input.old ≤ I.faults input.new }
-    ensures out_counts { O.faults out.old ≤ O.faults out.new }
+    ensures input { EndsInput I.Source (Cut penalty) input.old input.new result }
+    ensures output { EndsOutput O.Sink (IsAnswer (Cut penalty) (I.left input.old))
+        out.old out.new result }
 {
     let points = match read_points(alloc, input) {
         Ok(points) => points,
-        Err(status) => return status,
+        Err(stop) => return Status::from(stop),
     };
-    let Ok(cert) = part(alloc, &points, penalty as i128) else {
+    let Ok(cert) = segmentation(alloc, &points, penalty as i128) else {
         return Status::NoMemory;
     };
-    let Ok(text) = certificate_text(alloc, &cert) else {
+    let mut text = Vec::new(alloc);
+    if put_cert(alloc, &mut text, &cert).is_err() {
         return Status::NoMemory;
-    };
+    }
     match put_all(out, &text) {
         Ok(()) => Status::Done,
         Err(_) => Status::WriteFault,

@@ -1,0 +1,88 @@
+-- One line more that is accepted, or is the first that is refused.
+use Rattle.std.proofs.Common.{◌≡◌, ℕ, ℤ, ◌+◌, inl, inr, List, [], ◌∷◌, ◌++◌, length, refl, sym, ap, subst, ◌∙◌, arith, append-nil, add-zero, Bool, eqb}
+use Rattle.std.proofs.lemmas.List.{append_assoc}
+use Rattle.line_text.specs.Lines.{lines_of}
+use Rattle.cut_lines.specs.Lines.{CutLine, IsSkipped, IsCutLine, AreCutLines}
+use Rattle.cut_lines.specs.Points.{FitsSeries}
+use Rattle.cut_lines.specs.declared.stop.Refusal.{Refusal}
+use Rattle.cut_lines.specs.Reading.{AreAccepted, IsFirstRefused, Breaks, with_line}
+use Rattle.line_text.proofs.Parts.{first_part, goes_on}
+
+-- ---- the cut lines of one line more
+
+skipped-append : (n : ℕ) (lines : List (List ℕ)) (cuts : List CutLine) (line : List ℕ) → AreCutLines n lines cuts → IsSkipped line
+    → AreCutLines n (lines ++ line ∷ []) cuts
+skipped-append n [] cuts line are skipped = inl (skipped, are)
+skipped-append n (first ∷ lines) cuts line (inl (is, are)) skipped = inl (is, skipped-append (n + 1) lines cuts line are skipped)
+skipped-append n (first ∷ lines) cuts line (inr (cut, rest, split, number, is, are)) skipped =
+    inr (cut, rest, split, number, is, skipped-append (n + 1) lines rest line are skipped)
+
+cut-append : (n : ℕ) (lines : List (List ℕ)) (cuts : List CutLine) (line : List ℕ) (cut : CutLine) → AreCutLines n lines cuts
+    → cut.number ≡ n + length lines → IsCutLine line cut.order cut.value → AreCutLines n (lines ++ line ∷ []) (cuts ++ cut ∷ [])
+cut-append n [] cuts line cut are number is =
+    inr (cut, [], ap (λ (cs : List CutLine). cs ++ cut ∷ []) are, number ∙ add-zero n, is, refl)
+cut-append n (first ∷ lines) cuts line cut (inl (skipped, are)) number is =
+    inl (skipped, cut-append (n + 1) lines cuts line cut are (omega arith) is)
+cut-append n (first ∷ lines) cuts line cut (inr (other, rest, split, own, its, are)) number is =
+    inr (other, rest ++ cut ∷ [], ap (λ (cs : List CutLine). cs ++ cut ∷ []) split, own, its, cut-append (n + 1) lines rest line cut are (omega arith) is)
+
+pub accepts_skipped : (lines : List (List ℕ)) (cuts : List CutLine) (line : List ℕ) → AreAccepted lines cuts → IsSkipped line → AreAccepted (lines ++ line ∷ []) cuts
+accepts_skipped lines cuts line are skipped = record {
+  read = skipped-append 1 lines cuts line are.read skipped;
+  fits = are.fits;
+}
+
+pub accepts_cut : (lines : List (List ℕ)) (cuts : List CutLine) (line : List ℕ) (number order : ℕ) (value : ℤ) → AreAccepted lines cuts
+    → number ≡ length lines + 1 → IsCutLine line order value → FitsSeries (with_line cuts number order value)
+    → AreAccepted (lines ++ line ∷ []) (with_line cuts number order value)
+accepts_cut lines cuts line number order value are is cut fits = record {
+  read = cut-append 1 lines cuts line (record { number = number; order = order; value = value }) are.read (omega arith) cut;
+  fits = fits;
+}
+
+-- ---- the lines of bytes that go on
+
+abbrev pub is_feed : ℕ → Bool
+is_feed b = eqb b 10
+
+pub first_refused : (why : Refusal) (bytes : List ℕ) (lines : List (List ℕ)) (rest : List ℕ) (cuts : List CutLine) (number : ℕ) (next : List ℕ)
+    → lines_of bytes ≡ lines ++ rest ∷ [] → AreAccepted lines cuts → number ≡ length lines + 1
+    → ((first : List ℕ) → Breaks why cuts number (rest ++ first)) → IsFirstRefused why (lines_of (bytes ++ next)) number
+first_refused why bytes lines rest cuts number next split are is refused =
+    let part = first_part is_feed next in
+    record {
+      before = lines;
+      line = rest ++ part.first;
+      behind = part.behind;
+      cuts = cuts;
+      split = goes_on is_feed bytes next lines rest part.first part.behind split part.is;
+      number = is;
+      accepted = are;
+      refused = refused part.first;
+    }
+
+-- the line is refused as it stands: at the end, or where a line feed comes
+pub ended_refused : (why : Refusal) (bytes : List ℕ) (lines : List (List ℕ)) (rest : List ℕ) (cuts : List CutLine) (number : ℕ)
+    → lines_of bytes ≡ lines ++ rest ∷ [] → AreAccepted lines cuts → number ≡ length lines + 1 → Breaks why cuts number rest
+    → IsFirstRefused why (lines_of bytes) number × ((more : List ℕ) → IsFirstRefused why (lines_of ((bytes ++ 10 ∷ []) ++ more)) number)
+ended_refused why bytes lines rest cuts number split are is refused = (
+  record { before = lines; line = rest; behind = []; cuts = cuts; split = split; number = is; accepted = are; refused = refused },
+  λ more. record {
+    before = lines;
+    line = rest ++ [];
+    behind = lines_of more;
+    cuts = cuts;
+    split =
+        ap lines_of (append_assoc bytes (10 ∷ []) more) ∙ goes_on is_feed bytes (10 ∷ more) lines rest [] (lines_of more) split refl;
+    number = is;
+    accepted = are;
+    refused = subst (Breaks why cuts number) (sym (append-nil rest)) refused;
+  },
+)
+
+-- a line feed begins a line
+pub ended : (bytes : List ℕ) (lines : List (List ℕ)) (rest : List ℕ) → lines_of bytes ≡ lines ++ rest ∷ [] → lines_of (bytes ++ 10 ∷ []) ≡ (lines ++ rest ∷ []) ++ [] ∷ []
+ended bytes lines rest split =
+    goes_on is_feed bytes (10 ∷ []) lines rest [] ([] ∷ []) split refl
+    ∙ ap (λ line. lines ++ line ∷ [] ∷ []) (append-nil rest)
+    ∙ sym (append_assoc lines (rest ∷ []) ([] ∷ []))

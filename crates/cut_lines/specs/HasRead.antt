@@ -1,0 +1,78 @@
+-- What a reader keeps of the bytes that it has read. Private: no public contract cites this.
+use Rattle.std.specs.Prelude.{◌≡◌, ℕ, ◌<◌, List, [], ◌∷◌, ◌++◌, length, take}
+use Rattle.segment_model.specs.Segments.{Position}
+use Rattle.line_text.specs.Lines.{lines_of}
+use Rattle.cut_lines.specs.declared.reader.Reader.{Reader}
+use Rattle.cut_lines.specs.declared.stop.Stop.{Stop}
+use Rattle.cut_lines.specs.Lines.{CutLine, IsSkipped}
+use Rattle.cut_lines.specs.Points.{points_of}
+use Rattle.cut_lines.specs.Reading.{AreAccepted, IsFirstRefused, MayGoOn}
+use Rattle.cut_lines.specs.Adding.{OnRefused}
+
+-- what is kept of bytes: the points of their whole lines, how many those are, and the first bytes of the line that has begun
+pub record Kept : Type 0 where
+  pub points : List Position
+  pub whole_lines : ℕ
+  pub line : List ℕ
+
+-- the bytes are whole lines, which are accepted, and a line that has begun
+pub record HasKept (bytes : List ℕ) (kept : Kept) : Type 0 where
+  pub lines : List (List ℕ)
+  pub rest : List ℕ
+  pub cuts : List CutLine
+  pub split : lines_of bytes ≡ lines ++ rest ∷ []
+  pub accepted : AreAccepted lines cuts
+  pub points : kept.points ≡ points_of cuts
+  pub whole : kept.whole_lines ≡ length lines
+  pub begun : kept.line ≡ take 4_097 rest
+  pub skipped : 4_096 < length rest → IsSkipped rest
+
+-- what a reader keeps
+abbrev pub kept_by : Reader → Kept
+kept_by reader = record { points = reader.points; whole_lines = reader.whole_lines; line = reader.line.items }
+
+-- the reader has read the bytes
+abbrev pub HasRead : List ℕ → Reader → Type 0
+HasRead bytes reader = HasKept bytes (kept_by reader)
+
+-- all lines of the bytes are accepted, and these are their points
+abbrev pub AreLinesPoints : List ℕ → List Position → Type 0
+AreLinesPoints bytes points = (cuts : List CutLine) × AreAccepted (lines_of bytes) cuts × (points ≡ points_of cuts)
+
+-- the bytes show that a line is refused, whatever comes behind them
+abbrev pub ShowsRefused : List ℕ → Stop → Type 0
+ShowsRefused bytes stop = OnRefused (λ why k. (more : List ℕ) → IsFirstRefused why (lines_of (bytes ++ more)) k) stop
+
+-- the bytes are all, and their last line is refused
+abbrev pub EndsRefused : List ℕ → Stop → Type 0
+EndsRefused bytes stop = OnRefused (λ why k. IsFirstRefused why (lines_of bytes) k) stop
+
+-- ---- what a call does to a reader, whatever it had read before
+
+-- it has read these bytes more
+abbrev pub ReadsMore : List ℕ → Reader → Reader → Type 0
+ReadsMore bytes old new = (read : List ℕ) → HasRead read old → HasRead (read ++ bytes) new
+
+-- these bytes more show that a line is refused
+abbrev pub MoreRefused : List ℕ → Reader → Stop → Type 0
+MoreRefused bytes old stop = (read : List ℕ) → HasRead read old → ShowsRefused (read ++ bytes) stop
+
+-- what it has read shows that a line is refused
+abbrev pub IsRefused : Reader → Stop → Type 0
+IsRefused old stop = (read : List ℕ) → HasRead read old → ShowsRefused read stop
+
+-- its last line is refused, where the bytes end and where a line feed comes
+abbrev pub LastRefused : Reader → Stop → Type 0
+LastRefused old stop = (read : List ℕ) → HasRead read old → EndsRefused read stop × ShowsRefused (read ++ 10 ∷ []) stop
+
+-- its last line is refused, where the bytes end
+abbrev pub EndRefused : Reader → Stop → Type 0
+EndRefused old stop = (read : List ℕ) → HasRead read old → EndsRefused read stop
+
+-- bytes behind those that it has read may make the line good
+abbrev pub IsOpen : Reader → Type 0
+IsOpen old = (read : List ℕ) → HasRead read old → MayGoOn read
+
+-- these are the points of all lines that it has read
+abbrev pub HasPoints : Reader → List Position → Type 0
+HasPoints old points = (read : List ℕ) → HasRead read old → AreLinesPoints read points

@@ -1,0 +1,48 @@
+//! What a whole line adds to the points.
+ghost use Rattle.std.specs.Prelude.{◌≡◌, ℕ, List, OnOk, IfErr};
+ghost use Rattle.segment_model.specs.Limits.{IsSmall};
+ghost use Rattle.point_list.specs.Steps.{CameUpTo};
+ghost use Rattle.cut_lines.specs.Lines.{IsCutLine};
+ghost use Rattle.cut_lines.specs.Adding.{AddsValue, TakesLine, RefusesLine};
+
+use crate::cut_line::{LINE_LIMIT, LineKind, line_kind};
+use crate::stop::{Refusal, Stop};
+use point_list::{PointFault, Points, steps_law};
+
+/// Adds what the line of this number says. A line that is longer than a line may be is skipped.
+pub fn add_line(points: &mut Points, number: u64, line: &[u8]) -> Result<(), Stop>
+    requires { CameUpTo number points.old }
+    ensures ok { OnOk result (TakesLine line.now number points.old points.new) }
+    ensures err { IfErr result (RefusesLine line.now number points.old) }
+    ensures steps { CameUpTo number points.new }
+{
+    if line.len() > LINE_LIMIT {
+        return Ok(());
+    }
+    match line_kind(line) {
+        LineKind::Skipped => Ok(()),
+        LineKind::Cut(order, value) => add(points, number, order, value),
+        LineKind::Bad => Err(Stop::Refused(Refusal::Bad, number)),
+    }
+}
+
+// Adds the value of the cut line of this number: its order is the commit, its number the step.
+fn add(points: &mut Points, number: u64, order: u64, value: i64) -> Result<(), Stop>
+    requires step { CameUpTo number points.old }
+    requires small { IsSmall value }
+    ensures ok { OnOk result (AddsValue number order value points.old points.new) }
+    ensures err { IfErr result (λ stop. (line : List ℕ) → IsCutLine line order value
+        → RefusesLine line number points.old stop) }
+    ensures steps { CameUpTo number points.new }
+{
+    steps_law();
+    match points.insert(order, number, value) {
+        Ok(()) => {
+            points.limits();
+            Ok(())
+        }
+        Err(PointFault::NoMemory) => Err(Stop::NoMemory),
+        Err(PointFault::SamplesFull) => Err(Stop::Refused(Refusal::Full, number)),
+        Err(PointFault::PositionsFull) => Err(Stop::Refused(Refusal::Full, number)),
+    }
+}

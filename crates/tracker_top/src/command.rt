@@ -1,0 +1,45 @@
+//! The commands, and the words that spell them.
+ghost use Rattle.std.specs.Prelude.{ℕ, IfSome, IfNone};
+ghost use Rattle.tracker_top.specs.Commands.{texts, IsCutCommand, IsSpelled, AreNoCommand};
+
+use line_text::read_u128;
+
+/// The greatest penalty.
+const PENALTY_LIMIT: u128 = 1_000_000_000_000_000_000_000_000_000_000_000_000;
+
+/// A command, as the words say it.
+#[derive(Clone, Copy, Debug, PartialEq, Eq)]
+pub enum Command {
+    /// Reads cut lines, and prints the certificate of the best segmentation at this penalty.
+    Cut(u128),
+}
+
+/// The command that the words are.
+pub fn command_of(words: &[String]) -> Option<Command>
+    ensures some { IfSome result (IsSpelled (texts words.now)) }
+    ensures none { IfNone result (AreNoCommand (texts words.now)) }
+{
+    match penalty_of(words) {
+        Some(penalty) => Some(Command::Cut(penalty)),
+        None => None,
+    }
+}
+
+// The penalty, where the words are `cut` and one of at most 10^36.
+fn penalty_of(words: &[String]) -> Option<u128>
+    ensures some { IfSome result (IsCutCommand (texts words.now)) }
+    ensures none { IfNone result ((penalty : ℕ) → ¬ IsCutCommand (texts words.now) penalty) }
+{
+    let [command, word] = words else {
+        return None;
+    };
+    if command.as_str() != "cut" {
+        return None;
+    }
+    let penalty = read_u128(word.as_bytes())?;
+    if penalty <= PENALTY_LIMIT {
+        Some(penalty)
+    } else {
+        None
+    }
+}
