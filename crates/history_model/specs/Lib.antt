@@ -1,1 +1,7 @@
 pub mod Samples
+pub mod Entries
+pub mod Commits
+pub mod Runs
+pub mod Positions
+pub mod Allowed
+pub mod Laws

@@ -1,7 +1,19 @@
-//! The samples of runs, as a store of them will keep them.
+//! The runs of a machine, each counted once by its identity.
 //!
-//! So far this crate only names the types of samples and runs, which stand in `history_model`, since definitions of
-//! histories cite them too.
+//! Contracts see the list of accepted runs in order, each with the step at which it was accepted and, where it was taken
+//! back, the step of that. No name stands in two of them, which the type keeps and [`SampleStore::names_law`] says: a run
+//! that was taken back stays, so its identity never counts anew. A look-up by name takes logarithmic time.
+//!
+//! Stands on `history_model`, whose samples and runs it passes on, on `line_text` for names, on `metric_table` for the
+//! limits and on `indexmap` for the look-up by name.
 #![tactic(auto)]
 
+mod answers;
+mod store;
+#[cfg(test)]
+mod tests;
+
+pub use answers::{Accepted, Retracted};
 pub use history_model::{Run, Sample, Samples};
+pub use std::alloc::AllocError as NoMemory;
+pub use store::{SampleStore, Stored};

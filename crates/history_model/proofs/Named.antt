@@ -1,0 +1,63 @@
+-- In a legal history the commit of each accepted run is declared.
+use Rattle.std.proofs.Common.{◌≡◌, ℕ, ◌+◌, List, [], ◌∷◌, ◌++◌, length, All, false, true, refl, sym, ap, ◌∙◌, subst, Option}
+use Rattle.std.specs.Prelude.{Some, None, find, IsSome, option_map, option_to_list}
+use Rattle.std.specs.Option.{option_or}
+use Rattle.std.proofs.lemmas.List.{append-nil, append_assoc}
+use Rattle.std.proofs.lemmas.List.Elements.{All-nil, All-push, All-weaker}
+use Rattle.std.proofs.lemmas.List.Folds.{find-append}
+use Rattle.history_model.specs.declared.entries.Acceptance.{Acceptance}
+use Rattle.history_model.specs.declared.entries.Declaration.{Declaration}
+use Rattle.history_model.specs.declared.entries.Entry.{Entry}
+use Rattle.history_model.specs.declared.entries.Entry.TheVariants as entry
+use Rattle.history_model.specs.Allowed.{Allowed, AllowedAfter, Legal}
+use Rattle.history_model.specs.Commits.{declaration, declarations, has_number, name_of}
+use Rattle.history_model.specs.Runs.{acceptance, acceptances}
+use Rattle.history_model.proofs.Chosen.{chosen-push, chosen-skip}
+
+abbrev Named : List Entry → Acceptance → Type 0
+Named h a = IsSome (name_of a.run.commit h)
+
+Claim : List Entry → Type 0
+Claim h = All (Named h) (acceptances h)
+
+still-named : (h : List Entry) (e : Entry) (n : ℕ) → IsSome (name_of n h) → IsSome (name_of n (h ++ e ∷ []))
+still-named h e n some =
+    let more : List Declaration = option_to_list (declaration (length h + 1) e) in
+    let is : find (has_number n) (declarations (h ++ e ∷ [])) ≡ option_or (find (has_number n) (declarations h)) (find (has_number n) more) =
+    ap (find (has_number n)) (chosen-push declaration h e) ∙ find-append (has_number n) (declarations h) more in
+    let P : Option Declaration → Type 0 = λ o. IsSome (option_map (λ (d : Declaration). d.name) o) in
+    subst P (sym is) (either (find (has_number n) (declarations h)) (find (has_number n) more) some)
+  where
+    either : (o p : Option Declaration) → IsSome (option_map (λ (d : Declaration). d.name) o) → IsSome (option_map (λ (d : Declaration). d.name) (option_or o p))
+    either None p none = absurd (let never : false ≡ true = none in cc)
+    either (Some d) p one = refl
+
+grown : (h : List Entry) (e : Entry) → Allowed h e → Claim h → Claim (h ++ e ∷ [])
+unfolding Claim
+grown h (entry.Commit number name) allowed claim =
+    let all : All (Named (h ++ entry.Commit number name ∷ [])) (acceptances h) =
+    All-weaker (Named h) (Named (h ++ entry.Commit number name ∷ [])) (λ a some. still-named h (entry.Commit number name) a.run.commit some) (acceptances h) claim in
+    let P : List Acceptance → Type 0 = λ runs. All (Named (h ++ entry.Commit number name ∷ [])) runs in
+    subst P (sym (chosen-skip acceptance h (entry.Commit number name) refl)) all
+grown h (entry.Retract run) allowed claim =
+    let all : All (Named (h ++ entry.Retract run ∷ [])) (acceptances h) =
+    All-weaker (Named h) (Named (h ++ entry.Retract run ∷ [])) (λ a some. still-named h (entry.Retract run) a.run.commit some) (acceptances h) claim in
+    let P : List Acceptance → Type 0 = λ runs. All (Named (h ++ entry.Retract run ∷ [])) runs in
+    subst P (sym (chosen-skip acceptance h (entry.Retract run) refl)) all
+grown h (entry.Accept run) allowed claim =
+    let all : All (Named (h ++ entry.Accept run ∷ [])) (acceptances h) =
+    All-weaker (Named h) (Named (h ++ entry.Accept run ∷ [])) (λ a some. still-named h (entry.Accept run) a.run.commit some) (acceptances h) claim in
+    let P : List Acceptance → Type 0 = λ runs. All (Named (h ++ entry.Accept run ∷ [])) runs in
+    subst P (sym (chosen-push acceptance h (entry.Accept run)))
+    (All-push (Named (h ++ entry.Accept run ∷ [])) (acceptances h) (record { step = length h + 1; run = run }) all (still-named h (entry.Accept run) run.commit allowed.0.1))
+
+later : (h es : List Entry) → AllowedAfter h es → Claim h → Claim (h ++ es)
+unfolding Claim
+later h [] legal claim = let P : List Entry → Type 0 = λ k. Claim k in subst P (sym (append-nil h)) claim
+later h (e ∷ es) legal claim =
+    let P : List Entry → Type 0 = λ k. Claim k in
+    subst P (append_assoc h (e ∷ []) es) (later (h ++ e ∷ []) es legal.1 (grown h e legal.0 claim))
+
+pub runs-named : (h : List Entry) → Legal h → All (λ (a : Acceptance). IsSome (name_of a.run.commit h)) (acceptances h)
+unfolding Claim
+runs-named h legal = later [] h legal (All-nil (Named []))

@@ -1,0 +1,62 @@
+-- In a legal history a run that was never accepted was never taken back.
+use Rattle.std.proofs.Common.{◌≡◌, ℕ, ◌+◌, List, [], ◌∷◌, ◌++◌, length, refl, sym, ap, ◌∙◌, subst, Option, inl, inr, true, false, cond}
+use Rattle.std.specs.Prelude.{Some, None, find, IsSome, bytes_eq, option_to_list}
+use Rattle.std.specs.Option.{option_or}
+use Rattle.std.proofs.lemmas.Bool.{cases_Bool}
+use Rattle.std.proofs.lemmas.List.{append-nil, append_assoc}
+use Rattle.std.proofs.lemmas.List.Folds.{find-append}
+use Rattle.history_model.specs.declared.entries.Acceptance.{Acceptance}
+use Rattle.history_model.specs.declared.entries.Entry.{Entry}
+use Rattle.history_model.specs.declared.entries.Entry.TheVariants as entry
+use Rattle.history_model.specs.Allowed.{Allowed, AllowedAfter, Legal}
+use Rattle.history_model.specs.Runs.{acceptance, acceptances, retraction, retractions, accepted, retracted, is_run, takes_back}
+use Rattle.history_model.proofs.Chosen.{chosen-push}
+use Rattle.history_model.proofs.Lists.{same-bytes}
+
+-- the claim, of a history as it grows
+Claim : List Entry → Type 0
+Claim h = (run : List ℕ) → accepted run h ≡ None → retracted run h ≡ None
+
+or-none : {A : Type 0} (o p : Option A) → option_or o p ≡ None → (o ≡ None) × (p ≡ None)
+or-none None p none = (refl, none)
+or-none (Some x) p none = absurd (let no : Some x ≡ None = none in cc)
+
+none-or : {A : Type 0} (o p : Option A) → o ≡ None → p ≡ None → option_or o p ≡ None
+none-or None p one two = two
+none-or (Some x) p one two = absurd (let no : Some x ≡ None = one in cc)
+
+-- a run that isn't accepted with an entry more wasn't before
+before : (h : List Entry) (e : Entry) (run : List ℕ) → accepted run (h ++ e ∷ []) ≡ None → accepted run h ≡ None
+before h e run none =
+    (or-none (accepted run h) (find (is_run run) (option_to_list (acceptance (length h + 1) e)))
+    (sym (find-append (is_run run) (acceptances h) (option_to_list (acceptance (length h + 1) e))) ∙ ap (find (is_run run)) (sym (chosen-push acceptance h e)) ∙ none)).0
+
+grown : (h : List Entry) (e : Entry) → Allowed h e → Claim h → Claim (h ++ e ∷ [])
+unfolding Claim
+grown h e allowed claim run none =
+    ap (find (takes_back run)) (chosen-push retraction h e)
+    ∙ find-append (takes_back run) (retractions h) (option_to_list (retraction (length h + 1) e))
+    ∙ none-or (retracted run h) (find (takes_back run) (option_to_list (retraction (length h + 1) e))) (claim run (before h e run none)) (of_entry e allowed (before h e run none))
+  where
+    of_entry : (e : Entry) → Allowed h e → accepted run h ≡ None → find (takes_back run) (option_to_list (retraction (length h + 1) e)) ≡ None
+    of_entry (entry.Commit number name) allowed unknown = refl
+    of_entry (entry.Accept other) allowed unknown = refl
+    of_entry (entry.Retract other) allowed unknown = elim (cases_Bool (bytes_eq other run)) [
+      | inl hit ↦ absurd (known (accepted other h) allowed.0.0 (ap (λ (r : List ℕ). accepted r h) (same-bytes other run hit) ∙ unknown))
+      | inr miss ↦ ap (λ b. cond b (Some (record { step = length h + 1; run = other })) None) miss
+    ]
+      where
+        known : (o : Option Acceptance) → IsSome o → o ≡ None → ⊥
+        known None some none = let no : false ≡ true = some in cc
+        known (Some a) some none = let no : Some a ≡ None = none in cc
+
+later : (h es : List Entry) → AllowedAfter h es → Claim h → Claim (h ++ es)
+unfolding Claim
+later h [] legal claim = let P : List Entry → Type 0 = λ k. Claim k in subst P (sym (append-nil h)) claim
+later h (e ∷ es) legal claim =
+    let P : List Entry → Type 0 = λ k. Claim k in
+    subst P (append_assoc h (e ∷ []) es) (later (h ++ e ∷ []) es legal.1 (grown h e legal.0 claim))
+
+pub only-accepted : (h : List Entry) (run : List ℕ) → Legal h → accepted run h ≡ None → retracted run h ≡ None
+unfolding Claim
+only-accepted h run legal = later [] h legal (λ run none. refl) run

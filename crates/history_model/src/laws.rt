@@ -1,0 +1,86 @@
+//! Laws of histories, as public functions that do nothing: their contracts are what they are for.
+ghost use Rattle.history_model.specs.Laws.{
+  DeclarationsGrow,
+  AcceptancesGrow,
+  RetractionsGrow,
+  LegalGrows,
+  PositionsTakeIn,
+  PositionsGiveBack,
+  PositionsAfterAccept,
+  PositionsAfterRetract,
+  PositionsUntouched,
+  PositionsAreFresh,
+  StepsArePast,
+  ValuesAreBrought,
+  OnlyAcceptedAreRetracted,
+  RunsHaveCommits,
+  LimitsAfterCommit,
+  LimitsAfterRetract,
+  SeriesKeepLimits,
+  SeriesHaveRoom,
+  SeriesAreListedOnce,
+  CountsAfterAccept,
+  SamplesFit,
+  PositionsFit,
+  FirstPassed,
+  FirstKept,
+  RunKeepsLimits,
+};
+
+/// What is read from a history grows by what is read from the entry that is added, and a legal history stays legal.
+pub fn growth_law()
+    ensures declarations { DeclarationsGrow }
+    ensures acceptances { AcceptancesGrow }
+    ensures retractions { RetractionsGrow }
+    ensures legal { LegalGrows }
+{}
+
+/// Positions take samples in, and give back all samples of one step at a commit: those of a run that is accepted, and
+/// those of one that is taken back.
+pub fn positions_law()
+    ensures take_in { PositionsTakeIn }
+    ensures give_back { PositionsGiveBack }
+    ensures accept { PositionsAfterAccept }
+    ensures retract { PositionsAfterRetract }
+    ensures untouched { PositionsUntouched }
+    ensures fresh { PositionsAreFresh }
+    ensures past { StepsArePast }
+    ensures values { ValuesAreBrought }
+{}
+
+/// A run that was never accepted was never taken back.
+pub fn retraction_law()
+    ensures { OnlyAcceptedAreRetracted }
+{}
+
+/// A commit and a retraction keep the limits where there is room; and what the limits say of each series.
+pub fn limits_law()
+    ensures commit { LimitsAfterCommit }
+    ensures retract { LimitsAfterRetract }
+    ensures series { SeriesKeepLimits }
+    ensures room { SeriesHaveRoom }
+{}
+
+/// A list of series with one more names it once.
+pub fn series_law()
+    ensures { SeriesAreListedOnce }
+{}
+
+/// What one run more counts to, and when it stays within the limits.
+pub fn accept_law()
+    ensures counts { CountsAfterAccept }
+    ensures samples { SamplesFit }
+    ensures positions { PositionsFit }
+{}
+
+/// Which limit is told of where an entry passes one.
+pub fn within_law()
+    ensures passed { FirstPassed }
+    ensures kept { FirstKept }
+    ensures run { RunKeepsLimits }
+{}
+
+/// The commit of each accepted run is declared.
+pub fn runs_law()
+    ensures { RunsHaveCommits }
+{}

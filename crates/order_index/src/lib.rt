@@ -1,0 +1,18 @@
+//! The commits of a machine, by number and by name.
+//!
+//! Contracts see the list of declarations in the order in which they came. No number and no name stands in two of them,
+//! which the type keeps and [`OrderIndex::pairs_law`] says. A look-up by number or by name takes logarithmic or constant
+//! time, so a history is taken in with no scan of it.
+//!
+//! Stands on `history_model` for declarations, on `line_text` for names and lists of numbers, on `metric_table` for the
+//! limit and on `indexmap` for the commits by name.
+#![tactic(auto)]
+
+mod declared;
+mod index;
+#[cfg(test)]
+mod tests;
+
+pub use declared::Declared;
+pub use index::OrderIndex;
+pub use std::alloc::AllocError as NoMemory;

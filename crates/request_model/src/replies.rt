@@ -1,0 +1,246 @@
+//! What a request is answered: the answer itself, why it is refused, and the reply that has it.
+ghost use Rattle.std.specs.Prelude.{◌≡◌, IfOk};
+
+use crate::runs::{Runs, copy_runs};
+use line_text::{Name, Text};
+use metric_table::Limit;
+use std::alloc::{AllocError, Global};
+
+/// Where a value is out of range.
+#[derive(Debug, Drop)]
+pub enum RangePlace {
+    /// On this line of Go benchmark text, from 1.
+    Line(u64),
+    /// At this sample of an LNT run.
+    Sample {
+        /// The test's name.
+        test: Text,
+        /// The metric.
+        metric: Text,
+    },
+}
+
+impl RangePlace {
+    /// An equal place of its own. Linear in its texts.
+    pub fn copy(&self, alloc: Global) -> Result<RangePlace, AllocError>
+        ensures { IfOk result (λ made. made ≡ self.now) }
+    {
+        match self {
+            RangePlace::Line(at) => {
+                let at = *at;
+                Ok(RangePlace::Line(at))
+            }
+            RangePlace::Sample { test, metric } => {
+                let test = test.copy(alloc)?;
+                let metric = metric.copy(alloc)?;
+                Ok(RangePlace::Sample { test, metric })
+            }
+        }
+    }
+}
+
+/// Why a request is refused, in the order of the refusals' numbers.
+#[derive(Debug, Drop)]
+pub enum Refusal {
+    /// The line has no form of a request.
+    BadRequest,
+    /// A word that must be a name is none.
+    BadName,
+    /// The machine isn't declared.
+    UnknownMachine,
+    /// The commit isn't declared.
+    UnknownCommit,
+    /// The number or the name is declared in this other pair.
+    CommitTaken {
+        /// The pair's number.
+        number: u64,
+        /// The pair's name.
+        name: Name,
+    },
+    /// The body is UTF-8 text up to this place alone.
+    NotText(u64),
+    /// Some JSON text begins with the body's bytes before this place, and none goes on as the body does.
+    NotJson(u64),
+    /// The body is no LNT run.
+    NotReport {
+        /// The first rule that is broken.
+        rule: u8,
+        /// The path of the member where it is.
+        member: Text,
+    },
+    /// A value of the body is out of range.
+    OutOfRange(RangePlace),
+    /// The run was accepted at this step with another commit or other samples.
+    IdentityClash(u64),
+    /// The run was never accepted.
+    UnknownRun,
+    /// The run was retracted at this step.
+    AlreadyRetracted(u64),
+    /// A limit would be passed.
+    Full(Limit),
+    /// The body is longer than a body may be.
+    BodyTooLong,
+    /// The byte of the body at this place opens a level too many.
+    TooDeep(u64),
+}
+
+impl Refusal {
+    /// An equal refusal of its own. Linear in its texts.
+    pub fn copy(&self, alloc: Global) -> Result<Refusal, AllocError>
+        ensures { IfOk result (λ made. made ≡ self.now) }
+    {
+        match self {
+            Refusal::BadRequest => Ok(Refusal::BadRequest),
+            Refusal::BadName => Ok(Refusal::BadName),
+            Refusal::UnknownMachine => Ok(Refusal::UnknownMachine),
+            Refusal::UnknownCommit => Ok(Refusal::UnknownCommit),
+            Refusal::CommitTaken { number, name } => {
+                let number = *number;
+                let name = name.copy(alloc)?;
+                Ok(Refusal::CommitTaken { number, name })
+            }
+            Refusal::NotText(at) => {
+                let at = *at;
+                Ok(Refusal::NotText(at))
+            }
+            Refusal::NotJson(at) => {
+                let at = *at;
+                Ok(Refusal::NotJson(at))
+            }
+            Refusal::NotReport { rule, member } => {
+                let rule = *rule;
+                let member = member.copy(alloc)?;
+                Ok(Refusal::NotReport { rule, member })
+            }
+            Refusal::OutOfRange(place) => Ok(Refusal::OutOfRange(place.copy(alloc)?)),
+            Refusal::IdentityClash(at) => {
+                let at = *at;
+                Ok(Refusal::IdentityClash(at))
+            }
+            Refusal::UnknownRun => Ok(Refusal::UnknownRun),
+            Refusal::AlreadyRetracted(at) => {
+                let at = *at;
+                Ok(Refusal::AlreadyRetracted(at))
+            }
+            Refusal::Full(at) => {
+                let at = *at;
+                Ok(Refusal::Full(at))
+            }
+            Refusal::BodyTooLong => Ok(Refusal::BodyTooLong),
+            Refusal::TooDeep(at) => {
+                let at = *at;
+                Ok(Refusal::TooDeep(at))
+            }
+        }
+    }
+}
+
+/// What a request is answered.
+#[derive(Debug, Drop)]
+pub enum Answer {
+    /// The machine is declared.
+    Machine {
+        /// The machine.
+        machine: Name,
+    },
+    /// The commit is declared.
+    Commit {
+        /// The commit's number.
+        number: u64,
+        /// The commit's name.
+        name: Name,
+    },
+    /// The commit or the run was there.
+    Duplicate {
+        /// The step of its entry.
+        step: u64,
+    },
+    /// The run was accepted.
+    Accepted {
+        /// The run.
+        run: Name,
+        /// How many samples it has.
+        samples: u64,
+        /// How many lines or members of its body were ignored and counted.
+        ignored: u64,
+    },
+    /// The run was retracted.
+    Retracted {
+        /// The run.
+        run: Name,
+    },
+    /// The runs of the machine.
+    Runs {
+        /// All of them, in order of acceptance.
+        runs: Runs,
+    },
+    /// The request was refused.
+    Refused(Refusal),
+}
+
+impl Answer {
+    /// An equal answer of its own. Linear in its list and its texts.
+    pub fn copy(&self, alloc: Global) -> Result<Answer, AllocError>
+        ensures { IfOk result (λ made. made ≡ self.now) }
+    {
+        match self {
+            Answer::Machine { machine } => {
+                let machine = machine.copy(alloc)?;
+                Ok(Answer::Machine { machine })
+            }
+            Answer::Commit { number, name } => {
+                let number = *number;
+                let name = name.copy(alloc)?;
+                Ok(Answer::Commit { number, name })
+            }
+            Answer::Duplicate { step } => {
+                let step = *step;
+                Ok(Answer::Duplicate { step })
+            }
+            Answer::Accepted {
+                run,
+                samples,
+                ignored,
+            } => {
+                let run = run.copy(alloc)?;
+                let samples = *samples;
+                let ignored = *ignored;
+                Ok(Answer::Accepted {
+                    run,
+                    samples,
+                    ignored,
+                })
+            }
+            Answer::Retracted { run } => {
+                let run = run.copy(alloc)?;
+                Ok(Answer::Retracted { run })
+            }
+            Answer::Runs { runs } => {
+                let runs = copy_runs(alloc, runs)?;
+                Ok(Answer::Runs { runs })
+            }
+            Answer::Refused(refusal) => Ok(Answer::Refused(refusal.copy(alloc)?)),
+        }
+    }
+}
+
+/// An answer, with the number of entries of the machine's history behind the request.
+#[derive(Debug, Drop)]
+pub struct Reply {
+    /// The number of entries; 0 where the answer names no machine.
+    pub step: u64,
+    /// The answer.
+    pub answer: Answer,
+}
+
+impl Reply {
+    /// An equal reply of its own. Linear in its answer's list and texts.
+    pub fn copy(&self, alloc: Global) -> Result<Reply, AllocError>
+        ensures { IfOk result (λ made. made ≡ self.now) }
+    {
+        Ok(Reply {
+            step: self.step,
+            answer: self.answer.copy(alloc)?,
+        })
+    }
+}

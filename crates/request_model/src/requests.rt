@@ -1,0 +1,125 @@
+//! Requests of a script, as they are once they were read.
+ghost use Rattle.std.specs.Prelude.{◌≡◌, IfOk};
+
+use history_model::Samples;
+use line_text::Name;
+use std::alloc::{AllocError, Global};
+
+/// A request of a script, read.
+#[derive(Debug, Drop)]
+pub enum Request {
+    /// Declares a machine.
+    Machine {
+        /// The machine.
+        machine: Name,
+    },
+    /// Declares a commit of a machine.
+    Commit {
+        /// The machine.
+        machine: Name,
+        /// The commit's place in the order of commits.
+        number: u64,
+        /// The commit's name.
+        name: Name,
+    },
+    /// Hands in a run.
+    Submit {
+        /// The machine.
+        machine: Name,
+        /// The commit that was measured.
+        commit: Name,
+        /// The name that tells the machine's runs apart.
+        run: Name,
+        /// What was measured.
+        samples: Samples,
+        /// How many lines or members of the body were ignored and counted.
+        ignored: u64,
+        /// The machine that an LNT run names; none of Go benchmark text.
+        stated: Option<Name>,
+    },
+    /// Takes a run back.
+    Retract {
+        /// The machine.
+        machine: Name,
+        /// The run.
+        run: Name,
+    },
+    /// Lists the runs of a machine.
+    Runs {
+        /// The machine.
+        machine: Name,
+    },
+}
+
+impl Request {
+    /// An equal request of its own. Linear in the number of samples.
+    pub fn copy(&self, alloc: Global) -> Result<Request, AllocError>
+        ensures { IfOk result (λ made. made ≡ self.now) }
+    {
+        match self {
+            Request::Machine { machine } => {
+                let machine = machine.copy(alloc)?;
+                Ok(Request::Machine { machine })
+            }
+            Request::Commit {
+                machine,
+                number,
+                name,
+            } => {
+                let machine = machine.copy(alloc)?;
+                let number = *number;
+                let name = name.copy(alloc)?;
+                Ok(Request::Commit {
+                    machine,
+                    number,
+                    name,
+                })
+            }
+            Request::Submit {
+                machine,
+                commit,
+                run,
+                samples,
+                ignored,
+                stated,
+            } => {
+                let machine = machine.copy(alloc)?;
+                let commit = commit.copy(alloc)?;
+                let run = run.copy(alloc)?;
+                let samples = samples.copy(alloc)?;
+                let ignored = *ignored;
+                let stated = copy_name(alloc, stated)?;
+                Ok(Request::Submit {
+                    machine,
+                    commit,
+                    run,
+                    samples,
+                    ignored,
+                    stated,
+                })
+            }
+            Request::Retract { machine, run } => {
+                let machine = machine.copy(alloc)?;
+                let run = run.copy(alloc)?;
+                Ok(Request::Retract { machine, run })
+            }
+            Request::Runs { machine } => {
+                let machine = machine.copy(alloc)?;
+                Ok(Request::Runs { machine })
+            }
+        }
+    }
+}
+
+// An equal name of its own, where there is one.
+fn copy_name(alloc: Global, name: &Option<Name>) -> Result<Option<Name>, AllocError>
+    ensures { IfOk result (λ made. made ≡ name.now) }
+{
+    match name {
+        Some(name) => {
+            let made = name.copy(alloc)?;
+            Ok(Some(made))
+        }
+        None => Ok(None),
+    }
+}

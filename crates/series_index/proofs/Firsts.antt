@@ -1,0 +1,112 @@
+-- The samples of a run, one more: which make a series known, and how many a series has.
+use Rattle.std.proofs.Common.{◌≡◌, ℕ, ◌+◌, ◌<◌, ◌≤◌, Bool, true, false, cond, not, ◌&&◌, ◌||◌, List, [], ◌∷◌, ◌++◌, length, map, take, get_or, refl, sym, ap, subst, ◌∙◌, Option, Some, None, is_some, arith, inl, inr}
+use Rattle.std.specs.Prelude.{filter, bytes_eq, is_none}
+use Rattle.std.specs.List.{list_any}
+use Rattle.std.proofs.lemmas.Bool.{cases_Bool}
+use Rattle.std.proofs.lemmas.List.{take_more, append-nil, length-append, map-append}
+use Rattle.std.proofs.lemmas.List.Elements.{filter-append}
+use Rattle.std.proofs.lemmas.Slice.Eq.{bytes_eq-Decides}
+use Rattle.segment_model.specs.Segments.{values_of}
+use Rattle.segment_model.proofs.Inserted.{count-inserted}
+use Rattle.history_model.specs.Laws.{SeriesAreListedOnce}
+use Rattle.history_model.specs.Samples.{Measurement}
+use Rattle.history_model.specs.Runs.{Series, is_of, measured, distinct, same_series}
+use Rattle.series_index.specs.declared.tracked.Tracked.{Tracked}
+use Rattle.series_index.specs.Seen.{with_sample}
+use Rattle.series_index.specs.Taken.{of_series, with_samples}
+use Rattle.series_index.specs.Demands.{Kept, is_new, new_ones}
+use Rattle.series_index.proofs.Runs.{filter-next, count-next}
+
+pub own : (x : Measurement) → is_of (measured x) x ≡ true
+own x =
+    ap (λ b. b && bytes_eq x.metric x.metric) ((bytes_eq-Decides x.test x.test).1 refl)
+    ∙ (bytes_eq-Decides x.metric x.metric).1 refl
+
+pub one-of : (s : Series) (x : Measurement) → is_of s x ≡ true → measured x ≡ s
+one-of s x is =
+    let two = both (bytes_eq x.test s.test) (bytes_eq x.metric s.metric) is in
+    ap (λ (n : List ℕ). let u : Series = record { test = n; metric = x.metric } in u) ((bytes_eq-Decides x.test s.test).0 two.0)
+    ∙ ap (λ (n : List ℕ). let u : Series = record { test = s.test; metric = n } in u) ((bytes_eq-Decides x.metric s.metric).0 two.1)
+  where
+    both : (a b : Bool) → (a && b) ≡ true → (a ≡ true) × (b ≡ true)
+    both true b h = (refl, h)
+    both false b h = absurd (let no : false ≡ true = h in cc)
+
+-- what holds of the series of the samples so far, and of the next one's, holds with it
+pub so-far : (P : Series → Type 0) (samples : List Measurement) (i : ℕ) (x : Measurement) → i < length samples → x ≡ get_or samples i x
+    → ((s : Series) → 0 < length (of_series s (take i samples)) → P s) → P (measured x) → (s : Series) → 0 < length (of_series s (take (i + 1) samples)) → P s
+so-far P samples i x lt is before here s some = elim (cases_Bool (is_of s x)) [
+  | inl hit ↦ subst P (one-of s x hit) here
+  | inr miss ↦
+      let same : of_series s (take (i + 1) samples) ≡ of_series s (take i samples) =
+      filter-next (is_of s) samples i x lt is ∙ ap (λ b. of_series s (take i samples) ++ cond b (x ∷ []) []) miss ∙ append-nil (of_series s (take i samples)) in
+      let count : length (of_series s (take (i + 1) samples)) ≡ length (of_series s (take i samples)) = ap length same in
+      before s (omega (arith, some, count))
+]
+
+-- the series of a sample has one
+pub has-own : (samples : List Measurement) (i : ℕ) (x : Measurement) → i < length samples → x ≡ get_or samples i x → 0 < length (of_series (measured x) samples)
+has-own samples i x lt is = let few = count-next (is_of (measured x)) samples i x lt is (own x) in omega (arith, few)
+
+-- ---- the tally
+pub count-with : (commit step : ℕ) (xs : List Measurement) (t : Tracked) → length (values_of (with_samples commit step xs t).points) ≡ length (values_of t.points) + length xs
+count-with commit step [] t = omega arith
+count-with commit step (x ∷ xs) t =
+    let rest = count-with commit step xs (with_sample commit (record { step = step; value = x.value }) t) in
+    let one = count-inserted commit (record { step = step; value = x.value }) t.points in
+    omega (arith, rest, one)
+
+or-false : (b : Bool) → (b || false) ≡ b
+or-false true = refl
+or-false false = refl
+
+or-true : (b : Bool) → (b || true) ≡ true
+or-true true = refl
+or-true false = refl
+
+pub known-with : (commit step : ℕ) (s : Series) (xs : List Measurement) (t : Tracked)
+    → is_some (with_samples commit step (of_series s xs) t).since ≡ (is_some t.since || list_any (is_of s) xs)
+known-with commit step s [] t = sym (or-false (is_some t.since))
+known-with commit step s (x ∷ xs) t = elim (cases_Bool (is_of s x)) [
+  | inl hit ↦ rw hit (known-with commit step s xs (with_sample commit (record { step = step; value = x.value }) t) ∙ sym (or-true (is_some t.since)))
+  | inr miss ↦ rw miss (known-with commit step s xs t)
+]
+
+-- ---- new series
+any-map : {A B : Type 0} (p : B → Bool) (f : A → B) (xs : List A) → list_any p (map f xs) ≡ list_any (λ x. p (f x)) xs
+any-map p f [] = refl
+any-map p f (x ∷ xs) = ap (λ b. p (f x) || b) (any-map p f xs)
+
+one-or-none : (p : Series → Bool) (there : Bool) (s : Series) → length (filter p (cond there [] (s ∷ []))) ≡ cond (p s && not there) 1 0
+one-or-none p true s = none (p s)
+  where
+    none : (b : Bool) → ◌≡◌ {A = ℕ} 0 (cond (b && false) 1 0)
+    none true = refl
+    none false = refl
+one-or-none p false s = elim (cases_Bool (p s)) [ inl hit ↦ rw hit refl | inr miss ↦ rw miss refl ]
+
+pub new-next : SeriesAreListedOnce → (index : Kept) (samples : List Measurement) (i : ℕ) (x : Measurement) → i < length samples → x ≡ get_or samples i x
+    → length (new_ones index (take (i + 1) samples)) ≡ length (new_ones index (take i samples)) + cond (is_new index (measured x) && not (list_any (is_of (measured x)) (take i samples))) 1 0
+new-next law index samples i x lt is =
+    let before : List Series = map measured (take i samples) in
+    let more : take (i + 1) samples ≡ take i samples ++ x ∷ [] = take_more samples i x lt ∙ ap (λ y. take i samples ++ y ∷ []) (sym is) in
+    let there : Bool = list_any (λ y. same_series y (measured x)) before in
+    ap (λ zs. length (new_ones index zs)) more
+    ∙ ap (λ zs. length (filter (is_new index) (distinct same_series zs))) (map-append measured (take i samples) (x ∷ []))
+    ∙ ap (λ zs. length (filter (is_new index) zs)) (law before (measured x))
+    ∙ ap length (filter-append (is_new index) (distinct same_series before) (cond there [] (measured x ∷ [])))
+    ∙ length-append (filter (is_new index) (distinct same_series before)) (filter (is_new index) (cond there [] (measured x ∷ [])))
+    ∙ ap (λ n. length (filter (is_new index) (distinct same_series before)) + n) (one-or-none (is_new index) there (measured x))
+    ∙ ap (λ b. length (filter (is_new index) (distinct same_series before)) + cond (is_new index (measured x) && not b) 1 0) (any-map (λ y. same_series y (measured x)) measured (take i samples))
+
+pub none-is : (o : Option ℕ) → not (is_some o) ≡ is_none o
+none-is None = refl
+none-is (Some n) = refl
+
+pub one-at-most : (b : Bool) → cond b 1 0 ≤ 1
+one-at-most true = omega arith
+one-at-most false = omega arith
+
+pub filter-few : {A : Type 0} (p : A → Bool) (xs : List A) → length (filter p xs) ≤ length xs
+filter-few p [] = omega arith
+filter-few p (x ∷ xs) = let rest = filter-few p xs in elim (p x) as (λ b. length (cond b (x ∷ filter p xs) (filter p xs)) ≤ length (x ∷ xs)) [ true ↦ omega (arith, rest) | false ↦ omega (arith, rest) ]

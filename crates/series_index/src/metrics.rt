@@ -1,0 +1,95 @@
+//! The series of one test, by metric.
+ghost use Rattle.std.specs.Prelude.{◌≡◌, ℕ, List, [], if◌then◌else◌, OnOk, OnErr, option_copied};
+ghost use Rattle.std.specs.Map.{lookup};
+ghost use Rattle.series_index.specs.Seen.{is_same, seen_of, with_sample, without, undone, HasRoom};
+
+use crate::NoMemory;
+use crate::tracked::Tracked;
+use line_text::Name;
+use std::alloc::Global;
+use std::collections::BTreeMap;
+use std::marker::Model;
+
+// The metrics of one test, in order.
+#[derive(Drop)]
+pub struct MetricIndex {
+    alloc: Global,
+    entries: BTreeMap<Name, Tracked>,
+}
+
+impl Model for MetricIndex {
+    ghost use Rattle.std.specs.Prelude.{ℕ, List};
+    ghost use Rattle.series_index.specs.declared.tracked.Tracked.{Tracked};
+
+    ghost Value = { List (List ℕ × Tracked) };
+
+    ghost view = { λ m. m.entries.entries };
+}
+
+impl MetricIndex {
+    pub fn new(alloc: Global) -> MetricIndex
+        ensures { result ≡ [] }
+    {
+        MetricIndex {
+            alloc,
+            entries: BTreeMap::new(alloc),
+        }
+    }
+
+    // What is kept of a metric; none where no sample came.
+    pub fn get(&self, metric: &Name) -> Option<&Tracked>
+        ensures { option_copied result ≡ lookup (λ m. is_same metric.now m) self.now }
+    {
+        self.entries.get(metric)
+    }
+
+    // Puts a sample in; changes nothing where there is no memory.
+    pub fn insert(
+        &mut self,
+        metric: &Name,
+        commit: u64,
+        step: u64,
+        value: i64,
+    ) -> Result<(), NoMemory>
+        requires { HasRoom (seen_of metric.now self.old) commit step value }
+        ensures ok { OnOk result ((m : List ℕ) → seen_of m self.new
+            ≡ (if is_same metric.now m
+            then with_sample commit (record { step = step; value = value }) (seen_of m self.old)
+            else seen_of m self.old)) }
+        ensures err { OnErr result ((m : List ℕ) → seen_of m self.new ≡ seen_of m self.old) }
+    {
+        if let Some(tracked) = self.entries.get_mut(metric) {
+            tracked.insert(commit, step, value)?;
+            return Ok(());
+        }
+        let mut tracked = Tracked::new(self.alloc);
+        tracked.insert(commit, step, value)?;
+        let key = metric.copy(self.alloc)?;
+        self.entries.insert(key, tracked)?;
+        Ok(())
+    }
+
+    // Takes out the samples of a step.
+    pub fn take_out(&mut self, metric: &Name, commit: u64, step: u64)
+        ensures { (m : List ℕ) → seen_of m self.new ≡ (if is_same metric.now m
+            then without commit step (seen_of m self.old)
+            else seen_of m self.old) }
+    {
+        if let Some(tracked) = self.entries.get_mut(metric) {
+            tracked.take_out(commit, step);
+            return;
+        }
+    }
+
+    // Takes them out as if they had never come.
+    pub fn undo(&mut self, metric: &Name, commit: u64, step: u64)
+        ensures { (m : List ℕ) → seen_of m self.new ≡ (if is_same metric.now m
+            then undone commit step (seen_of m self.old)
+            else seen_of m self.old) }
+    {
+        if let Some(tracked) = self.entries.get_mut(metric) {
+            tracked.undo(commit, step);
+            return;
+        }
+    }
+}

@@ -1,0 +1,155 @@
+//! The series of a machine, by test and metric: samples put in and taken out.
+ghost use Rattle.std.specs.Prelude.{◌≡◌, [], if◌then◌else◌, OnOk, OnErr, All, length, unwrap_or, option_copied};
+ghost use Rattle.std.specs.List.{list_any};
+ghost use Rattle.segment_model.specs.Limits.{IsSmall};
+ghost use Rattle.history_model.specs.Samples.{Measurement};
+ghost use Rattle.history_model.specs.Runs.{Series, is_of};
+ghost use Rattle.series_index.specs.Seen.{seen, unseen, is_series, with_sample, without, undone, HasRoom};
+ghost use Rattle.series_index.specs.Taken.{of_series, with_samples, HasRoomFor};
+
+use crate::NoMemory;
+use crate::metrics::MetricIndex;
+use crate::tracked::Tracked;
+use history_model::Sample;
+use line_text::Name;
+use std::alloc::Global;
+use std::collections::BTreeMap;
+use std::marker::Model;
+
+/// The series of a machine, in order of test and metric.
+#[derive(Drop)]
+pub struct SeriesIndex {
+    pub(crate) alloc: Global,
+    tests: BTreeMap<Name, MetricIndex>,
+}
+
+impl Model for SeriesIndex {
+    ghost use Rattle.std.specs.Prelude.{ℕ, List};
+    ghost use Rattle.series_index.specs.declared.tracked.Tracked.{Tracked};
+
+    ghost Value = { List (List ℕ × List (List ℕ × Tracked)) };
+
+    ghost view = { λ s. s.tests.entries };
+}
+
+impl SeriesIndex {
+    /// No series. The value keeps its allocator.
+    pub fn new(alloc: Global) -> SeriesIndex
+        ensures { result ≡ [] }
+    {
+        SeriesIndex {
+            alloc,
+            tests: BTreeMap::new(alloc),
+        }
+    }
+
+    /// What is kept of a series; none where it never had a sample. Logarithmic time; takes no memory.
+    pub fn get(&self, test: &Name, metric: &Name) -> Option<&Tracked>
+        ensures { unwrap_or (option_copied result) unseen
+            ≡ seen (record { test = test.now; metric = metric.now }) self.now }
+    {
+        match self.tests.get(test) {
+            Some(metrics) => metrics.get(metric),
+            None => None,
+        }
+    }
+
+    /// Puts a sample in at a commit; changes nothing that is seen where there is no memory. Logarithmic time, but for
+    /// what the positions take.
+    pub fn insert(
+        &mut self,
+        test: &Name,
+        metric: &Name,
+        commit: u64,
+        step: u64,
+        value: i64,
+    ) -> Result<(), NoMemory>
+        requires { HasRoom (seen (record { test = test.now; metric = metric.now }) self.old)
+            commit step value }
+        ensures ok { OnOk result ((s : Series) → seen s self.new
+            ≡ (if is_series test.now metric.now s
+            then with_sample commit (record { step = step; value = value }) (seen s self.old)
+            else seen s self.old)) }
+        ensures err { OnErr result ((s : Series) → seen s self.new ≡ seen s self.old) }
+    {
+        if let Some(metrics) = self.tests.get_mut(test) {
+            metrics.insert(metric, commit, step, value)?;
+            return Ok(());
+        }
+        let mut metrics = MetricIndex::new(self.alloc);
+        metrics.insert(metric, commit, step, value)?;
+        let key = test.copy(self.alloc)?;
+        self.tests.insert(key, metrics)?;
+        Ok(())
+    }
+
+    /// Takes all samples of a step at a commit out of a series, which stays known. Takes no memory.
+    pub fn take_out(&mut self, test: &Name, metric: &Name, commit: u64, step: u64)
+        ensures { (s : Series) → seen s self.new ≡ (if is_series test.now metric.now s
+            then without commit step (seen s self.old)
+            else seen s self.old) }
+    {
+        if let Some(metrics) = self.tests.get_mut(test) {
+            metrics.take_out(metric, commit, step);
+            return;
+        }
+    }
+
+    /// Takes them out as if they had never come: the series is no longer known where it was known since then.
+    pub fn undo(&mut self, test: &Name, metric: &Name, commit: u64, step: u64)
+        ensures { (s : Series) → seen s self.new ≡ (if is_series test.now metric.now s
+            then undone commit step (seen s self.old)
+            else seen s self.old) }
+    {
+        if let Some(metrics) = self.tests.get_mut(test) {
+            metrics.undo(metric, commit, step);
+            return;
+        }
+    }
+
+    /// Puts all samples of a run in at a commit, each into its series; where there is no memory for one of them, what is
+    /// seen of each series stays as it was.
+    pub fn take_in(&mut self, commit: u64, step: u64, samples: &[Sample]) -> Result<(), NoMemory>
+        requires small { All (λ (x : Measurement). IsSmall x.value) samples.now }
+        requires room { (s : Series) → HasRoomFor (seen s self.old) commit step
+            (length (of_series s samples.now)) }
+        requires fresh { (s : Series) → undone commit step (seen s self.old) ≡ seen s self.old }
+        ensures ok { OnOk result ((s : Series) → seen s self.new
+            ≡ with_samples commit step (of_series s samples.now) (seen s self.old)) }
+        ensures err { OnErr result ((s : Series) → seen s self.new ≡ seen s self.old) }
+    {
+        for sample in samples {
+            if let Err(_) = self.insert(&sample.test, &sample.metric, commit, step, sample.value) {
+                self.undo_all(commit, step, samples);
+                return Err(NoMemory);
+            }
+        }
+        Ok(())
+    }
+
+    /// Takes all samples of a step at a commit out of the series of a run's samples. Takes no memory.
+    pub fn take_back(&mut self, commit: u64, step: u64, samples: &[Sample])
+        ensures { (s : Series) → seen s self.new
+            ≡ (if list_any (is_of s) samples.now
+            then without commit step (seen s self.old)
+            else seen s self.old) }
+    {
+        for sample in samples {
+            self.take_out(&sample.test, &sample.metric, commit, step);
+        }
+    }
+
+    /// Takes all samples of a step out of the series of some samples, as if they had never come. Takes no memory.
+    pub fn undo_all(&mut self, commit: u64, step: u64, samples: &[Sample])
+        requires { (s : Series) → undone commit step (undone commit step (seen s self.old))
+            ≡ undone commit step (seen s self.old) }
+        ensures { (s : Series) → seen s self.new
+            ≡ (if list_any (is_of s) samples.now
+            then undone commit step (seen s self.old)
+            else seen s self.old) }
+    {
+        for sample in samples {
+            self.undo(&sample.test, &sample.metric, commit, step);
+        }
+    }
+}

@@ -1,0 +1,65 @@
+//! What is kept of one series.
+ghost use Rattle.std.specs.Prelude.{◌≡◌, OnOk, OnErr};
+ghost use Rattle.series_index.specs.Seen.{unseen, with_sample, without, undone, HasRoom};
+
+use crate::NoMemory;
+use point_list::{PointFault, Points};
+use std::alloc::Global;
+
+/// What is kept of a series.
+#[derive(Drop)]
+pub struct Tracked {
+    /// The step whose run first had a sample of it.
+    pub since: Option<u64>,
+    /// Its positions.
+    pub points: Points,
+}
+
+impl Tracked {
+    // A series without samples.
+    pub(crate) fn new(alloc: Global) -> Tracked
+        ensures { result ≡ unseen }
+    {
+        Tracked {
+            since: None,
+            points: Points::new(alloc),
+        }
+    }
+
+    // Puts a sample in; changes nothing where there is no memory.
+    pub(crate) fn insert(&mut self, commit: u64, step: u64, value: i64) -> Result<(), NoMemory>
+        requires { HasRoom self.old commit step value }
+        ensures ok { OnOk result
+            (self.new ≡ with_sample commit (record { step = step; value = value }) self.old) }
+        ensures err { OnErr result (self.new ≡ self.old) }
+    {
+        match self.points.insert(commit, step, value) {
+            Ok(()) => {}
+            Err(PointFault::NoMemory) => return Err(NoMemory),
+            Err(PointFault::SamplesFull) | Err(PointFault::PositionsFull) => unreachable!(),
+        }
+        if self.since.is_none() {
+            self.since = Some(step);
+        }
+        Ok(())
+    }
+
+    // Takes out the samples of a step.
+    pub(crate) fn take_out(&mut self, commit: u64, step: u64)
+        ensures { self.new ≡ without commit step self.old }
+    {
+        self.points.remove(commit, step);
+    }
+
+    // Takes them out as if they had never come.
+    pub(crate) fn undo(&mut self, commit: u64, step: u64)
+        ensures { self.new ≡ undone commit step self.old }
+    {
+        self.points.remove(commit, step);
+        if let Some(since) = self.since {
+            if since == step {
+                self.since = None;
+            }
+        }
+    }
+}

@@ -1,0 +1,39 @@
+//! Why no entry was read.
+use crate::NoMemory;
+use line_text::NameError;
+
+/// Why no entry was read.
+#[derive(Clone, Copy, Debug, PartialEq, Eq)]
+pub enum EntryFault {
+    /// The text spells no entry.
+    NotEntry,
+    /// There was no memory.
+    NoMemory,
+}
+
+impl From<NoMemory> for EntryFault {
+    ghost use Rattle.std.specs.Prelude.{◌≡◌};
+    ghost use Rattle.track_entry.specs.declared.fault.EntryFault.TheVariants as fault;
+
+    ghost from_gives = { λ _ made. made ≡ fault.NoMemory };
+
+    fn from(_: NoMemory) -> EntryFault {
+        EntryFault::NoMemory
+    }
+}
+
+impl From<NameError> for EntryFault {
+    ghost use Rattle.std.specs.Prelude.{◌≡◌};
+    ghost use Rattle.line_text.specs.declared.name.NameError.TheVariants as error;
+    ghost use Rattle.track_entry.specs.declared.fault.EntryFault.TheVariants as fault;
+
+    ghost from_gives = { λ e made. (e ≡ error.BadName → made ≡ fault.NotEntry)
+        × (e ≡ error.NoMemory → made ≡ fault.NoMemory) };
+
+    fn from(error: NameError) -> EntryFault {
+        match error {
+            NameError::BadName => EntryFault::NotEntry,
+            NameError::NoMemory => EntryFault::NoMemory,
+        }
+    }
+}

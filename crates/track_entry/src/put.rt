@@ -1,0 +1,89 @@
+//! The text of an entry, written.
+ghost use Rattle.std.specs.Prelude.{◌≡◌, ◌++◌, [], OnOk, OnErr, flat_map, decimal, length};
+ghost use Rattle.line_text.specs.Names.{spelling};
+ghost use Rattle.track_entry.specs.Texts.{next, sample_words, entry_text};
+
+use crate::NoMemory;
+use history_model::{Entry, Run, Sample};
+use line_text::{Name, put_i128, put_name, put_u64};
+use std::alloc::Global;
+
+/// Appends the text of an entry; changes nothing where there is no memory. Linear in the text.
+pub fn put_entry(alloc: Global, out: &mut Vec<u8>, entry: &Entry) -> Result<(), NoMemory>
+    ensures ok { OnOk result (out.new.items ≡ out.old.items ++ entry_text entry.now) }
+    ensures err { OnErr result (out.new.items ≡ out.old.items) }
+{
+    let mut text = Vec::new(alloc);
+    put_kind(alloc, &mut text, entry)?;
+    out.extend_from_slice(&text)?;
+    Ok(())
+}
+
+fn put_kind(alloc: Global, out: &mut Vec<u8>, entry: &Entry) -> Result<(), NoMemory>
+    ensures { OnOk result (out.new.items ≡ out.old.items ++ entry_text entry.now) }
+{
+    match entry {
+        Entry::Commit { number, name } => {
+            out.extend_from_slice(b"commit")?;
+            put_number(alloc, out, *number)?;
+            put_word(alloc, out, name)
+        }
+        Entry::Accept { run } => {
+            out.extend_from_slice(b"accept")?;
+            put_run(alloc, out, run)
+        }
+        Entry::Retract { run } => {
+            out.extend_from_slice(b"retract")?;
+            put_word(alloc, out, run)
+        }
+    }
+}
+
+fn put_run(alloc: Global, out: &mut Vec<u8>, run: &Run) -> Result<(), NoMemory>
+    ensures { OnOk result (out.new.items ≡ out.old.items
+        ++ (next (spelling run.now.run) ++ next (decimal run.now.commit)
+        ++ next (decimal (length run.now.samples))
+        ++ flat_map next (flat_map sample_words run.now.samples))) }
+{
+    put_word(alloc, out, &run.run)?;
+    put_number(alloc, out, run.commit)?;
+    put_number(alloc, out, run.samples.len() as u64)?;
+    put_samples(alloc, out, run.samples.as_slice())
+}
+
+fn put_samples(alloc: Global, out: &mut Vec<u8>, samples: &[Sample]) -> Result<(), NoMemory>
+    ensures { OnOk result
+        (out.new.items ≡ out.old.items ++ flat_map next (flat_map sample_words samples.now)) }
+{
+    for sample in samples {
+        put_sample(alloc, out, sample)?;
+    }
+    Ok(())
+}
+
+fn put_sample(alloc: Global, out: &mut Vec<u8>, sample: &Sample) -> Result<(), NoMemory>
+    ensures { OnOk result
+        (out.new.items ≡ out.old.items ++ flat_map next (sample_words sample.now)) }
+{
+    put_word(alloc, out, &sample.test)?;
+    put_word(alloc, out, &sample.metric)?;
+    out.push(b' ')?;
+    put_i128(alloc, out, i128::from(sample.value))?;
+    Ok(())
+}
+
+fn put_word(alloc: Global, out: &mut Vec<u8>, name: &Name) -> Result<(), NoMemory>
+    ensures { OnOk result (out.new.items ≡ out.old.items ++ next (spelling name.now)) }
+{
+    out.push(b' ')?;
+    put_name(alloc, out, name)?;
+    Ok(())
+}
+
+fn put_number(alloc: Global, out: &mut Vec<u8>, n: u64) -> Result<(), NoMemory>
+    ensures { OnOk result (out.new.items ≡ out.old.items ++ next (decimal n)) }
+{
+    out.push(b' ')?;
+    put_u64(alloc, out, n)?;
+    Ok(())
+}

@@ -1,0 +1,144 @@
+//! Entries, read from their texts.
+ghost use Rattle.std.specs.Prelude.{◌≡◌, ◌≢◌, ℕ, ◌≤◌, List, [], ◌∷◌, length, drop, codes, flat_map, IfOk};
+ghost use Rattle.line_text.specs.Lines.{words_of};
+ghost use Rattle.history_model.specs.Samples.{Measurement, AreSamples};
+ghost use Rattle.history_model.specs.declared.entries.Entry.{Entry as AnEntry};
+ghost use Rattle.track_entry.specs.Texts.{sample_words, entry_words, IsEntry, SpellsEntry, IsOneEntry};
+ghost use Rattle.track_entry.specs.Decoded.{Reads, commit_of, accept_of, retract_of};
+
+use crate::fault::EntryFault;
+use crate::put::put_entry;
+use crate::words::{end_at, name_at, number_at, sample_at};
+use history_model::{Entry, Run, Samples};
+use line_text::{names_law, next_word, words_law};
+use metric_table::Limit;
+use std::alloc::Global;
+
+/// The entry that the text spells; `NotEntry` exactly where it spells none.
+///
+/// Linear in the text, and takes memory in proportion to it.
+pub fn read_entry(alloc: Global, text: &[u8]) -> Result<Entry, EntryFault>
+    ensures spelt { IfOk result (λ entry. SpellsEntry text.now entry) }
+    ensures none { result ≡ Err EntryFault.NotEntry → (e : AnEntry) → ¬ SpellsEntry text.now e }
+{
+    words_law();
+    names_law();
+    let entry = read_words(alloc, text)?;
+    bounds_law(&entry);
+    let mut spelt = Vec::new(alloc);
+    put_entry(alloc, &mut spelt, &entry)?;
+    // What isn't canonical is spelt otherwise.
+    if spelt.as_slice() != text {
+        return Err(EntryFault::NotEntry);
+    }
+    Ok(entry)
+}
+
+// The entry of the text's words. They need not be canonical.
+fn read_words(alloc: Global, text: &[u8]) -> Result<Entry, EntryFault>
+    ensures { (e : AnEntry) → IsEntry e → words_of text.now ≡ entry_words e
+        → Reads result (λ read. read ≡ e) }
+{
+    names_law();
+    let Some((from, to)) = next_word(text, 0) else {
+        return Err(EntryFault::NotEntry);
+    };
+    let kind = &text[from..to];
+    if kind == b"commit".as_slice() {
+        return read_commit(alloc, text, to);
+    }
+    if kind == b"accept".as_slice() {
+        return read_accept(alloc, text, to);
+    }
+    if kind == b"retract".as_slice() {
+        return read_retract(alloc, text, to);
+    }
+    Err(EntryFault::NotEntry)
+}
+
+fn read_commit(alloc: Global, text: &[u8], at: usize) -> Result<Entry, EntryFault>
+    requires { at ≤ length text.now }
+    ensures { (e : AnEntry) → IsEntry e → commit_of (words_of (drop at text.now)) ≡ Some e
+        → codes "commit" ∷ words_of (drop at text.now) ≡ entry_words e
+        → Reads result (λ read. read ≡ e) }
+{
+    let (number, behind_number) = number_at(text, at)?;
+    let (name, end) = name_at(alloc, text, behind_number)?;
+    end_at(text, end)?;
+    Ok(Entry::Commit { number, name })
+}
+
+fn read_accept(alloc: Global, text: &[u8], at: usize) -> Result<Entry, EntryFault>
+    requires { at ≤ length text.now }
+    ensures { (e : AnEntry) → IsEntry e → accept_of (words_of (drop at text.now)) ≡ Some e
+        → codes "accept" ∷ words_of (drop at text.now) ≡ entry_words e
+        → Reads result (λ read. read ≡ e) }
+{
+    let (run, behind_run) = name_at(alloc, text, at)?;
+    let (commit, behind_commit) = number_at(text, behind_run)?;
+    let (_, behind_count) = number_at(text, behind_commit)?;
+    let samples = read_samples(alloc, text, behind_count)?;
+    let run = Run {
+        run,
+        commit,
+        samples,
+    };
+    Ok(Entry::Accept { run })
+}
+
+fn read_retract(alloc: Global, text: &[u8], at: usize) -> Result<Entry, EntryFault>
+    requires { at ≤ length text.now }
+    ensures { (e : AnEntry) → IsEntry e → retract_of (words_of (drop at text.now)) ≡ Some e
+        → codes "retract" ∷ words_of (drop at text.now) ≡ entry_words e
+        → Reads result (λ read. read ≡ e) }
+{
+    let (run, end) = name_at(alloc, text, at)?;
+    end_at(text, end)?;
+    Ok(Entry::Retract { run })
+}
+
+// The samples of all words from a place on.
+fn read_samples(alloc: Global, text: &[u8], at: usize) -> Result<Samples, EntryFault>
+    requires { at ≤ length text.now }
+    ensures { (samples : List Measurement) → AreSamples samples
+        → words_of (drop at text.now) ≡ flat_map sample_words samples
+        → Reads result (λ read. read ≡ samples) }
+{
+    let mut samples = Samples::new(alloc);
+    let mut place = at;
+    while next_word(text, place).is_some() {
+        if samples.len() as u64 >= Limit::RunSamples.most() {
+            return Err(EntryFault::NotEntry);
+        }
+        let (sample, end) = sample_at(alloc, text, place)?;
+        samples.push(sample)?;
+        place = end;
+    }
+    Ok(samples)
+}
+
+// What the types keep. Does nothing.
+fn bounds_law(entry: &Entry)
+    ensures { IsEntry entry.now }
+{
+    match entry {
+        Entry::Commit { number, name } => {
+            let _number = *number;
+            name.bytes_law();
+        }
+        Entry::Accept { run } => {
+            let _commit = run.commit;
+            run.run.bytes_law();
+            run.samples.limits();
+        }
+        Entry::Retract { run } => run.bytes_law(),
+    }
+}
+
+/// No text spells two entries. Does nothing: its contract is what it is for.
+pub fn entries_law()
+    ensures { IsOneEntry }
+{
+    words_law();
+    names_law();
+}

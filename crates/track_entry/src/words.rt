@@ -1,0 +1,106 @@
+//! Single words of an entry: names, numbers, values and samples.
+ghost use Rattle.std.specs.Prelude.{◌≡◌, ◌≢◌, ℕ, ℤ, ◌^◌, ◌<◌, ◌≤◌, List, [], ◌∷◌, ◌++◌, length, drop, decimal, unsigned_abs, IfOk};
+ghost use Rattle.std.specs.Fmt.{signed_decimal};
+ghost use Rattle.line_text.specs.Lines.{words_of};
+ghost use Rattle.line_text.specs.Names.{IsName, spelling};
+ghost use Rattle.history_model.specs.Samples.{Measurement, IsSample};
+ghost use Rattle.track_entry.specs.Texts.{sample_words};
+ghost use Rattle.track_entry.specs.Decoded.{Reads};
+
+use crate::fault::EntryFault;
+use history_model::Sample;
+use line_text::{Name, names_law, next_word, read_i64, read_name, read_u64};
+use std::alloc::Global;
+
+// The greatest magnitude of a value.
+const VALUE_LIMIT: u64 = 10_000_000_000_000_000;
+
+// The most bytes of a metric's name.
+const METRIC_LIMIT: usize = 64;
+
+// The name of the next word, and where the word ends.
+pub fn name_at(alloc: Global, text: &[u8], at: usize) -> Result<(Name, usize), EntryFault>
+    requires { at ≤ length text.now }
+    ensures placed { IfOk result (λ read. (at < read.1) × (read.1 ≤ length text.now)) }
+    ensures reads { (name : List ℕ) (more : List (List ℕ)) → IsName name
+        → words_of (drop at text.now) ≡ spelling name ∷ more
+        → Reads result (λ read. (read.0 ≡ name) × (words_of (drop read.1 text.now) ≡ more)) }
+{
+    let Some((from, to)) = next_word(text, at) else {
+        return Err(EntryFault::NotEntry);
+    };
+    names_law();
+    let name = read_name(alloc, &text[from..to])?;
+    Ok((name, to))
+}
+
+// The number of the next word, and where the word ends.
+pub fn number_at(text: &[u8], at: usize) -> Result<(u64, usize), EntryFault>
+    requires { at ≤ length text.now }
+    ensures placed { IfOk result (λ read. (at < read.1) × (read.1 ≤ length text.now)) }
+    ensures reads { (number : ℕ) (more : List (List ℕ)) → number < 2 ^ 64
+        → words_of (drop at text.now) ≡ decimal number ∷ more
+        → Reads result (λ read. (read.0 ≡ number) × (words_of (drop read.1 text.now) ≡ more)) }
+{
+    let Some((from, to)) = next_word(text, at) else {
+        return Err(EntryFault::NotEntry);
+    };
+    let Some(number) = read_u64(&text[from..to]) else {
+        return Err(EntryFault::NotEntry);
+    };
+    Ok((number, to))
+}
+
+// The value of the next word, and where the word ends.
+pub fn value_at(text: &[u8], at: usize) -> Result<(i64, usize), EntryFault>
+    requires { at ≤ length text.now }
+    ensures small { IfOk result (λ read. unsigned_abs read.0 ≤ 10 ^ 16) }
+    ensures placed { IfOk result (λ read. (at < read.1) × (read.1 ≤ length text.now)) }
+    ensures reads { (value : ℤ) (more : List (List ℕ)) → unsigned_abs value ≤ 10 ^ 16
+        → words_of (drop at text.now) ≡ signed_decimal value ∷ more
+        → Reads result (λ read. (read.0 ≡ value) × (words_of (drop read.1 text.now) ≡ more)) }
+{
+    let Some((from, to)) = next_word(text, at) else {
+        return Err(EntryFault::NotEntry);
+    };
+    let Some(value) = read_i64(&text[from..to]) else {
+        return Err(EntryFault::NotEntry);
+    };
+    if value.unsigned_abs() > VALUE_LIMIT {
+        return Err(EntryFault::NotEntry);
+    }
+    Ok((value, to))
+}
+
+// The sample of the next three words, and where the last of them ends.
+pub fn sample_at(alloc: Global, text: &[u8], at: usize) -> Result<(Sample, usize), EntryFault>
+    requires { at ≤ length text.now }
+    ensures placed { IfOk result (λ read. (at < read.1) × (read.1 ≤ length text.now)) }
+    ensures reads { (m : Measurement) (more : List (List ℕ)) → IsSample m
+        → words_of (drop at text.now) ≡ sample_words m ++ more
+        → Reads result (λ read. (read.0 ≡ m) × (words_of (drop read.1 text.now) ≡ more)) }
+{
+    let (test, behind_test) = name_at(alloc, text, at)?;
+    let (metric, behind_metric) = name_at(alloc, text, behind_test)?;
+    if metric.as_str().len() > METRIC_LIMIT {
+        return Err(EntryFault::NotEntry);
+    }
+    let (value, end) = value_at(text, behind_metric)?;
+    let sample = Sample {
+        test,
+        metric,
+        value,
+    };
+    Ok((sample, end))
+}
+
+// Whether no word follows.
+pub fn end_at(text: &[u8], at: usize) -> Result<(), EntryFault>
+    requires { at ≤ length text.now }
+    ensures { words_of (drop at text.now) ≡ [] → Reads result (λ _. Unit {0}) }
+{
+    if next_word(text, at).is_some() {
+        return Err(EntryFault::NotEntry);
+    }
+    Ok(())
+}

@@ -1,0 +1,82 @@
+-- Where a form comes to a limit, and what it adds elsewhere.
+use Rattle.std.proofs.Common.{◌≡◌, ℕ, ◌+◌, ◌<◌, ◌≤◌, List, [], ◌∷◌, ◌++◌, length, refl, ap, ◌∙◌, arith, Option}
+use Rattle.std.specs.Prelude.{Some, None, find, option_map}
+use Rattle.std.proofs.lemmas.List.{length-append}
+use Rattle.metric_table.specs.Limits.{most}
+use Rattle.metric_table.specs.declared.limits.Limit.TheVariants as limit
+use Rattle.history_model.specs.declared.entries.Declaration.{Declaration}
+use Rattle.history_model.specs.declared.entries.Entry.{Entry}
+use Rattle.history_model.specs.declared.entries.Entry.TheVariants as entry
+use Rattle.request_model.specs.declared.replies.Answer.TheVariants as answer
+use Rattle.request_model.specs.declared.replies.Refusal.TheVariants as refusal
+use Rattle.history_model.specs.Allowed.{Allowed, KeepsLimits}
+use Rattle.history_model.specs.Commits.{declarations, has_number, has_name}
+use Rattle.history_model.specs.Laws.{DeclarationsGrow, FirstPassed, FirstKept, LimitsAfterCommit}
+use Rattle.track_model.specs.Forms as forms
+use Rattle.track_model.specs.Laws.{CommitFits}
+use Rattle.track_model.specs.Outcomes.{refuses}
+use Rattle.track_model.proofs.Rows.{first-none, option_map-none}
+
+free-pair : (commits : List Declaration) (number : ℕ) (name : List ℕ) → forms.commit_refusal commits number name ≡ None
+    → (find (has_number number) commits ≡ None) × (find (has_name name) commits ≡ None)
+free-pair commits number name free =
+    let same_number : Option Declaration = find (has_number number) commits in
+    let same_name : Option Declaration = find (has_name name) commits in
+    let both = first-none (option_map (forms.told_of name) same_number) (option_map forms.taken_by same_name ∷ []) free in (
+      option_map-none (forms.told_of name) same_number both.0,
+      option_map-none forms.taken_by same_name (first-none (option_map forms.taken_by same_name) [] both.1).0,
+    )
+
+module _ (passed : FirstPassed) (kept : FirstKept) where
+  -- ---- commit
+  module _ (grow : DeclarationsGrow) (h : List Entry) (number : ℕ) (name : List ℕ) where
+    abbrev e : Entry
+    e = entry.Commit number name
+
+    declared : length (declarations (h ++ e ∷ [])) ≡ length (declarations h) + 1
+    declared = ap length (grow h e) ∙ length-append (declarations h) (record { step = length h + 1; number = number; name = name } ∷ [])
+
+    steps : length (h ++ e ∷ []) ≡ length h + 1
+    steps = length-append h (e ∷ [])
+
+    pub commits-full : forms.commit_refusal (declarations h) number name ≡ None → most limit.Commits ≤ length (declarations h)
+        → forms.commit h number name ≡ refuses (refusal.Full limit.Commits)
+    commits-full free full =
+        let row = passed limit.Commits (limit.Steps ∷ []) h e (omega (arith, declared, full)) in
+        rw (free, row) refl
+
+    pub commit-steps-full : forms.commit_refusal (declarations h) number name ≡ None → length (declarations h) < most limit.Commits → most limit.Steps ≤ length h
+        → forms.commit h number name ≡ refuses (refusal.Full limit.Steps)
+    commit-steps-full free few full =
+        let row = kept limit.Commits (limit.Steps ∷ []) h e (omega (arith, declared, few)) ∙ passed limit.Steps [] h e (omega (arith, steps, full)) in
+        rw (free, row) refl
+
+    pub commit-added : CommitFits h number name → forms.commit h number name ≡ record { answer = answer.Commit number name; adds = Some e }
+    commit-added fits =
+        let few = fits.commits in
+        let room = fits.steps in
+        let row = kept limit.Commits (limit.Steps ∷ []) h e (omega (arith, declared, few)) ∙ kept limit.Steps [] h e (omega (arith, steps, room)) in
+        rw (fits.free, row) refl
+
+    pub commit-allowed : LimitsAfterCommit → KeepsLimits h → CommitFits h number name → Allowed h e
+    commit-allowed limits keeps fits =
+        let none = free-pair (declarations h) number name fits.free in
+        ((ap (option_map (λ (d : Declaration). d.name)) none.0, ap (option_map (λ (d : Declaration). d.number)) none.1), limits h number name keeps fits.steps fits.commits)
+
+  -- ---- retract
+  module _ (h : List Entry) (run : List ℕ) (free : forms.retract_refusal h run ≡ None) where
+    abbrev r : Entry
+    r = entry.Retract run
+
+    more : length (h ++ r ∷ []) ≡ length h + 1
+    more = length-append h (r ∷ [])
+
+    pub retract-steps-full : most limit.Steps ≤ length h → forms.retract h run ≡ refuses (refusal.Full limit.Steps)
+    retract-steps-full full =
+        let row = passed limit.Steps [] h r (omega (arith, more, full)) in
+        rw (free, row) refl
+
+    pub retract-added : length h < most limit.Steps → forms.retract h run ≡ record { answer = answer.Retracted run; adds = Some r }
+    retract-added room =
+        let row = kept limit.Steps [] h r (omega (arith, more, room)) in
+        rw (free, row) refl

@@ -1,0 +1,13 @@
+-- A row of refusals of which none comes.
+use Rattle.std.proofs.Common.{◌≡◌, List, ◌∷◌, refl, Option}
+use Rattle.std.specs.Prelude.{Some, None, option_map}
+use Rattle.request_model.specs.declared.replies.Answer.{Answer}
+use Rattle.track_model.specs.Outcomes.{first}
+
+pub first-none : (o : Option Answer) (os : List (Option Answer)) → first (o ∷ os) ≡ None → (o ≡ None) × (first os ≡ None)
+first-none None os none = (refl, none)
+first-none (Some answer) os none = absurd (cc)
+
+pub option_map-none : {A B : Type 0} (f : A → B) (o : Option A) → option_map f o ≡ None → o ≡ None
+option_map-none f None none = refl
+option_map-none f (Some x) none = absurd (cc)

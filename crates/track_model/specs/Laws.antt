@@ -1,0 +1,61 @@
+-- What holds of the forms on every history: where each comes to a limit, and what it adds where none is passed.
+use Rattle.std.specs.Prelude.{◌≡◌, ◌≤◌, ◌<◌, ℕ, List, length, IsSome, Some, None}
+use Rattle.metric_table.specs.Limits.{most}
+use Rattle.metric_table.specs.declared.limits.Limit.TheVariants as limit
+use Rattle.history_model.specs.declared.entries.Entry.{Entry}
+use Rattle.history_model.specs.declared.entries.Entry.TheVariants as entry
+use Rattle.history_model.specs.Allowed.{Allowed, KeepsLimits}
+use Rattle.history_model.specs.Commits.{declarations}
+use Rattle.history_model.specs.Runs.{accepted, retracted}
+use Rattle.request_model.specs.declared.replies.Answer.TheVariants as answer
+use Rattle.request_model.specs.declared.replies.Refusal.TheVariants as refusal
+use Rattle.track_model.specs.Forms as forms
+use Rattle.track_model.specs.Outcomes.{refuses}
+
+-- ---- commit
+
+-- nothing is refused of the pair, and there is room for a commit and a step
+pub record CommitFits (h : List Entry) (number : ℕ) (name : List ℕ) : Type 0 where
+  pub free : forms.commit_refusal (declarations h) number name ≡ None
+  pub commits : length (declarations h) < most limit.Commits
+  pub steps : length h < most limit.Steps
+
+-- a free pair is refused where there are as many commits as there may be
+abbrev pub CommitsAreFull : Type 0
+CommitsAreFull =
+    (h : List Entry) (number : ℕ) (name : List ℕ) → forms.commit_refusal (declarations h) number name ≡ None
+    → most limit.Commits ≤ length (declarations h) → forms.commit h number name ≡ refuses (refusal.Full limit.Commits)
+
+-- else where there are as many steps as there may be
+abbrev pub CommitStepsAreFull : Type 0
+CommitStepsAreFull =
+    (h : List Entry) (number : ℕ) (name : List ℕ) → forms.commit_refusal (declarations h) number name ≡ None
+    → length (declarations h) < most limit.Commits → most limit.Steps ≤ length h → forms.commit h number name ≡ refuses (refusal.Full limit.Steps)
+
+-- else it is added
+abbrev pub CommitIsAdded : Type 0
+CommitIsAdded =
+    (h : List Entry) (number : ℕ) (name : List ℕ) → CommitFits h number name
+    → forms.commit h number name ≡ record { answer = answer.Commit number name; adds = Some (entry.Commit number name) }
+
+-- and may follow a history that keeps its limits
+abbrev pub CommitIsAllowed : Type 0
+CommitIsAllowed = (h : List Entry) (number : ℕ) (name : List ℕ) → KeepsLimits h → CommitFits h number name → Allowed h (entry.Commit number name)
+
+-- ---- retract
+
+-- the retraction of a live run is refused where there are as many steps as there may be
+abbrev pub RetractStepsAreFull : Type 0
+RetractStepsAreFull =
+    (h : List Entry) (run : List ℕ) → forms.retract_refusal h run ≡ None → most limit.Steps ≤ length h → forms.retract h run ≡ refuses (refusal.Full limit.Steps)
+
+-- else it is added
+abbrev pub RetractIsAdded : Type 0
+RetractIsAdded =
+    (h : List Entry) (run : List ℕ) → forms.retract_refusal h run ≡ None → length h < most limit.Steps
+    → forms.retract h run ≡ record { answer = answer.Retracted run; adds = Some (entry.Retract run) }
+
+-- and may follow a history that keeps its limits
+abbrev pub RetractIsAllowed : Type 0
+RetractIsAllowed =
+    (h : List Entry) (run : List ℕ) → KeepsLimits h → IsSome (accepted run h) → retracted run h ≡ None → length h < most limit.Steps → Allowed h (entry.Retract run)

@@ -1,0 +1,34 @@
+//! Laws of the forms, as public functions that do nothing: their contracts are what they are for.
+ghost use Rattle.track_model.specs.Laws.{
+  CommitsAreFull,
+  CommitStepsAreFull,
+  CommitIsAdded,
+  CommitIsAllowed,
+  RetractStepsAreFull,
+  RetractIsAdded,
+  RetractIsAllowed,
+};
+
+use history_model::{growth_law, limits_law, within_law};
+
+/// Where a commit of a free pair comes to a limit, and that it is added elsewhere.
+pub fn commit_law()
+    ensures commits_full { CommitsAreFull }
+    ensures steps_full { CommitStepsAreFull }
+    ensures added { CommitIsAdded }
+    ensures allowed { CommitIsAllowed }
+{
+    growth_law();
+    limits_law();
+    within_law();
+}
+
+/// Where the retraction of a live run comes to a limit, and that it is added elsewhere.
+pub fn retract_law()
+    ensures steps_full { RetractStepsAreFull }
+    ensures added { RetractIsAdded }
+    ensures allowed { RetractIsAllowed }
+{
+    limits_law();
+    within_law();
+}

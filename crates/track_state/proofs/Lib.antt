@@ -1,0 +1,9 @@
+mod Steps
+mod Marks
+mod OneMore
+mod Ready
+mod Series
+mod Verdicts
+mod Submits
+mod Listing
+mod Replaying

@@ -1,0 +1,63 @@
+use Rattle.metric_table.specs.declared.limits.Limit.TheVariants as limit
+use Rattle.std.proofs.Common.{◌≡◌, ℕ, ◌≤◌, ◌+◌, List, [], ◌∷◌, ◌++◌, length, sym, ap, subst, ◌∙◌, arith}
+use Rattle.std.specs.Prelude.{option_to_list}
+use Rattle.std.proofs.lemmas.List.{length-map}
+use Rattle.history_model.specs.declared.entries.Entry.{Entry}
+use Rattle.history_model.specs.declared.entries.Placed.{Placed}
+use Rattle.history_model.specs.Allowed.{Allowed}
+use Rattle.history_model.specs.Commits.{declaration}
+use Rattle.history_model.specs.Entries.{entries_of}
+use Rattle.track_model.specs.Tracks.{Track}
+use Rattle.history_model.proofs.Chosen.{entries-push}
+use Rattle.track_state.specs.Indexes.{TakesIn, runs_after, seen_after}
+use Rattle.history_model.specs.Runs.{Series, known_series}
+use Rattle.series_index.specs.Seen.{seen}
+use Rattle.track_state.proofs.Series.{takes-in}
+use Rattle.track_state.proofs.OneMore.{follows}
+use Rattle.track_state.proofs.Ready.{ready}
+use Rattle.track_state.proofs.state.TrackState.add.Goals as goal
+
+pub follow-requires-clause-indexes : goal.follow-requires-clause-indexes
+follow-requires-clause-indexes c =
+    let e : Entry = c.args.entry in
+    let h : List Entry = entries_of c.self.inside.history.items in
+    let h_is : entries_of c.args.self.now.history ≡ h = ap (λ (t : Track). entries_of t.history) (sym c.self.view_is) in
+    let allowed : Allowed h e = let P : List Entry → Type 0 = λ before. Allowed before e in subst P h_is c.requires.allowed in
+    rw (c.self.invariant.commits_are, c.self.invariant.runs_are) (ready h e allowed)
+
+pub follow-requires-clause-series : goal.follow-requires-clause-series
+follow-requires-clause-series c =
+    let e : Entry = c.args.entry in
+    let h : List Entry = entries_of c.self.inside.history.items in
+    let h_is : entries_of c.args.self.now.history ≡ h = ap (λ (t : Track). entries_of t.history) (sym c.self.view_is) in
+    let allowed : Allowed h e = let P : List Entry → Type 0 = λ before. Allowed before e in subst P h_is c.requires.allowed in
+    let size : length h ≡ c.self.inside.history.len = length-map c.self.inside.history.items (λ (p : Placed). p.entry) ∙ sym c.self.inside.history.ok.0 in
+    let step_is : c.len.result + 1 ≡ length h + 1 = omega (arith, c.len.ensures, c.reserve.ensures.len, size) in
+    let P : ℕ → Type 0 = λ step. TakesIn c.self.inside.series step e in
+    subst P (sym step_is)
+    (takes-in c.positions_law.ensures.fresh c.positions_law.ensures.past c.limits_law.ensures.room c.retraction_law.ensures h e c.self.inside.series c.self.invariant.legal allowed c.self.invariant.series_are)
+
+pub invariant_of-self-2 : goal.invariant_of-self-2
+invariant_of-self-2 c =
+    let e : Entry = c.args.entry in
+    let h : List Entry = entries_of c.self.inside.history.items in
+    let h_is : entries_of c.args.self.now.history ≡ h = ap (λ (t : Track). entries_of t.history) (sym c.self.view_is) in
+    let allowed : Allowed h e = let P : List Entry → Type 0 = λ before. Allowed before e in subst P h_is c.requires.allowed in
+    let size : length h ≡ c.self.inside.history.len = length-map c.self.inside.history.items (λ (p : Placed). p.entry) ∙ sym c.self.inside.history.ok.0 in
+    let step_is : c.len.result ≡ length h = omega (arith, c.len.ensures, c.reserve.ensures.len, size) in
+    let entries_are : entries_of c.push_reserved.new.self.items ≡ h ++ e ∷ [] =
+    ap entries_of (rw (← c.in_ok-reserve.ensures.items) c.push_reserved.ensures.items) ∙ entries-push c.self.inside.history.items (record { author = c.args.author; entry = e }) in
+    let commits_are : c.follow.new.commits ≡ c.self.inside.commits ++ option_to_list (declaration (length h + 1) e) = rw (← step_is) c.in_ok-follow.ensures.commits in
+    let runs_are : c.follow.new.runs ≡ runs_after (length h + 1) e c.self.inside.runs = rw (← step_is) c.in_ok-follow.ensures.runs in
+    let series_are : (s : Series) → seen s c.follow.new.series ≡ seen_after (length h + 1) e c.self.inside.runs s (seen s c.self.inside.series) =
+    rw (← step_is) c.in_ok-follow.ensures.series in
+    let grown : length (known_series (h ++ e ∷ [])) ≡ length (known_series h) + c.args.more = rw h_is at c.requires.more in
+    rw (entries_are, commits_are, runs_are)
+    (follows c.growth_law.ensures.legal c.positions_law.ensures.accept c.positions_law.ensures.retract c.positions_law.ensures.untouched c.retraction_law.ensures
+    h e c.self.inside.commits c.self.inside.runs c.self.inside.series c.follow.new.series c.self.inside.known c.args.more c.self.invariant allowed grown series_are)
+
+pub overflow_add-self : goal.overflow_add-self
+overflow_add-self c =
+    let few : length (known_series (entries_of c.args.self.now.history ++ c.args.entry ∷ [])) ≤ 16_384 = c.requires.allowed.1 limit.Series in
+    let known_is : c.self.inside.known ≡ length (known_series (entries_of c.args.self.now.history)) = c.self.invariant.known_are ∙ ap (λ (t : Track). length (known_series (entries_of t.history))) c.self.view_is in
+    record { fits = omega (arith, few, known_is, c.requires.more) }
