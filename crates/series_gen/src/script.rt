@@ -1,0 +1,124 @@
+//! Writing the script, part by part.
+ghost use Rattle.std.specs.Prelude.{◌≡◌, ◌<◌, ◌+◌, ◌%◌, ◌==◌, if◌then◌else◌, [], ◌++◌, OnOk};
+ghost use Rattle.series_gen.specs.Script.{script, in_turn, commit_line, submit_line, body_line, place, value, turn, segment_line, retract_line};
+
+use crate::drawn::{next_state, number_of};
+use line_text::{NoMemory, put_u64};
+use std::alloc::Global;
+
+/// Puts the script of a number behind some bytes: requests in order, with the bodies of their runs.
+///
+/// Where there is no memory, a part of it may stand behind them.
+pub fn put_script(alloc: Global, out: &mut Vec<u8>, number: u64) -> Result<(), NoMemory>
+    ensures { OnOk result (out.new.items ≡ out.old.items ++ script number) }
+{
+    out.extend_from_slice(b"machine g\n")?;
+    put_commits(alloc, out)?;
+    out.extend_from_slice(b"tune g ns/op 300000000000\n")?;
+    put_turns(alloc, out, number)?;
+    put_retractions(alloc, out)?;
+    out.extend_from_slice(b"segment g G ns/op\n")?;
+    out.extend_from_slice(b"changes g G ns/op\n")?;
+    Ok(())
+}
+
+// The lines of the 500 commits.
+fn put_commits(alloc: Global, out: &mut Vec<u8>) -> Result<(), NoMemory>
+    ensures { OnOk result (out.new.items ≡ out.old.items ++ in_turn commit_line 500) }
+{
+    for i in 0..500 {
+        put_commit(alloc, out, i)?;
+    }
+    Ok(())
+}
+
+// The line of one commit.
+fn put_commit(alloc: Global, out: &mut Vec<u8>, i: u64) -> Result<(), NoMemory>
+    ensures { OnOk result (out.new.items ≡ out.old.items ++ commit_line i) }
+{
+    out.extend_from_slice(b"commit g ")?;
+    put_u64(alloc, out, i)?;
+    out.extend_from_slice(b" c")?;
+    put_u64(alloc, out, i)?;
+    out.push(b'\n')?;
+    Ok(())
+}
+
+// The runs and the segmentations among them.
+fn put_turns(alloc: Global, out: &mut Vec<u8>, number: u64) -> Result<(), NoMemory>
+    ensures { OnOk result (out.new.items ≡ out.old.items ++ in_turn (turn number) 2_000) }
+{
+    let mut state = number;
+    for j in 0..2_000 {
+        state = next_state(state);
+        put_submit(alloc, out, j)?;
+        put_body(alloc, out, value_of(j, state))?;
+        put_hundredth(out, j)?;
+    }
+    Ok(())
+}
+
+// The line that submits a run.
+fn put_submit(alloc: Global, out: &mut Vec<u8>, j: u64) -> Result<(), NoMemory>
+    requires { j < 2_000 }
+    ensures { OnOk result (out.new.items ≡ out.old.items ++ submit_line j) }
+{
+    out.extend_from_slice(b"submit go g c")?;
+    put_u64(alloc, out, 271 * j % 500)?;
+    out.extend_from_slice(b" r")?;
+    put_u64(alloc, out, j)?;
+    out.extend_from_slice(b" 24")?;
+    out.push(b'\n')?;
+    Ok(())
+}
+
+// The value of a run.
+fn value_of(j: u64, state: u64) -> u64
+    requires { j < 2_000 }
+    ensures { result ≡ value (place j) state }
+{
+    1000 + 100 * (271 * j % 500 / 125) + number_of(21, state)
+}
+
+// The body of a run.
+fn put_body(alloc: Global, out: &mut Vec<u8>, value: u64) -> Result<(), NoMemory>
+    ensures { OnOk result (out.new.items ≡ out.old.items ++ body_line value) }
+{
+    out.extend_from_slice(b"BenchmarkG 1 ")?;
+    put_u64(alloc, out, value)?;
+    out.extend_from_slice(b" ns/op")?;
+    out.push(b'\n')?;
+    Ok(())
+}
+
+// The line of a segmentation after each hundredth run.
+fn put_hundredth(out: &mut Vec<u8>, j: u64) -> Result<(), NoMemory>
+    requires { j < 2_000 }
+    ensures { OnOk result (out.new.items ≡ out.old.items ++ (if (j + 1) % 100 == 0 then segment_line else [])) }
+{
+    if (j + 1) % 100 == 0 {
+        out.extend_from_slice(b"segment g G ns/op\n")?;
+    }
+    Ok(())
+}
+
+// The lines of the ten retractions.
+fn put_retractions(alloc: Global, out: &mut Vec<u8>) -> Result<(), NoMemory>
+    ensures { OnOk result (out.new.items ≡ out.old.items ++ in_turn retract_line 10) }
+{
+    for i in 0..10 {
+        put_retraction(alloc, out, i)?;
+    }
+    Ok(())
+}
+
+// The line of one retraction.
+fn put_retraction(alloc: Global, out: &mut Vec<u8>, i: u64) -> Result<(), NoMemory>
+    requires { i < 10 }
+    ensures { OnOk result (out.new.items ≡ out.old.items ++ retract_line i) }
+{
+    out.extend_from_slice(b"retract g r")?;
+    put_u64(alloc, out, 200 * i)?;
+    out.push(b'\n')?;
+    Ok(())
+}
