@@ -1,0 +1,101 @@
+//! What a report says of a series, a regression and a bisection.
+ghost use Rattle.std.specs.Prelude.{◌≡◌, IfOk};
+
+use crate::NoMemory;
+use crate::told::Told;
+use line_text::Name;
+use regression_state::State;
+use std::alloc::Global;
+
+/// What a report says of a series.
+#[derive(Debug, Drop)]
+pub struct SeriesLine {
+    /// The test.
+    pub test: Name,
+    /// The metric.
+    pub metric: Name,
+    /// How many live samples there are.
+    pub samples: u64,
+    /// How many commits have a live sample.
+    pub positions: u64,
+    /// How many cuts the last publication has; none where nothing is published.
+    pub changes: Option<u64>,
+    /// The centre of the last segment of the last publication; none where there is no segment.
+    pub centre: Option<i64>,
+}
+
+/// What a report says of a regression.
+#[derive(Debug, Drop)]
+pub struct RegressionLine {
+    /// Its number.
+    pub number: u64,
+    /// The test of its series.
+    pub test: Name,
+    /// The metric of its series.
+    pub metric: Name,
+    /// The last commit before the change.
+    pub before: Name,
+    /// The first commit after the change.
+    pub after: Name,
+    /// What became of it.
+    pub state: State,
+}
+
+/// What a report says of a bisection.
+#[derive(Debug, Drop)]
+pub struct JobLine {
+    /// Its number.
+    pub job: u64,
+    /// One less than the number of its commits.
+    pub range: u64,
+    /// How many answers were good or bad.
+    pub questions: u64,
+    /// Where it stands.
+    pub outcome: Told,
+}
+
+impl SeriesLine {
+    /// The same once more. `NoMemory` comes only where the owners of a name can't be counted any more.
+    pub fn copy(&self, alloc: Global) -> Result<SeriesLine, NoMemory>
+        ensures { IfOk result (λ made. made ≡ self.now) }
+    {
+        Ok(SeriesLine {
+            test: self.test.copy(alloc)?,
+            metric: self.metric.copy(alloc)?,
+            samples: self.samples,
+            positions: self.positions,
+            changes: self.changes,
+            centre: self.centre,
+        })
+    }
+}
+
+impl RegressionLine {
+    /// The same once more. `NoMemory` comes only where the owners of a name can't be counted any more.
+    pub fn copy(&self, alloc: Global) -> Result<RegressionLine, NoMemory>
+        ensures { IfOk result (λ made. made ≡ self.now) }
+    {
+        Ok(RegressionLine {
+            number: self.number,
+            test: self.test.copy(alloc)?,
+            metric: self.metric.copy(alloc)?,
+            before: self.before.copy(alloc)?,
+            after: self.after.copy(alloc)?,
+            state: self.state,
+        })
+    }
+}
+
+impl JobLine {
+    /// The same once more. `NoMemory` comes only where the owners of a name can't be counted any more.
+    pub fn copy(&self, alloc: Global) -> Result<JobLine, NoMemory>
+        ensures { IfOk result (λ made. made ≡ self.now) }
+    {
+        Ok(JobLine {
+            job: self.job,
+            range: self.range,
+            questions: self.questions,
+            outcome: self.outcome.copy(alloc)?,
+        })
+    }
+}
