@@ -7,15 +7,17 @@ use mathlib.Core.Option.{none, some, some-injective}
 use native.Mathlib.Decide.{ℕ_discrete}
 use lib.ListN.{get_elem?}
 use lib.Seq.{set-get_or}
-use Rattle.atomic_table.specs.Table.{Act, step, keeps, takes, gives, stepped, homes_after, opening, Allows}
-use Rattle.atomic_table.proofs.Lists.{set_again, set_here, set_else, one_turn}
+use lib.Dec.{eqb}
+use prog.Atomic.{either}
+use Rattle.atomic_table.specs.Table.{Act, step, keeps, takes, gives, stepped, homes_after, carried_after, opening, Allows, Valid}
+use Rattle.atomic_table.proofs.Lists.{exchanged, set_again, set_here, set_else, one_turn}
 use Rattle.history_lock.specs.declared.view.View.{View}
 use Rattle.history_lock.specs.declared.view.Marked.{Marked}
 use Rattle.history_lock.specs.declared.view.Stage.{Stage}
 use Rattle.history_lock.specs.declared.view.Stage.TheVariants.{Outside, Waiting, Turn, Inside}
 use Rattle.history_lock.specs.Rule.{busy, alive, HasTurn, Holds, turn_of, listed, first_view, at_stage, seeing, waiting, Sees, Knows, IsBadge, LockState, KeptSlot, Kept}
 use Rattle.history_lock.specs.Marks.{Follows, HaveMarksUpTo, IsNoneOf, entries, marked, unmarked}
-use Rattle.history_lock.specs.Steps.{Sat, MayAdd, in_slot, drew, looked, read_count, counted, passed_on}
+use Rattle.history_lock.specs.Steps.{Sat, MayAdd, in_slot, drew, drew_if_free, looked, read_count, counted, passed_on}
 use Rattle.history_lock.proofs.Seats.{number, none_some, some_same, only, within, seats_stay, pairs_stay, waiting-set, living-set, waiting_living, holder_turn, turn_drawn, knows_drawn, knows_served, knows_longer, follows_all, given-append}
 
 entries_unmarked : {E : Type 0} (es : List E) → es ≡ entries (unmarked es)
@@ -123,6 +125,37 @@ module _ {S E L : Type 0} (history : S → List E) (label : S → L) (name : L) 
             r.marks.given_marks,
         (t, refl, seen_now, refl),
       )
+
+  -- the turn is drawn where its number is found
+  pub draws_if_free : (slots id : ℕ) (me : Sat S E L) (old new : ℕ) → me.0.stage ≡ Outside → new ≡ (old + 1) % 2 ^ 64
+      → Allows (Kept history label name) slots id me 1 (λ n. either (eqb n old) new n) (drew_if_free (step slots 1 old new none) me)
+  draws_if_free slots id me old new out next s r one at small = let x : ℕ = get_or s.words 1 0 in exchanged x old new
+      (λ (z : ℕ). (w : View E L) × (a : Act (Option S)) × Valid s.homes me.1 a × Kept history label name (stepped s 1 z id me.1 w a) × drew_if_free (step slots 1 old new none) me x (w, carried_after me.1 a))
+      (λ hit. let d = draws slots id me out s r one at small in (
+        d.0,
+        d.1,
+        d.2,
+        subst (λ (z : ℕ). Kept history label name (stepped s 1 z id me.1 d.0 d.1)) (ap (λ (z : ℕ). (z + 1) % 2 ^ 64) hit ∙ sym next) d.3,
+        ((λ _. d.4), λ miss. absurd (miss hit)),
+      ))
+      (λ miss. (me.0, keeps, tt, unmoved s r 1 id me.0 me.1 at, ((λ hit. absurd (miss hit)), λ _. refl)))
+
+  -- a step on a word of which the rule says nothing
+  pub stays_aside : (slots id : ℕ) (me : Sat S E L) (i : ℕ) (f : ℕ → ℕ) → 2 < i → Allows (Kept history label name) slots id me i f (λ r me'. me' ≡ me)
+  stays_aside slots id me i f aside s r _ at small = let v : View E L = me.0 in let n : ℕ = f (get_or s.words i 0) in (
+    v,
+    keeps,
+    tt,
+    moved s r i n id v me.1 keeps v.stage v.seen r.log r.drawn r.served at refl
+        (get_or-set_other s.words i 0 n 0 (λ e. omega arith) ∙ r.words.count_is, get_or-set_other s.words i 1 n 0 (λ e. omega arith) ∙ r.words.ticket_is, get_or-set_other s.words i 2 n 0 (λ e. omega arith) ∙ r.words.serving_is)
+        refl
+        (r.words.each id v at)
+        (λ j d _ _ k. k)
+        (λ u h j d other there k. other (r.words.apart u j id d v there at k h))
+        (slot_stays s r id v v at (λ h. h) (λ h. h))
+        r.marks.given_marks,
+    refl,
+  )
 
   -- who holds the slot while this seat has the turn that is served is this seat
   pub holder_is : (s : LockState S E L) (r : Kept history label name s) (id : ℕ) (v : View E L) → get_elem? s.views id ≡ some v → HasTurn r.served v.stage → (j : ℕ) (d : View E L) → get_elem? s.views j ≡ some d → Holds d.stage → j ≡ id
@@ -240,7 +273,7 @@ module _ {S E L : Type 0} (history : S → List E) (label : S → L) (name : L) 
   passes_on slots id me y t single is carried stands labelled =
       subst (λ (c : List (ℕ × Option S)). Allows (Kept history label name) slots id (me.0, c) 2 (λ n. (n + 1) % 2 ^ 64) (passed_on (step slots 2 1 0 none) (me.0, c))) (sym carried) (passes_on_at slots id me.0 y t single is stands labelled)
 
-  pub opens : (y : S) → label y ≡ name → Kept history label name (opening (length (history y) ∷ 0 ∷ 0 ∷ []) (Some y ∷ []) (first_view (history y) (label y)))
+  pub opens : (y : S) → label y ≡ name → Kept history label name (opening (length (history y) ∷ 0 ∷ 0 ∷ 0 ∷ 0 ∷ []) (Some y ∷ []) (first_view (history y) (label y)))
   opens y is = let v : View E L = first_view (history y) (label y) in let log : List (Marked E) = unmarked (history y) in record {
     log = log;
     drawn = 0;
@@ -272,8 +305,8 @@ module _ {S E L : Type 0} (history : S → List E) (label : S → L) (name : L) 
 
 module _ {S E L : Type 0} (history : S → List E) (label : S → L) where
   pub opens_at : (y z : S) (n : ℕ) (xs : List (Option S)) → z ≡ y → n ≡ length (history y) → xs ≡ Some y ∷ []
-      → Kept history label (label z) (opening (n ∷ 0 ∷ 0 ∷ []) xs (first_view (history z) (label z)))
-  opens_at y z n xs e f g = subst (λ (q : S × ℕ × List (Option S)). Kept history label (label q.0) (opening (q.1 ∷ 0 ∷ 0 ∷ []) q.2 (first_view (history q.0) (label q.0)))) (λ i. (sym e i, sym f i, sym g i)) (opens history label (label y) y refl)
+      → Kept history label (label z) (opening (n ∷ 0 ∷ 0 ∷ 0 ∷ 0 ∷ []) xs (first_view (history z) (label z)))
+  opens_at y z n xs e f g = subst (λ (q : S × ℕ × List (Option S)). Kept history label (label q.0) (opening (q.1 ∷ 0 ∷ 0 ∷ 0 ∷ 0 ∷ []) q.2 (first_view (history q.0) (label q.0)))) (λ i. (sym e i, sym f i, sym g i)) (opens history label (label y) y refl)
 
 length-entries : {E : Type 0} (log : List (Marked E)) → length (entries log) ≡ length log
 length-entries [] = refl

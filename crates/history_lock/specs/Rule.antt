@@ -132,9 +132,9 @@ abbrev pub LockState : Type 0 → Type 0 → Type 0 → Type 0
 LockState S E L = State (Option S) (View E L)
 
 module _ {S E L : Type 0} where
-  -- the words are the history's length and the turns drawn and served, and no two passes have one turn
+  -- the first words are the history's length and the turns drawn and served, and no two passes have one turn; the two others may be anything
   pub record KeptTurns (name : L) (log : List (Marked E)) (drawn served : ℕ) (s : LockState S E L) : Type 0 where
-    pub wide : length s.words ≡ 3
+    pub wide : length s.words ≡ 5
     pub count_is : slice_index s.words 0 ≡ length log
     pub ticket_is : slice_index s.words 1 ≡ drawn % 2 ^ 64
     pub serving_is : slice_index s.words 2 ≡ served % 2 ^ 64

@@ -42,9 +42,21 @@ MayAdd {E} true es seen = (e : E) × (es ≡ entries seen ++ e ∷ []) × (lengt
 MayAdd false es seen = es ≡ entries seen
 
 module _ {S E L : Type 0} where
+  -- a turn was drawn, whose low 64 bits these are
+  abbrev pub Drew : ℕ → Me (Option S) (View E L) → Me (Option S) (View E L) → Type 0
+  Drew turn me me' = (t : ℕ) × (me'.0 ≡ at_stage me.0 (Waiting t)) × (t % 2 ^ 64 ≡ turn) × (me'.1 ≡ me.1)
+
   -- a turn was drawn, whose low 64 bits were found
   abbrev pub drew : Step (Option S) → Sat S E L → ℕ → Sat S E L → Type 0
-  drew st m r m' = (t : ℕ) × (m'.0 ≡ at_stage m.0 (Waiting t)) × (t % 2 ^ 64 ≡ r) × (m'.1 ≡ m.1)
+  drew st m r m' = Drew r m m'
+
+  -- a turn was drawn where the number that was hoped for was found, and else nothing changes
+  abbrev pub drew_if_free : Step (Option S) → Sat S E L → ℕ → Sat S E L → Type 0
+  drew_if_free st m r m' = (r ≡ st.first → Drew r m m') × (r ≢ st.first → m' ≡ m)
+
+  -- nothing changes that the rule speaks of
+  abbrev pub stayed : Step (Option S) → Sat S E L → ℕ → Sat S E L → Type 0
+  stayed st m r m' = m' ≡ m
 
   -- where the turn that waits has come, the pass has the slot, and in it a state
   abbrev pub looked : (S → List E) → (S → L) → Step (Option S) → Sat S E L → ℕ → Sat S E L → Type 0
@@ -72,6 +84,10 @@ module _ {S E L : Type 0} where
   abbrev pub recalled : Step (Option S) → Sat S E L → ℕ → Sat S E L → Type 0
   recalled st m r m' = (m' ≡ m) × HaveMarksUpTo m.0.given m.0.seen
 
+  -- it is outside
+  abbrev pub IsOut : Me (Option S) (View E L) → Type 0
+  IsOut me = me.0.stage ≡ Outside
+
   -- its turn was drawn, and has these low bits
   abbrev pub Waits : ℕ → Me (Option S) (View E L) → Type 0
   Waits turn me = ((t : ℕ) × (me.0.stage ≡ Waiting t)) × (turn_of me.0.stage % 2 ^ 64 ≡ turn)
@@ -79,6 +95,10 @@ module _ {S E L : Type 0} where
   -- its turn has come, and the slot has a state
   abbrev pub HasCome : (S → List E) → (S → L) → Me (Option S) (View E L) → Me (Option S) (View E L) → Type 0
   HasCome history label me me' = (y : S) × (me'.0 ≡ at_stage me.0 (Turn (turn_of me.0.stage) (history y))) × (me.0.label ≡ Some (label y)) × (me'.1 ≡ (0, Some y) ∷ me.1)
+
+  -- a turn was drawn and has come, and the slot has a state
+  abbrev pub Comes : (S → List E) → (S → L) → Me (Option S) (View E L) → Me (Option S) (View E L) → Type 0
+  Comes history label me me' = (t : ℕ) × (y : S) × (me'.0 ≡ at_stage me.0 (Turn t (history y))) × (me.0.label ≡ Some (label y)) × (me'.1 ≡ (0, Some y) ∷ me.1)
 
   -- the slot that it holds has a state with this label
   abbrev pub Carries : (S → L) → Me (Option S) (View E L) → Type 0

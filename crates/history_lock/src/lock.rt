@@ -4,39 +4,16 @@ ghost use Rattle.std.specs.Prelude.{◌≡◌, ◌≢◌, ◌+◌, ◌-◌, ◌^
 use crate::NoMemory;
 use crate::historied::Historied;
 use crate::law::Law;
-use crate::plays::{CountEntry, Draw, JoinIn, Look, Meet, PassOn, ReadCount, Recall, SplitOff};
+use crate::plays::{CountEntry, JoinIn, Meet, ReadCount, Recall, SplitOff};
+use crate::turns::{SERVING, TICKET};
 use crate::view::View;
 use atomic_table::{Seat, Table};
 use std::alloc::Global;
 use std::snapshot::Snapshot;
 use std::sync::Wait;
-use std::{hint, thread};
 
+// How many entries the history has.
 const COUNT: usize = 0;
-
-const TICKET: usize = 1;
-
-const SERVING: usize = 2;
-
-// A sleep compares the low 32 bits of the word.
-const LOW: u64 = 0xffff_ffff;
-
-// How often a pass looks whether its turn has come before it sleeps.
-const MOST_LOOKS: u32 = 11;
-
-// How often it spins between two looks, twice as long each time, before it gives its processor away instead.
-const MOST_SPINS: u32 = 7;
-
-// Lets a little time go by, and then gives the processor to another thread.
-fn rest(looks: u32) {
-    if looks < MOST_SPINS {
-        for _ in 0..1u32 << looks {
-            hint::spin_loop();
-        }
-    } else {
-        thread::yield_now();
-    }
-}
 
 /// A turn was drawn and not served yet: some pass is inside, waits, or was dropped while it was inside. The two counts
 /// are modulo 2^64, and differ.
@@ -51,8 +28,8 @@ pub struct InUse {
 /// A lock round a value that stands for its history. It is shared by reference among the threads that hold its passes.
 #[derive(Drop)]
 pub struct HistoryLock<S: Historied> {
-    table: Table<Option<S>, View<S::Entry, S::Label>, Snapshot<S>, Law, Global>,
-    ghost sized: { (table.shared.table_id.words ≡ 3) × (table.shared.table_id.slots ≡ 1) },
+    pub(crate) table: Table<Option<S>, View<S::Entry, S::Label>, Snapshot<S>, Law, Global>,
+    ghost sized: { (table.shared.table_id.words ≡ 5) × (table.shared.table_id.slots ≡ 1) },
 }
 
 /// What one caller has seen of the history of a lock, and the mark of the entries that he adds. The lock's first pass
@@ -88,7 +65,7 @@ impl<S: Historied> HistoryLock<S> {
             return Err(NoMemory);
         };
         slots.push_reserved(Some(state));
-        match Table::new(alloc, &[count, 0, 0], slots, &about) {
+        match Table::new(alloc, &[count, 0, 0, 0, 0], slots, &about) {
             Ok((table, seat)) => Ok((
                 HistoryLock { table },
                 Pass {
@@ -106,35 +83,6 @@ impl<S: Historied> HistoryLock<S> {
         ensures alone { (name : S.Label) → WholeIsAlone S.history S.label name }
     {}
 
-    // Waits until the turn is served. It looks some times, and then it sleeps until a pass leaves.
-    fn wait_for<R: Wait>(
-        &self,
-        rt: &R,
-        seat: &mut Seat<Option<S>, View<S::Entry, S::Label>>,
-        turn: u64,
-    )
-        requires lock { seat.old.table_id ≡ self.now.table.shared.table_id }
-        requires waits { Waits turn seat.old.me }
-        ensures lock { (seat.new.table_id ≡ seat.old.table_id) × (seat.new.id ≡ seat.old.id) }
-        ensures come { HasCome S.history S.label seat.old.me seat.new.me }
-    {
-        let shared = &self.table.shared;
-        let mut looks = 0u32;
-        for _ in rt.forever() {
-            let serving = shared.load::<Look>(seat, SERVING);
-            if serving == turn {
-                return;
-            }
-            if looks >= MOST_LOOKS {
-                shared.park(rt, SERVING, (serving & LOW) as u32);
-            } else {
-                rest(looks);
-                looks += 1;
-            }
-        }
-        unreachable!()
-    }
-
     /// Waits until the state is free, and takes it. Its history is what the pass has seen, and then entries by others.
     /// O(1), beside the waiting. Takes no memory.
     pub fn enter<R: Wait>(&self, rt: &R, pass: &mut Pass<S>) -> S
@@ -146,8 +94,7 @@ impl<S: Historied> HistoryLock<S> {
             × (label pass.old ≡ Some (S.label result)) }
     {
         let shared = &self.table.shared;
-        let turn = shared.fetch_add::<Draw>(&mut pass.seat, TICKET, 1);
-        self.wait_for(rt, &mut pass.seat, turn);
+        self.take_turn(rt, &mut pass.seat);
         let slot = shared.exchange(&mut pass.seat, 0, None);
         pass.count = shared.load::<ReadCount>(&mut pass.seat, COUNT);
         let Some(state) = slot else { unreachable!() };
@@ -166,21 +113,6 @@ impl<S: Historied> HistoryLock<S> {
             return;
         }
         self.table.shared.fetch_add::<CountEntry>(seat, COUNT, 1);
-    }
-
-    // Lets the next turn come, and wakes those that sleep if there may be any.
-    fn pass_on(&self, seat: &mut Seat<Option<S>, View<S::Entry, S::Label>>)
-        requires lock { seat.old.table_id ≡ self.now.table.shared.table_id }
-        requires carries { Carries S.label seat.old.me }
-        requires stands { in_slot S.history seat.old.me.1 ≡ entries seat.old.me.0.seen }
-        ensures lock { (seat.new.table_id ≡ seat.old.table_id) × (seat.new.id ≡ seat.old.id) }
-        ensures outside { (seat.new.me.0 ≡ at_stage seat.old.me.0 Outside) × (seat.new.me.1 ≡ []) }
-    {
-        let shared = &self.table.shared;
-        let served = shared.fetch_add::<PassOn>(seat, SERVING, 1);
-        if shared.peek(TICKET) != served.wrapping_add(1) {
-            shared.wake_all(SERVING);
-        }
     }
 
     /// Gives the state back as it was entered, or with one entry more, which then has the mark of the pass. The pass has

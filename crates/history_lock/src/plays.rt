@@ -11,6 +11,23 @@ impl<S, E, L> Play<Option<S>, View<E, L>> for Draw {
     ghost then = { drew };
 }
 
+pub struct DrawIfFree;
+
+impl<S, E, L> Play<Option<S>, View<E, L>> for DrawIfFree {
+    ghost use Rattle.history_lock.specs.Steps.{drew_if_free};
+
+    ghost then = { drew_if_free };
+}
+
+/// A step on a word of which the rule says nothing.
+pub struct Aside;
+
+impl<S, E, L> Play<Option<S>, View<E, L>> for Aside {
+    ghost use Rattle.history_lock.specs.Steps.{stayed};
+
+    ghost then = { stayed };
+}
+
 pub struct Look;
 
 impl<S: Historied> Play<Option<S>, View<S::Entry, S::Label>> for Look {
