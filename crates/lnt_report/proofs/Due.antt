@@ -177,3 +177,17 @@ same_fault bytes law (json.TooDeep j) said e h due d =
     let f = of_text bytes due d in
     let g : due ≡ Err (TooDeep j) = subst (λ (t : Result Tree JsonFault). From t due) (sym (law (Err (json.TooDeep j)) f.0 h f.1.0)) f.1.1 in
     inl (ap failed e ∙ sym g)
+
+-- two answers that come from one answer of the text are one
+one_from : (answer : Result Tree JsonFault) (a b : Result Report ReportFault) → ValueIsOne → From answer a → From answer b → a ≡ b
+one_from (Ok tree) a b law h k = due_is_one tree a b law h k
+one_from (Err (json.NotText j)) a b law h k = h ∙ sym k
+one_from (Err (json.NotJson j)) a b law h k = h ∙ sym k
+one_from (Err (json.TooDeep j)) a b law h k = h ∙ sym k
+one_from (Err json.NoMemory) a b law h k = absurd h
+
+pub one_due : (bytes : List ℕ) → OneText bytes → ValueIsOne → (a b : Result Report ReportFault) → IsDue bytes a → IsDue bytes b → a ≡ b
+one_due bytes law values a b h k =
+    let f = of_text bytes a h in
+    let g = of_text bytes b k in
+    one_from f.0 a b values f.1.1 (subst (λ (t : Result Tree JsonFault). From t b) (sym (law f.0 g.0 f.1.0 g.1.0)) g.1.1)

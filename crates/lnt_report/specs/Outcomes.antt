@@ -44,3 +44,7 @@ IsDue bytes answer = (tree : Tree) × Reads bytes tree × IsDueOf tree answer
 -- the answer is one that the bytes are due, unless memory ran out
 abbrev pub IsAnswer : List ℕ → Result Report ReportFault → Type 0
 IsAnswer bytes answer = (answer ≡ Err NoMemory) ⊎ IsDue bytes answer
+
+-- bytes are due one answer at most
+abbrev pub OneAnswer : Type 0
+OneAnswer = (bytes : List ℕ) (one other : Result Report ReportFault) → IsDue bytes one → IsDue bytes other → one ≡ other

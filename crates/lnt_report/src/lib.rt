@@ -3,7 +3,8 @@
 //! Promised: [`read_report`] answers exactly what its bytes are due: the run that the text's tree gives
 //! where no rule is broken, else the first broken rule with its member, the first number that is no
 //! sample, or the fault of the text at its place. What [`put_report`] writes is due to be read as the
-//! run, with nothing ignored. A run keeps by its type that no sample's metric is `name`.
+//! run, with nothing ignored. [`one_due_law`] says that bytes are due one answer at most. A run keeps by
+//! its type that no sample's metric is `name`.
 //!
 //! The definitions are in `specs/`: `Rules` (the rules in their order), `Numbers` (the numbers of a run
 //! and the samples that they are), `Runs`, `Outcomes` (what bytes are due), `Written` (what is written).
@@ -25,7 +26,7 @@ mod tests;
 mod write;
 
 pub use fault::ReportFault;
-pub use report::read_report;
+pub use report::{one_due_law, read_report};
 pub use run::LntRun;
 pub use std::alloc::AllocError as NoMemory;
 pub use write::put_report;

@@ -8,7 +8,7 @@ ghost use Rattle.metric_table.specs.declared.limits.Limit.TheVariants.{RunSample
 ghost use Rattle.lnt_report.specs.Rules.{machine_name, commit_name, first_break, IsSound};
 ghost use Rattle.lnt_report.specs.Runs.{Report, IsGiven};
 ghost use Rattle.lnt_report.specs.Checks.{IsAnswerOf, IsOfText};
-ghost use Rattle.lnt_report.specs.Outcomes.{IsDue, IsAnswer};
+ghost use Rattle.lnt_report.specs.Outcomes.{IsDue, IsAnswer, OneAnswer};
 
 use crate::NoMemory;
 use crate::fault::ReportFault;
@@ -114,6 +114,13 @@ fn of_json(fault: JsonFault) -> ReportFault
         JsonFault::TooDeep(place) => ReportFault::TooDeep(place),
         JsonFault::NoMemory => ReportFault::NoMemory,
     }
+}
+
+/// The law that bytes are due one answer at most: a run, or one fault. Does nothing: its contract is what it is for.
+pub fn one_due_law()
+    ensures { OneAnswer }
+{
+    value_law();
 }
 
 /// The LNT run of the bytes, by the profile of docs/FORMATS.md.
