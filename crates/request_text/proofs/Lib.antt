@@ -1,0 +1,14 @@
+pub mod HeadLines
+pub mod Stops
+pub mod Looks
+pub mod PieceLists
+pub mod Skipped
+pub mod LastLines
+pub mod WholePieces
+pub mod Moving
+pub mod Passing
+pub mod WrittenLines
+pub mod WrittenBack
+pub mod OneForm
+pub mod OneItem
+pub mod OneReading

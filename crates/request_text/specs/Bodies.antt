@@ -1,0 +1,79 @@
+-- What a form asks once its words are names: a request, or a refusal of its body.
+use Rattle.std.specs.Prelude.{◌≡◌, ℕ, ◌≤◌, List, length, Some, None, Result, Ok, Err}
+use Rattle.std.specs.Str.{IsUtf8, IsValidUpTo}
+use Rattle.line_text.specs.Lines.{lines_of}
+use Rattle.metric_table.specs.Limits.{most}
+use Rattle.metric_table.specs.declared.limits.Limit.TheVariants.{RunSamples}
+use Rattle.history_model.specs.Samples.{Measurement}
+use Rattle.go_bench_text.specs.Readings.{IsRead, IsFirstOver, HasTooMany}
+use Rattle.lnt_report.specs.declared.fault.ReportFault.{ReportFault}
+use Rattle.lnt_report.specs.declared.fault.ReportFault.TheVariants as fault
+use Rattle.lnt_report.specs.Runs.{Report}
+use Rattle.lnt_report.specs.Outcomes.{IsDue}
+use Rattle.request_model.specs.declared.requests.Request.{Request}
+use Rattle.request_model.specs.declared.requests.Request.TheVariants as request
+use Rattle.request_model.specs.declared.replies.RangePlace.TheVariants as place
+use Rattle.request_model.specs.declared.replies.Refusal.{Refusal}
+use Rattle.request_model.specs.declared.replies.Refusal.TheVariants as refusal
+use Rattle.request_text.specs.Forms.{Form, machine, commit, submit_go, submit_lnt, retract, runs, name_of}
+
+-- what an item of a script asks: a request, or the refusal of reading it
+abbrev pub Item : Type 0
+Item = Result Request Refusal
+
+-- ---- Go benchmark text
+
+-- the body's samples and the number of its ignored lines, within the limit
+pub record GivesGo (body : List ℕ) (samples : List Measurement) (ignored : ℕ) : Type 0 where
+  pub read : IsRead body samples ignored
+  pub few : length samples ≤ most RunSamples
+
+-- why the body gives no samples
+abbrev pub RefusesGo : List ℕ → Refusal → Type 0
+RefusesGo body (refusal.NotText offset) = IsValidUpTo body offset
+RefusesGo body (refusal.OutOfRange (place.Line number)) = IsUtf8 body × IsFirstOver (lines_of body) number
+RefusesGo body (refusal.Full limit) = (limit ≡ RunSamples) × HasTooMany body
+RefusesGo body _ = ⊥
+
+-- a run of a machine, a commit and a name, with these samples
+abbrev pub of_go : (m c r : List ℕ) → List Measurement → ℕ → Request
+of_go m c r samples ignored = request.Submit m c r samples ignored None
+
+-- what a submission of Go benchmark text asks
+abbrev pub AsksGo : List ℕ → (List Measurement → ℕ → Request) → Item → Type 0
+AsksGo body submitted (Ok q) =
+    (samples : List Measurement) × (ignored : ℕ) × GivesGo body samples ignored × (q ≡ submitted samples ignored)
+AsksGo body submitted (Err r) = RefusesGo body r
+
+-- ---- LNT runs
+
+-- the fault of reading a body that a refusal tells; others tell none, which is never due
+abbrev pub fault_of : Refusal → ReportFault
+fault_of (refusal.NotText offset) = fault.NotText offset
+fault_of (refusal.NotJson offset) = fault.NotJson offset
+fault_of (refusal.NotReport rule member) = fault.NotReport rule member
+fault_of (refusal.OutOfRange (place.Sample test metric)) = fault.OutOfRange test metric
+fault_of (refusal.Full limit) = fault.Full limit
+fault_of (refusal.TooDeep offset) = fault.TooDeep offset
+fault_of _ = fault.NoMemory
+
+-- a run of a machine and a name, which gives the commit and the samples itself
+abbrev pub of_lnt : (m r : List ℕ) → Report → Request
+of_lnt m r given = request.Submit m given.commit r given.samples given.ignored (Some given.machine)
+
+-- what a submission of an LNT run asks
+abbrev pub AsksLnt : List ℕ → (Report → Request) → Item → Type 0
+AsksLnt body submitted (Ok q) = (run : Report) × IsDue body (Ok run) × (q ≡ submitted run)
+AsksLnt body submitted (Err r) = IsDue body (Err (fault_of r))
+
+-- ---- all forms, whose words are names
+
+abbrev pub AsksNamed : Form → List ℕ → Item → Type 0
+AsksNamed (machine m) body item = item ≡ Ok (request.Machine (name_of m))
+AsksNamed (commit m number name) body item = item ≡ Ok (request.Commit (name_of m) number (name_of name))
+AsksNamed (submit_go m c r len) body item =
+    AsksGo body (of_go (name_of m) (name_of c) (name_of r)) item
+AsksNamed (submit_lnt m r len) body item =
+    AsksLnt body (of_lnt (name_of m) (name_of r)) item
+AsksNamed (retract m r) body item = item ≡ Ok (request.Retract (name_of m) (name_of r))
+AsksNamed (runs m) body item = item ≡ Ok (request.Runs (name_of m))

@@ -1,0 +1,25 @@
+-- Private: no public contract cites this. What a request line asks before its body is read.
+use Rattle.std.specs.Prelude.{◌≡◌, ℕ, ◌≤◌, List, ◌∷◌, Ok, Err}
+use Rattle.line_text.specs.Lines.{words_of}
+use Rattle.request_text.specs.declared.head.Head.{Head}
+use Rattle.request_text.specs.declared.head.Head.TheVariants.{Refused, Asked, Go, Lnt}
+use Rattle.request_text.specs.Bodies.{Item, of_go, AsksGo, of_lnt, AsksLnt}
+use Rattle.request_text.specs.Items.{Asks, Counts, body_limit}
+
+-- whatever its body, the line asks this, and so many bytes belong to it
+pub record IsHeadOf (line : List ℕ) (count : ℕ) (OfBody : List ℕ → Item → Type 0) : Type 0 where
+  pub counted : Counts line count
+  pub asks : (body : List ℕ) (item : Item) → OfBody body item → Asks line body item
+
+-- what the line asks as soon as its body is there
+abbrev pub IsHead : List ℕ → Head → Type 0
+IsHead line (Refused refusal count) = IsHeadOf line count (λ body item. item ≡ Err refusal)
+IsHead line (Asked q) = IsHeadOf line 0 (λ body item. item ≡ Ok q)
+IsHead line (Go m c r len) =
+    (len ≤ body_limit) × IsHeadOf line len (λ body item. AsksGo body (of_go m c r) item)
+IsHead line (Lnt m r len) =
+    (len ≤ body_limit) × IsHeadOf line len (λ body item. AsksLnt body (of_lnt m r) item)
+
+-- the same of each line that has this word in front of the words
+abbrev pub IsHeadBehind : List ℕ → List (List ℕ) → Head → Type 0
+IsHeadBehind verb words head = (line : List ℕ) → words_of line ≡ verb ∷ words → IsHead line head

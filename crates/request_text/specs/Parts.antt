@@ -1,0 +1,24 @@
+-- Private: no public contract cites this. What each part of a call that reads the next request comes to.
+use Rattle.std.specs.Prelude.{◌≡◌, ℕ, List, Option}
+use Rattle.track_outside.specs.declared.source.Source.{Ghosts}
+use Rattle.request_text.specs.declared.asked.Asked.{Asked}
+use Rattle.request_text.specs.declared.stop.ReadStop.{ReadStop}
+use Rattle.request_text.specs.Unread.{Unread}
+use Rattle.request_text.specs.Next.{ReadsNext, TellsEnd, Gave, GaveFewFrom}
+use Rattle.request_text.specs.Reading.{StopsFrom}
+
+-- this came next
+pub record TakesNext (old new : Unread) (before after : Option (List ℕ)) (asked : Asked) : Type 0 where
+  pub next : ReadsNext old new before after asked
+  pub tells : TellsEnd new asked
+  pub gave : Gave old new before after
+  pub stopped : new.stopped ≡ old.stopped
+
+-- the same of a source before and after it
+abbrev pub TakesFrom : {S : Type 0} → Ghosts S → Unread → Unread → S → S → Asked → Type 0
+TakesFrom g old new from to asked = TakesNext old new (g.left from) (g.left to) asked
+
+-- reading stopped
+pub record Fails {S : Type 0} (g : Ghosts S) (old : Unread) (from to : S) (stop : ReadStop) : Type 0 where
+  pub why : StopsFrom g old from to stop
+  pub few : GaveFewFrom g old from to

@@ -1,0 +1,105 @@
+-- The one spelling of a request.
+use Rattle.std.specs.Prelude.{◌≡◌, ℕ, ◌^◌, ◌<◌, ◌≤◌, List, [], ◌∷◌, ◌++◌, length, slice_index_or, codes, Option, Some, None, Ok}
+use Rattle.std.specs.List.{flat_map}
+use Rattle.line_text.specs.Names.{IsName, spelling}
+use Rattle.metric_table.specs.Limits.{most}
+use Rattle.metric_table.specs.declared.limits.Limit.TheVariants.{RunSamples}
+use Rattle.history_model.specs.Samples.{Measurement}
+use Rattle.go_bench_text.specs.Readings.{IsRead}
+use Rattle.go_bench_text.specs.Spellings.{AreSpelled, IsFirstUnspelled}
+use Rattle.lnt_report.specs.Runs.{IsGiven}
+use Rattle.lnt_report.specs.Outcomes.{IsDue}
+use Rattle.lnt_report.specs.Written.{compact, run_tree}
+use Rattle.request_model.specs.declared.requests.Request.{Request}
+use Rattle.request_model.specs.declared.requests.Request.TheVariants as request
+use Rattle.request_text.specs.Forms.{Form, machine, commit, submit_go, submit_lnt, retract, runs, words_in}
+use Rattle.request_text.specs.Items.{body_limit}
+use Rattle.request_text.specs.Scripts.{ArePieces}
+
+-- the form of a submission, whose body has so many bytes
+abbrev pub submission : List ℕ → List ℕ → List ℕ → Option (List ℕ) → ℕ → Form
+submission m c run None len = submit_go (spelling m) (spelling c) (spelling run) len
+submission m c run (Some stated) len = submit_lnt (spelling m) (spelling run) len
+
+-- the form of a request, whose body has so many bytes
+abbrev pub form_of : Request → ℕ → Form
+form_of (request.Machine m) len = machine (spelling m)
+form_of (request.Commit m number name) len = commit (spelling m) number (spelling name)
+form_of (request.Submit m c run samples ignored stated) len = submission m c run stated len
+form_of (request.Retract m run) len = retract (spelling m) (spelling run)
+form_of (request.Runs m) len = runs (spelling m)
+
+-- a text of the samples: an LNT run where a machine is stated, else Go benchmark text
+abbrev pub IsBodyOf : List ℕ → List Measurement → Option (List ℕ) → List ℕ → Type 0
+IsBodyOf c samples None body = AreSpelled samples body
+IsBodyOf c samples (Some stated) body = body ≡ compact (run_tree stated c samples)
+
+-- the bytes are the body of the request
+abbrev pub IsBody : Request → List ℕ → Type 0
+IsBody (request.Submit m c run samples ignored stated) body = IsBodyOf c samples stated body
+IsBody q body = body ≡ []
+
+-- words, each behind a space
+abbrev pub spaced : List (List ℕ) → List ℕ
+spaced words = flat_map (λ w. 32 ∷ w) words
+
+-- a line of words with single spaces between them, and its line feed
+abbrev pub line_of : List (List ℕ) → List ℕ
+line_of [] = 10 ∷ []
+line_of (first ∷ words) = first ++ (spaced words ++ 10 ∷ [])
+
+-- the line of a request whose body has so many bytes: the words of its form with single spaces between them
+abbrev pub head_line : Request → ℕ → List ℕ
+head_line q len = line_of (words_in (form_of q len))
+
+-- its line, and a body behind it
+pub record IsWritten (q : Request) (bytes : List ℕ) : Type 0 where
+  pub body : List ℕ
+  pub of_request : IsBody q body
+  pub is : bytes ≡ head_line q (length body) ++ body
+
+-- the sample at this place, from 0, is the first that an LNT run can't give, since its metric is `name`
+pub record IsFirstNamed (samples : List Measurement) (place : ℕ) : Type 0 where
+  pub within : place < length samples
+  pub named : (d : Measurement) → (slice_index_or samples place d).metric ≡ codes "name"
+  pub first : (k : ℕ) (d : Measurement) → k < place → IsGiven (slice_index_or samples k d)
+
+-- the sample at this place, from 0, is the first without a spelling in the body of a submission
+abbrev pub IsFirstUnwritten : List Measurement → Option (List ℕ) → ℕ → Type 0
+IsFirstUnwritten samples None place = IsFirstUnspelled samples place
+IsFirstUnwritten samples (Some stated) place = IsFirstNamed samples place
+
+-- the same of a request; only a submission has samples
+abbrev pub HasNoText : Request → ℕ → Type 0
+HasNoText (request.Submit m c run samples ignored stated) place = IsFirstUnwritten samples stated place
+HasNoText q place = ⊥
+
+-- reading ignored nothing
+abbrev pub HasNoneIgnored : Request → Type 0
+HasNoneIgnored (request.Submit m c run samples ignored stated) = ignored ≡ 0
+HasNoneIgnored q = Unit {0}
+
+-- what is written of a request; with nothing ignored and a body within the limit it is read as the request
+pub record WrittenIsReadBack (q : Request) (bytes : List ℕ) : Type 0 where
+  pub written : IsWritten q bytes
+  pub back : HasNoneIgnored q → length written.body ≤ body_limit → ArePieces bytes (Ok q ∷ [])
+
+-- its names are names, its number fits 64 bits, and its samples are no more than a run may have
+abbrev pub IsSound : Request → Type 0
+IsSound (request.Machine m) = IsName m
+IsSound (request.Commit m number name) = IsName m × (number < 2 ^ 64) × IsName name
+IsSound (request.Submit m c run samples ignored stated) =
+    IsName m × IsName c × IsName run × (length samples ≤ most RunSamples)
+IsSound (request.Retract m run) = IsName m × IsName run
+IsSound (request.Runs m) = IsName m
+
+-- the bytes are read as the samples, with none ignored
+abbrev pub IsReadAs : List ℕ → List Measurement → Option (List ℕ) → List ℕ → Type 0
+IsReadAs c samples None body = IsRead body samples 0
+IsReadAs c samples (Some stated) body =
+    IsDue body (Ok (record { machine = stated; commit = c; samples = samples; ignored = 0 }))
+
+-- the same of the body of a request; only a submission has samples
+abbrev pub AsksBack : Request → List ℕ → Type 0
+AsksBack (request.Submit m c run samples ignored stated) body = IsReadAs c samples stated body
+AsksBack q body = Unit {0}

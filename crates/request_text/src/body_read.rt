@@ -1,0 +1,39 @@
+//! A body that is kept, read behind its line.
+ghost use Rattle.std.specs.Prelude.{◌≡◌, ◌≤◌, ◌<◌, ◌+◌, ◌^◌, false, IfOk, IfErr};
+ghost use Rattle.request_text.specs.Begun.{BeginsWithHead};
+ghost use Rattle.request_text.specs.Parts.{TakesFrom, Fails};
+
+use crate::asked::Asked;
+use crate::head::{Head, item_of};
+use crate::last::asked_of;
+use crate::lines::Lines;
+use crate::need::need;
+use crate::stop::ReadStop;
+use std::alloc::Global;
+use track_outside::Source;
+
+// Reads so many bytes behind a line that takes so many bytes with its line feed, and answers what they ask together.
+pub(crate) fn read_short<S: Source>(
+    alloc: Global,
+    lines: &mut Lines,
+    source: &mut S,
+    head: Head,
+    ended: usize,
+    count: usize,
+) -> Result<Asked, ReadStop>
+    requires begins { BeginsWithHead lines.old.kept ended head count }
+    requires fits { ended + count < 2 ^ 64 }
+    requires goes_on { lines.old.ended ≡ false }
+    ensures next { IfOk result (TakesFrom S.Source lines.old lines.new source.old source.new) }
+    ensures stops { IfErr result (Fails S.Source lines.old source.old source.new) }
+    ensures counts { S.faults source.old ≤ S.faults source.new }
+{
+    let at = lines.before();
+    let total = ended + count;
+    if !need(alloc, lines, source, total)? {
+        return Err(ReadStop::CutOff(at));
+    }
+    let item = item_of(alloc, head, &lines.kept()[ended..total])?;
+    lines.use_up(total);
+    Ok(asked_of(item))
+}

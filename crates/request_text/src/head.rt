@@ -1,0 +1,235 @@
+//! The head of a request: what its line asks before its body is read.
+ghost use Rattle.std.specs.Prelude.{◌≡◌, ◌≢◌, ℕ, ◌^◌, ◌<◌, List, [], ◌∷◌, decimal, codes, IfOk, IfSome, IfNone};
+ghost use Rattle.request_text.specs.Heads.{IsHead, IsHeadBehind};
+ghost use Rattle.request_text.specs.Items.{Asks, Counts};
+
+use crate::NoMemory;
+use crate::body::{go_asked, lnt_asked};
+use crate::names::{named, three_named, two_named};
+use crate::verb::{Verb, read_verb};
+use crate::words::Words;
+use line_text::{Name, read_u64};
+use request_model::{Refusal, Request};
+use std::alloc::Global;
+
+/// The most bytes of a body.
+pub(crate) const BODY_LIMIT: u64 = 8_388_608;
+
+// What a request line asks before its body is read.
+#[derive(Drop)]
+pub(crate) enum Head {
+    // This is refused, whatever the bytes of its body, which are so many.
+    Refused(Refusal, u64),
+    // This is asked; it has no body.
+    Asked(Request),
+    // A run is handed in as Go benchmark text of so many bytes: machine, commit, run.
+    Go(Name, Name, Name, u64),
+    // A run is handed in as an LNT run of so many bytes: machine, run.
+    Lnt(Name, Name, u64),
+}
+
+// What a request line asks.
+pub(crate) fn read_head(alloc: Global, line: &[u8]) -> Result<Head, NoMemory>
+    ensures { IfOk result (λ head. IsHead line.now head) }
+{
+    let mut words = Words::of(line);
+    let Some(word) = words.next() else {
+        return Ok(formless());
+    };
+    let Some(verb) = read_verb(word) else {
+        return Ok(formless());
+    };
+    match verb {
+        Verb::Machine => machine_head(alloc, words),
+        Verb::Commit => commit_head(alloc, words),
+        Verb::Submit => submit_head(alloc, words),
+        Verb::Retract => retract_head(alloc, words),
+        Verb::Runs => runs_head(alloc, words),
+    }
+}
+
+// What the line of this head asks with this body.
+pub(crate) fn item_of(
+    alloc: Global,
+    head: Head,
+    body: &[u8],
+) -> Result<Result<Request, Refusal>, NoMemory>
+    ensures { IfOk result (λ item. (line : List ℕ) → IsHead line head → Asks line body.now item) }
+{
+    match head {
+        Head::Refused(refusal, _) => Ok(Err(refusal)),
+        Head::Asked(request) => Ok(Ok(request)),
+        Head::Go(machine, commit, run, _) => go_asked(alloc, machine, commit, run, body),
+        Head::Lnt(machine, run, _) => lnt_asked(alloc, machine, run, body),
+    }
+}
+
+// How many bytes behind the line of this head belong to it.
+pub(crate) fn body_count(head: &Head) -> u64
+    ensures { (line : List ℕ) → IsHead line head.now → Counts line result }
+{
+    match head {
+        Head::Refused(_, count) => *count,
+        Head::Asked(_) => 0,
+        Head::Go(_, _, _, len) => *len,
+        Head::Lnt(_, _, len) => *len,
+    }
+}
+
+// The refusal of a line of no form.
+fn formless() -> Head
+    ensures { result ≡ Head.Refused Refusal.BadRequest 0 }
+{
+    Head::Refused(Refusal::BadRequest, 0)
+}
+
+// The refusal of a line with a word that must be a name and is none.
+fn unnamed(count: u64) -> Head
+    ensures { result ≡ Head.Refused Refusal.BadName count }
+{
+    Head::Refused(Refusal::BadName, count)
+}
+
+// `machine M`.
+fn machine_head(alloc: Global, mut words: Words) -> Result<Head, NoMemory>
+    ensures { IfOk result (λ head. IsHeadBehind (codes "machine") words.entry head) }
+{
+    let Some(m) = words.one() else {
+        return Ok(formless());
+    };
+    let Some(machine) = named(alloc, m)? else {
+        return Ok(unnamed(0));
+    };
+    Ok(Head::Asked(Request::Machine { machine }))
+}
+
+// `runs M`.
+fn runs_head(alloc: Global, mut words: Words) -> Result<Head, NoMemory>
+    ensures { IfOk result (λ head. IsHeadBehind (codes "runs") words.entry head) }
+{
+    let Some(m) = words.one() else {
+        return Ok(formless());
+    };
+    let Some(machine) = named(alloc, m)? else {
+        return Ok(unnamed(0));
+    };
+    Ok(Head::Asked(Request::Runs { machine }))
+}
+
+// `retract M RUN`.
+fn retract_head(alloc: Global, mut words: Words) -> Result<Head, NoMemory>
+    ensures { IfOk result (λ head. IsHeadBehind (codes "retract") words.entry head) }
+{
+    let Some((m, r)) = words.two() else {
+        return Ok(formless());
+    };
+    let Some((machine, run)) = two_named(alloc, m, r)? else {
+        return Ok(unnamed(0));
+    };
+    Ok(Head::Asked(Request::Retract { machine, run }))
+}
+
+// `commit M NUMBER NAME`.
+fn commit_head(alloc: Global, words: Words) -> Result<Head, NoMemory>
+    ensures { IfOk result (λ head. IsHeadBehind (codes "commit") words.entry head) }
+{
+    let Some((m, number, n)) = commit_words(words) else {
+        return Ok(formless());
+    };
+    let Some((machine, name)) = two_named(alloc, m, n)? else {
+        return Ok(unnamed(0));
+    };
+    Ok(Head::Asked(Request::Commit {
+        machine,
+        number,
+        name,
+    }))
+}
+
+// The words of a commit.
+fn commit_words<'a>(mut words: Words<'a>) -> Option<(&'a [u8], u64, &'a [u8])>
+    ensures some { IfSome result
+        (λ parts. words.entry ≡ parts.0.now ∷ decimal parts.1 ∷ parts.2.now ∷ []) }
+    ensures none { IfNone result ((m : List ℕ) (number : ℕ) (name : List ℕ)
+        → number < 2 ^ 64 → words.entry ≢ m ∷ decimal number ∷ name ∷ []) }
+{
+    let m = words.next()?;
+    let number = read_u64(words.next()?)?;
+    let name = words.one()?;
+    Some((m, number, name))
+}
+
+// `submit go` and `submit lnt`.
+fn submit_head(alloc: Global, mut words: Words) -> Result<Head, NoMemory>
+    ensures { IfOk result (λ head. IsHeadBehind (codes "submit") words.entry head) }
+{
+    let Some(kind) = words.next() else {
+        return Ok(formless());
+    };
+    if kind == b"go".as_slice() {
+        return go_head(alloc, words);
+    }
+    if kind == b"lnt".as_slice() {
+        return lnt_head(alloc, words);
+    }
+    Ok(formless())
+}
+
+// `submit go M COMMIT RUN LEN`.
+fn go_head(alloc: Global, words: Words) -> Result<Head, NoMemory>
+    ensures { IfOk result (λ head. IsHeadBehind (codes "submit") (codes "go" ∷ words.entry) head) }
+{
+    let Some((m, c, r, len)) = go_words(words) else {
+        return Ok(formless());
+    };
+    if len > BODY_LIMIT {
+        return Ok(Head::Refused(Refusal::BodyTooLong, len));
+    }
+    let Some((machine, commit, run)) = three_named(alloc, m, c, r)? else {
+        return Ok(unnamed(len));
+    };
+    Ok(Head::Go(machine, commit, run, len))
+}
+
+// The words of a submission of Go benchmark text.
+fn go_words<'a>(mut words: Words<'a>) -> Option<(&'a [u8], &'a [u8], &'a [u8], u64)>
+    ensures some { IfSome result
+        (λ parts. words.entry ≡ parts.0.now ∷ parts.1.now ∷ parts.2.now ∷ decimal parts.3 ∷ []) }
+    ensures none { IfNone result ((m c r : List ℕ) (len : ℕ)
+        → len < 2 ^ 64 → words.entry ≢ m ∷ c ∷ r ∷ decimal len ∷ []) }
+{
+    let m = words.next()?;
+    let c = words.next()?;
+    let r = words.next()?;
+    let len = words.number()?;
+    Some((m, c, r, len))
+}
+
+// `submit lnt M RUN LEN`.
+fn lnt_head(alloc: Global, words: Words) -> Result<Head, NoMemory>
+    ensures { IfOk result (λ head. IsHeadBehind (codes "submit") (codes "lnt" ∷ words.entry) head) }
+{
+    let Some((m, r, len)) = lnt_words(words) else {
+        return Ok(formless());
+    };
+    if len > BODY_LIMIT {
+        return Ok(Head::Refused(Refusal::BodyTooLong, len));
+    }
+    let Some((machine, run)) = two_named(alloc, m, r)? else {
+        return Ok(unnamed(len));
+    };
+    Ok(Head::Lnt(machine, run, len))
+}
+
+// The words of a submission of an LNT run.
+fn lnt_words<'a>(mut words: Words<'a>) -> Option<(&'a [u8], &'a [u8], u64)>
+    ensures some { IfSome result
+        (λ parts. words.entry ≡ parts.0.now ∷ parts.1.now ∷ decimal parts.2 ∷ []) }
+    ensures none { IfNone result ((m r : List ℕ) (len : ℕ)
+        → len < 2 ^ 64 → words.entry ≢ m ∷ r ∷ decimal len ∷ []) }
+{
+    let m = words.next()?;
+    let r = words.next()?;
+    let len = words.number()?;
+    Some((m, r, len))
+}

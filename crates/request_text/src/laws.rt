@@ -1,0 +1,22 @@
+//! Laws of scripts. The functions do nothing: their contracts are what they are for.
+ghost use Rattle.request_text.specs.Reading.{OneReading, PiecesComeFirst, PiecesJoin, PiecesAreFirst};
+
+use go_bench_text::one_reading_law;
+use line_text::lines_law;
+use lnt_report::one_due_law;
+
+/// Whole pieces in front of bytes are read before them, whatever the bytes; and whole pieces join.
+pub fn pieces_law()
+    ensures first { PiecesComeFirst }
+    ensures join { PiecesJoin }
+{}
+
+/// Bytes ask one list of items and have one ending, and begin with what the whole pieces in front of them ask.
+pub fn reading_law()
+    ensures one { OneReading }
+    ensures first { PiecesAreFirst }
+{
+    lines_law();
+    one_reading_law();
+    one_due_law();
+}

@@ -1,0 +1,215 @@
+//! What was read of an input and not used yet.
+ghost use Rattle.std.specs.Prelude.{◌≡◌, ◌+◌, ◌≤◌, ◌<◌, ◌^◌, true, drop, length, IfOk, IfErr, OnErr};
+ghost use Rattle.request_text.specs.Filling.{Fills, StopsFillingFrom, IsReadOnto, StopsReadingOnto, GaveAtMost};
+ghost use Rattle.request_text.specs.LastLines.{HasEnded};
+ghost use Rattle.request_text.specs.Next.{GaveFewFrom};
+ghost use Rattle.request_text.specs.Unread.{nothing_read};
+
+use crate::NoMemory;
+use crate::stop::ReadStop;
+use std::alloc::Global;
+use std::marker::Model;
+use track_outside::Source;
+
+// The most bytes of an input that are read.
+const INPUT_LIMIT: u64 = 0x4000_0000;
+
+// How many bytes are read at once.
+const PIECE: usize = 0x1_0000;
+
+/// What was read of an input and not used yet.
+///
+/// Contracts see the bytes, how many bytes of the input came before them, whether the last of the input was used, and
+/// whether reading has stopped. One value goes with one source: what is left to be read are its bytes, and behind them
+/// those that the source has left.
+#[derive(Drop)]
+pub struct Lines {
+    bytes: Vec<u8>,
+    start: usize,
+    before: u64,
+    ended: bool,
+    stopped: bool,
+}
+
+impl Model for Lines {
+    ghost use Rattle.std.specs.Prelude.{◌≡◌, ◌+◌, ◌-◌, ◌≤◌, ◌^◌, length, drop};
+    ghost use Rattle.request_text.specs.Unread.{Unread};
+
+    ghost Value = { Unread };
+
+    ghost view = { λ l. record {
+      kept = drop l.start l.bytes.items;
+      before = l.before;
+      ended = l.ended;
+      stopped = l.stopped;
+    } };
+
+    ghost invariant = { λ l. (l.start ≤ length l.bytes.items)
+        × (l.before + (length l.bytes.items - l.start) ≤ 2 ^ 30) };
+}
+
+impl Lines {
+    /// Nothing was read.
+    ///
+    /// Takes no memory before the first bytes are read.
+    pub fn new(alloc: Global) -> Result<Lines, NoMemory>
+        ensures { IfOk result (λ made. made ≡ nothing_read) }
+    {
+        Ok(Lines {
+            bytes: Vec::new(alloc),
+            start: 0,
+            before: 0,
+            ended: false,
+            stopped: false,
+        })
+    }
+
+    /// Whether the last of the input was used, so that nothing more is asked.
+    pub fn has_ended(&self) -> bool
+        ensures { result ≡ self.now.ended }
+    {
+        self.ended
+    }
+
+    // Says what the type keeps. Does nothing: its contract is what it is for.
+    pub(crate) fn limits(&self)
+        ensures { self.now.before + length self.now.kept ≤ 2 ^ 30 }
+    {
+        let _ = &self.bytes;
+    }
+
+    // The bytes that are kept.
+    pub(crate) fn kept(&self) -> &[u8]
+        ensures same { result.now ≡ self.now.kept }
+        ensures within { self.now.before + length result.now ≤ 2 ^ 30 }
+    {
+        &self.bytes[self.start..]
+    }
+
+    // How many bytes came before them.
+    pub(crate) fn before(&self) -> u64
+        ensures { result ≡ self.now.before }
+    {
+        self.before
+    }
+
+    // The first of the bytes are used.
+    pub(crate) fn use_up(&mut self, count: usize)
+        requires { count ≤ length self.old.kept }
+        ensures kept { self.new.kept ≡ drop count self.old.kept }
+        ensures before { self.new.before ≡ self.old.before + count }
+        ensures ended { self.new.ended ≡ self.old.ended }
+        ensures stopped { self.new.stopped ≡ self.old.stopped }
+    {
+        self.start += count;
+        self.before += count as u64;
+    }
+
+    // All bytes are used, and they were the last of the input.
+    pub(crate) fn end(&mut self)
+        ensures { HasEnded self.old self.new }
+    {
+        self.use_up(self.kept().len());
+        self.ended = true;
+    }
+
+    // Reading has stopped.
+    pub(crate) fn stop(&mut self)
+        ensures { self.new.stopped ≡ true }
+    {
+        self.stopped = true;
+    }
+
+    // Reads more bytes, and answers how many: none at the end.
+    pub(crate) fn fill<S: Source>(
+        &mut self,
+        alloc: Global,
+        source: &mut S,
+    ) -> Result<usize, ReadStop>
+        ensures ok { IfOk result (Fills self.old self.new (S.left source.old) (S.left source.new)) }
+        ensures err { IfErr result (StopsFillingFrom S.Source self.old source.old source.new) }
+        ensures few { OnErr result (GaveFewFrom S.Source self.old source.old source.new) }
+        ensures counts { S.faults source.old ≤ S.faults source.new }
+    {
+        let room = INPUT_LIMIT - self.before - self.kept().len() as u64;
+        if room == 0 {
+            return self.look_past(alloc, source);
+        }
+        self.forget_used();
+        let want = room.min(PIECE as u64) as usize;
+        self.fill_at_most(alloc, source, want)
+    }
+
+    // Reads so many bytes at most.
+    fn fill_at_most<S: Source>(
+        &mut self,
+        alloc: Global,
+        source: &mut S,
+        want: usize,
+    ) -> Result<usize, ReadStop>
+        requires some { 0 < want }
+        requires room { self.old.before + length self.old.kept + want ≤ 2 ^ 30 }
+        ensures ok { IfOk result (Fills self.old self.new (S.left source.old) (S.left source.new)) }
+        ensures err { IfErr result (StopsFillingFrom S.Source self.old source.old source.new) }
+        ensures few { OnErr result (GaveFewFrom S.Source self.old source.old source.new) }
+        ensures counts { S.faults source.old ≤ S.faults source.new }
+    {
+        read_onto(alloc, source, want, &mut self.bytes)
+    }
+
+    // Looks whether a byte comes past the most that are read.
+    fn look_past<S: Source>(&mut self, alloc: Global, source: &mut S) -> Result<usize, ReadStop>
+        requires { self.old.before + length self.old.kept ≡ 2 ^ 30 }
+        ensures ok { IfOk result (Fills self.old self.new (S.left source.old) (S.left source.new)) }
+        ensures err { IfErr result (StopsFillingFrom S.Source self.old source.old source.new) }
+        ensures few { OnErr result (GaveFewFrom S.Source self.old source.old source.new) }
+        ensures counts { S.faults source.old ≤ S.faults source.new }
+    {
+        let mut piece = vec![in alloc; 0u8; 1]?;
+        let Ok(count) = source.read(&mut piece) else {
+            return Err(ReadStop::ReadFault);
+        };
+        if count == 0 {
+            return Ok(0);
+        }
+        Err(ReadStop::InputTooLong)
+    }
+
+    // Lets the bytes go that were used.
+    fn forget_used(&mut self)
+        ensures { self.new ≡ self.old }
+    {
+        if self.start == 0 {
+            return;
+        }
+        let rest = self.bytes.len() - self.start;
+        self.bytes.copy_within(self.start.., 0);
+        self.bytes.truncate(rest);
+        self.start = 0;
+    }
+}
+
+// Reads bytes behind others, so many at most, and answers how many: none at the end.
+fn read_onto<S: Source>(
+    alloc: Global,
+    source: &mut S,
+    want: usize,
+    bytes: &mut Vec<u8>,
+) -> Result<usize, ReadStop>
+    requires { 0 < want }
+    ensures ok { IfOk result
+        (IsReadOnto bytes.old.items bytes.new.items (S.left source.old) (S.left source.new) want) }
+    ensures err { IfErr result (StopsReadingOnto (S.left source.old) (S.left source.new)
+        (S.faults source.old) (S.faults source.new)) }
+    ensures lost { OnErr result (GaveAtMost want (S.left source.old) (S.left source.new)) }
+    ensures counts { S.faults source.old ≤ S.faults source.new }
+    ensures kept { length bytes.old.items ≤ length bytes.new.items }
+    ensures few { length bytes.new.items ≤ length bytes.old.items + want }
+{
+    let mut piece = vec![in alloc; 0u8; want]?;
+    let Ok(count) = source.read(&mut piece) else {
+        return Err(ReadStop::ReadFault);
+    };
+    bytes.extend_from_slice(&piece[..count])?;
+    Ok(count)
+}

@@ -1,0 +1,65 @@
+//! Words of a request line that spell names.
+ghost use Rattle.std.specs.Prelude.{◌≡◌, ℕ, IfOk, IfSome, IfNone};
+ghost use Rattle.request_text.specs.Forms.{SpellsName, name_of};
+
+use crate::NoMemory;
+use line_text::{Name, NameError, read_name};
+use std::alloc::Global;
+
+// The name that a word spells.
+pub(crate) fn named(alloc: Global, word: &[u8]) -> Result<Option<Name>, NoMemory>
+    ensures some { IfOk result (λ found. IfSome found (λ name. name ≡ name_of word.now)) }
+    ensures spelled { IfOk result (λ found. IfSome found (λ _. SpellsName word.now)) }
+    ensures none { IfOk result (λ found. IfNone found (¬ SpellsName word.now)) }
+{
+    match read_name(alloc, word) {
+        Ok(name) => Ok(Some(name)),
+        Err(NameError::BadName) => Ok(None),
+        Err(NameError::NoMemory) => Err(NoMemory),
+    }
+}
+
+// The names that two words spell.
+pub(crate) fn two_named(
+    alloc: Global,
+    first: &[u8],
+    second: &[u8],
+) -> Result<Option<(Name, Name)>, NoMemory>
+    ensures some { IfOk result (λ found. IfSome found (λ names.
+        (names.0 ≡ name_of first.now) × (names.1 ≡ name_of second.now))) }
+    ensures spelled { IfOk result (λ found. IfSome found (λ _.
+        (SpellsName first.now × SpellsName second.now))) }
+    ensures none { IfOk result (λ found. IfNone found
+        (¬ (SpellsName first.now × SpellsName second.now))) }
+{
+    let Some(one) = named(alloc, first)? else {
+        return Ok(None);
+    };
+    let Some(other) = named(alloc, second)? else {
+        return Ok(None);
+    };
+    Ok(Some((one, other)))
+}
+
+// The names that three words spell.
+pub(crate) fn three_named(
+    alloc: Global,
+    first: &[u8],
+    second: &[u8],
+    third: &[u8],
+) -> Result<Option<(Name, Name, Name)>, NoMemory>
+    ensures some { IfOk result (λ found. IfSome found (λ names.
+        (names.0 ≡ name_of first.now) × (names.1 ≡ name_of second.now) × (names.2 ≡ name_of third.now))) }
+    ensures spelled { IfOk result (λ found. IfSome found (λ _.
+        (SpellsName first.now × SpellsName second.now × SpellsName third.now))) }
+    ensures none { IfOk result (λ found. IfNone found
+        (¬ (SpellsName first.now × SpellsName second.now × SpellsName third.now))) }
+{
+    let Some((one, other)) = two_named(alloc, first, second)? else {
+        return Ok(None);
+    };
+    let Some(last) = named(alloc, third)? else {
+        return Ok(None);
+    };
+    Ok(Some((one, other, last)))
+}
