@@ -1,11 +1,10 @@
 -- Bytes that were passed, and what is read behind them.
-use Rattle.std.proofs.Common.{◌≡◌, ℕ, ◌+◌, ◌-◌, ◌<◌, ◌≤◌, inl, inr, Bool, true, false, List, [], ◌∷◌, ◌++◌, length, take, drop, refl, sym, ap, ◌∙◌, arith, append_assoc, append-nil, length-append, Option, Some, None}
+use Rattle.std.proofs.Common.{◌≡◌, ℕ, ◌+◌, ◌-◌, ◌<◌, ◌≤◌, inl, inr, Bool, true, false, List, [], ◌++◌, length, take, drop, refl, sym, ap, ◌∙◌, arith, append_assoc, append-nil, length-append, Option, Some, None}
 use Rattle.std.specs.Io.KnownBytes.{prepend_known}
 use Rattle.track_outside.specs.declared.source.Source.{Ghosts}
 use Rattle.std.proofs.Math.Seq.{take-append-add}
 use Rattle.std.proofs.lemmas.List.{take-append-drop, length-take-le}
 use Rattle.request_text.specs.declared.asked.Asked.{Asked}
-use Rattle.request_text.specs.declared.asked.Asked.TheVariants as asked
 use Rattle.request_text.specs.declared.stop.ReadStop.{ReadStop}
 use Rattle.request_text.specs.declared.stop.ReadStop.TheVariants.{ReadFault, CutOff, InputTooLong, NoMemory}
 use Rattle.request_text.specs.Bodies.{Item}

@@ -2,11 +2,9 @@
 use Rattle.std.proofs.Common.{◌≡◌, ℕ, ◌-◌, ◌<◌, ◌≤◌, Bool, true, false, List, [], length, Result, Ok, Err, refl, sym, ap, ◌∙◌, subst, arith}
 use Rattle.std.specs.Prelude.{nat_le}
 use Rattle.std.specs.Str.{IsUtf8, IsValidUpTo}
-use Rattle.std.specs.List.{AllByRecursion}
 use Rattle.std.proofs.lemmas.Bool.{leb-true, leb-false}
 use Rattle.std.proofs.lemmas.List.{take_all}
 use Rattle.line_text.specs.Lines.{lines_of}
-use Rattle.metric_table.specs.declared.limits.Limit.{Limit}
 use Rattle.metric_table.specs.declared.limits.Limit.TheVariants.{RunSamples}
 use Rattle.history_model.specs.Samples.{Measurement}
 use Rattle.go_bench_text.specs.Readings.{IsRead, IsFirstOver, HasTooMany, OneReading}
@@ -18,7 +16,7 @@ use Rattle.request_model.specs.declared.requests.Request.{Request}
 use Rattle.request_model.specs.declared.replies.RangePlace.TheVariants as place
 use Rattle.request_model.specs.declared.replies.Refusal.{Refusal}
 use Rattle.request_model.specs.declared.replies.Refusal.TheVariants as refusal
-use Rattle.request_text.specs.Forms.{Form, machine, commit, submit_go, submit_lnt, retract, runs, IsOfForm, names_in, body_length, SpellsName}
+use Rattle.request_text.specs.Forms.{Form, machine, commit, submit_go, submit_lnt, retract, runs}
 use Rattle.request_text.specs.Bodies.{Item, GivesGo, RefusesGo, AsksGo, fault_of, AsksLnt, AsksNamed}
 use Rattle.request_text.specs.Items.{AsksForm, long, unnamed, named, Asks, formless, formed}
 use Rattle.request_text.proofs.OneForm.{one_form}

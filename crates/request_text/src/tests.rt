@@ -154,17 +154,24 @@ fn a_line_has_4096_bytes_at_most(rt: HostRuntime) -> Result<(), Fail> {
     Ok(())
 }
 
+// What a script is whose first line counts so many bytes, which come behind it; line and body are 4,096 bytes again and
+// again, and the line has so many of them before the count.
+fn told_body(alloc: Global, before: usize, count: &[u8]) -> Result<String, Fail> {
+    let mut pattern = Vec::from_slice(alloc, b"submit go m a r")?;
+    pattern.resize(before, b' ')?;
+    pattern.extend_from_slice(count)?;
+    pattern.push(b'\n')?;
+    pattern.resize(4_096, b' ')?;
+    let mut source = RepeatSource::new(alloc, &pattern, 2_049)?;
+    told(alloc, &mut source)
+}
+
 #[test]
 fn a_body_has_8388608_bytes_at_most(rt: HostRuntime) -> Result<(), Fail> {
     let alloc = rt.alloc();
-    // A line of 64 bytes with its line feed, and the same line again as its body of 8,388,608 bytes.
-    let full = b"submit go m a r                                         8388608\n";
-    let mut source = RepeatSource::new(alloc, full, 131_073)?;
-    assert_eq!(rt; told(alloc, &mut source)?.as_str(), "submit end");
-    // A line of 63 bytes, and 8,388,609 bytes behind it.
-    let over = b"submit go m a r                                        8388609\n ";
-    let mut source = RepeatSource::new(alloc, over, 131_073)?;
-    assert_eq!(rt; told(alloc, &mut source)?.as_str(), "E26 end");
+    assert_eq!(rt; told_body(alloc, 4_088, b"8388608")?.as_str(), "submit end");
+    assert_eq!(rt; told_body(alloc, 4_087, b"8388609")?.as_str(), "E26 end");
+    assert_eq!(rt; told_body(alloc, 4_087, b"8388610")?.as_str(), "cut 0");
     Ok(())
 }
 
