@@ -1,0 +1,72 @@
+-- The text of a reply: lines of words.
+use Rattle.std.specs.Prelude.{ℕ, List, [], ◌∷◌, ◌++◌, length, map, decimal, codes, if◌then◌else◌}
+use Rattle.std.specs.List.{flat_map}
+use Rattle.line_text.specs.Names.{spelling}
+use Rattle.metric_table.specs.Limits.{word}
+use Rattle.request_model.specs.declared.replies.Answer.{Answer}
+use Rattle.request_model.specs.declared.replies.Answer.TheVariants as answer
+use Rattle.request_model.specs.declared.replies.RangePlace.{RangePlace}
+use Rattle.request_model.specs.declared.replies.RangePlace.TheVariants as place
+use Rattle.request_model.specs.declared.replies.Refusal.{Refusal}
+use Rattle.request_model.specs.declared.replies.Refusal.TheVariants as refusal
+use Rattle.request_model.specs.declared.replies.Reply.{Reply}
+use Rattle.request_model.specs.declared.runs.RunLine.{RunLine}
+
+-- a word that names a step
+abbrev pub at : ℕ → List ℕ
+at step = 64 ∷ decimal step
+
+-- where a value is out of range
+abbrev pub place_words : RangePlace → List (List ℕ)
+place_words (place.Line number) = decimal number ∷ []
+place_words (place.Sample test metric) = spelling test ∷ spelling metric ∷ []
+
+-- number and word of a refusal, and what it tells
+abbrev pub refusal_words : Refusal → List (List ℕ)
+refusal_words refusal.BadRequest = codes "E01" ∷ codes "BadRequest" ∷ []
+refusal_words refusal.BadName = codes "E02" ∷ codes "BadName" ∷ []
+refusal_words refusal.UnknownMachine = codes "E03" ∷ codes "UnknownMachine" ∷ []
+refusal_words refusal.UnknownCommit = codes "E04" ∷ codes "UnknownCommit" ∷ []
+refusal_words (refusal.CommitTaken number name) = codes "E05" ∷ codes "CommitTaken" ∷ decimal number ∷ spelling name ∷ []
+refusal_words (refusal.NotText offset) = codes "E06" ∷ codes "NotText" ∷ decimal offset ∷ []
+refusal_words (refusal.NotJson offset) = codes "E07" ∷ codes "NotJson" ∷ decimal offset ∷ []
+refusal_words (refusal.NotReport rule member) = codes "E08" ∷ codes "NotReport" ∷ decimal rule ∷ spelling member ∷ []
+refusal_words (refusal.OutOfRange where_) = codes "E09" ∷ codes "OutOfRange" ∷ place_words where_
+refusal_words (refusal.IdentityClash step) = codes "E10" ∷ codes "IdentityClash" ∷ at step ∷ []
+refusal_words refusal.UnknownRun = codes "E11" ∷ codes "UnknownRun" ∷ []
+refusal_words (refusal.AlreadyRetracted step) = codes "E12" ∷ codes "AlreadyRetracted" ∷ at step ∷ []
+refusal_words (refusal.Full limit) = codes "E21" ∷ codes "Full" ∷ word limit ∷ []
+refusal_words refusal.BodyTooLong = codes "E26" ∷ codes "BodyTooLong" ∷ []
+refusal_words (refusal.TooDeep offset) = codes "E28" ∷ codes "TooDeep" ∷ decimal offset ∷ []
+
+-- a run, as it is listed
+abbrev pub run_words : RunLine → List (List ℕ)
+run_words line = spelling line.run ∷ spelling line.commit ∷ decimal line.samples ∷ (if line.live then codes "live" else codes "retracted") ∷ []
+
+-- the words of an answer on the reply's first line
+abbrev pub answer_words : Answer → List (List ℕ)
+answer_words (answer.Machine machine) = codes "machine" ∷ spelling machine ∷ []
+answer_words (answer.Commit number name) = codes "commit" ∷ decimal number ∷ spelling name ∷ []
+answer_words (answer.Duplicate step) = codes "duplicate" ∷ at step ∷ []
+answer_words (answer.Accepted name samples ignored) = codes "accepted" ∷ spelling name ∷ codes "samples" ∷ decimal samples ∷ codes "ignored" ∷ decimal ignored ∷ []
+answer_words (answer.Retracted name) = codes "retracted" ∷ spelling name ∷ []
+answer_words (answer.Runs lines) = codes "runs" ∷ codes "lines" ∷ decimal (length lines) ∷ []
+answer_words (answer.Refused reason) = refusal_words reason
+
+-- the lines behind it, each of some words
+abbrev pub answer_lines : Answer → List (List (List ℕ))
+answer_lines (answer.Runs lines) = map run_words lines
+answer_lines _ = []
+
+-- words, each behind a space
+abbrev pub spaced : List (List ℕ) → List ℕ
+spaced words = flat_map (λ w. 32 ∷ w) words
+
+-- a line of words with single spaces between them, and its line feed
+abbrev pub line_of : List (List ℕ) → List ℕ
+line_of [] = 10 ∷ []
+line_of (first ∷ words) = first ++ (spaced words ++ 10 ∷ [])
+
+-- the text of a reply
+abbrev pub text_of : Reply → List ℕ
+text_of reply = flat_map line_of ((at reply.step ∷ answer_words reply.answer) ∷ answer_lines reply.answer)

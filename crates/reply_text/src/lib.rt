@@ -1,0 +1,17 @@
+//! The text of replies.
+//!
+//! A reply is a line of words that begins with `@` and the number of entries behind the request, and for a list as many
+//! lines more as its last word says. Proved: `put_reply` appends exactly the text of the reply.
+//!
+//! Stands on `request_model` for replies, on `line_text` for names and numbers and on `metric_table` for the limits' words.
+#![tactic(auto)]
+
+mod answer;
+mod refusal;
+mod reply;
+#[cfg(test)]
+mod tests;
+mod words;
+
+pub use reply::put_reply;
+pub use std::alloc::AllocError as NoMemory;

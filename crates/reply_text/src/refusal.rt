@@ -1,0 +1,120 @@
+//! The words of a refusal.
+ghost use Rattle.std.specs.Prelude.{◌≡◌, ◌∷◌, ◌++◌, [], OnOk, decimal};
+ghost use Rattle.reply_text.specs.Replies.{at, spaced, place_words, refusal_words};
+ghost use Rattle.request_model.specs.declared.replies.Refusal.TheVariants as refusal;
+
+use crate::NoMemory;
+use crate::words::{put_number, put_spelled, put_step, put_text, put_word};
+use line_text::Name;
+use request_model::{RangePlace, Refusal};
+use std::alloc::Global;
+
+// Appends the words of a refusal, each behind a space.
+pub(crate) fn put_refusal(
+    alloc: Global,
+    out: &mut Vec<u8>,
+    refusal: &Refusal,
+) -> Result<(), NoMemory>
+    ensures { OnOk result (out.new.items ≡ out.old.items ++ spaced (refusal_words refusal.now)) }
+{
+    match refusal {
+        Refusal::BadRequest => put_kind(out, "E01", "BadRequest"),
+        Refusal::BadName => put_kind(out, "E02", "BadName"),
+        Refusal::UnknownMachine => put_kind(out, "E03", "UnknownMachine"),
+        Refusal::UnknownCommit => put_kind(out, "E04", "UnknownCommit"),
+        Refusal::CommitTaken { number, name } => put_taken(alloc, out, *number, name),
+        Refusal::NotText(offset) => put_placed(alloc, out, "E06", "NotText", *offset),
+        Refusal::NotJson(offset) => put_placed(alloc, out, "E07", "NotJson", *offset),
+        Refusal::NotReport { rule, member } => {
+            put_placed(alloc, out, "E08", "NotReport", u64::from(*rule))?;
+            put_text(alloc, out, member.as_str())
+        }
+        Refusal::OutOfRange(place) => put_out_of_range(alloc, out, place),
+        Refusal::IdentityClash(step) => put_stepped(alloc, out, "E10", "IdentityClash", *step),
+        Refusal::UnknownRun => put_kind(out, "E11", "UnknownRun"),
+        Refusal::AlreadyRetracted(step) => put_stepped(
+            alloc,
+            out,
+            "E12",
+            "AlreadyRetracted",
+            *step,
+        ),
+        Refusal::Full(limit) => {
+            put_kind(out, "E21", "Full")?;
+            put_word(out, limit.word())
+        }
+        Refusal::BodyTooLong => put_kind(out, "E26", "BodyTooLong"),
+        Refusal::TooDeep(offset) => put_placed(alloc, out, "E28", "TooDeep", *offset),
+    }
+}
+
+// Appends the number and the word of a kind of refusal.
+fn put_kind(out: &mut Vec<u8>, number: &str, word: &str) -> Result<(), NoMemory>
+    ensures { OnOk result
+        (out.new.items ≡ out.old.items ++ ((32 ∷ number.now) ++ (32 ∷ word.now))) }
+{
+    put_word(out, number)?;
+    put_word(out, word)
+}
+
+// Appends a kind of refusal, and a place.
+fn put_placed(
+    alloc: Global,
+    out: &mut Vec<u8>,
+    number: &str,
+    word: &str,
+    place: u64,
+) -> Result<(), NoMemory>
+    ensures { OnOk result (out.new.items ≡ out.old.items
+        ++ spaced (number.now ∷ word.now ∷ decimal place ∷ [])) }
+{
+    put_kind(out, number, word)?;
+    put_number(alloc, out, place)
+}
+
+// Appends a kind of refusal, and a step.
+fn put_stepped(
+    alloc: Global,
+    out: &mut Vec<u8>,
+    number: &str,
+    word: &str,
+    step: u64,
+) -> Result<(), NoMemory>
+    ensures { OnOk result (out.new.items ≡ out.old.items
+        ++ spaced (number.now ∷ word.now ∷ at step ∷ [])) }
+{
+    put_kind(out, number, word)?;
+    put_step(alloc, out, step)
+}
+
+// Appends the refusal of a commit that is taken, with the pair that takes it.
+fn put_taken(alloc: Global, out: &mut Vec<u8>, number: u64, name: &Name) -> Result<(), NoMemory>
+    ensures { OnOk result (out.new.items ≡ out.old.items
+        ++ spaced (refusal_words (refusal.CommitTaken number name.now))) }
+{
+    put_placed(alloc, out, "E05", "CommitTaken", number)?;
+    put_spelled(alloc, out, name)?;
+    Ok(())
+}
+
+// Appends the refusal of a value that is out of range.
+fn put_out_of_range(alloc: Global, out: &mut Vec<u8>, place: &RangePlace) -> Result<(), NoMemory>
+    ensures { OnOk result (out.new.items ≡ out.old.items
+        ++ spaced (refusal_words (refusal.OutOfRange place.now))) }
+{
+    put_kind(out, "E09", "OutOfRange")?;
+    put_place(alloc, out, place)
+}
+
+// Appends where a value is out of range.
+fn put_place(alloc: Global, out: &mut Vec<u8>, place: &RangePlace) -> Result<(), NoMemory>
+    ensures { OnOk result (out.new.items ≡ out.old.items ++ spaced (place_words place.now)) }
+{
+    match place {
+        RangePlace::Line(number) => put_number(alloc, out, *number),
+        RangePlace::Sample { test, metric } => {
+            put_text(alloc, out, test.as_str())?;
+            put_text(alloc, out, metric.as_str())
+        }
+    }
+}

@@ -1,0 +1,57 @@
+//! A reply, written.
+ghost use Rattle.std.specs.Prelude.{◌≡◌, ◌++◌, ◌∷◌, [], map, OnOk, OnErr, IfOk};
+ghost use Rattle.std.specs.List.{flat_map};
+ghost use Rattle.reply_text.specs.Replies.{at, line_of, answer_words, answer_lines, run_words, text_of};
+
+use crate::NoMemory;
+use crate::answer::{put_answer, put_run};
+use crate::words::put_at;
+use request_model::{Answer, Reply, RunLine};
+use std::alloc::Global;
+
+/// Appends the text of a reply: a line with `@`, the number of entries, and the words of the answer, and behind it the
+/// lines of a list. The forms are those of docs/FORMATS.md.
+///
+/// Linear in the text, which it takes memory for; changes nothing where there is no memory.
+pub fn put_reply(alloc: Global, out: &mut Vec<u8>, reply: &Reply) -> Result<(), NoMemory>
+    ensures ok { OnOk result (out.new.items ≡ out.old.items ++ text_of reply.now) }
+    ensures err { OnErr result (out.new.items ≡ out.old.items) }
+{
+    let text = reply_text(alloc, reply)?;
+    out.extend_from_slice(&text)?;
+    Ok(())
+}
+
+// The text of a reply.
+fn reply_text(alloc: Global, reply: &Reply) -> Result<Vec<u8>, NoMemory>
+    ensures { IfOk result (λ text. text.items ≡ text_of reply.now) }
+{
+    let mut text = Vec::new(alloc);
+    put_at(alloc, &mut text, reply.step)?;
+    put_answer(alloc, &mut text, &reply.answer)?;
+    text.push(b'\n')?;
+    put_lines(alloc, &mut text, &reply.answer)?;
+    Ok(text)
+}
+
+// Appends the lines behind the first.
+fn put_lines(alloc: Global, out: &mut Vec<u8>, answer: &Answer) -> Result<(), NoMemory>
+    ensures { OnOk result
+        (out.new.items ≡ out.old.items ++ flat_map line_of (answer_lines answer.now)) }
+{
+    match answer {
+        Answer::Runs { runs } => put_runs(alloc, out, runs.as_slice()),
+        _ => Ok(()),
+    }
+}
+
+// Appends the lines of runs.
+fn put_runs(alloc: Global, out: &mut Vec<u8>, runs: &[RunLine]) -> Result<(), NoMemory>
+    ensures { OnOk result
+        (out.new.items ≡ out.old.items ++ flat_map line_of (map run_words runs.now)) }
+{
+    for line in runs {
+        put_run(alloc, out, line)?;
+    }
+    Ok(())
+}

@@ -1,0 +1,61 @@
+//! Words of a line, each behind a space.
+ghost use Rattle.std.specs.Prelude.{◌≡◌, ◌∷◌, ◌++◌, OnOk, decimal};
+ghost use Rattle.line_text.specs.Names.{spelling};
+ghost use Rattle.reply_text.specs.Replies.{at};
+
+use crate::NoMemory;
+use line_text::{Name, put_escaped, put_name, put_u64};
+use std::alloc::Global;
+
+// Appends a space and a word.
+pub(crate) fn put_word(out: &mut Vec<u8>, word: &str) -> Result<(), NoMemory>
+    ensures { OnOk result (out.new.items ≡ out.old.items ++ (32 ∷ word.now)) }
+{
+    out.push(b' ')?;
+    out.extend_from_slice(word.as_bytes())?;
+    Ok(())
+}
+
+// Appends a space and a name.
+pub(crate) fn put_spelled(alloc: Global, out: &mut Vec<u8>, name: &Name) -> Result<(), NoMemory>
+    ensures { OnOk result (out.new.items ≡ out.old.items ++ (32 ∷ spelling name.now)) }
+{
+    out.push(b' ')?;
+    put_name(alloc, out, name)?;
+    Ok(())
+}
+
+// Appends a space and a text as names are spelled.
+pub(crate) fn put_text(alloc: Global, out: &mut Vec<u8>, text: &str) -> Result<(), NoMemory>
+    ensures { OnOk result (out.new.items ≡ out.old.items ++ (32 ∷ spelling text.now)) }
+{
+    out.push(b' ')?;
+    put_escaped(alloc, out, text.as_bytes())?;
+    Ok(())
+}
+
+// Appends a space and a number.
+pub(crate) fn put_number(alloc: Global, out: &mut Vec<u8>, n: u64) -> Result<(), NoMemory>
+    ensures { OnOk result (out.new.items ≡ out.old.items ++ (32 ∷ decimal n)) }
+{
+    out.push(b' ')?;
+    put_u64(alloc, out, n)?;
+    Ok(())
+}
+
+// Appends a step.
+pub(crate) fn put_at(alloc: Global, out: &mut Vec<u8>, step: u64) -> Result<(), NoMemory>
+    ensures { OnOk result (out.new.items ≡ out.old.items ++ at step) }
+{
+    out.push(b'@')?;
+    put_u64(alloc, out, step)?;
+    Ok(())
+}
+
+// Appends a space and a step.
+pub(crate) fn put_step(alloc: Global, out: &mut Vec<u8>, step: u64) -> Result<(), NoMemory>
+    ensures { OnOk result (out.new.items ≡ out.old.items ++ (32 ∷ at step)) }
+{
+    out.push(b' ')?;
+    put_at(alloc, out, step)
+}
