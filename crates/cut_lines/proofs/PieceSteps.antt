@@ -5,13 +5,14 @@ use lib.Seq.{take-append-add}
 use Rattle.std.specs.Io.KnownBytes.{prepend_known, IsAtEnd}
 use Rattle.segment_model.specs.Segments.{Position}
 use Rattle.track_outside.specs.declared.source.Source.{Ghosts}
+use Rattle.track_outside.specs.Calls.{GaveAtMost}
 use Rattle.track_outside.specs.Counts.{Rose}
 use Rattle.line_text.specs.Lines.{lines_of}
 use Rattle.cut_lines.specs.declared.reader.Reader.{Reader}
 use Rattle.cut_lines.specs.declared.stop.Stop.{Stop}
 use Rattle.cut_lines.specs.declared.stop.Stop.TheVariants.{Fault, TooLong, Refused, NoMemory}
 use Rattle.cut_lines.specs.Reading.{ArePointsOf, IsFirstRefused, MayGoOn, IsTooLong, within_limit}
-use Rattle.cut_lines.specs.Stops.{GaveAtMost, StopsFor}
+use Rattle.cut_lines.specs.Stops.{StopsFor}
 use Rattle.cut_lines.specs.HasRead.{HasRead, AreLinesPoints, ShowsRefused, EndsRefused}
 use Rattle.cut_lines.specs.Pieces.{Gave, HasCause}
 

@@ -2,11 +2,12 @@
 use Rattle.std.specs.Prelude.{◌≡◌, ℕ, ◌+◌, ◌^◌, ◌≤◌, List, ◌++◌, length}
 use Rattle.std.specs.Io.KnownBytes.{prepend_known}
 use Rattle.track_outside.specs.declared.source.Source.{Ghosts}
+use Rattle.track_outside.specs.Calls.{GaveAtMost}
 use Rattle.cut_lines.specs.declared.reader.Reader.{Reader}
 use Rattle.cut_lines.specs.declared.stop.Stop.{Stop}
 use Rattle.cut_lines.specs.declared.stop.Stop.TheVariants.{NoMemory}
 use Rattle.cut_lines.specs.HasRead.{HasRead}
-use Rattle.cut_lines.specs.Stops.{BytesShow, StopsFor, GaveAtMost}
+use Rattle.cut_lines.specs.Stops.{BytesShow, StopsFor}
 
 -- the input gave some bytes since the first state, the reader has them, and this many more are allowed
 pub record Gave {I : Type 0} (g : Ghosts I) (first now : I) (reader : Reader) (allowed : ℕ) : Type 0 where

@@ -1,8 +1,9 @@
 //! Reading of an input in pieces.
 ghost use Rattle.std.specs.Io.KnownBytes.{IsAtEnd};
 ghost use Rattle.std.specs.Prelude.{◌≡◌, ℕ, ◌+◌, ◌-◌, ◌^◌, ◌<◌, ◌≤◌, [], length, OnOk, IfSome, IfOk, IfErr};
+ghost use Rattle.track_outside.specs.Calls.{GaveAtMost};
 ghost use Rattle.cut_lines.specs.Reading.{ArePointsOfInput};
-ghost use Rattle.cut_lines.specs.Stops.{OneStop, NoStopOfPoints, GaveAtMost, StopsFor};
+ghost use Rattle.cut_lines.specs.Stops.{OneStop, NoStopOfPoints, StopsFor};
 ghost use Rattle.cut_lines.specs.Pieces.{GivesMore, GivesStop, GivesFew};
 
 use crate::reader::Reader;
