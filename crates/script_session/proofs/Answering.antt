@@ -1,0 +1,130 @@
+-- The output of items one after another, and what a sink took of it.
+use Rattle.std.proofs.Common.{◌≡◌, ℕ, ◌+◌, ◌≤◌, inl, Err, List, [], ◌∷◌, ◌++◌, length, take, Option, None, Some, refl, sym, ap, ◌∙◌, arith, append_assoc, append-nil, length-append}
+use Rattle.std.specs.List.{flat_map}
+use Rattle.std.specs.Io.KnownBytes.{append_known}
+use Rattle.std.proofs.lemmas.Grind.{flat_map-append}
+use Rattle.std.proofs.Math.Seq.{take-append-add}
+use Rattle.std.proofs.lemmas.List.{take_all}
+use Rattle.track_outside.specs.declared.sink.Sink.{Ghosts}
+use Rattle.track_outside.specs.Calls.{Took, FailedIn, TookPart}
+use Rattle.request_model.specs.declared.requests.Request.{Request}
+use Rattle.request_model.specs.declared.replies.Reply.{Reply}
+use Rattle.reply_text.specs.Replies.{text_of}
+use Rattle.request_text.specs.Bodies.{Item}
+use Rattle.script_session.specs.Outputs.{AreAnswers, IsOutput}
+use Rattle.request_text.specs.declared.stop.ReadStop.{ReadStop}
+use Rattle.request_text.specs.declared.stop.ReadStop.TheVariants as read
+use Rattle.script_session.specs.declared.stop.Stop.{Stop}
+use Rattle.script_session.specs.declared.stop.Stop.TheVariants as stop
+use Rattle.script_session.specs.declared.stop.Stop.TheVariants.{NoMemory}
+use Rattle.script_session.specs.Stops.{stop_of}
+use Rattle.script_session.specs.Endings.{HasWritten, Stands}
+use Rattle.script_session.specs.Turns.{WritesPart, StopsWriting}
+
+module _ {S : Type 0} (does : S → Request → Reply → S → Type 0) where
+  pub answers_join : (before between after : S) (items more : List Item) (replies others : List Reply)
+      → AreAnswers does before items replies between → AreAnswers does between more others after → AreAnswers does before (items ++ more) (replies ++ others) after
+  answers_join before between after [] more replies others one two = rw (one.0, sym one.1) two
+  answers_join before between after (item ∷ items) more replies others one two = (
+    one.0,
+    one.1,
+    one.2 ++ others,
+    one.3,
+    ap (λ rs. rs ++ others) one.4,
+    answers_join one.1 between after items more one.2 others one.5 two,
+  )
+
+  pub output_none : (before : S) → IsOutput does before [] [] before
+  output_none before = record { replies = []; answers = (refl, refl); told = refl }
+
+  pub output_join : (before between after : S) (items more : List Item) (text others : List ℕ)
+      → IsOutput does before items text between → IsOutput does between more others after → IsOutput does before (items ++ more) (text ++ others) after
+  output_join before between after items more text others one two = record {
+    replies = one.replies ++ two.replies;
+    answers = answers_join before between after items more one.replies two.replies one.answers two.answers;
+    told = ap (λ t. t ++ others) one.told ∙ ap (λ t. flat_map text_of one.replies ++ t) two.told ∙ sym (flat_map-append text_of one.replies two.replies);
+  }
+
+append_known-append : (before : Option (List ℕ)) (part more : List ℕ) → append_known (append_known before part) more ≡ append_known before (part ++ more)
+append_known-append None part more = refl
+append_known-append (Some bytes) part more = ap Some (append_assoc bytes part more)
+
+append_known-nil : (before : Option (List ℕ)) → before ≡ append_known before []
+append_known-nil None = refl
+append_known-nil (Some bytes) = ap Some (sym (append-nil bytes))
+
+module _ {O : Type 0} (g : Ghosts O) where
+  pub took_none : (old new : O) → g.taken new ≡ g.taken old → g.faults old ≤ g.faults new → Took g old new []
+  took_none old new same counts = record { taken = same ∙ append_known-nil (g.taken old); counts = counts }
+
+  module _ (old between new : O) (part more : List ℕ) (took : Took g old between part) where
+    pub took_more : Took g between new more → Took g old new (part ++ more)
+    took_more next = record {
+      taken = next.taken ∙ ap (λ known. append_known known more) took.taken ∙ append_known-append (g.taken old) part more;
+      counts = omega (arith, took.counts, next.counts);
+    }
+
+    pub failed_more : FailedIn g between new more → FailedIn g old new (part ++ more)
+    failed_more failed = record {
+      part = (
+        length part + failed.part.0,
+        omega (arith, failed.part.1, length-append part more),
+        failed.part.2 ∙ ap (λ known. append_known known (take failed.part.0 more)) took.taken ∙ append_known-append (g.taken old) part (take failed.part.0 more)
+            ∙ ap (append_known (g.taken old)) (sym (take-append-add part more failed.part.0)),
+      );
+      rose = omega (arith, took.counts, failed.rose);
+      counts = omega (arith, took.counts, failed.counts);
+    }
+
+    pub part_more : TookPart g between new more → TookPart g old new (part ++ more)
+    part_more some = record {
+      part = (
+        length part + some.part.0,
+        omega (arith, some.part.1, length-append part more),
+        some.part.2 ∙ ap (λ known. append_known known (take some.part.0 more)) took.taken ∙ append_known-append (g.taken old) part (take some.part.0 more)
+            ∙ ap (append_known (g.taken old)) (sym (take-append-add part more some.part.0)),
+      );
+      counts = omega (arith, took.counts, some.counts);
+    }
+
+  pub part_none : (old : O) → TookPart g old old []
+  part_none old = record { part = (0, omega arith, append_known-nil (g.taken old)); counts = omega arith }
+
+  pub part_all : (old new : O) (text : List ℕ) → Took g old new text → TookPart g old new text
+  part_all old new text took = record {
+    part = (length text, omega arith, took.taken ∙ ap (append_known (g.taken old)) (sym (take_all (length text) text (omega arith))));
+    counts = took.counts;
+  }
+
+  -- nothing was answered, for want of memory
+  pub stops_none : {S : Type 0} (old : O) (does : S → Request → Reply → S → Type 0) (before now : S) (items : List Item) → StopsWriting g old old does before items now NoMemory
+  stops_none old does before now items = record {
+    answered = [];
+    these = inl refl;
+    text = [];
+    after = before;
+    output = output_none does before;
+    stands = tt;
+    wrote = part_none old;
+  }
+
+  -- reading stopped, and all that was read is answered
+  pub stands_read : {S : Type 0} (why : ReadStop) (now : S) → Stands now now (Err (stop_of why))
+  stands_read read.ReadFault now = refl
+  stands_read (read.CutOff offset) now = refl
+  stands_read read.InputTooLong now = refl
+  stands_read read.NoMemory now = tt
+
+  -- all was written before reading stopped
+  pub wrote_all : (why : ReadStop) (old new : O) (text : List ℕ) → Took g old new text → HasWritten g old new text (Err (stop_of why))
+  wrote_all read.ReadFault old new text took = took
+  wrote_all (read.CutOff offset) old new text took = took
+  wrote_all read.InputTooLong old new text took = took
+  wrote_all read.NoMemory old new text took = part_all old new text took
+
+  pub wrote_part : (stop : Stop) (old between new : O) (part more : List ℕ) → Took g old between part → WritesPart g between new more stop → HasWritten g old new (part ++ more) (Err stop)
+  wrote_part stop.WriteFault old between new part more took told = failed_more old between new part more took told
+  wrote_part stop.NoMemory old between new part more took told = part_more old between new part more took told
+  wrote_part stop.ReadFault old between new part more took told = absurd told
+  wrote_part (stop.CutOff offset) old between new part more took told = absurd told
+  wrote_part stop.InputTooLong old between new part more took told = absurd told

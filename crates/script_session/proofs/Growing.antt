@@ -1,0 +1,169 @@
+-- What a session leaves of the tracks that it began with.
+use Rattle.std.proofs.Common.{◌≡◌, ℕ, suc, ◌<◌, Bool, true, false, cond, List, [], ◌∷◌, ◌++◌, length, Option, None, Some, Ok, Err, refl, sym, ap, subst, ◌∙◌, arith, append_assoc, append-nil, length-append}
+use Rattle.std.specs.Prelude.{find, bytes_eq, nat_le}
+use Rattle.std.specs.List.{AllByRecursion}
+use Rattle.std.proofs.lemmas.Bool.{leb-false}
+use Rattle.std.specs.Cmp.Lexicographic.{nat_list_eq_equiv}
+use Rattle.metric_table.specs.Limits.{most}
+use Rattle.metric_table.specs.declared.limits.Limit.TheVariants.{Machines}
+use Rattle.request_model.specs.declared.requests.Request.{Request}
+use Rattle.request_model.specs.declared.requests.Request.TheVariants as request
+use Rattle.request_model.specs.declared.replies.Refusal.TheVariants as refusal
+use Rattle.request_model.specs.declared.replies.Answer.TheVariants as answer
+use Rattle.request_model.specs.declared.replies.Reply.{Reply}
+use Rattle.request_text.specs.Bodies.{Item}
+use Rattle.history_model.specs.declared.entries.Author.{Author}
+use Rattle.history_model.specs.declared.entries.Entry.{Entry}
+use Rattle.history_model.specs.declared.entries.Placed.{Placed}
+use Rattle.track_model.specs.Outcomes.{Outcome, tells, refuses}
+use Rattle.track_model.specs.Replies.{machine_of, apart}
+use Rattle.track_model.specs.Tracks.{Track, with_added, with_outcome}
+use Rattle.script_session.specs.Sessions.{Answered, is_track, changed, untouched, new_track, added, unknown, AnswersAbout, Answers, State, AnswersFor}
+use Rattle.script_session.specs.Outputs.{AnswersItem, AreAnswers}
+use Rattle.script_session.specs.Growth.{AreBy, Continues, IsNew, Grows, IsOther, AreDifferent, names_of, Stays, SessionsStay}
+
+by_join : (author : Author) (xs ys : List Placed) → AreBy author xs → AreBy author ys → AreBy author (xs ++ ys)
+by_join author [] ys one two = two
+by_join author (x ∷ xs) ys one two = (one.0, by_join author xs ys one.1 two)
+
+module _ (author : Author) where
+  continues_same : (t : Track) → Continues author t t
+  continues_same t = record { machine = refl; kept = refl; added = []; history = sym (append-nil t.history); by = tt }
+
+  continues_on : (t u v : Track) → Continues author t u → Continues author u v → Continues author t v
+  continues_on t u v one two = record {
+    machine = two.machine ∙ one.machine;
+    kept = two.kept ∙ one.kept;
+    added = one.added ++ two.added;
+    history = two.history ∙ ap (λ h. h ++ two.added) one.history ∙ append_assoc t.history one.added two.added;
+    by = by_join author one.added two.added one.by two.by;
+  }
+
+  new_on : (u v : Track) → IsNew author u → Continues author u v → IsNew author v
+  new_on u v one two = (two.kept ∙ one.0, subst (AreBy author) (sym two.history) (by_join author u.history two.added one.1 two.by))
+
+  grows_same : (tracks : List Track) → Grows author tracks tracks
+  grows_same [] = tt
+  grows_same (t ∷ tracks) = (continues_same t, grows_same tracks)
+
+  all_new : (tracks more : List Track) → AllByRecursion (IsNew author) tracks → Grows author tracks more → AllByRecursion (IsNew author) more
+  all_new [] more one two = two
+  all_new (t ∷ tracks) [] one two = tt
+  all_new (t ∷ tracks) (u ∷ more) one two = (new_on t u one.0 two.0, all_new tracks more one.1 two.1)
+
+  grows_on : (a b c : List Track) → Grows author a b → Grows author b c → Grows author a c
+  grows_on [] b c one two = all_new b c one two
+  grows_on (t ∷ a) [] c one two = absurd one
+  grows_on (t ∷ a) (u ∷ b) [] one two = absurd two
+  grows_on (t ∷ a) (u ∷ b) (v ∷ c) one two = (continues_on t u v one.0 two.0, grows_on a b c one.1 two.1)
+
+  added_continues : (t : Track) (adds : Option Entry) → Continues author t (with_added author t adds)
+  added_continues t None = continues_same t
+  added_continues t (Some e) = record { machine = refl; kept = refl; added = record { author = author; entry = e } ∷ []; history = refl; by = (refl, tt) }
+
+  -- ---- a machine's track with the entry of an outcome
+  module _ (machine : List ℕ) (o : Outcome) where
+    change : Track → Track
+    change u = with_outcome author u o
+
+    changed_grows : (tracks : List Track) → Grows author tracks (changed machine (λ u. with_outcome author u o) tracks)
+    changed_grows [] = tt
+    changed_grows (t ∷ tracks) = by (is_track machine t) (changed_grows tracks)
+      where
+        by : (b : Bool) → Grows author tracks (changed machine (λ u. with_outcome author u o) tracks) → Grows author (t ∷ tracks) (cond b (with_outcome author t o ∷ tracks) (t ∷ changed machine (λ u. with_outcome author u o) tracks))
+        by true rest = (added_continues t o.adds, grows_same tracks)
+        by false rest = (continues_same t, rest)
+
+    same_name : (t : Track) (adds : Option Entry) → (with_added author t adds).machine ≡ t.machine
+    same_name t None = refl
+    same_name t (Some e) = refl
+
+    changed_names : (tracks : List Track) → names_of (changed machine (λ u. with_outcome author u o) tracks) ≡ names_of tracks
+    changed_names [] = refl
+    changed_names (t ∷ tracks) = by (is_track machine t) (changed_names tracks)
+      where
+        by : (b : Bool) → names_of (changed machine (λ u. with_outcome author u o) tracks) ≡ names_of tracks → names_of (cond b (with_outcome author t o ∷ tracks) (t ∷ changed machine (λ u. with_outcome author u o) tracks)) ≡ t.machine ∷ names_of tracks
+        by true rest = ap (λ n. n ∷ names_of tracks) (same_name t o.adds)
+        by false rest = ap (λ ns. t.machine ∷ ns) rest
+
+    changed_length : (tracks : List Track) → length (changed machine (λ u. with_outcome author u o) tracks) ≡ length tracks
+    changed_length [] = refl
+    changed_length (t ∷ tracks) = by (is_track machine t) (changed_length tracks)
+      where
+        by : (b : Bool) → length (changed machine (λ u. with_outcome author u o) tracks) ≡ length tracks → length (cond b (with_outcome author t o ∷ tracks) (t ∷ changed machine (λ u. with_outcome author u o) tracks)) ≡ suc (length tracks)
+        by true rest = refl
+        by false rest = ap suc rest
+
+    changed_stays : (tracks : List Track) → Stays author tracks (changed machine (λ u. with_outcome author u o) tracks)
+    changed_stays tracks = record {
+      grows = changed_grows tracks;
+      different = λ d. subst AreDifferent (sym (changed_names tracks)) d;
+      few = λ f. omega (arith, f, changed_length tracks);
+    }
+
+  stays_same : (tracks : List Track) → Stays author tracks tracks
+  stays_same tracks = record { grows = grows_same tracks; different = λ d. d; few = λ f. f }
+
+  stays_on : (a b c : List Track) → Stays author a b → Stays author b c → Stays author a c
+  stays_on a b c one two = record { grows = grows_on a b c one.grows two.grows; different = λ d. two.different (one.different d); few = λ f. two.few (one.few f) }
+
+  -- ---- a machine more
+  push_grows : (machine : List ℕ) (tracks : List Track) → Grows author tracks (tracks ++ new_track machine ∷ [])
+  push_grows machine [] = ((refl, tt), tt)
+  push_grows machine (t ∷ tracks) = (continues_same t, push_grows machine tracks)
+
+  push_other : (machine name : List ℕ) (tracks : List Track) → bytes_eq machine name ≡ false → AllByRecursion (IsOther name) (names_of tracks)
+      → AllByRecursion (IsOther name) (names_of (tracks ++ new_track machine ∷ []))
+  push_other machine name [] miss others = (miss, tt)
+  push_other machine name (t ∷ tracks) miss others = (others.0, push_other machine name tracks miss others.1)
+
+  push_different : (machine : List ℕ) (tracks : List Track) → find (is_track machine) tracks ≡ None → AreDifferent (names_of tracks)
+      → AreDifferent (names_of (tracks ++ new_track machine ∷ []))
+  push_different machine [] none different = (tt, tt)
+  push_different machine (t ∷ tracks) none different = by (is_track machine t) refl (λ miss. push_different machine tracks miss different.1) none
+    where
+      by : (b : Bool) → is_track machine t ≡ b → (find (is_track machine) tracks ≡ None → AreDifferent (names_of (tracks ++ new_track machine ∷ []))) → cond b (Some t) (find (is_track machine) tracks) ≡ None → AreDifferent (t.machine ∷ names_of (tracks ++ new_track machine ∷ []))
+      by true is rest miss = absurd cc
+      by false is rest miss = (push_other machine t.machine tracks (nat_list_eq_equiv.symm machine t.machine ∙ is) different.0, rest miss)
+
+  added_stays : (machine : List ℕ) (tracks : List Track) → find (is_track machine) tracks ≡ None → Stays author tracks (added tracks machine).tracks
+  added_stays machine tracks none = by (nat_le (most Machines) (length tracks)) refl
+    where
+      by : (b : Bool) → nat_le (most Machines) (length tracks) ≡ b
+          → Stays author tracks (cond b (untouched tracks (refuses (refusal.Full Machines))) (record { reply = apart (tells (answer.Machine machine)); tracks = tracks ++ new_track machine ∷ [] })).tracks
+      by true is = stays_same tracks
+      by false is = record {
+        grows = push_grows machine tracks;
+        different = push_different machine tracks none;
+        few = λ f. let less : length tracks < most Machines = leb-false (most Machines) (length tracks) is in omega (arith, less, length-append tracks (new_track machine ∷ []));
+      }
+
+  unknown_stays : (tracks : List Track) (q : Request) → find (is_track (machine_of q)) tracks ≡ None → Stays author tracks (unknown tracks q).tracks
+  unknown_stays tracks (request.Machine machine) none = added_stays machine tracks none
+  unknown_stays tracks (request.Commit machine number name) none = stays_same tracks
+  unknown_stays tracks (request.Submit machine commit run samples ignored stated) none = stays_same tracks
+  unknown_stays tracks (request.Retract machine run) none = stays_same tracks
+  unknown_stays tracks (request.Runs machine) none = stays_same tracks
+
+  about_stays : (found : Option Track) (tracks : List Track) (q : Request) (a : Answered) → find (is_track (machine_of q)) tracks ≡ found
+      → AnswersAbout found author tracks q a → Stays author tracks a.tracks
+  about_stays None tracks q a none told = subst (λ (b : Answered). Stays author tracks b.tracks) (sym told) (unknown_stays tracks q none)
+  about_stays (Some t) tracks q a found told = subst (λ (b : Answered). Stays author tracks b.tracks) (sym told.2) (changed_stays (machine_of q) told.0 tracks)
+
+  answered_stays : (tracks : List Track) (q : Request) (a : Answered) → Answers author tracks q a → Stays author tracks a.tracks
+  answered_stays tracks q a told = about_stays (find (is_track (machine_of q)) tracks) tracks q a refl told
+
+item_stays : (before : State) (item : Item) (reply : Reply) (after : State) → AnswersItem AnswersFor before item reply after → (after.author ≡ before.author) × Stays before.author before.tracks after.tracks
+item_stays before (Ok q) reply after told = (told.0, answered_stays before.author before.tracks q (record { reply = reply; tracks = after.tracks }) told.1)
+item_stays before (Err reason) reply after told =
+    (ap (λ (s : State). s.author) told.1, subst (λ (s : State). Stays before.author before.tracks s.tracks) (sym told.1) (stays_same before.author before.tracks))
+
+answers_stay : (before : State) (items : List Item) (replies : List Reply) (after : State) → AreAnswers AnswersFor before items replies after → Stays before.author before.tracks after.tracks
+answers_stay before [] replies after told = subst (λ (s : State). Stays before.author before.tracks s.tracks) (sym told.1) (stays_same before.author before.tracks)
+answers_stay before (item ∷ items) replies after told =
+    let one = item_stays before item told.0 told.1 told.3 in
+    let two : Stays before.author told.1.tracks after.tracks = subst (λ author. Stays author told.1.tracks after.tracks) one.0 (answers_stay told.1 items told.2 after told.5) in
+    stays_on before.author before.tracks told.1.tracks after.tracks one.1 two
+
+pub sessions_stay : SessionsStay
+sessions_stay before after items text output = answers_stay before items output.replies after output.answers

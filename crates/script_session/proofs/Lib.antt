@@ -1,0 +1,9 @@
+mod Places
+mod Answering
+mod Reading
+mod Opening
+mod Sources
+mod Once
+mod Computed
+mod Examples
+mod Growing

@@ -1,0 +1,52 @@
+-- What a session leaves of the tracks that it began with.
+use Rattle.std.specs.Prelude.{◌≡◌, ℕ, ◌≤◌, false, List, [], ◌∷◌, ◌++◌, map, length, bytes_eq}
+use Rattle.std.specs.List.{AllByRecursion}
+use Rattle.metric_table.specs.Limits.{most}
+use Rattle.metric_table.specs.declared.limits.Limit.TheVariants.{Machines}
+use Rattle.request_text.specs.Bodies.{Item}
+use Rattle.history_model.specs.declared.entries.Author.{Author}
+use Rattle.history_model.specs.declared.entries.Placed.{Placed}
+use Rattle.track_model.specs.Tracks.{Track}
+use Rattle.script_session.specs.Sessions.{State, AnswersFor}
+use Rattle.script_session.specs.Outputs.{IsOutput}
+
+abbrev pub AreBy : Author → List Placed → Type 0
+AreBy author entries = AllByRecursion (λ (p : Placed). p.author ≡ author) entries
+
+-- the same machine, with entries of the author more
+pub record Continues (author : Author) (old new : Track) : Type 0 where
+  pub machine : new.machine ≡ old.machine
+  pub kept : new.kept ≡ old.kept
+  pub added : List Placed
+  pub history : new.history ≡ old.history ++ added
+  pub by : AreBy author added
+
+-- a machine that the store had not
+abbrev pub IsNew : Author → Track → Type 0
+IsNew author t = (t.kept ≡ false) × AreBy author t.history
+
+-- the tracks go on in their order, and behind them come new ones
+abbrev pub Grows : Author → List Track → List Track → Type 0
+Grows author [] new = AllByRecursion (IsNew author) new
+Grows author (t ∷ old) [] = ⊥
+Grows author (t ∷ old) (u ∷ new) = Continues author t u × Grows author old new
+
+abbrev pub IsOther : List ℕ → List ℕ → Type 0
+IsOther name other = bytes_eq other name ≡ false
+
+abbrev pub AreDifferent : List (List ℕ) → Type 0
+AreDifferent [] = Unit {0}
+AreDifferent (name ∷ names) = AllByRecursion (IsOther name) names × AreDifferent names
+
+abbrev pub names_of : List Track → List (List ℕ)
+names_of tracks = map (λ (t : Track). t.machine) tracks
+
+-- the tracks grow, and stay of different machines, and few
+pub record Stays (author : Author) (old new : List Track) : Type 0 where
+  pub grows : Grows author old new
+  pub different : AreDifferent (names_of old) → AreDifferent (names_of new)
+  pub few : length old ≤ most Machines → length new ≤ most Machines
+
+-- so does every output leave them
+abbrev pub SessionsStay : Type 0
+SessionsStay = (before after : State) (items : List Item) (text : List ℕ) → IsOutput AnswersFor before items text after → Stays before.author before.tracks after.tracks

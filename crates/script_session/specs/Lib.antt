@@ -1,0 +1,9 @@
+pub mod Sessions
+pub mod Outputs
+pub mod Endings
+pub mod Places
+pub mod Stops
+pub mod Turns
+pub mod Laws
+pub mod Rows
+pub mod Growth

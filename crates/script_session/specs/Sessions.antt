@@ -1,0 +1,67 @@
+-- What one request of a script makes of the machines of a session: its reply, and their histories after it.
+use Rattle.std.specs.Prelude.{◌≡◌, ℕ, Bool, false, nat_le, if◌then◌else◌, List, [], ◌∷◌, ◌++◌, length, find, bytes_eq, Option, Some, None}
+use Rattle.metric_table.specs.Limits.{most}
+use Rattle.metric_table.specs.declared.limits.Limit.TheVariants.{Machines}
+use Rattle.request_model.specs.declared.requests.Request.{Request}
+use Rattle.request_model.specs.declared.requests.Request.TheVariants as request
+use Rattle.request_model.specs.declared.replies.Answer.TheVariants as answer
+use Rattle.request_model.specs.declared.replies.Refusal.TheVariants as refusal
+use Rattle.request_model.specs.declared.replies.Reply.{Reply}
+use Rattle.history_model.specs.declared.entries.Author.{Author}
+use Rattle.history_model.specs.Entries.{entries_of}
+use Rattle.track_model.specs.Outcomes.{Outcome, tells, refuses}
+use Rattle.track_model.specs.Replies.{machine_of, reply_of, apart}
+use Rattle.track_model.specs.Tracks.{Track, with_outcome, ComesTo}
+
+-- a reply, and the tracks after it, in order of declaration
+pub record Answered : Type 0 where
+  pub reply : Reply
+  pub tracks : List Track
+
+abbrev pub is_track : List ℕ → Track → Bool
+is_track machine t = bytes_eq t.machine machine
+
+-- the tracks, with the first of a machine changed
+abbrev pub changed : List ℕ → (Track → Track) → List Track → List Track
+changed machine change [] = []
+changed machine change (t ∷ tracks) = if is_track machine t then change t ∷ tracks else t ∷ changed machine change tracks
+
+-- an answer that names no history
+abbrev pub untouched : List Track → Outcome → Answered
+untouched tracks o = record { reply = apart o; tracks = tracks }
+
+-- ---- a machine more, where there is room
+abbrev pub new_track : List ℕ → Track
+new_track machine = record { machine = machine; kept = false; history = [] }
+
+abbrev pub added : List Track → List ℕ → Answered
+added tracks machine =
+    if nat_le (most Machines) (length tracks)
+    then untouched tracks (refuses (refusal.Full Machines))
+    else record { reply = apart (tells (answer.Machine machine)); tracks = tracks ++ new_track machine ∷ [] }
+
+-- ---- a request about a machine that is not declared: it declares the machine, or is refused
+abbrev pub unknown : List Track → Request → Answered
+unknown tracks (request.Machine machine) = added tracks machine
+unknown tracks q = untouched tracks (refuses refusal.UnknownMachine)
+
+-- ---- a request about a machine that is declared, which its history answers
+abbrev pub stepped : Author → List Track → Request → Track → Outcome → Answered
+stepped author tracks q t o =
+    record { reply = reply_of (entries_of t.history) o; tracks = changed (machine_of q) (λ u. with_outcome author u o) tracks }
+
+-- ---- any request
+abbrev pub AnswersAbout : Option Track → Author → List Track → Request → Answered → Type 0
+AnswersAbout None author tracks q answered = answered ≡ unknown tracks q
+AnswersAbout (Some t) author tracks q answered = (o : Outcome) × ComesTo (entries_of t.history) q o × (answered ≡ stepped author tracks q t o)
+
+abbrev pub Answers : Author → List Track → Request → Answered → Type 0
+Answers author tracks q answered = AnswersAbout (find (is_track (machine_of q)) tracks) author tracks q answered
+
+-- ---- a session: whose script it is, and the tracks
+pub record State : Type 0 where
+  pub author : Author
+  pub tracks : List Track
+
+abbrev pub AnswersFor : State → Request → Reply → State → Type 0
+AnswersFor before q reply after = (after.author ≡ before.author) × Answers before.author before.tracks q (record { reply = reply; tracks = after.tracks })

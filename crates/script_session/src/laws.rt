@@ -1,0 +1,34 @@
+//! Laws of the definitions, as public functions that do nothing: their contracts are what they are for.
+ghost use Rattle.script_session.specs.Sessions.{AnswersFor};
+ghost use Rattle.script_session.specs.Growth.{SessionsStay};
+ghost use Rattle.script_session.specs.Laws.{
+  AnswersOnce,
+  OutputsExist,
+  OutputsOnce,
+  OneScript,
+  ScriptsOnce,
+  BeginsOutput,
+  OpenIsFirst,
+};
+
+use request_text::reading_law;
+
+/// A request has one answer, requests have an output and no other, a script has one output and one ending, and what
+/// answers its first requests, or those before a fault of the input, begins that output.
+pub fn output_law()
+    ensures answer { AnswersOnce AnswersFor }
+    ensures some { OutputsExist AnswersFor }
+    ensures output { OutputsOnce AnswersFor }
+    ensures reading { OneScript }
+    ensures script { ScriptsOnce AnswersFor }
+    ensures begins { BeginsOutput AnswersFor }
+    ensures open { OpenIsFirst }
+{
+    reading_law();
+}
+
+/// A session leaves the machines that it began with in their order, each with entries of its own author more, and new ones
+/// behind them; they stay different and few.
+pub fn machines_law()
+    ensures { SessionsStay }
+{}

@@ -1,0 +1,33 @@
+//! What a script is answered: a fold of its requests over whatever answers a request, the text of the replies, and why
+//! it ends.
+//!
+//! A [`Desk`] answers requests one by one; a [`Session`] is the desk of one thread, with the machines that its scripts
+//! declare. [`answer_script`] reads the requests of an input one after another, has each answered, and writes the
+//! replies. Proved of it, over any desk: some items of the script were read and answered, and the output took their
+//! text: all of the script's at its end, all of the requests before the stop where the script is cut off, is too long or
+//! can't be read, and a first part where writing fails or memory is wanting; each stop has its exact cause in the bytes.
+//! [`output_law`] says that a script has one output and one ending, and that what answers its first requests begins that
+//! output; [`machines_law`] what a session leaves of the machines that it began with.
+//!
+//! `specs/Sessions.antt` says what one request makes of the machines, `specs/Outputs.antt` what the output of a script
+//! is, `specs/Endings.antt` how its answering ends, `specs/Rows.antt` which rows a session adds to a store,
+//! `specs/Growth.antt` and `specs/Laws.antt` the laws. What stands between two requests (`specs/Turns.antt`) and where a
+//! machine stands (`specs/Places.antt`) no public contract cites.
+//!
+//! Stands on `request_text` and `reply_text` for the texts of requests and replies, on `track_state` and `track_model`
+//! for a machine's answers, on `track_entry` for the rows, and on `track_outside` for sources and sinks.
+#![tactic(auto)]
+
+mod desk;
+mod laws;
+mod machines;
+mod script;
+mod session;
+mod stop;
+
+pub use desk::Desk;
+pub use laws::{machines_law, output_law};
+pub use script::answer_script;
+pub use session::Session;
+pub use std::alloc::AllocError as NoMemory;
+pub use stop::Stop;

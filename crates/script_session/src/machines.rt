@@ -1,0 +1,105 @@
+//! Requests, answered on the machine that each is about.
+ghost use Rattle.std.specs.Prelude.{◌≡◌, ◌<◌, IfOk, IfSome, IfNone, OnErr, find, length, None};
+ghost use Rattle.track_model.specs.Replies as replies;
+ghost use Rattle.track_model.specs.Tracks.{Track};
+ghost use Rattle.script_session.specs.Sessions.{is_track, added, unknown, Answers};
+ghost use Rattle.script_session.specs.Places.{IsFirstAt};
+
+use crate::NoMemory;
+use history_model::Author;
+use line_text::Name;
+use metric_table::Limit;
+use request_model::{Answer, Refusal, Reply, Request};
+use std::alloc::Global;
+use track_state::TrackState;
+
+// Answers a request of a script, and adds what it adds: a machine, or an entry of one. Where there is no memory nothing
+// changes.
+pub(crate) fn answer_request(
+    alloc: Global,
+    author: Author,
+    machines: &mut Vec<TrackState>,
+    request: &Request,
+) -> Result<Reply, NoMemory>
+    ensures ok { IfOk result (λ reply. Answers author machines.old.items request.now
+        (record { reply = reply; tracks = machines.new.items })) }
+    ensures err { OnErr result (machines.new.items ≡ machines.old.items) }
+{
+    match place_of(machines, machine_of(request)) {
+        Some(i) => machines[i].step(author, request),
+        None => answer_unknown(alloc, machines, request),
+    }
+}
+
+// Answers a request about a machine that isn't declared.
+fn answer_unknown(
+    alloc: Global,
+    machines: &mut Vec<TrackState>,
+    request: &Request,
+) -> Result<Reply, NoMemory>
+    ensures ok { IfOk result (λ reply.
+        record { reply = reply; tracks = machines.new.items }
+        ≡ unknown machines.old.items request.now) }
+    ensures err { OnErr result (machines.new.items ≡ machines.old.items) }
+{
+    match request {
+        Request::Machine { machine } => add_machine(alloc, machines, machine),
+        _ => Ok(apart(Answer::Refused(Refusal::UnknownMachine))),
+    }
+}
+
+// Declares a machine, if there are fewer than there may be.
+fn add_machine(
+    alloc: Global,
+    machines: &mut Vec<TrackState>,
+    machine: &Name,
+) -> Result<Reply, NoMemory>
+    ensures ok { IfOk result (λ reply.
+        record { reply = reply; tracks = machines.new.items }
+        ≡ added machines.old.items machine.now) }
+    ensures err { OnErr result (machines.new.items ≡ machines.old.items) }
+{
+    if machines.len() as u64 >= Limit::Machines.most() {
+        return Ok(apart(Answer::Refused(Refusal::Full(Limit::Machines))));
+    }
+    let answer = Answer::Machine {
+        machine: machine.copy(alloc)?,
+    };
+    machines.push(TrackState::new(alloc, machine.copy(alloc)?, false))?;
+    Ok(apart(answer))
+}
+
+// The place of a machine's track; none exactly where it isn't declared.
+fn place_of(machines: &[TrackState], machine: &Name) -> Option<usize>
+    ensures some { IfSome result (λ i. (t : Track) × IsFirstAt machine.now machines.now i t) }
+    ensures none { IfNone result (find (is_track machine.now) machines.now ≡ None) }
+{
+    let mut i = 0;
+    while i < machines.len() {
+        if machines[i].machine() == machine {
+            return Some(i);
+        }
+        i += 1;
+    }
+    None
+}
+
+// The machine that a request is about.
+fn machine_of(request: &Request) -> &Name
+    ensures { result.now ≡ replies.machine_of request.now }
+{
+    match request {
+        Request::Machine { machine } => machine,
+        Request::Commit { machine, .. } => machine,
+        Request::Submit { machine, .. } => machine,
+        Request::Retract { machine, .. } => machine,
+        Request::Runs { machine } => machine,
+    }
+}
+
+// An answer that names no history.
+pub(crate) fn apart(answer: Answer) -> Reply
+    ensures { result ≡ record { step = 0; answer = answer } }
+{
+    Reply { step: 0, answer }
+}

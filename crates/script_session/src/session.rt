@@ -1,0 +1,58 @@
+//! The machines of one thread.
+ghost use Rattle.std.specs.Prelude.{◌≡◌};
+
+use crate::NoMemory;
+use crate::desk::Desk;
+use crate::machines::answer_request;
+use history_model::Author;
+use request_model::{Reply, Request};
+use std::alloc::Global;
+use std::marker::Model;
+use track_state::TrackState;
+
+/// The machines of one thread, with the author of the entries that are added. Contracts see the author and the tracks, in
+/// order of declaration.
+#[derive(Drop)]
+pub struct Session {
+    alloc: Global,
+    author: Author,
+    machines: Vec<TrackState>,
+}
+
+impl Model for Session {
+    ghost use Rattle.script_session.specs.Sessions.{State};
+
+    ghost Value = { State };
+
+    ghost view = { λ s. record { author = s.author; tracks = s.machines.items } };
+}
+
+impl Session {
+    /// A session on these machines.
+    pub fn new(alloc: Global, author: Author, machines: Vec<TrackState>) -> Session
+        ensures { result ≡ record { author = author; tracks = machines.items } }
+    {
+        Session {
+            alloc,
+            author,
+            machines,
+        }
+    }
+
+    /// The machines. Takes no memory.
+    pub fn machines(&self) -> &[TrackState]
+        ensures { result.now ≡ self.now.tracks }
+    {
+        &self.machines
+    }
+}
+
+impl Desk for Session {
+    ghost use Rattle.script_session.specs.Sessions.{AnswersFor};
+
+    ghost answers = { AnswersFor };
+
+    fn answer(&mut self, request: &Request) -> Result<Reply, NoMemory> {
+        answer_request(self.alloc, self.author, &mut self.machines, request)
+    }
+}
