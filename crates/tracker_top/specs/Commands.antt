@@ -1,7 +1,7 @@
 -- Which words are a command.
 use Rattle.std.specs.Prelude.{◌≡◌, ℕ, ◌^◌, ◌≤◌, List, [], ◌∷◌, map, codes, decimal, String, string_bytes}
 use Rattle.tracker_top.specs.declared.command.Command.{Command}
-use Rattle.tracker_top.specs.declared.command.Command.TheVariants.{Cut}
+use Rattle.tracker_top.specs.declared.command.Command.TheVariants.{Cut, Apply}
 
 -- the bytes of the words
 abbrev pub texts : {A : Type 0} → List (String A) → List (List ℕ)
@@ -15,6 +15,7 @@ pub record IsCutCommand (words : List (List ℕ)) (penalty : ℕ) : Type 0 where
 -- the words are this command
 abbrev pub IsSpelled : List (List ℕ) → Command → Type 0
 IsSpelled words (Cut penalty) = IsCutCommand words penalty
+IsSpelled words Apply = words ≡ codes "apply" ∷ []
 
 -- the words are no command
 abbrev pub AreNoCommand : List (List ℕ) → Type 0
@@ -23,3 +24,4 @@ AreNoCommand words = (command : Command) → ¬ IsSpelled words command
 -- the numbers of the command are within their limits
 abbrev pub IsInRange : Command → Type 0
 IsInRange (Cut penalty) = penalty ≤ 10 ^ 36
+IsInRange Apply = Unit {0}

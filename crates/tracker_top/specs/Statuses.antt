@@ -1,15 +1,19 @@
 -- Which status is due, by the words and by the input's bytes.
-use Rattle.std.specs.Prelude.{◌≡◌, ℕ, ◌⊎◌, List}
+use Rattle.std.specs.Prelude.{◌≡◌, ℕ, ◌⊎◌, List, Result, Ok, Err}
 use Rattle.segment_model.specs.Segments.{Position}
+use Rattle.request_text.specs.Bodies.{Item}
+use Rattle.request_text.specs.Scripts.{Ending, end, cut_off, unfinished, IsScript}
+use Rattle.script_session.specs.declared.stop.Stop.{Stop as ScriptStop}
+use Rattle.script_session.specs.declared.stop.Stop.TheVariants as script
 use Rattle.cut_lines.specs.declared.stop.Refusal.TheVariants as refusal
 use Rattle.cut_lines.specs.declared.stop.Stop.{Stop}
 use Rattle.cut_lines.specs.declared.stop.Stop.TheVariants as stop
 use Rattle.cut_lines.specs.Reading.{ArePointsOf}
 use Rattle.cut_lines.specs.Stops.{BytesShow}
 use Rattle.tracker_top.specs.declared.command.Command.{Command}
-use Rattle.tracker_top.specs.declared.command.Command.TheVariants.{Cut}
+use Rattle.tracker_top.specs.declared.command.Command.TheVariants.{Cut, Apply}
 use Rattle.tracker_top.specs.declared.status.Status.{Status}
-use Rattle.tracker_top.specs.declared.status.Status.TheVariants.{Done, BadWords, ReadFault, WriteFault, NoMemory, InputTooLong, BadLine, Full}
+use Rattle.tracker_top.specs.declared.status.Status.TheVariants.{Done, BadWords, ReadFault, WriteFault, CutOff, NoMemory, InputTooLong, BadLine, Full}
 use Rattle.tracker_top.specs.Commands.{IsSpelled, AreNoCommand}
 
 -- the status at which a command ends where reading of its cut lines stops
@@ -20,15 +24,39 @@ status_of (stop.Refused refusal.Bad k) = BadLine k
 status_of (stop.Refused refusal.Full k) = Full k
 status_of stop.NoMemory = NoMemory
 
+-- the status at which a command ends where the answering of the script on standard input stops
+abbrev pub script_status_of : ScriptStop → Status
+script_status_of script.ReadFault = ReadFault
+script_status_of script.WriteFault = WriteFault
+script_status_of (script.CutOff offset) = CutOff 0 offset
+script_status_of script.InputTooLong = InputTooLong 0
+script_status_of script.NoMemory = NoMemory
+
+abbrev pub script_status : Result (Unit {0}) ScriptStop → Status
+script_status (Ok done) = Done
+script_status (Err stop) = script_status_of stop
+
 -- the bytes show this status of `cut`: it is Done and they have points, or they show the stop that it is the status of
 abbrev pub CutShows : List ℕ → Status → Type 0
 CutShows bytes status =
     ((status ≡ Done) × ((points : List Position) × ArePointsOf bytes points))
     ⊎ ((stop : Stop) × (status ≡ status_of stop) × BytesShow bytes stop)
 
+-- the status at which a command ends where the script on standard input ends so; it takes a byte past the most that are
+-- read where the script is unfinished
+abbrev pub ended : Ending → Status
+ended end = Done
+ended (cut_off offset) = CutOff 0 offset
+ended unfinished = InputTooLong 0
+
+-- the bytes show this status of `apply`: they are a script that ends so
+abbrev pub ScriptShows : List ℕ → Status → Type 0
+ScriptShows bytes status = (items : List Item) × (ending : Ending) × IsScript bytes items ending × (status ≡ ended ending)
+
 -- the input's bytes show this status of the command; they never show a fault or want of memory
 abbrev pub Shows : Command → List ℕ → Status → Type 0
 Shows (Cut penalty) bytes status = CutShows bytes status
+Shows Apply bytes status = ScriptShows bytes status
 
 -- the words and the bytes show this status: the words are no command, or one of which the bytes show it
 abbrev pub IsDue : List (List ℕ) → List ℕ → Status → Type 0
@@ -47,6 +75,7 @@ number_of Done = 0
 number_of BadWords = 2
 number_of ReadFault = 3
 number_of WriteFault = 4
+number_of (CutOff script offset) = 7
 number_of NoMemory = 8
 number_of (InputTooLong script) = 9
 number_of (BadLine k) = 10

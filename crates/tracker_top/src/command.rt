@@ -1,5 +1,5 @@
 //! The commands, and the words that spell them.
-ghost use Rattle.std.specs.Prelude.{ℕ, IfSome, IfNone};
+ghost use Rattle.std.specs.Prelude.{◌≡◌, ◌≢◌, ℕ, [], ◌∷◌, codes, IfSome, IfNone, IsTrue};
 ghost use Rattle.tracker_top.specs.Commands.{texts, IsCutCommand, IsSpelled, AreNoCommand};
 
 use line_text::read_u128;
@@ -12,6 +12,8 @@ const PENALTY_LIMIT: u128 = 1_000_000_000_000_000_000_000_000_000_000_000_000;
 pub enum Command {
     /// Reads cut lines, and prints the certificate of the best segmentation at this penalty.
     Cut(u128),
+    /// Answers the script that the input has.
+    Apply,
 }
 
 /// The command that the words are.
@@ -19,10 +21,24 @@ pub fn command_of(words: &[String]) -> Option<Command>
     ensures some { IfSome result (IsSpelled (texts words.now)) }
     ensures none { IfNone result (AreNoCommand (texts words.now)) }
 {
+    if are_apply(words) {
+        return Some(Command::Apply);
+    }
     match penalty_of(words) {
         Some(penalty) => Some(Command::Cut(penalty)),
         None => None,
     }
+}
+
+// Whether the words are `apply` alone.
+fn are_apply(words: &[String]) -> bool
+    ensures yes { IsTrue result → texts words.now ≡ codes "apply" ∷ [] }
+    ensures no { (¬ IsTrue result) → texts words.now ≢ codes "apply" ∷ [] }
+{
+    let [command] = words else {
+        return false;
+    };
+    command.as_str() == "apply"
 }
 
 // The penalty, where the words are `cut` and one of at most 10^36.

@@ -2,7 +2,8 @@
 ghost use Rattle.std.specs.Prelude.{◌≡◌};
 ghost use Rattle.tracker_top.specs.Statuses.{number_of};
 
-use cut_lines::{Refusal, Stop};
+use cut_lines::{Refusal, Stop as CutStop};
+use script_session::Stop as ScriptStop;
 use std::alloc::AllocError;
 
 /// How a command ends. A line is named by its number, from 1, and an input by its script's number, where standard
@@ -17,6 +18,8 @@ pub enum Status {
     ReadFault,
     /// The output failed.
     WriteFault,
+    /// This script ends inside the body of the request line that begins at this byte, or has a line there that is too long.
+    CutOff(u64, u64),
     /// There was no memory.
     NoMemory,
     /// A byte past the first 2^30 of this input was needed, and there is one.
@@ -37,6 +40,7 @@ impl Status {
             Status::BadWords => 2,
             Status::ReadFault => 3,
             Status::WriteFault => 4,
+            Status::CutOff(_, _) => 7,
             Status::NoMemory => 8,
             Status::InputTooLong(_) => 9,
             Status::BadLine(_) => 10,
@@ -57,19 +61,37 @@ impl From<AllocError> for Status {
 }
 
 /// How a command ends where reading of its cut lines stops.
-impl From<Stop> for Status {
+impl From<CutStop> for Status {
     ghost use Rattle.std.specs.Prelude.{◌≡◌};
     ghost use Rattle.tracker_top.specs.Statuses.{status_of};
 
     ghost from_gives = { λ stop status. status ≡ status_of stop };
 
-    fn from(stop: Stop) -> Status {
+    fn from(stop: CutStop) -> Status {
         match stop {
-            Stop::Fault => Status::ReadFault,
-            Stop::TooLong => Status::InputTooLong(0),
-            Stop::Refused(Refusal::Bad, line) => Status::BadLine(line),
-            Stop::Refused(Refusal::Full, line) => Status::Full(line),
-            Stop::NoMemory => Status::NoMemory,
+            CutStop::Fault => Status::ReadFault,
+            CutStop::TooLong => Status::InputTooLong(0),
+            CutStop::Refused(Refusal::Bad, line) => Status::BadLine(line),
+            CutStop::Refused(Refusal::Full, line) => Status::Full(line),
+            CutStop::NoMemory => Status::NoMemory,
+        }
+    }
+}
+
+/// How a command ends where the answering of the script on standard input stops.
+impl From<ScriptStop> for Status {
+    ghost use Rattle.std.specs.Prelude.{◌≡◌};
+    ghost use Rattle.tracker_top.specs.Statuses.{script_status_of};
+
+    ghost from_gives = { λ stop status. status ≡ script_status_of stop };
+
+    fn from(stop: ScriptStop) -> Status {
+        match stop {
+            ScriptStop::ReadFault => Status::ReadFault,
+            ScriptStop::WriteFault => Status::WriteFault,
+            ScriptStop::CutOff(offset) => Status::CutOff(0, offset),
+            ScriptStop::InputTooLong => Status::InputTooLong(0),
+            ScriptStop::NoMemory => Status::NoMemory,
         }
     }
 }

@@ -2,18 +2,20 @@
 ghost use Rattle.std.specs.Prelude.{◌≡◌, ◌≢◌, ◌^◌, ◌≤◌, ◌⊎◌, IfSome};
 ghost use Rattle.track_outside.specs.Counts.{Rose};
 ghost use Rattle.tracker_top.specs.declared.command.Command.{Command};
-ghost use Rattle.tracker_top.specs.declared.command.Command.TheVariants.{Cut};
+ghost use Rattle.tracker_top.specs.declared.command.Command.TheVariants.{Cut, Apply};
 ghost use Rattle.tracker_top.specs.Commands.{texts, IsSpelled, IsInRange, AreNoCommand};
 ghost use Rattle.tracker_top.specs.Statuses.{IsDue, OneStatusIsDue};
-ghost use Rattle.tracker_top.specs.Answers.{IsAnswer};
-ghost use Rattle.tracker_top.specs.Endings.{EndsInput, EndsOutput, IsTold};
+ghost use Rattle.tracker_top.specs.Answers.{IsCertificateText};
+ghost use Rattle.tracker_top.specs.Endings.{EndsInput, EndsOutput, Ends, IsTold};
 
 use crate::command::{Command, command_of};
 use crate::printing::put_status;
 use crate::status::Status;
 use cost_certificate::put_cert;
 use cut_lines::{one_stop_law, read_points};
+use history_model::Author;
 use pelt_core::segmentation;
+use script_session::{Session, answer_script, output_law};
 use std::alloc::Global;
 use track_outside::{Sink, Source, put_all};
 
@@ -23,17 +25,20 @@ pub fn one_status_law()
     ensures { OneStatusIsDue }
 {
     one_stop_law();
+    output_law();
 }
 
 /// Runs the command that the words are, those behind the program's name, and answers how it ends.
 ///
 /// `cut PENALTY`, with a number of at most 10^36, reads cut lines from the input, an order and a value each, and writes
-/// the certificate of the best segmentation of their points to `out`, in seven lines. The status' line goes to `err`;
-/// where that fails the status stands. At most 2^30 bytes of an input are read, and one more to see that there are no
-/// more. The texts are those of docs/FORMATS.md, the statuses those of docs/COMMANDS.md.
+/// the certificate of the best segmentation of their points to `out`, in seven lines. `apply` reads the requests of a
+/// script from the input, answers one after another on the machines that it declares, and writes the replies to `out`.
+/// The status' line goes to `err`; where that fails the status stands. At most 2^30 bytes of an input are read, and one
+/// more to see that there are no more. The texts are those of docs/FORMATS.md, the statuses those of docs/COMMANDS.md.
 ///
-/// Linear in the bytes read, quadratic in the positions, linear in the values for each position. Memory is linear in
-/// the values; 64 KiB of the input are held at once.
+/// Linear in the bytes read. `cut` is quadratic in the positions, and linear in the values for each position; its memory
+/// is linear in the values. `apply` takes what each request takes of its machine's state (`TrackState::step`), and keeps
+/// the histories, one line and one body.
 pub fn alone<I: Source, O: Sink>(
     alloc: Global,
     words: &[String],
@@ -45,11 +50,10 @@ pub fn alone<I: Source, O: Sink>(
     ensures bad_words { result ≡ Status.BadWords → AreNoCommand (texts words.now) }
     ensures untouched { result ≡ Status.BadWords → (input.new ≡ input.old) × (out.new ≡ out.old) }
 
-    // Else they are a command, which ends so on the input and the output.
+    // Else they are a command, which ends so on the input and the output, as `Ends` says of each.
     ensures command { result ≢ Status.BadWords → (command : Command)
         × IsSpelled (texts words.now) command
-        × EndsInput I.Source command input.old input.new result
-        × EndsOutput O.Sink (IsAnswer command (I.left input.old)) out.old out.new result }
+        × Ends I.Source O.Sink command input.old input.new out.old out.new result }
 
     // What is due comes, unless an object fails or memory is wanting. So good words and good input are Done.
     ensures complete { IfSome (I.left input.old) (λ bytes. (status : Status)
@@ -80,20 +84,19 @@ fn run_command<I: Source, O: Sink>(
     out: &mut O,
 ) -> Status
     requires { IsInRange command }
-    ensures input { EndsInput I.Source command input.old input.new result }
-    ensures output { EndsOutput O.Sink (IsAnswer command (I.left input.old))
-        out.old out.new result }
+    ensures { Ends I.Source O.Sink command input.old input.new out.old out.new result }
 {
     match command {
         Command::Cut(penalty) => cut(alloc, penalty, input, out),
+        Command::Apply => apply(alloc, input, out),
     }
 }
 
 // Reads the lines, and prints the certificate of their points.
 fn cut<I: Source, O: Sink>(alloc: Global, penalty: u128, input: &mut I, out: &mut O) -> Status
     requires { penalty ≤ 10 ^ 36 }
-    ensures input { EndsInput I.Source (Cut penalty) input.old input.new result }
-    ensures output { EndsOutput O.Sink (IsAnswer (Cut penalty) (I.left input.old))
+    ensures input { EndsInput I.Source input.old input.new result }
+    ensures output { EndsOutput O.Sink (IsCertificateText penalty (I.left input.old))
         out.old out.new result }
 {
     let points = match read_points(alloc, input) {
@@ -110,5 +113,16 @@ fn cut<I: Source, O: Sink>(alloc: Global, penalty: u128, input: &mut I, out: &mu
     match put_all(out, &text) {
         Ok(()) => Status::Done,
         Err(_) => Status::WriteFault,
+    }
+}
+
+// Answers the script, and writes the replies.
+fn apply<I: Source, O: Sink>(alloc: Global, input: &mut I, out: &mut O) -> Status
+    ensures { Ends I.Source O.Sink Apply input.old input.new out.old out.new result }
+{
+    let mut session = Session::new(alloc, Author::Script(1), Vec::new(alloc));
+    match answer_script(alloc, &mut session, input, out) {
+        Ok(()) => Status::Done,
+        Err(stop) => Status::from(stop),
     }
 }
