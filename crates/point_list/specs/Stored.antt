@@ -1,5 +1,6 @@
--- Private: no public contract cites this. A position's steps and values, kept side by side.
-use Rattle.std.specs.Prelude.{ℕ, ℤ, List, [], ◌∷◌}
+-- Private: no public contract cites this. A position's values in cells, and behind these as many cells of steps.
+use Rattle.std.specs.Prelude.{◌≡◌, ℕ, ℤ, ◌/◌, ◌*◌, ◌<◌, ◌≤◌, List, [], ◌∷◌, length, map, take, drop}
+use Rattle.std.specs.Int.{w64, cast_unsigned}
 use Rattle.segment_model.specs.Segments.{Observation}
 
 -- steps and values side by side
@@ -7,3 +8,21 @@ abbrev pub samples_of : List ℕ → List ℤ → List Observation
 samples_of [] values = []
 samples_of (s ∷ steps) [] = []
 samples_of (s ∷ steps) (v ∷ values) = record { step = s; value = v } ∷ samples_of steps values
+
+-- the steps that signed numbers of the same bits stand for
+abbrev pub as_steps : List ℤ → List ℕ
+as_steps cells = map (cast_unsigned w64) cells
+
+-- the cells of values; as many for their steps stand behind them
+abbrev pub half : List ℤ → ℕ
+half cells = length cells / 2
+
+-- the first values with their steps
+abbrev pub samples_in : ℕ → List ℤ → List Observation
+samples_in count cells = samples_of (as_steps (take count (drop (half cells) cells))) (take count cells)
+
+-- there are two halves that are not empty, each with room for so many
+pub record HasHalves (count : ℕ) (cells : List ℤ) : Type 0 where
+  pub some : 0 < half cells
+  pub even : 2 * half cells ≡ length cells
+  pub within : count ≤ half cells

@@ -1,5 +1,5 @@
 //! The list of positions: values put in and taken out.
-ghost use Rattle.std.specs.Prelude.{◌≡◌, ◌≢◌, ◌+◌, ◌<◌, ◌≤◌, ◌↔◌, List, [], ◌∷◌, length, OnOk, OnErr, IfOk, IsTrue, slice_index, Err, false, true, get_or, All};
+ghost use Rattle.std.specs.Prelude.{◌≡◌, ◌≢◌, ◌+◌, ◌<◌, ◌≤◌, ◌↔◌, ℕ, List, [], ◌∷◌, length, OnOk, OnErr, IfOk, IsTrue, slice_index, Err, false, true, get_or, All};
 ghost use Rattle.std.specs.List.Sorted.{IsStrictlyIncreasing};
 ghost use Rattle.segment_model.specs.Segments.{Position, segment, values_of};
 ghost use Rattle.segment_model.specs.Limits.{commits_of, HasValue, WithinLimits};
@@ -110,8 +110,8 @@ impl Points {
     /// Puts a value into its commit's position, as the last one, or into a new position in its place.
     ///
     /// Changes nothing where it fails. `SamplesFull` comes exactly where there are 65,536 values, `PositionsFull` exactly
-    /// where else the commit has no position and there are 16,384. Logarithmic time, but for growing and for moving the
-    /// positions behind a new one.
+    /// where else the commit has no position and there are 16,384. Constant time, amortized, where no commit is greater;
+    /// else logarithmic time, but for growing and for moving the positions behind a new one.
     pub fn insert(&mut self, commit: u64, step: u64, value: i64) -> Result<(), PointFault>
         requires { MayCome self.old commit step value }
         ensures ok { OnOk result
@@ -126,11 +126,12 @@ impl Points {
         if self.values >= MOST_VALUES {
             return Err(PointFault::SamplesFull);
         }
-        let there = self.has(commit);
+        let place = place_of(&self.positions, commit);
+        let there = is_at(&self.positions, place, commit);
         if !there && self.positions.len() >= MOST_POSITIONS {
             return Err(PointFault::PositionsFull);
         }
-        put_in(self.alloc, &mut self.positions, commit, step, value)?;
+        put_in(self.alloc, &mut self.positions, place, commit, step, value)?;
         self.values += 1;
         Ok(())
     }
@@ -168,26 +169,27 @@ impl Points {
     }
 }
 
-// Puts a value into the commit's position, or into a new one in its place; changes nothing where there is no memory.
+// Puts a value into the commit's position, or into a new one, at its place; changes nothing where there is no memory.
 fn put_in(
     alloc: Global,
     positions: &mut Vec<StoredPosition>,
+    place: usize,
     commit: u64,
     step: u64,
     value: i64,
 ) -> Result<(), NoMemory>
-    requires { IsStrictlyIncreasing (commits_of positions.old.items) }
+    requires rising { IsStrictlyIncreasing (commits_of positions.old.items) }
+    requires place { StandsAt commit positions.old.items place }
+    requires within { place ≤ length positions.old.items }
     ensures ok { OnOk result (positions.new.items
         ≡ inserted commit (record { step = step; value = value }) positions.old.items) }
     ensures err { OnErr result (positions.new.items ≡ positions.old.items) }
 {
-    let place = place_of(positions, commit);
     if is_at(positions, place, commit) {
         let position = &mut positions[place];
         return position.push(step, value);
     }
-    let position = StoredPosition::of(alloc, commit, step, value)?;
-    positions.insert(place, position)?;
+    positions.insert(place, StoredPosition::of(alloc, commit, step, value))?;
     Ok(())
 }
 
@@ -217,7 +219,7 @@ fn place_of(positions: &[StoredPosition], commit: u64) -> usize
     ensures stands { StandsAt commit positions.now result }
     ensures within { result ≤ length positions.now }
 {
-    let mut low = 0;
+    let mut low = from_the_end(positions, commit);
     let mut high = positions.len();
     while low < high {
         let middle = low + (high - low) / 2;
@@ -229,6 +231,28 @@ fn place_of(positions: &[StoredPosition], commit: u64) -> usize
         }
     }
     low
+}
+
+// A place before which each commit is below this one: the last position's or the end where this one is not below the last
+// commit, so that values in order need no search; else the first.
+fn from_the_end(positions: &[StoredPosition], commit: u64) -> usize
+    requires { IsStrictlyIncreasing (commits_of positions.now) }
+    ensures within { result ≤ length positions.now }
+    ensures below { (k : ℕ) (d : Position) → k < result → (get_or positions.now k d).commit < commit }
+{
+    let count = positions.len();
+    if count == 0 {
+        return 0;
+    }
+    let last = count - 1;
+    let position = &positions[last];
+    if position.commit() > commit {
+        return 0;
+    }
+    if position.commit() == commit {
+        return last;
+    }
+    last + 1
 }
 
 // Whether the commit's position stands at its place.

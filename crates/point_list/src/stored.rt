@@ -1,63 +1,63 @@
 //! One position, as it is stored.
-ghost use Rattle.std.specs.Prelude.{◌≡◌, ◌+◌, ℕ, List, [], ◌∷◌, ◌++◌, length, OnOk, OnErr, IfOk, filter, take, ◌≤◌, ◌<◌, pos, slice_set, slice_index_or};
+ghost use Rattle.std.specs.Prelude.{◌≡◌, ◌+◌, ◌*◌, ℕ, List, [], ◌∷◌, ◌++◌, length, OnOk, OnErr, IfOk, filter, take, drop, ◌≤◌, ◌<◌, pos, slice_set, slice_index_or};
+ghost use Rattle.std.specs.Int.{w64, cast_unsigned};
 ghost use Rattle.segment_model.specs.Segments.{position_values};
 ghost use Rattle.segment_model.specs.Edits.{with_value, position_of, by_another, same_position};
-ghost use Rattle.point_list.specs.Stored.{samples_of};
+ghost use Rattle.point_list.specs.Stored.{HasHalves, as_steps, samples_of, samples_in};
 
 use crate::NoMemory;
+use smallvec::SmallVec;
 use std::alloc::Global;
 use std::marker::Model;
 
-// One position: its commit, and its steps and values side by side.
+// One position: its commit, and its values with the steps that brought them. One value takes no memory of its own, more
+// take one block.
 #[derive(Drop)]
 pub struct StoredPosition {
     commit: u64,
-    steps: Vec<u64>,
-    values: Vec<i64>,
+    count: usize,
+    // Cells for values, and behind them as many for their steps, as signed numbers of the same bits. The first `count` of
+    // each are in use.
+    cells: SmallVec<i64, 2>,
 }
 
 impl Model for StoredPosition {
-    ghost use Rattle.std.specs.Prelude.{◌≡◌, length};
     ghost use Rattle.segment_model.specs.Segments.{Position};
-    ghost use Rattle.point_list.specs.Stored.{samples_of};
+    ghost use Rattle.point_list.specs.Stored.{HasHalves, samples_in};
 
     ghost Value = { Position };
 
-    ghost view = { λ p. record {
-      commit = p.commit;
-      samples = samples_of p.steps.items p.values.items;
-    } };
+    ghost view = { λ p. record { commit = p.commit; samples = samples_in p.count p.cells.items } };
 
-    ghost invariant = { λ p. length p.steps.items ≡ length p.values.items };
+    ghost invariant = { λ p. HasHalves p.count p.cells.items };
 }
 
 impl StoredPosition {
     // The position of one value.
-    pub fn of(alloc: Global, commit: u64, step: u64, value: i64) -> Result<StoredPosition, NoMemory>
-        ensures { IfOk result
-            (λ made. made ≡ position_of commit (record { step = step; value = value })) }
+    pub fn of(alloc: Global, commit: u64, step: u64, value: i64) -> StoredPosition
+        ensures { result ≡ position_of commit (record { step = step; value = value }) }
     {
-        let mut steps = Vec::new(alloc);
-        let mut values = Vec::new(alloc);
-        steps.push(step)?;
-        values.push(value)?;
-        Ok(StoredPosition {
+        StoredPosition {
             commit,
-            steps,
-            values,
-        })
+            count: 1,
+            cells: SmallVec::from_buf(alloc, [value, step.cast_signed()]),
+        }
     }
 
-    // Adds a value at the end; changes nothing where there is no memory.
+    // Adds a value at the end; changes nothing where there is no memory. Constant time, amortized.
     pub fn push(&mut self, step: u64, value: i64) -> Result<(), NoMemory>
         ensures ok { OnOk result
             (self.new ≡ with_value (record { step = step; value = value }) self.old) }
         ensures err { OnErr result (self.new ≡ self.old) }
     {
-        self.steps.reserve(1)?;
-        self.values.reserve(1)?;
-        self.steps.push_reserved(step);
-        self.values.push_reserved(value);
+        make_room(&mut self.cells, self.count)?;
+        put_behind(
+            self.cells.as_mut_slice(),
+            self.count,
+            step.cast_signed(),
+            value,
+        );
+        self.count += 1;
         Ok(())
     }
 
@@ -69,10 +69,9 @@ impl StoredPosition {
         } }
         ensures gone { length self.new.samples + result ≡ length self.old.samples }
     {
-        let before = self.values.len();
-        let kept = keep_others(step, &mut self.steps, &mut self.values);
-        self.steps.truncate(kept);
-        self.values.truncate(kept);
+        let before = self.count;
+        let kept = keep_others(step, self.cells.as_mut_slice(), before);
+        self.count = kept;
         before - kept
     }
 
@@ -85,20 +84,20 @@ impl StoredPosition {
     pub fn len(&self) -> usize
         ensures { result ≡ length self.now.samples }
     {
-        self.values.len()
+        self.count
     }
 
     pub fn values(&self) -> &[i64]
         ensures { result.now ≡ position_values self.now }
     {
-        &self.values
+        &self.cells.as_slice()[..self.count]
     }
 
     // Whether both have one commit and equal values.
     pub fn is_same(&self, other: &StoredPosition) -> bool
         ensures { result ≡ same_position self.now other.now }
     {
-        self.commit == other.commit && self.values.as_slice() == other.values.as_slice()
+        self.commit == other.commit && self.values() == other.values()
     }
 
     pub fn copy(&self, alloc: Global) -> Result<StoredPosition, NoMemory>
@@ -106,25 +105,71 @@ impl StoredPosition {
     {
         Ok(StoredPosition {
             commit: self.commit,
-            steps: Vec::from_slice(alloc, &self.steps)?,
-            values: Vec::from_slice(alloc, &self.values)?,
+            count: self.count,
+            cells: SmallVec::from_slice(alloc, self.cells.as_slice())?,
         })
     }
 }
 
-// Moves what came by other steps to the front, in order, and gives its count.
-fn keep_others(step: u64, steps: &mut [u64], values: &mut [i64]) -> usize
-    requires { length steps.old ≡ length values.old }
-    ensures kept { samples_of (take result steps.new) (take result values.new)
-        ≡ filter (by_another step) (samples_of steps.old values.old) }
-    ensures within { result ≤ length values.old }
+// Makes both halves of the cells twice as long where all are in use; what the new cells hold means nothing.
+fn make_room(cells: &mut SmallVec<i64, 2>, count: usize) -> Result<(), NoMemory>
+    requires { HasHalves count cells.old.items }
+    ensures halves { OnOk result (HasHalves (count + 1) cells.new.items) }
+    ensures same { OnOk result (samples_in count cells.new.items ≡ samples_in count cells.old.items) }
+    ensures err { OnErr result (cells.new.items ≡ cells.old.items) }
+{
+    let half = cells.len() / 2;
+    if count < half {
+        return Ok(());
+    }
+    let (values, steps) = cells.as_slice().split_at(half);
+    let mut wider = SmallVec::with_capacity(*cells.allocator(), 4 * half)?;
+    wider.extend_from_slice(values)?;
+    wider.extend_from_slice(values)?;
+    wider.extend_from_slice(steps)?;
+    wider.extend_from_slice(steps)?;
+    *cells = wider;
+    Ok(())
+}
+
+// Puts a value behind the values in use, and its step behind theirs.
+fn put_behind(cells: &mut [i64], count: usize, step: i64, value: i64)
+    requires { HasHalves (count + 1) cells.old }
+    ensures put { samples_in (count + 1) cells.new ≡ samples_in count cells.old
+        ++ record { step = cast_unsigned w64 step; value = value } ∷ [] }
+    ensures length { length cells.new ≡ length cells.old }
+{
+    let (values, steps) = cells.split_at_mut(cells.len() / 2);
+    steps[count] = step;
+    values[count] = value;
+}
+
+// Moves what came by other steps to the fronts of both halves, and gives its count.
+fn keep_others(step: u64, cells: &mut [i64], count: usize) -> usize
+    requires { HasHalves count cells.old }
+    ensures kept { samples_in result cells.new ≡ filter (by_another step) (samples_in count cells.old) }
+    ensures within { result ≤ count }
+    ensures length { length cells.new ≡ length cells.old }
+{
+    let (values, steps) = cells.split_at_mut(cells.len() / 2);
+    keep_apart(step, steps, values, count)
+}
+
+// Moves what came by other steps to the front of the steps and of their values, and gives its count.
+fn keep_apart(step: u64, steps: &mut [i64], values: &mut [i64], count: usize) -> usize
+    requires steps { count ≤ length steps.old }
+    requires values { count ≤ length values.old }
+    ensures kept { samples_of (as_steps (take result steps.new)) (take result values.new)
+        ≡ filter (by_another step) (samples_of (as_steps (take count steps.old)) (take count values.old)) }
+    ensures within { result ≤ count }
+    ensures steps { length steps.new ≡ length steps.old }
+    ensures values { length values.new ≡ length values.old }
 {
     let mut kept = 0;
-    for i in 0..steps.len() {
-        let s = steps[i];
-        if s != step {
-            steps[kept] = s;
-            copy_within(values, kept, i);
+    for i in 0..count {
+        if steps[i].cast_unsigned() != step {
+            copy_one(steps, kept, i);
+            copy_one(values, kept, i);
             kept += 1;
         }
     }
@@ -132,7 +177,7 @@ fn keep_others(step: u64, steps: &mut [u64], values: &mut [i64]) -> usize
 }
 
 // Writes the value at one place to another.
-fn copy_within(values: &mut [i64], to: usize, from: usize)
+fn copy_one(values: &mut [i64], to: usize, from: usize)
     requires to { to < length values.old }
     requires from { from < length values.old }
     ensures { values.new ≡ slice_set values.old to (slice_index_or values.old from (pos 0)) }

@@ -33,6 +33,21 @@ fn values_come_and_go_in_any_order(rt: HostRuntime) -> Result<(), PointFault> {
     Ok(())
 }
 
+// A copy has the positions as they were, whatever becomes of the points.
+#[test]
+fn copies_stand_alone(rt: HostRuntime) -> Result<(), PointFault> {
+    let alloc = rt.alloc();
+    let mut points = points_of(alloc, &[(10, 1), (20, 2), (20, 3)])?;
+    let copy = points.copy(alloc)?;
+    points.remove(20, 1);
+    assert_eq!(rt; (points.count(), copy.count()), (2, 3));
+    assert_eq!(rt; common_prefix(&points, &copy), 1);
+    assert_eq!(rt; copy.commit(0), 10);
+    assert_eq!(rt; copy.values(0), [1].as_slice());
+    assert_eq!(rt; copy.values(1), [2, 3].as_slice());
+    Ok(())
+}
+
 // A value more is refused where there are 65,536.
 fn is_full_of_values(alloc: Global) -> Result<bool, PointFault> {
     let mut points = Points::new(alloc);

@@ -1,0 +1,15 @@
+use Rattle.std.proofs.Common.{◌≡◌, List, ℤ, FitsSigned, take, drop}
+use Rattle.std.specs.Int.{w64}
+use Rattle.std.proofs.lemmas.Int.{to_z-of_z}
+use Rattle.point_list.specs.Stored.{half}
+use Rattle.point_list.proofs.Samples.{samples-put}
+use Rattle.point_list.proofs.stored.put_behind.Goals as goal
+
+pub returns-clause-put : goal.returns-clause-put
+returns-clause-put c =
+    let cells : List ℤ = c.args.cells.now in
+    let value_fits : FitsSigned w64 c.args.value = c.ranges.value in
+    let step_fits : FitsSigned w64 c.args.step = c.ranges.step in
+    let front : c.split_at_mut-values.result.0.now ≡ take (half cells) cells = c.split_at_mut-values.ensures.front in
+    let back : c.split_at_mut-values.result.1.now ≡ drop (half cells) cells = c.split_at_mut-values.ensures.back in
+    rw (front, back) (simp to_z-of_z (samples-put cells c.args.count c.args.step c.args.value c.requires))
