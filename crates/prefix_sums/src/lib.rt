@@ -9,6 +9,7 @@
 
 mod prefixes;
 mod seen;
+mod sum_list;
 mod sums;
 #[cfg(test)]
 mod tests;

@@ -5,6 +5,7 @@ ghost use Rattle.prefix_sums.specs.Sums.{AreSums};
 
 use crate::NoMemory;
 use crate::seen::{Change, Seen};
+use crate::sum_list::SumList;
 use crate::sums::Sums;
 use segment_model::{sums_law, values_law};
 use std::alloc::Global;
@@ -18,17 +19,16 @@ use std::marker::Model;
 #[derive(Drop)]
 pub struct PrefixSums {
     // At index i the sums of the first i + 1 positions.
-    sums: Vec<Sums>,
+    sums: SumList,
     seen: Seen,
 }
 
 impl Model for PrefixSums {
-    ghost use Rattle.std.specs.Prelude.{◌-◌, vec_len, vec_capacity};
     ghost use Rattle.prefix_sums.specs.Prefixes.{Summed, ArePrefixSums};
 
     ghost Value = { Summed };
 
-    ghost view = { λ p. record { positions = p.seen.positions; spare = vec_capacity p.sums - vec_len p.sums } };
+    ghost view = { λ p. record { positions = p.seen.positions; spare = p.sums.spare } };
 
     ghost invariant = { λ p. ArePrefixSums p.seen.positions p.sums.items };
 }
@@ -39,7 +39,7 @@ impl PrefixSums {
         ensures { result.positions ≡ [] }
     {
         PrefixSums {
-            sums: Vec::new(alloc),
+            sums: SumList::new(alloc),
             seen: Seen::none(),
         }
     }
@@ -105,7 +105,8 @@ impl PrefixSums {
     pub fn part(&self, s: usize, t: usize) -> Sums
         requires rising { s ≤ t }
         requires placed { t ≤ length self.now.positions }
-        ensures { AreSums (values_between self.now.positions s t) result.count result.sum result.squares }
+        ensures { AreSums (values_between self.now.positions s t)
+            result.count result.sum result.squares }
     {
         values_law();
         sums_law();
@@ -120,10 +121,10 @@ impl PrefixSums {
 }
 
 // The sums of the first t positions, of the sums of all first positions but none.
-fn up_to(sums: &[Sums], t: usize) -> Sums
-    requires { t ≤ length sums.now }
+fn up_to(sums: &SumList, t: usize) -> Sums
+    requires { t ≤ length sums.now.items }
     ensures none { t ≡ 0 → result ≡ record { count = 0; sum = pos 0; squares = pos 0 } }
-    ensures some { (i : ℕ) (d : _) → t ≡ i + 1 → result ≡ slice_index_or sums.now i d }
+    ensures some { (i : ℕ) (d : _) → t ≡ i + 1 → result ≡ slice_index_or sums.now.items i d }
 {
-    if t == 0 { Sums::NONE } else { sums[t - 1] }
+    if t == 0 { Sums::NONE } else { sums.at(t - 1) }
 }
