@@ -1,5 +1,6 @@
 //! The cost about a whole number.
-ghost use Rattle.std.specs.Prelude.{◌≡◌, ℤ, ◌^◌, ◌<◌, ◌≤◌, List, length, IfOk, unsigned_abs};
+ghost use Rattle.std.specs.Prelude.{◌≡◌, ℤ, ◌^◌, ◌<◌, ◌≤◌, List, length, IfOk, unsigned_abs, pos, ◌<ℤ◌, ◌-ℤ◌, ◌*ℤ◌};
+ghost use Rattle.std.specs.Int.{int_div_euclid};
 ghost use Rattle.segment_model.specs.Segments.{IsCentre, IsLeastSum};
 ghost use Rattle.segment_model.specs.Computed.{sum_of, centre_by_division, least_sum_of};
 ghost use Rattle.segment_model.specs.Values.{AreWithinLimits, values_by_position};
@@ -118,7 +119,21 @@ fn centre(sums: Sums) -> i128
 {
     centre_law();
     let n = i128::from(sums.count);
-    (2 * sums.sum + n - 1).div_euclid(2 * n)
+    rounded_down(2 * sums.sum + n - 1, 2 * n)
+}
+
+// The quotient rounded down, by a division of 64 bits where both numbers fit.
+fn rounded_down(number: i128, divisor: i128) -> i128
+    requires { pos 0 <ℤ divisor }
+    ensures { result ≡ int_div_euclid number divisor }
+{
+    let Ok(small) = i64::try_from(number) else {
+        return number.div_euclid(divisor);
+    };
+    let Ok(by) = i64::try_from(divisor) else {
+        return number.div_euclid(divisor);
+    };
+    i128::from(small.div_euclid(by))
 }
 
 // The least sum of squares of the values about a whole number.
@@ -130,5 +145,14 @@ fn least_sum(sums: Sums) -> i128
     sums_law();
     centre_law();
     let c = centre(sums);
-    sums.squares - c * (2 * sums.sum - i128::from(sums.count) * c)
+    sums.squares - c * twice_less(sums, c)
+}
+
+// Twice the sum, less the count times a number.
+fn twice_less(sums: Sums, c: i128) -> i128
+    requires range { IsInRange sums.count sums.sum sums.squares }
+    requires small { unsigned_abs c ≤ 10 ^ 16 }
+    ensures { result ≡ pos 2 *ℤ sums.sum -ℤ pos sums.count *ℤ c }
+{
+    2 * sums.sum - i128::from(sums.count) * c
 }

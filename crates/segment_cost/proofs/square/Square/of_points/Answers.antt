@@ -1,5 +1,4 @@
-use Rattle.std.proofs.Common.{◌≡◌, List, ℤ, ◌<◌, ◌≤◌, [], ◌∷◌, ◌++◌, take, length, ap, ◌∙◌, arith}
-use Rattle.segment_model.specs.Values.{values_by_position}
+use Rattle.std.proofs.Common.{◌<◌, length, ◌∙◌, arith}
 use Rattle.segment_model.proofs.Filling.{filled-next, filled-within, filled-all}
 use Rattle.segment_cost.proofs.square.Square.of_points.Goals as goal
 
