@@ -2,3 +2,4 @@ pub mod Seen
 pub mod Candidates
 pub mod Bounds
 pub mod Rows
+pub mod Best

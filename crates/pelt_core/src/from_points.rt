@@ -17,6 +17,6 @@ pub fn segmentation(alloc: Global, points: &Points, penalty: i128) -> Result<Cer
 {
     certificate_law();
     let table = Table::<Square>::of_points(alloc, points, penalty)?;
-    let cert = table.certificate(alloc)?;
+    let cert = table.into_certificate(alloc)?;
     Ok(cert)
 }

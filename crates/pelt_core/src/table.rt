@@ -39,6 +39,7 @@ impl<C: Cost> Model for Table<C> {
 
 impl<C: Cost + Drop> Table<C> {
     ghost use Rattle.pelt_core.specs.Seen.{table_of};
+    ghost use Rattle.pelt_core.specs.Best.{IsBestOf};
     ghost use Rattle.segment_cost.specs.Certificate.{IsCertificate};
 
     /// The table of no positions, in O(1).
@@ -140,6 +141,60 @@ impl<C: Cost + Drop> Table<C> {
             (cost_between C.cost_of self.now.positions) (length self.now.positions)
             self.now.penalty cert) }
     {
+        let best = self.best(alloc)?;
+        Ok(Cert {
+            points: self.cost.len() as u64,
+            penalty: self.penalty,
+            cuts: Numbers::of(best.cuts),
+            total: best.total,
+            least: Costs::of(Vec::from_slice(alloc, &self.rows.least)?),
+            back: Numbers::of(Vec::from_slice(alloc, &self.rows.back)?),
+            pruned: Numbers::of(Vec::from_slice(alloc, &self.rows.pruned)?),
+        })
+    }
+
+    /// The same of a table that is done with: its lists become those of the certificate.
+    ///
+    /// O(n) time for n positions, and memory for the cuts alone.
+    pub fn into_certificate(self, alloc: Global) -> Result<Cert, NoMemory>
+        ensures { IfOk result (λ cert. IsCertificate
+            (cost_between C.cost_of self.positions) (length self.positions) self.penalty cert) }
+    {
+        let best = self.best(alloc)?;
+        let Table {
+            cost,
+            penalty,
+            rows,
+        } = self;
+        let points = cost.len() as u64;
+        drop(cost);
+        let Rows {
+            least,
+            back,
+            pruned,
+            candidates,
+            bounds,
+            ..
+        } = rows;
+        drop(candidates);
+        drop(bounds);
+        Ok(Cert {
+            points,
+            penalty,
+            cuts: Numbers::of(best.cuts),
+            total: best.total,
+            least: Costs::of(least),
+            back: Numbers::of(back),
+            pruned: Numbers::of(pruned),
+        })
+    }
+
+    // The best cut list of all positions, and its total.
+    fn best(&self, alloc: Global) -> Result<Best, NoMemory>
+        ensures { IfOk result (λ best. IsBestOf
+            (cost_between C.cost_of self.now.positions) (length self.now.positions)
+            self.now.penalty best) }
+    {
         best_list_law();
         table_law();
         value_costs_law();
@@ -148,14 +203,13 @@ impl<C: Cost + Drop> Table<C> {
         let mut cuts = cuts_back(alloc, &self.rows.back, n)?;
         cuts.reverse();
         let total = if n == 0 { 0 } else { self.rows.least[n] };
-        Ok(Cert {
-            points: n as u64,
-            penalty: self.penalty,
-            cuts: Numbers::of(cuts),
-            total,
-            least: Costs::of(Vec::from_slice(alloc, &self.rows.least)?),
-            back: Numbers::of(Vec::from_slice(alloc, &self.rows.back)?),
-            pruned: Numbers::of(Vec::from_slice(alloc, &self.rows.pruned)?),
-        })
+        Ok(Best { cuts, total })
     }
+}
+
+// A best cut list, and its total.
+#[derive(Drop)]
+pub struct Best {
+    pub cuts: Vec<u64>,
+    pub total: i128,
 }
