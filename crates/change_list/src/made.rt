@@ -17,7 +17,8 @@ use std::alloc::Global;
 ///
 /// Linear in the values of the points.
 pub fn changes(alloc: Global, done: &Done) -> Result<ChangeItems, NoMemory>
-    ensures { IfOk result (λ made. AreChanges done.now.points done.now.metric done.now.cert.cuts made) }
+    ensures { IfOk result (λ made.
+        AreChanges done.now.points done.now.metric done.now.cert.cuts made) }
 {
     cuts_law(done);
     let square = Square::of_points(alloc, &done.points)?;

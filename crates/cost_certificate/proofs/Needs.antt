@@ -5,7 +5,7 @@ use Rattle.std.proofs.lemmas.Bool.{cases_eq}
 use Rattle.segment_model.specs.Cuts.{Merges}
 use Rattle.segment_model.specs.Tables.{int_at, IsMark}
 use Rattle.cost_certificate.specs.declared.blocks.Need.{Need}
-use Rattle.cost_certificate.specs.Checks.{PairHolds, PlaceHolds, PlaceHoldsInBlock, IsNeed}
+use Rattle.cost_certificate.specs.Checks.{PairHolds, PlaceHolds, PlaceHoldsInBlock, IsNeed, IsLevel}
 
 module _ (cost : ℕ → ℕ → ℤ) (least : List ℤ) (back : List ℕ) (from : ℕ) where
   -- the need of no places
@@ -56,6 +56,18 @@ module _ (cost : ℕ → ℕ → ℤ) (n : ℕ) (b : ℤ) (least : List ℤ) (ba
         (λ z at. elim open' [ inl none ↦ absurd (omega (arith, none, at, above)) | inr more ↦ absurd (omega (arith, more, at, within)) ]),
       )
 
+  -- in a level block each pair holds, where no last cut lies in it
+  pub level-holds : (need : Need) (s from end : ℕ) → ((v t : ℕ) → v ≤ t → t ≤ n → (pos 0 ≤ℤ cost v t) × (cost v t ≤ℤ pos (10 ^ 37))) → end ≤ n → IsNeed cost least back from end need
+      → need.last_cut ≤ from → IsLevel b least pruned from end end → from ≤ s → PlaceHoldsInBlock cost b least back pruned s from end
+  level-holds need s from end range le h last level start t above behind within opened =
+      let cut : slice_index back t ≤ s = omega (arith, h.last_cut t behind within, last, start) in
+      let near = level s t start above within in (
+        omega (arith, ints, near.0, (range s t (omega (arith, above)) (omega (arith, within, le))).0),
+        (λ lt. absurd (omega (arith, lt, cut))),
+        (λ lt. absurd (omega (arith, lt, cut))),
+        (λ z at. elim near.1 [ inl none ↦ absurd (omega (arith, none, at, above)) | inr more ↦ absurd (omega (arith, more, at, within)) ]),
+      )
+
   -- a closed place has no pairs
   pub closed : (s from end : ℕ) → slice_index pruned s ≢ 0 → slice_index pruned s ≤ from → PlaceHoldsInBlock cost b least back pruned s from end
   closed s from end some le t above behind within opened = elim opened [ inl none ↦ absurd (some none) | inr more ↦ absurd (omega (arith, more, le, behind)) ]
@@ -84,3 +96,17 @@ module _ (cost : ℕ → ℕ → ℤ) (n : ℕ) (b : ℤ) (least : List ℤ) (ba
 
   pub blocks-from : ((s : ℕ) → s ≤ n → PlaceHolds cost n b least back pruned s) → (s : ℕ) → PlaceHoldsInBlock cost b least back pruned s 0 n
   blocks-from places s t above behind within opened = (places s (omega (arith, above, within))).1 t above within opened
+
+-- a level range with one place more
+pub level-more : (b bottom bottom' : ℤ) (least : List ℤ) (pruned : List ℕ) (from s end : ℕ) → ((r : ℕ) → from ≤ r → r < s → bottom ≤ℤ int_at least r)
+    → IsLevel b least pruned from s end → bottom' ≤ℤ bottom → bottom' ≤ℤ int_at least s → int_at least (s + 1) ≤ℤ (bottom' +ℤ b)
+    → (slice_index pruned s ≡ 0) ⊎ (end < slice_index pruned s) → IsLevel b least pruned from (s + 1) end
+level-more b bottom bottom' least pruned from s end below level less here near mark r t start above within = elim (cases_eq t (s + 1)) [
+  | inr apart ↦ level r t start above (omega (arith, within, apart))
+  | inl at ↦ elim (cases_eq r s) [
+    | inl same ↦ rw (at, same) (omega (arith, ints, near, here), mark)
+    | inr before ↦
+        let earlier : r < s = omega (arith, above, at, before) in
+        rw at (omega (arith, ints, near, less, below r start earlier), (level r s start earlier (omega arith)).1)
+  ]
+]

@@ -48,6 +48,12 @@ pub record IsNeed (cost : ℕ → ℕ → ℤ) (least : List ℤ) (back : List �
   pub low : neg_ℤ (pos (2 * 10 ^ 37)) ≤ℤ need.total
   pub high : need.total ≤ℤ pos (10 ^ 37)
 
+-- each place from `from` on has no mark up to `end`, and a total at most `b` below those of the places behind it, up to `to`
+abbrev pub IsLevel : ℤ → List ℤ → List ℕ → ℕ → ℕ → ℕ → Type 0
+IsLevel b least pruned from to end =
+    (s t : ℕ) → from ≤ s → s < t → t ≤ to
+    → (int_at least t ≤ℤ (int_at least s +ℤ b)) × ((slice_index pruned s ≡ 0) ⊎ (end < slice_index pruned s))
+
 -- place s has a mark, at `at` or before it
 abbrev pub IsClosed : List ℕ → ℕ → ℕ → Type 0
 IsClosed pruned s at = (slice_index pruned s ≢ 0) × (slice_index pruned s ≤ at)

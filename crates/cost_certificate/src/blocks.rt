@@ -11,6 +11,7 @@ ghost use Rattle.segment_model.specs.Computed.{least_sum_of};
 ghost use Rattle.cost_certificate.specs.Checks.{AreTotals, AreWatches, IsNeed, IsWatch, PlaceHolds, PlaceHoldsInBlock, watch_at};
 
 use crate::entries::{is_mark, last_open, made_from, pairs_hold};
+use crate::level::is_level;
 use segment_cost::{Cost, Square};
 use segment_model::{squares_law, value_costs_law};
 
@@ -421,6 +422,20 @@ fn front_holds(
     Some(seen)
 }
 
+// How many of the first k blocks are shut before one isn't.
+fn first_open(watches: &[Watch], k: usize) -> usize
+    requires { k ≤ length watches.now }
+    ensures within { result ≤ k }
+    ensures shut { (j : ℕ) → j < result → (watch_at watches.now j).is_shut ≡ true }
+{
+    for j in 0..k {
+        if !watches[j].is_shut {
+            return j;
+        }
+    }
+    k
+}
+
 // Whether each pair holds whose first place lies before block k and whose second one in it, up to `end`. Afterwards the
 // watches hold from the block's beginning on.
 fn fronts_hold(
@@ -450,7 +465,10 @@ fn fronts_hold(
         ↔ ((s : ℕ) → s < k * 32 → PlaceHoldsInBlock (cost_between least_sum_of square.now.positions) penalty least.now back.now pruned.now s (k * 32) end) }
     ensures watches { AreWatches (cost_between least_sum_of square.now.positions) (length square.now.positions) least.now pruned.now (k * 32) watches.new }
 {
-    for j in 0..k {
+    square.limits();
+    squares_law();
+    value_costs_law();
+    for j in first_open(watches, k)..k {
         let known = front_holds(
             square,
             penalty,
@@ -502,6 +520,40 @@ fn block_holds(
     let need = need_of(square, least, back, from, end);
     if !fronts_hold(square, penalty, least, back, pruned, need, watches, k, end) {
         return false;
+    }
+    own_holds(square, penalty, least, back, pruned, need, from, end)
+}
+
+// Whether each pair of places of one block holds, from `from` on, up to `end`. They are looked at one by one only where the
+// block isn't level.
+fn own_holds(
+    square: &Square,
+    penalty: i128,
+    least: &[i128],
+    back: &[u64],
+    pruned: &[u64],
+    need: Need,
+    from: usize,
+    end: usize,
+) -> bool
+    requires placed { end ≤ length square.now.positions }
+    requires inside { from ≤ end }
+    requires few { length square.now.positions ≤ 16_384 }
+    requires low { pos 0 ≤ℤ penalty }
+    requires high { penalty ≤ℤ pos (10 ^ 36) }
+    requires totals { AreTotals least.now }
+    requires least { length least.now ≡ length square.now.positions + 1 }
+    requires back { length back.now ≡ length square.now.positions + 1 }
+    requires pruned { length pruned.now ≡ length square.now.positions + 1 }
+    requires need { IsNeed (cost_between least_sum_of square.now.positions) least.now back.now from end need }
+    ensures { IsTrue result
+        ↔ ((s : ℕ) → from ≤ s → s < end → PlaceHoldsInBlock (cost_between least_sum_of square.now.positions) penalty least.now back.now pruned.now s from end) }
+{
+    square.limits();
+    squares_law();
+    value_costs_law();
+    if need.last_cut <= from && is_level(penalty, least, pruned, from, end) {
+        return true;
     }
     range_holds(
         square, penalty, least, back, pruned, need, from, end, from, end,

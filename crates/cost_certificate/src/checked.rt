@@ -23,7 +23,8 @@ const GREATEST_PENALTY: i128 = 1_000_000_000_000_000_000_000_000_000_000_000_000
 pub fn check(cert: &Cert, points: &Points, sums: &Square) -> bool
     requires { sums.now.positions ≡ values_by_position points.now }
     ensures { IsTrue result
-        ↔ ((pos 0 ≤ℤ cert.now.penalty) × (cert.now.penalty ≤ℤ pos (10 ^ 36)) × StandsFor points.now cert.now.penalty cert.now) }
+        ↔ ((pos 0 ≤ℤ cert.now.penalty) × (cert.now.penalty ≤ℤ pos (10 ^ 36))
+        × StandsFor points.now cert.now.penalty cert.now) }
 {
     best_list_law();
     least_sum_law();

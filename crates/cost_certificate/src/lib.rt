@@ -9,6 +9,7 @@
 mod blocks;
 mod checked;
 mod entries;
+mod level;
 #[cfg(test)]
 mod tests;
 mod text;

@@ -24,7 +24,7 @@ returns-then-not-fronts_hold-clause-watches c =
 pub returns-clause-holds : goal.returns-clause-holds
 returns-clause-holds c =
     let front = simp (to_z-of_z w128 c.args.penalty c.ranges.penalty) at (c.fronts_hold.ensures.holds.0 c.if-not-fronts_hold.false) in
-    let own = simp (to_z-of_z w128 c.args.penalty c.ranges.penalty) at c.range_holds.ensures in (
+    let own = simp (to_z-of_z w128 c.args.penalty c.ranges.penalty) at c.own_holds.ensures in (
       λ e s below. elim (cases_lt s (c.args.k * 32)) [
         | inl before ↦ front s before
         | inr behind ↦ own.0 e s behind below

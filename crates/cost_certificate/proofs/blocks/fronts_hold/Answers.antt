@@ -1,15 +1,28 @@
-use Rattle.std.proofs.Common.{◌≡◌, ℕ, ◌+◌, ◌*◌, ◌<◌, Bool, true, false, inl, inr, refl, length, FitsSigned, arith}
+use Rattle.std.proofs.Common.{◌≡◌, ℕ, ◌+◌, ◌*◌, ◌/◌, ◌<◌, Bool, true, false, inl, inr, refl, length, FitsSigned, arith}
 use Rattle.std.specs.Int.{w128}
 use Rattle.std.proofs.lemmas.Int.{ints, to_z-of_z}
 use Rattle.std.proofs.lemmas.Bool.{cases_lt}
 use Rattle.segment_model.specs.Values.{cost_between}
 use Rattle.segment_model.specs.Computed.{least_sum_of}
-use Rattle.cost_certificate.specs.Checks.{PlaceHoldsInBlock}
-use Rattle.cost_certificate.proofs.Watches.{watch-set}
+use Rattle.cost_certificate.specs.Checks.{PlaceHoldsInBlock, watch_at}
+use Rattle.cost_certificate.proofs.Watches.{watch-set, passed}
 use Rattle.cost_certificate.proofs.blocks.fronts_hold.Goals as goal
 
 not_both : (b : Bool) → b ≡ false → b ≡ true → ⊥
 not_both b p q = cc
+
+pub loop-j-init : goal.loop-j-init
+loop-j-init c =
+    let merges = c.value_costs_law.ensures.merge least_sum_of c.squares_law.ensures.merge c.args.square.now.positions (length c.args.square.now.positions) in
+    simp (to_z-of_z w128 c.args.penalty c.ranges.penalty) (record {
+      holds = λ s below.
+          let j : ℕ = s / 32 in
+          let open' : j < c.first_open-j.result = omega (arith, below) in
+          passed (cost_between least_sum_of c.args.square.now.positions) (length c.args.square.now.positions) c.args.least.now c.args.pruned.now c.args.penalty c.args.back.now c.args.need (watch_at c.args.watches.now j)
+          (j * 32) (j * 32 + 32) (c.args.k * 32) c.args.end merges c.requires.placed c.requires.inside (omega (arith, open', c.first_open-j.ensures.within)) c.requires.need
+          (c.requires.watches.each j (omega (arith, open', c.first_open-j.ensures.within, c.requires.block))) (inl (c.first_open-j.ensures.shut j open')) s (omega arith) (omega arith);
+      watches = c.requires.watches;
+    })
 
 pub returns-in_default-clause-holds : goal.returns-in_default-clause-holds
 returns-in_default-clause-holds c =
