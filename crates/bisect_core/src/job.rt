@@ -152,7 +152,7 @@ impl Job {
     /// nothing and end the job, every other status is bad. Constant time; takes no memory.
     pub fn answer(&mut self, place: u64, status: u8) -> Answered
         ensures told { result ≡ answer_to self.old.outcome place }
-        ensures recorded { result ≡ answered.Ok → IsRecorded (tested place status) self.old self.new }
+        ensures done { result ≡ answered.Ok → IsRecorded (tested place status) self.old self.new }
         ensures kept { result ≢ answered.Ok → self.new ≡ self.old }
     {
         let progress = self.progress;
@@ -171,7 +171,7 @@ impl Job {
     /// memory.
     pub fn give_up(&mut self, place: u64) -> Answered
         ensures told { result ≡ answer_to self.old.outcome place }
-        ensures recorded { result ≡ answered.Ok → IsRecorded (given_up place) self.old self.new }
+        ensures done { result ≡ answered.Ok → IsRecorded (given_up place) self.old self.new }
         ensures kept { result ≢ answered.Ok → self.new ≡ self.old }
     {
         let progress = self.progress;

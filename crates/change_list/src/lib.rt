@@ -7,8 +7,6 @@
 
 mod change;
 mod made;
-#[cfg(test)]
-mod tests;
 
 pub use change::Change;
 pub use made::changes;

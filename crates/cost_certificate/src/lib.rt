@@ -10,8 +10,6 @@ mod blocks;
 mod checked;
 mod entries;
 mod level;
-#[cfg(test)]
-mod tests;
 mod text;
 mod walk;
 

@@ -19,8 +19,6 @@ mod input;
 mod points;
 mod reader;
 mod stop;
-#[cfg(test)]
-mod tests;
 
 pub use input::{one_stop_law, read_points};
 pub use stop::{Refusal, Stop};

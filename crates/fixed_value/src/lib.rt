@@ -26,6 +26,3 @@ pub use fixed::{fixed_law, put_fixed};
 pub use numeral::{Numeral, numeral_law};
 pub use scaled::{OutOfRange, scale, scaled_law};
 pub use std::alloc::AllocError as NoMemory;
-
-#[cfg(test)]
-mod tests;

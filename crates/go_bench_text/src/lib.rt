@@ -23,8 +23,6 @@ mod put;
 mod read;
 mod sample;
 mod spelling;
-#[cfg(test)]
-mod tests;
 mod units;
 
 pub use line::{LineKind, line_kind};

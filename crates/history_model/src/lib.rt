@@ -17,8 +17,6 @@ mod laws;
 mod run;
 mod sample;
 mod samples;
-#[cfg(test)]
-mod tests;
 
 pub use entries::{Acceptance, Author, Declaration, Entry, Placed};
 pub use laws::{

@@ -11,8 +11,6 @@ mod machine;
 pub mod reading;
 pub mod shape;
 mod state;
-#[cfg(test)]
-mod tests;
 mod token;
 pub mod tree;
 

@@ -21,8 +21,6 @@ mod repeated_key;
 mod report;
 mod rules;
 mod run;
-#[cfg(test)]
-mod tests;
 mod write;
 
 pub use fault::ReportFault;

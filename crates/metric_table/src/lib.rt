@@ -6,8 +6,6 @@
 
 mod limits;
 mod metrics;
-#[cfg(test)]
-mod tests;
 
 pub use limits::Limit;
 pub use metrics::{decimals, default_penalty, larger_is_better};

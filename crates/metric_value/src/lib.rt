@@ -9,8 +9,6 @@
 //! for decimals.
 #![tactic(auto)]
 
-#[cfg(test)]
-mod tests;
 mod value;
 
 pub use std::alloc::AllocError as NoMemory;

@@ -10,8 +10,6 @@
 
 mod declared;
 mod index;
-#[cfg(test)]
-mod tests;
 
 pub use declared::Declared;
 pub use index::OrderIndex;

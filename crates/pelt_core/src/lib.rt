@@ -15,7 +15,7 @@
 //! any other block are looked at, and their least total is its new bound.
 //!
 //! It stands on the definitions and laws of `segment_model`, on the points, costs and certificates of `segment_cost`
-//! and on the lists of `line_text`; its tests compare it with `part_core`.
+//! and on the lists of `line_text`. `cost_tests` compares it with `part_core`.
 #![tactic(auto)]
 
 mod bounds;
@@ -24,8 +24,6 @@ mod from_points;
 mod rows;
 mod steps;
 mod table;
-#[cfg(test)]
-mod tests;
 mod walk;
 
 pub use from_points::segmentation;

@@ -12,8 +12,6 @@ mod points;
 mod prefix;
 mod steps;
 mod stored;
-#[cfg(test)]
-mod tests;
 
 pub use fault::PointFault;
 pub use points::Points;

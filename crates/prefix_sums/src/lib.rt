@@ -11,8 +11,6 @@ mod prefixes;
 mod seen;
 mod sum_list;
 mod sums;
-#[cfg(test)]
-mod tests;
 
 pub use prefixes::PrefixSums;
 pub use std::alloc::AllocError as NoMemory;

@@ -9,8 +9,6 @@
 mod answer;
 mod refusal;
 mod reply;
-#[cfg(test)]
-mod tests;
 mod words;
 
 pub use reply::put_reply;

@@ -13,8 +13,6 @@ mod json;
 mod lists;
 mod outcome_text;
 mod pages;
-#[cfg(test)]
-mod tests;
 mod text;
 mod told;
 

@@ -10,8 +10,6 @@
 mod replies;
 mod requests;
 mod runs;
-#[cfg(test)]
-mod tests;
 
 pub use replies::{Answer, RangePlace, Refusal, Reply};
 pub use requests::Request;

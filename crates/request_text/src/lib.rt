@@ -23,8 +23,6 @@ mod need;
 mod pass;
 mod read;
 mod stop;
-#[cfg(test)]
-mod tests;
 mod verb;
 mod whole;
 mod words;

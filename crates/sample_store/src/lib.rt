@@ -10,8 +10,6 @@
 
 mod answers;
 mod store;
-#[cfg(test)]
-mod tests;
 
 pub use answers::{Accepted, Retracted};
 pub use history_model::{Run, Sample, Samples};

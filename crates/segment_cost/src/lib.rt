@@ -16,8 +16,6 @@ mod cost;
 mod done;
 mod laws;
 mod square;
-#[cfg(test)]
-mod tests;
 
 pub use cert::Cert;
 pub use cost::Cost;

@@ -11,8 +11,6 @@ mod demand;
 mod laws;
 mod metrics;
 mod series;
-#[cfg(test)]
-mod tests;
 mod tracked;
 
 pub use demand::Demand;

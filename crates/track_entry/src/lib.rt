@@ -7,8 +7,6 @@
 mod fault;
 mod put;
 mod read;
-#[cfg(test)]
-mod tests;
 mod words;
 
 pub use fault::EntryFault;

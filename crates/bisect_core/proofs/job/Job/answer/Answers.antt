@@ -15,7 +15,7 @@ go_on-requires c =
     rw (← c.self.view_is, c.after_status.ensures)
     (sound_status c.self.inside.commits c.self.inside.progress c.args.place c.args.status c.commit-commit.result (is_asked c.self.inside.commits c.self.inside.progress c.args.place c.commit-commit.result c.in-Asks.asked c.args.self.now c.self.invariant c.self.view_is c.in-Asks.is c.if-asked-place.false c.commit-commit.ensures))
 
-pub returns-clause-recorded : goal.returns-clause-recorded
-returns-clause-recorded c ok commits turns was =
+pub returns-clause-done : goal.returns-clause-done
+returns-clause-done c ok commits turns was =
     c.go_on.ensures ∙ rw (← c.self.view_is, c.after_status.ensures)
     (recorded_status c.self.inside.commits c.self.inside.progress c.args.place c.args.status c.commit-commit.result commits turns (c.self.view_is ∙ was) (is_asked c.self.inside.commits c.self.inside.progress c.args.place c.commit-commit.result c.in-Asks.asked c.args.self.now c.self.invariant c.self.view_is c.in-Asks.is c.if-asked-place.false c.commit-commit.ensures))

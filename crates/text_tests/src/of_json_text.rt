@@ -1,0 +1,272 @@
+//! Cases from the standard and from outside: what is read, and where each fault stands.
+use json_text::NoMemory;
+use json_text::reading::{JsonFault, read_json};
+use json_text::tree::{Json, JsonList, JsonMembers, Member};
+use line_text::Text;
+use std::alloc::{AllocError, Global};
+
+/// Writes a tree on one line: a number after #, a text between bars.
+fn show(out: &mut String, value: &Json, depth: usize) -> Result<(), AllocError> {
+    if depth == 0 {
+        return Ok(());
+    }
+    match value {
+        Json::Null => out.push_str("null"),
+        Json::Bool(true) => out.push_str("true"),
+        Json::Bool(false) => out.push_str("false"),
+        Json::Number(spelling) => {
+            out.push_str("#")?;
+            out.push_str(spelling.as_str())
+        }
+        Json::Text(text) => {
+            out.push_str("|")?;
+            out.push_str(text.as_str())?;
+            out.push_str("|")
+        }
+        Json::List(items) => {
+            out.push_str("[")?;
+            for place in 0..items.len() {
+                if let Some(item) = items.get(place) {
+                    show(out, item, depth - 1)?;
+                }
+                out.push_str(",")?;
+            }
+            out.push_str("]")
+        }
+        Json::Object(members) => {
+            out.push_str("{")?;
+            for place in 0..members.len() {
+                if let Some(member) = members.get(place) {
+                    out.push_str(member.key.as_str())?;
+                    out.push_str("=")?;
+                    show(out, &member.value, depth - 1)?;
+                }
+                out.push_str(",")?;
+            }
+            out.push_str("}")
+        }
+    }
+}
+
+/// What reading answers, on one line.
+fn answer(alloc: Global, bytes: &[u8]) -> Result<String, AllocError> {
+    match read_json(alloc, bytes) {
+        Ok(value) => {
+            let mut out = String::new(alloc);
+            show(&mut out, &value, 40)?;
+            Ok(out)
+        }
+        Err(JsonFault::NotText(place)) => format!(in alloc; "NotText {place}"),
+        Err(JsonFault::NotJson(place)) => format!(in alloc; "NotJson {place}"),
+        Err(JsonFault::TooDeep(place)) => format!(in alloc; "TooDeep {place}"),
+        Err(JsonFault::NoMemory) => String::from_str(alloc, "NoMemory"),
+    }
+}
+
+#[test]
+fn structures_and_words_are_read_or_refused_at_their_place(
+    rt: HostRuntime,
+) -> Result<(), AllocError> {
+    let cases: &[(&[u8], &str)] = &[
+        (b"", "NotJson 0"),
+        (b" \t\r\n", "NotJson 4"),
+        (b" null ", "null"),
+        (b"[ ]", "[]"),
+        (b"{ }", "{}"),
+        (b"[true,\nfalse ]", "[true,false,]"),
+        (b"{ \"a\" : 1 , \"a\" : { } }", "{a=#1,a={},}"),
+        (b"{\"\":\"\"}", "{=||,}"),
+        (b"[[[]],[[]]]", "[[[],],[[],],]"),
+        (b"{\"a\":1,}", "NotJson 7"),
+        (b"{\"a\":", "NotJson 5"),
+        (b"{\"a\":}", "NotJson 5"),
+        (b"{\"a\"}", "NotJson 4"),
+        (b"{\"a\" 1}", "NotJson 5"),
+        (b"{\"a\":1,\"b\"}", "NotJson 10"),
+        (b"{\"a\":1]", "NotJson 6"),
+        (b"{,}", "NotJson 1"),
+        (b"{1:2}", "NotJson 1"),
+        (b"{'a':1}", "NotJson 1"),
+        (b"{]", "NotJson 1"),
+        (b"[,1]", "NotJson 1"),
+        (b"[1,]", "NotJson 3"),
+        (b"[1,,2]", "NotJson 3"),
+        (b"[1 2]", "NotJson 3"),
+        (b"[1}", "NotJson 2"),
+        (b"[}", "NotJson 1"),
+        (b"[]]", "NotJson 2"),
+        (b"]", "NotJson 0"),
+        (b"nul", "NotJson 3"),
+        (b"nulL", "NotJson 3"),
+        (b"nullx", "NotJson 4"),
+        (b"True", "NotJson 0"),
+        (b"fals3", "NotJson 4"),
+        (b"true false", "NotJson 5"),
+        (b"// 1", "NotJson 0"),
+        (b"\xef\xbb\xbf1", "NotJson 0"),
+        (b"\xff\xfe1", "NotText 0"),
+        (b"x\xff", "NotText 1"),
+        (b"[\"\xc3", "NotText 2"),
+    ];
+    for (bytes, wanted) in cases {
+        assert!(rt; answer(rt.alloc(), bytes)?.as_str() == *wanted);
+    }
+    Ok(())
+}
+
+#[test]
+fn numbers_keep_their_spelling_and_near_misses_are_refused(
+    rt: HostRuntime,
+) -> Result<(), AllocError> {
+    let cases: &[(&[u8], &str)] = &[
+        (b"0", "#0"),
+        (b"-0", "#-0"),
+        (b"10", "#10"),
+        (b"0.0", "#0.0"),
+        (b"-0.0e-0", "#-0.0e-0"),
+        (b"1e5", "#1e5"),
+        (b"1E-07", "#1E-07"),
+        (b"10.25e+3 ", "#10.25e+3"),
+        (
+            b"123456789012345678901234567890",
+            "#123456789012345678901234567890",
+        ),
+        (b"[1.50]", "[#1.50,]"),
+        (b"[1,2 , -3.0e+1]", "[#1,#2,#-3.0e+1,]"),
+        (b"01", "NotJson 1"),
+        (b"00", "NotJson 1"),
+        (b"-01", "NotJson 2"),
+        (b"-", "NotJson 1"),
+        (b"-a", "NotJson 1"),
+        (b"--1", "NotJson 1"),
+        (b"+1", "NotJson 0"),
+        (b".5", "NotJson 0"),
+        (b"1.", "NotJson 2"),
+        (b"1.e5", "NotJson 2"),
+        (b"1.5.2", "NotJson 3"),
+        (b"1e", "NotJson 2"),
+        (b"1e+", "NotJson 3"),
+        (b"1e++1", "NotJson 3"),
+        (b"1e5.5", "NotJson 3"),
+        (b"0x1", "NotJson 1"),
+        (b"1_0", "NotJson 1"),
+        (b"1 2", "NotJson 2"),
+        (b"NaN", "NotJson 0"),
+        (b"-Infinity", "NotJson 1"),
+    ];
+    for (bytes, wanted) in cases {
+        assert!(rt; answer(rt.alloc(), bytes)?.as_str() == *wanted);
+    }
+    Ok(())
+}
+
+#[test]
+fn texts_are_unescaped_and_bad_escapes_are_refused(rt: HostRuntime) -> Result<(), AllocError> {
+    let cases: &[(&[u8], &str)] = &[
+        (b"\"\\\"\\\\\\/\\n\\u0041\"", "|\"\\/\nA|"),
+        (b"\"\\b\\f\\r\\t\"", "|\u{8}\u{c}\r\t|"),
+        (b"\"\\u0000\"", "|\u{0}|"),
+        (
+            b"\"\\u00e9\\u20AC\\ud83d\\uDE00\"",
+            "|\u{e9}\u{20ac}\u{1f600}|",
+        ),
+        (b"\"\\ud7ff\\ue000\\uffff\"", "|\u{d7ff}\u{e000}\u{ffff}|"),
+        (b"\"\\ud800\\udc00\\udbff\\udfff\"", "|\u{10000}\u{10ffff}|"),
+        (b"\"\xc3\xa9\x7f\"", "|\u{e9}\u{7f}|"),
+        (b"\"\xff\"", "NotText 1"),
+        (b"\"abc", "NotJson 4"),
+        (b"\"a\nb\"", "NotJson 2"),
+        (b"\"\t\"", "NotJson 1"),
+        (b"\"\x1f\"", "NotJson 1"),
+        (b"\"\x00\"", "NotJson 1"),
+        (b"\"\\x\"", "NotJson 2"),
+        (b"\"\\U0041\"", "NotJson 2"),
+        (b"\"\\u00g0\"", "NotJson 5"),
+        (b"\"\\u12\"", "NotJson 5"),
+        (b"\"\\udc00\"", "NotJson 4"),
+        (b"\"\\udfff\"", "NotJson 4"),
+        (b"\"\\ud800\"", "NotJson 7"),
+        (b"\"\\ud800x\"", "NotJson 7"),
+        (b"\"\\ud800\\n\"", "NotJson 8"),
+        (b"\"\\ud800\\u0041\"", "NotJson 9"),
+        (b"\"\\ud800\\ud800\"", "NotJson 10"),
+        (b"\"a\" \"b\"", "NotJson 4"),
+    ];
+    for (bytes, wanted) in cases {
+        assert!(rt; answer(rt.alloc(), bytes)?.as_str() == *wanted);
+    }
+    Ok(())
+}
+
+/// A value inside so many levels, each opened and closed by these bytes.
+fn nested(
+    alloc: Global,
+    open: &str,
+    value: &str,
+    close: &str,
+    count: usize,
+) -> Result<String, AllocError> {
+    let mut text = String::new(alloc);
+    for _ in 0..count {
+        text.push_str(open)?;
+    }
+    text.push_str(value)?;
+    for _ in 0..count {
+        text.push_str(close)?;
+    }
+    Ok(text)
+}
+
+#[test]
+fn a_33rd_level_is_too_deep(rt: HostRuntime) -> Result<(), AllocError> {
+    let alloc = rt.alloc();
+    for (open, close, place) in &[("[", "]", "TooDeep 32"), ("{\"\":", "}", "TooDeep 128")] {
+        for count in 31..33 {
+            let text = nested(alloc, open, "1", close, count)?;
+            assert!(rt; read_json(alloc, text.as_bytes()).is_ok());
+        }
+        let text = nested(alloc, open, "1", close, 33)?;
+        assert!(rt; answer(alloc, text.as_bytes())?.as_str() == *place);
+    }
+    // Two levels at a time, five bytes each: the 33rd opens at byte 80.
+    let text = nested(alloc, "[{\"\":", "1", "}]", 17)?;
+    assert!(rt; answer(alloc, text.as_bytes())?.as_str() == "TooDeep 80");
+    let text = nested(alloc, "[", "?", "]", 32)?;
+    assert!(rt; answer(alloc, text.as_bytes())?.as_str() == "NotJson 32");
+    let text = nested(alloc, "[", "?", "", 34)?;
+    assert!(rt; answer(alloc, text.as_bytes())?.as_str() == "TooDeep 32");
+    let text = nested(alloc, "[?", "", "", 34)?;
+    assert!(rt; answer(alloc, text.as_bytes())?.as_str() == "NotJson 1");
+    Ok(())
+}
+
+#[test]
+fn a_text_cut_anywhere_begins_a_text(rt: HostRuntime) -> Result<(), AllocError> {
+    let text =
+        b"{\"a\\u00e9\\ud83d\\ude00\":[true,false,null,{\"b\":\"c\\n\"},[],{}],\"d\":-1.5e-3}";
+    for count in 0..text.len() {
+        let wanted = format!(in rt.alloc(); "NotJson {count}")?;
+        assert!(rt; answer(rt.alloc(), &text[..count])?.as_str() == wanted.as_str());
+    }
+    assert!(rt; read_json(rt.alloc(), text).is_ok());
+    Ok(())
+}
+
+#[test]
+fn a_tree_is_built_and_copied(rt: HostRuntime) -> Result<(), NoMemory> {
+    let alloc = rt.alloc();
+    let mut items = JsonList::new(alloc);
+    items.push(Json::Bool(true))?;
+    items.push(Json::Number(Text::of(alloc, "1.50")?))?;
+    assert!(rt; items.len() == 2 && items.get(2).is_none());
+    let mut members = JsonMembers::new(alloc);
+    members.push(Member::new(Text::of(alloc, "b")?, Json::Null))?;
+    members.push(Member::new(Text::of(alloc, "a")?, Json::List(items)))?;
+    members.push(Member::new(Text::of(alloc, "b")?, Json::Text(Text::of(alloc, "x")?)))?;
+    assert!(rt; members.len() == 3 && members.get(3).is_none());
+    let copy = Json::Object(members).copy(alloc)?;
+    let mut out = String::new(alloc);
+    show(&mut out, &copy, 3)?;
+    assert!(rt; out.as_str() == "{b=null,a=[true,#1.50,],b=|x|,}");
+    Ok(())
+}
