@@ -8,17 +8,17 @@ ghost use Rattle.json_text.specs.States.{frames_of, mode_of, StepGives, Arrives,
 ghost use Rattle.json_text.specs.View.{tree_of, members_view};
 
 use crate::lexeme::{first_digit, may_end};
+use crate::shared::{SharedText, Source};
 use crate::state::{Awaits, Open, Stop};
 use crate::token::{read_content, read_digits, read_word};
 use crate::tree::{Json, JsonList, JsonMembers, Member};
-use line_text::Text;
 use std::alloc::Global;
 
 /// How many levels of lists and objects may lie in one another.
 const MOST_LEVELS: usize = 32;
 
 /// The spelling of the number that begins here.
-fn read_number(alloc: Global, text: &str, place: &mut usize) -> Result<Text, Stop>
+fn read_number(text: &Source, place: &mut usize) -> Result<SharedText, Stop>
     requires { place.old < length text.now }
     ensures place { (place.old ≤ place.new) × (place.new ≤ length text.now) }
     ensures reads { IfOk result (λ spelling. ReadsNumber text.now place.old place.new spelling) }
@@ -32,14 +32,14 @@ fn read_number(alloc: Global, text: &str, place: &mut usize) -> Result<Text, Sto
     *place += 1;
     let last = read_digits(bytes, place, first);
     if may_end(last) {
-        Ok(Text::of(alloc, &text[start..*place])?)
+        Ok(text.part(start, *place)?)
     } else {
         Err(Stop::Refused)
     }
 }
 
 /// The text between quotes that begins here.
-fn read_quoted(alloc: Global, text: &str, place: &mut usize) -> Result<Text, Stop>
+fn read_quoted(alloc: Global, text: &Source, place: &mut usize) -> Result<SharedText, Stop>
     requires { place.old < length text.now }
     ensures place { (place.old ≤ place.new) × (place.new ≤ length text.now) }
     ensures reads { IfOk result (λ content. ReadsQuoted text.now place.old place.new content) }
@@ -83,7 +83,7 @@ fn word(bytes: &[u8], place: &mut usize, left: &[u8], value: Json) -> Result<Awa
 }
 
 /// The state behind the first token of a value.
-fn begin(alloc: Global, stack: &Vec<Open>, text: &str, place: &mut usize) -> Result<Awaits, Stop>
+fn begin(alloc: Global, stack: &Vec<Open>, text: &Source, place: &mut usize) -> Result<Awaits, Stop>
     requires room { length stack.now.items ≤ most_levels }
     requires some { place.old < length text.now }
     requires black { is_blank (slice_index text.now place.old) ≡ false }
@@ -99,7 +99,7 @@ fn begin(alloc: Global, stack: &Vec<Open>, text: &str, place: &mut usize) -> Res
         b'n' => word(bytes, place, b"ull", Json::Null),
         b't' => word(bytes, place, b"rue", Json::Bool(true)),
         b'f' => word(bytes, place, b"alse", Json::Bool(false)),
-        _ => Ok(Awaits::Ended(Json::Number(read_number(alloc, text, place)?))),
+        _ => Ok(Awaits::Ended(Json::Number(read_number(text, place)?))),
     }
 }
 
@@ -107,7 +107,7 @@ fn begin(alloc: Global, stack: &Vec<Open>, text: &str, place: &mut usize) -> Res
 fn first_item(
     alloc: Global,
     stack: &mut Vec<Open>,
-    text: &str,
+    text: &Source,
     place: &mut usize,
 ) -> Result<Awaits, Stop>
     requires room { length stack.old.items < most_levels }
@@ -130,7 +130,7 @@ fn first_item(
 fn first_key(
     alloc: Global,
     stack: &Vec<Open>,
-    text: &str,
+    text: &Source,
     place: &mut usize,
 ) -> Result<Awaits, Stop>
     requires room { length stack.now.items < most_levels }
@@ -150,7 +150,12 @@ fn first_key(
 
 /// What a colon does behind a key.
 #[tactic(auto, using(crate::proofs::Stack::frames_end))]
-fn colon(stack: &mut Vec<Open>, members: JsonMembers, key: Text, byte: u8) -> Result<Awaits, Stop>
+fn colon(
+    stack: &mut Vec<Open>,
+    members: JsonMembers,
+    key: SharedText,
+    byte: u8,
+) -> Result<Awaits, Stop>
     requires room { length stack.old.items < most_levels }
     requires black { is_blank byte ≡ false }
     ensures { StepGives result stack.new.items
@@ -199,7 +204,7 @@ pub(crate) fn step(
     alloc: Global,
     stack: &mut Vec<Open>,
     awaits: Awaits,
-    text: &str,
+    text: &Source,
     place: &mut usize,
 ) -> Result<Awaits, Stop>
     requires room { machine.own_level (mode_of awaits) + length stack.old.items ≤ most_levels }

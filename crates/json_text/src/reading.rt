@@ -9,6 +9,7 @@ ghost use Rattle.json_text.specs.Tree.{Tree};
 ghost use Rattle.json_text.specs.View.{tree_of};
 
 use crate::machine::{finish, step};
+use crate::shared::Source;
 use crate::state::{Awaits, Open, Stop};
 use crate::token::blank_end;
 use crate::tree::Json;
@@ -44,7 +45,8 @@ impl Stop {
 /// The tree of a JSON text (RFC 8259) of at most 32 levels of lists and objects in one another. A byte order mark is refused, and an
 /// escaped surrogate stands only in a pair, high before low.
 ///
-/// Takes time linear in the bytes. Memory holds the tree and a stack of at most 32 open levels.
+/// Takes time linear in the bytes. Memory holds the tree, one copy of the text for its numbers, texts and keys, and a stack of at most 32
+/// open levels.
 pub fn read_json(alloc: Global, bytes: &[u8]) -> Result<Json, JsonFault>
     // The tree is the one of the bytes.
     ensures found { IfOk result (λ json. Reads bytes.now (tree_of json)) }
@@ -65,6 +67,16 @@ pub fn read_json(alloc: Global, bytes: &[u8]) -> Result<Json, JsonFault>
 
 /// The same of text.
 fn read_text(alloc: Global, text: &str) -> Result<Json, JsonFault>
+    ensures { Outcome result text.now }
+{
+    let Ok(text) = Source::of(alloc, text) else {
+        return Err(JsonFault::NoMemory);
+    };
+    read_source(alloc, &text)
+}
+
+/// The same of a text that the tree shares.
+fn read_source(alloc: Global, text: &Source) -> Result<Json, JsonFault>
     ensures { Outcome result text.now }
 {
     let bytes = text.as_bytes();

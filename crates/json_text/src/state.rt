@@ -2,15 +2,15 @@
 ghost use Rattle.std.specs.Prelude.{◌≡◌};
 
 use crate::NoMemory;
+use crate::shared::SharedText;
 use crate::tree::{Json, JsonList, JsonMembers};
-use line_text::Text;
 use std::alloc::{AllocError, AllocFailed};
 
 /// What is open round a value: a list with the items before it, or an object with the members before it and its key.
 #[derive(Drop)]
 pub(crate) enum Open {
     List(JsonList),
-    Member(JsonMembers, Text),
+    Member(JsonMembers, SharedText),
 }
 
 /// A place in a number, named by what stands before it.
@@ -60,7 +60,7 @@ pub(crate) enum Awaits {
     FirstItem,
     FirstKey,
     NextKey(JsonMembers),
-    Colon(JsonMembers, Text),
+    Colon(JsonMembers, SharedText),
     Ended(Json),
 }
 

@@ -6,8 +6,8 @@ ghost use Rattle.json_text.specs.Classes.{is_blank, is_plain};
 ghost use Rattle.json_text.specs.Reached.{ReadsWord, StopsWord, ReadsDigits, StopsDigits, ReadsContent, ReadsText, StopsText};
 
 use crate::lexeme::{digits_after, is_blank, is_plain, moves};
+use crate::shared::{SharedText, Source};
 use crate::state::{Digits, Move, Stop, Within};
-use line_text::Text;
 use std::alloc::Global;
 
 /// The place of the first byte from `start` on that is no white space.
@@ -107,7 +107,28 @@ fn read_escape(bytes: &[u8], place: &mut usize) -> Result<char, Stop>
 }
 
 /// Reads a text behind its opening quote, and its closing quote.
-pub(crate) fn read_content(alloc: Global, text: &str, place: &mut usize) -> Result<Text, Stop>
+pub(crate) fn read_content(
+    alloc: Global,
+    text: &Source,
+    place: &mut usize,
+) -> Result<SharedText, Stop>
+    requires { IsCharBoundary text.now place.old }
+    ensures place { (place.old ≤ place.new) × (place.new ≤ length text.now) }
+    ensures reads { IfOk result (λ content. ReadsText text.now place.old place.new content) }
+    ensures stops { IfErr result (λ stop. StopsText stop text.now place.old place.new) }
+{
+    let bytes = text.as_bytes();
+    let start = *place;
+    let end = plain_end(bytes, start);
+    if end < bytes.len() && bytes[end] == b'"' {
+        *place = end + 1;
+        return Ok(text.part(start, end)?);
+    }
+    read_escaped(alloc, text, place)
+}
+
+/// The same of a text that may have escapes: its bytes are not those between the quotes.
+fn read_escaped(alloc: Global, text: &Source, place: &mut usize) -> Result<SharedText, Stop>
     requires { IsCharBoundary text.now place.old }
     ensures place { (place.old ≤ place.new) × (place.new ≤ length text.now) }
     ensures reads { IfOk result (λ content. ReadsText text.now place.old place.new content) }
@@ -117,7 +138,7 @@ pub(crate) fn read_content(alloc: Global, text: &str, place: &mut usize) -> Resu
     let mut content = String::new(alloc);
     loop {
         let end = plain_end(bytes, *place);
-        content.push_str(&text[*place..end])?;
+        content.push_str(&text.as_str()[*place..end])?;
         *place = end;
         if end == bytes.len() {
             return Err(Stop::Refused);
@@ -125,7 +146,7 @@ pub(crate) fn read_content(alloc: Global, text: &str, place: &mut usize) -> Resu
         match bytes[end] {
             b'"' => {
                 *place += 1;
-                return Ok(Text::from_string(content));
+                return Ok(SharedText::from_string(content)?);
             }
             b'\\' => content.push(read_escape(bytes, place)?)?,
             _ => return Err(Stop::Refused),

@@ -5,7 +5,7 @@ ghost use Rattle.json_text.specs.Parts.{then_item, then_member, item_count, item
 ghost use Rattle.json_text.specs.View.{tree_of, items_view, members_view, entry_of};
 
 use crate::NoMemory;
-use line_text::Text;
+use crate::shared::SharedText;
 use std::alloc::Global;
 
 /// A JSON value. A number keeps its spelling, and an object its members in order, also those whose key comes again.
@@ -17,9 +17,9 @@ pub enum Json {
     /// One of the words `true` and `false`.
     Bool(bool),
     /// A number, by its spelling.
-    Number(Text),
+    Number(SharedText),
     /// A text, without its quotes and escapes.
-    Text(Text),
+    Text(SharedText),
     /// A list, by its items.
     List(JsonList),
     /// An object, by its members.
@@ -45,7 +45,7 @@ pub struct JsonMembers {
 #[cycle(tree)]
 pub struct Member {
     /// The key, without its quotes and escapes.
-    pub key: Text,
+    pub key: SharedText,
     /// The value.
     pub value: Json,
 }
@@ -59,8 +59,8 @@ impl Json {
         match self {
             Json::Null => Ok(Json::Null),
             Json::Bool(truth) => Ok(Json::Bool(*truth)),
-            Json::Number(spelling) => Ok(Json::Number(spelling.copy(alloc)?)),
-            Json::Text(text) => Ok(Json::Text(text.copy(alloc)?)),
+            Json::Number(spelling) => Ok(Json::Number(spelling.copy()?)),
+            Json::Text(text) => Ok(Json::Text(text.copy()?)),
             Json::List(items) => Ok(Json::List(items.copy(alloc)?)),
             Json::Object(members) => Ok(Json::Object(members.copy(alloc)?)),
         }
@@ -69,7 +69,7 @@ impl Json {
 
 impl Member {
     /// A member of this key and value. Constant time; takes no memory.
-    pub fn new(key: Text, value: Json) -> Member
+    pub fn new(key: SharedText, value: Json) -> Member
         ensures { entry_of result ≡ (key, tree_of value) }
     {
         Member { key, value }
@@ -81,7 +81,7 @@ impl Member {
         ensures { IfOk result (λ made. entry_of made ≡ entry_of self.now) }
     {
         Ok(Member {
-            key: self.key.copy(alloc)?,
+            key: self.key.copy()?,
             value: self.value.copy(alloc)?,
         })
     }

@@ -1,8 +1,5 @@
 //! Cases from the standard and from outside: what is read, and where each fault stands.
-use json_text::NoMemory;
-use json_text::reading::{JsonFault, read_json};
-use json_text::tree::{Json, JsonList, JsonMembers, Member};
-use line_text::Text;
+use json_text::{Json, JsonFault, JsonList, JsonMembers, Member, NoMemory, SharedText, read_json};
 use std::alloc::{AllocError, Global};
 
 /// Writes a tree on one line: a number after #, a text between bars.
@@ -257,12 +254,15 @@ fn a_tree_is_built_and_copied(rt: HostRuntime) -> Result<(), NoMemory> {
     let alloc = rt.alloc();
     let mut items = JsonList::new(alloc);
     items.push(Json::Bool(true))?;
-    items.push(Json::Number(Text::of(alloc, "1.50")?))?;
+    items.push(Json::Number(SharedText::of(alloc, "1.50")?))?;
     assert!(rt; items.len() == 2 && items.get(2).is_none());
     let mut members = JsonMembers::new(alloc);
-    members.push(Member::new(Text::of(alloc, "b")?, Json::Null))?;
-    members.push(Member::new(Text::of(alloc, "a")?, Json::List(items)))?;
-    members.push(Member::new(Text::of(alloc, "b")?, Json::Text(Text::of(alloc, "x")?)))?;
+    members.push(Member::new(SharedText::of(alloc, "b")?, Json::Null))?;
+    members.push(Member::new(SharedText::of(alloc, "a")?, Json::List(items)))?;
+    members.push(Member::new(
+        SharedText::of(alloc, "b")?,
+        Json::Text(SharedText::of(alloc, "x")?),
+    ))?;
     assert!(rt; members.len() == 3 && members.get(3).is_none());
     let copy = Json::Object(members).copy(alloc)?;
     let mut out = String::new(alloc);

@@ -1,17 +1,18 @@
-use Rattle.std.proofs.Common.{◌∙◌, inr, arith, sym, subst, slice_range}
+use Rattle.std.specs.Str.{IsUtf8}
+use Rattle.std.proofs.Common.{inr, arith, sym, subst, slice_range}
 use Rattle.json_text.specs.States.{ReadsNumber}
 use Rattle.json_text.proofs.Reach.{number_boundary, spells_number}
 use Rattle.json_text.proofs.machine.read_number.Goals as goal
 
-pub range-requires-clause-end_boundary : goal.range-requires-clause-end_boundary
-range-requires-clause-end_boundary c =
-    number_boundary c.args.text.now c.as_bytes-bytes.result.now c.args.place.now c.read_digits-last.new.place c.as_bytes-bytes.ensures.value c.utf8.text
+pub part-requires-clause-end_boundary : goal.part-requires-clause-end_boundary
+part-requires-clause-end_boundary c =
+    number_boundary c.args.text.now c.as_bytes-bytes.result.now c.args.place.now c.read_digits-last.new.place c.as_bytes-bytes.ensures.value (subst IsUtf8 c.as_bytes-bytes.ensures.value c.as_bytes-bytes.ensures.utf8)
     c.read_digits-last.ensures.place.0 c.read_digits-last.ensures.place.1 c.in-Some.ensures.ascii c.read_digits-last.ensures.ascii
 
-pub returns-in_ok-of-clause-reads : goal.returns-in_ok-of-clause-reads
-returns-in_ok-of-clause-reads c =
+pub returns-in_ok-part-clause-reads : goal.returns-in_ok-part-clause-reads
+returns-in_ok-part-clause-reads c =
     let digits = c.read_digits-last in
-    subst (ReadsNumber c.args.text.now c.args.place.now digits.new.place) (sym (c.in_ok-of.ensures ∙ c.range.ensures.value)) (
+    subst (ReadsNumber c.args.text.now c.args.place.now digits.new.place) (sym c.in_ok-part.ensures) (
       omega (arith, digits.ensures.place.0),
       (
         digits.result,

@@ -3,7 +3,7 @@ use Rattle.std.specs.Prelude.{string_bytes}
 use Rattle.std.specs.Str.{IsCharBoundary}
 use Rattle.json_text.specs.declared.state.Within.TheVariants.{Plain}
 use Rattle.json_text.specs.Reached.{ReadsContent}
-use Rattle.json_text.proofs.token.read_content.Given as goal
+use Rattle.json_text.proofs.token.read_escaped.Given as goal
 
 abbrev pub invariant-loop-content : goal.invariant-loop-content
 invariant-loop-content l = record {

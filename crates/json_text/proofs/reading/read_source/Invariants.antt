@@ -4,7 +4,7 @@ use Rattle.json_text.specs.Machine.{own_level}
 use Rattle.json_text.specs.Places.{most_levels}
 use Rattle.json_text.specs.Reached.{Stands}
 use Rattle.json_text.specs.States.{mode_of, frames_of}
-use Rattle.json_text.proofs.reading.read_text.Given as goal
+use Rattle.json_text.proofs.reading.read_source.Given as goal
 
 -- the machine stands where the next token begins
 abbrev pub invariant-loop-place : goal.invariant-loop-place

@@ -6,7 +6,7 @@ use Rattle.json_text.specs.States.{frames_of}
 use Rattle.json_text.specs.declared.state.Open.{Open}
 use Rattle.json_text.specs.declared.state.Awaits.TheVariants.{Value}
 use Rattle.json_text.proofs.Reach.{blank_passed_in, start_stands}
-use Rattle.json_text.proofs.reading.read_text.Goals as goal
+use Rattle.json_text.proofs.reading.read_source.Goals as goal
 
 pub loop-place-init : goal.loop-place-init
 loop-place-init c =
