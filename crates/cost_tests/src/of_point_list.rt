@@ -36,6 +36,7 @@ fn copies_stand_alone(rt: HostRuntime) -> Result<(), Fail> {
     points.remove(20, 1);
     assert_eq!(rt; (points.count(), copy.count()), (2, 3));
     assert_eq!(rt; common_prefix(&points, &copy), 1);
+    assert_eq!(rt; copy.len(), 2);
     assert_eq!(rt; copy.commit(0), 10);
     assert_eq!(rt; copy.values(0), [1].as_slice());
     assert_eq!(rt; copy.values(1), [2, 3].as_slice());

@@ -9,6 +9,7 @@
 
 mod fault;
 mod points;
+mod positions;
 mod prefix;
 mod steps;
 mod stored;

@@ -9,6 +9,7 @@ ghost use Rattle.point_list.specs.Searches.{StandsAt};
 
 use crate::NoMemory;
 use crate::fault::PointFault;
+use crate::positions::PositionList;
 use crate::stored::StoredPosition;
 use std::alloc::Global;
 use std::marker::Model;
@@ -24,7 +25,7 @@ const MOST_POSITIONS: usize = 16_384;
 #[derive(Drop)]
 pub struct Points {
     alloc: Global,
-    positions: Vec<StoredPosition>,
+    positions: PositionList,
     values: usize,
 }
 
@@ -35,10 +36,10 @@ impl Model for Points {
 
     ghost Value = { List Position };
 
-    ghost view = { λ p. p.positions.items };
+    ghost view = { λ p. p.positions };
 
-    ghost invariant = { λ p. WithinLimits p.positions.items
-        × (p.values ≡ length (values_of p.positions.items)) };
+    ghost invariant = { λ p. WithinLimits p.positions
+        × (p.values ≡ length (values_of p.positions)) };
 }
 
 impl Points {
@@ -48,7 +49,7 @@ impl Points {
     {
         Points {
             alloc,
-            positions: Vec::new(alloc),
+            positions: PositionList::new(alloc),
             values: 0,
         }
     }
@@ -94,7 +95,7 @@ impl Points {
         requires { i < length self.now }
         ensures { result ≡ slice_index (commits_of self.now) i }
     {
-        let position = &self.positions[i];
+        let position = self.positions.at(i);
         position.commit()
     }
 
@@ -103,7 +104,7 @@ impl Points {
         requires { i < length self.now }
         ensures { result.now ≡ segment self.now i (i + 1) }
     {
-        let position = &self.positions[i];
+        let position = self.positions.at(i);
         position.values()
     }
 
@@ -147,7 +148,7 @@ impl Points {
     }
 
     // The positions, in order.
-    pub(crate) fn as_slice(&self) -> &[StoredPosition]
+    pub(crate) fn list(&self) -> &PositionList
         ensures { result.now ≡ self.now }
     {
         &self.positions
@@ -157,13 +158,9 @@ impl Points {
     pub fn copy(&self, alloc: Global) -> Result<Points, NoMemory>
         ensures { IfOk result (λ made. made ≡ self.now) }
     {
-        let mut positions = Vec::with_capacity(alloc, self.positions.len())?;
-        for position in &self.positions {
-            positions.push(position.copy(alloc)?)?;
-        }
         Ok(Points {
             alloc,
-            positions,
+            positions: self.positions.copy(alloc)?,
             values: self.values,
         })
     }
@@ -172,49 +169,48 @@ impl Points {
 // Puts a value into the commit's position, or into a new one, at its place; changes nothing where there is no memory.
 fn put_in(
     alloc: Global,
-    positions: &mut Vec<StoredPosition>,
+    positions: &mut PositionList,
     place: usize,
     commit: u64,
     step: u64,
     value: i64,
 ) -> Result<(), NoMemory>
-    requires rising { IsStrictlyIncreasing (commits_of positions.old.items) }
-    requires place { StandsAt commit positions.old.items place }
-    requires within { place ≤ length positions.old.items }
-    ensures ok { OnOk result (positions.new.items
-        ≡ inserted commit (record { step = step; value = value }) positions.old.items) }
-    ensures err { OnErr result (positions.new.items ≡ positions.old.items) }
+    requires rising { IsStrictlyIncreasing (commits_of positions.old) }
+    requires place { StandsAt commit positions.old place }
+    requires within { place ≤ length positions.old }
+    requires few { has_commit commit positions.old ≡ false → length positions.old < 16_384 }
+    ensures ok { OnOk result (positions.new
+        ≡ inserted commit (record { step = step; value = value }) positions.old) }
+    ensures err { OnErr result (positions.new ≡ positions.old) }
 {
     if is_at(positions, place, commit) {
-        let position = &mut positions[place];
-        return position.push(step, value);
+        return positions.push_at(place, step, value);
     }
-    positions.insert(place, StoredPosition::of(alloc, commit, step, value))?;
-    Ok(())
+    let position = StoredPosition::of(alloc, commit, step, value);
+    positions.insert(place, position)
 }
 
 // Takes the values of a step out of the commit's position, and the position where none is left; gives their count.
-fn take_out(positions: &mut Vec<StoredPosition>, commit: u64, step: u64) -> usize
-    requires rising { IsStrictlyIncreasing (commits_of positions.old.items) }
-    requires filled { All HasValue positions.old.items }
-    ensures left { positions.new.items ≡ removed commit step positions.old.items }
-    ensures gone { length (values_of positions.new.items) + result
-        ≡ length (values_of positions.old.items) }
+fn take_out(positions: &mut PositionList, commit: u64, step: u64) -> usize
+    requires rising { IsStrictlyIncreasing (commits_of positions.old) }
+    requires filled { All HasValue positions.old }
+    ensures left { positions.new ≡ removed commit step positions.old }
+    ensures gone { length (values_of positions.new) + result
+        ≡ length (values_of positions.old) }
 {
     let place = place_of(positions, commit);
     if !is_at(positions, place, commit) {
         return 0;
     }
-    let position = &mut positions[place];
-    let gone = position.take_step(step);
-    if position.len() == 0 {
-        let _ = positions.remove(place);
+    let gone = positions.take_step_at(place, step);
+    if positions.at(place).len() == 0 {
+        positions.remove(place);
     }
     gone
 }
 
 // The first place whose commit is not below this one.
-fn place_of(positions: &[StoredPosition], commit: u64) -> usize
+fn place_of(positions: &PositionList, commit: u64) -> usize
     requires { IsStrictlyIncreasing (commits_of positions.now) }
     ensures stands { StandsAt commit positions.now result }
     ensures within { result ≤ length positions.now }
@@ -223,7 +219,7 @@ fn place_of(positions: &[StoredPosition], commit: u64) -> usize
     let mut high = positions.len();
     while low < high {
         let middle = low + (high - low) / 2;
-        let position = &positions[middle];
+        let position = positions.at(middle);
         if position.commit() < commit {
             low = middle + 1;
         } else {
@@ -235,7 +231,7 @@ fn place_of(positions: &[StoredPosition], commit: u64) -> usize
 
 // A place before which each commit is below this one: the last position's or the end where this one is not below the last
 // commit, so that values in order need no search; else the first.
-fn from_the_end(positions: &[StoredPosition], commit: u64) -> usize
+fn from_the_end(positions: &PositionList, commit: u64) -> usize
     requires { IsStrictlyIncreasing (commits_of positions.now) }
     ensures within { result ≤ length positions.now }
     ensures below { (k : ℕ) (d : Position) → k < result → (get_or positions.now k d).commit < commit }
@@ -245,7 +241,7 @@ fn from_the_end(positions: &[StoredPosition], commit: u64) -> usize
         return 0;
     }
     let last = count - 1;
-    let position = &positions[last];
+    let position = positions.at(last);
     if position.commit() > commit {
         return 0;
     }
@@ -256,7 +252,7 @@ fn from_the_end(positions: &[StoredPosition], commit: u64) -> usize
 }
 
 // Whether the commit's position stands at its place.
-fn is_at(positions: &[StoredPosition], place: usize, commit: u64) -> bool
+fn is_at(positions: &PositionList, place: usize, commit: u64) -> bool
     requires rising { IsStrictlyIncreasing (commits_of positions.now) }
     requires place { StandsAt commit positions.now place }
     requires within { place ≤ length positions.now }
@@ -267,6 +263,6 @@ fn is_at(positions: &[StoredPosition], place: usize, commit: u64) -> bool
     if place == positions.len() {
         return false;
     }
-    let position = &positions[place];
+    let position = positions.at(place);
     position.commit() == commit
 }

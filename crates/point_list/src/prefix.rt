@@ -3,7 +3,7 @@ ghost use Rattle.std.specs.Prelude.{◌≡◌};
 ghost use Rattle.point_list.specs.Places.{common};
 
 use crate::points::Points;
-use crate::stored::StoredPosition;
+use crate::positions::PositionList;
 
 /// The greatest number of first positions with equal commits and values, whatever steps brought these.
 ///
@@ -11,16 +11,16 @@ use crate::stored::StoredPosition;
 pub fn common_prefix(a: &Points, b: &Points) -> usize
     ensures { result ≡ common a.now b.now }
 {
-    common_positions(a.as_slice(), b.as_slice())
+    common_positions(a.list(), b.list())
 }
 
-fn common_positions(a: &[StoredPosition], b: &[StoredPosition]) -> usize
+fn common_positions(a: &PositionList, b: &PositionList) -> usize
     ensures { result ≡ common a.now b.now }
 {
     let mut k = 0;
     while k < a.len() && k < b.len() {
-        let one = &a[k];
-        let other = &b[k];
+        let one = a.at(k);
+        let other = b.at(k);
         if !one.is_same(other) {
             return k;
         }
