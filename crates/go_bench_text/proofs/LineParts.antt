@@ -1,15 +1,42 @@
 -- What a line adds, and when it is out of range.
-use Rattle.std.proofs.Common.{◌≡◌, ℕ, ◌≤◌, ◌<◌, ◌⊎◌, inl, inr, true, false, List, [], length, refl, sym, ◌∙◌, ap, subst, arith}
+use Rattle.std.proofs.Common.{◌≡◌, ℕ, ◌≤◌, ◌<◌, ◌⊎◌, inl, inr, true, false, List, [], ◌∷◌, ◌++◌, length, refl, sym, ◌∙◌, ap, subst, arith, append_assoc}
+use Rattle.std.specs.Prelude.{codes}
+use Rattle.history_model.specs.Samples.{Measurement}
 use Rattle.std.proofs.lemmas.List.{append-nil}
-use Rattle.go_bench_text.specs.Gathering.{Keeps, Gains, AddsPairs, AddsLine}
-use Rattle.go_bench_text.specs.Lines.{begins, IsResult, IsResultLine}
+use Rattle.go_bench_text.specs.Gathering.{Keeps, Gains, AddsLine}
+use Rattle.go_bench_text.specs.Lines.{begins, ArePairs, IsResult, IsResultLine}
+use Rattle.go_bench_text.specs.Pairs.{IsHead, ReadsPairs, HasLargePair, samples_of}
 use Rattle.go_bench_text.specs.Readings.{HasLarge, PairsGive, IsOver, pkg_of, test_of}
 use Rattle.go_bench_text.specs.Readings.LineGives.{measured, broken, silent}
 use Rattle.go_bench_text.specs.declared.gather.Gathered.{Gathered}
+use Rattle.go_bench_text.specs.declared.pairs.Pair.{Pair}
 use Rattle.go_bench_text.proofs.OneReading.{same_parts, not_both}
 
 pub gains_none : (before : Gathered) → Gains before before []
 gains_none before given keeps = subst (Keeps before) (sym (append-nil given)) keeps
+
+pub gains_more : (before now next : Gathered) (new : List Measurement) (sample : Measurement) → Gains before now new → Gains now next (sample ∷ []) → Gains before next (new ++ sample ∷ [])
+gains_more before now next new sample first last given keeps = subst (Keeps next) (append_assoc given new (sample ∷ [])) (last (given ++ new) (first given keeps))
+
+-- a line that begins as a result line does and goes on with pairs is one
+pub is_whole : (line name : List ℕ) (fields : List (List ℕ)) → IsHead line name fields → 0 < length fields → ArePairs fields → IsResult line name fields
+is_whole line name fields head some paired = record { count = head.count; first = head.first; fields = head.fields; named = head.named; counted = head.counted; some = some; paired = paired }
+
+-- a line that begins as a result line does and goes on with pairs, one out of range, is out of range
+pub is_over_pairs : (before : List (List ℕ)) (line name : List ℕ) (fields : List (List ℕ)) → IsHead line name fields → HasLargePair fields → IsOver before line
+is_over_pairs before line name fields head large = record { name = name; pairs = fields; is = is_whole line name fields head (some_large fields large.1) large.0; over = inr large.1 } where
+  some_large : (fs : List (List ℕ)) → HasLarge fs → 0 < length fs
+  some_large [] h = absurd h
+  some_large (f ∷ fs) h = omega arith
+
+-- or whose test is too long
+pub is_over_test : (before : List (List ℕ)) (line name pkg : List ℕ) (fields : List (List ℕ)) (pairs : List Pair) → IsHead line name fields → ReadsPairs fields pairs → pkg_of before ≡ pkg → 256 < length (test_of pkg name) → IsOver before line
+is_over_test before line name pkg fields pairs head reads e long = record {
+  name = name;
+  pairs = fields;
+  is = is_whole line name fields head reads.some reads.paired;
+  over = inl (subst (λ (p : List ℕ). 256 < length (test_of p name)) (sym e) long);
+}
 
 -- only a result line is out of range
 pub silent_in_range : (before : List (List ℕ)) (line : List ℕ) → begins line ≡ false → ¬ IsOver before line
@@ -25,15 +52,23 @@ pub none_over : (test : List ℕ) (pairs : List (List ℕ)) → length test ≤ 
 none_over test pairs short small (inl h) = absurd (omega arith)
 none_over test pairs short small (inr h) = small h
 
-pub adds_measured : (old new : Gathered) (before : List (List ℕ)) (line name pkg test : List ℕ) (pairs : List (List ℕ)) → IsResult line name pairs → pkg_of before ≡ pkg → test ≡ test_of pkg name
-    → length (test_of pkg name) ≤ 256 → AddsPairs old new test pairs → AddsLine old new before line 0
-adds_measured old new before line name pkg test pairs is e f short adds =
+-- its fields behind the count are these
+pub is_headed : (line name : List ℕ) (fields : List (List ℕ)) → IsHead line name fields → IsResultLine line → (0 < length fields) × ArePairs fields
+is_headed line name fields head is =
+    let both : (codes "Benchmark" ++ name) ∷ head.count ∷ fields ≡ (codes "Benchmark" ++ is.0) ∷ is.2.count ∷ is.1 = sym head.fields ∙ is.2.fields in
+    let same : fields ≡ is.1 = cc in
+    (subst (λ (fs : List (List ℕ)). 0 < length fs) (sym same) is.2.some, subst ArePairs (sym same) is.2.paired)
+
+pub adds_measured : (old new : Gathered) (before : List (List ℕ)) (line name pkg : List ℕ) (fields : List (List ℕ)) (pairs : List Pair) → IsHead line name fields → ReadsPairs fields pairs → pkg_of before ≡ pkg
+    → length (test_of pkg name) ≤ 256 → Gains old new (samples_of (test_of pkg name) pairs) → AddsLine old new before line 0
+adds_measured old new before line name pkg fields pairs head reads e short gains =
+    let is = is_whole line name fields head reads.some reads.paired in
     let there : test_of pkg name ≡ test_of (pkg_of before) name = ap (λ (p : List ℕ). test_of p name) (sym e) in
     record {
-      samples = adds.new;
-      gives = measured name pairs is (subst (λ (t : List ℕ). PairsGive t pairs adds.new) (f ∙ there) adds.gives) refl;
-      gains = adds.gains;
-      in_range = λ over. none_over (test_of (pkg_of before) name) pairs (subst (λ (t : List ℕ). length t ≤ 256) there short) adds.in_range (over_parts before line name pairs is over);
+      samples = samples_of (test_of pkg name) pairs;
+      gives = measured name fields is (subst (λ (t : List ℕ). PairsGive t fields (samples_of (test_of pkg name) pairs)) there (reads.gives (test_of pkg name))) refl;
+      gains = gains;
+      in_range = λ over. none_over (test_of (pkg_of before) name) fields (subst (λ (t : List ℕ). length t ≤ 256) there short) reads.in_range (over_parts before line name fields is over);
     }
 
 pub adds_broken : (old : Gathered) (before : List (List ℕ)) (line : List ℕ) → begins line ≡ true → ¬ IsResultLine line → AddsLine old old before line 1

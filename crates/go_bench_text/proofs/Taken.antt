@@ -1,63 +1,89 @@
--- The pairs of a line whose samples were taken.
-use Rattle.std.proofs.Common.{◌≡◌, ℕ, inl, inr, List, [], ◌∷◌, ◌++◌, sym, subst, append_assoc}
-use Rattle.std.proofs.lemmas.List.{append-nil}
+-- The pairs of a line as far as they were read.
+use Rattle.std.proofs.Common.{◌≡◌, ℕ, zero, suc, ◌<◌, ◌≤◌, inl, inr, List, [], ◌∷◌, ◌++◌, length, map, refl, sym, ◌∙◌, ap, subst, arith, append_assoc}
+use Rattle.std.specs.List.{All}
+use Rattle.std.proofs.lemmas.List.{append-nil, map-append, length-map}
+use Rattle.std.proofs.lemmas.List.Elements.{All-append}
 use Rattle.history_model.specs.Samples.{Measurement}
+use Rattle.fixed_value.specs.Numerals.{HasNumeral}
 use Rattle.metric_value.specs.Values.{HasNoneInRange}
-use Rattle.go_bench_text.specs.Gathering.{Keeps, Gains, AddsPairs}
 use Rattle.go_bench_text.specs.Lines.{ArePairs}
+use Rattle.go_bench_text.specs.Pairs.{IsPair, IsPairOf, sample_of, samples_of, ReadsPairs, HasLargePair}
 use Rattle.go_bench_text.specs.Readings.{IsSampleOf, HasLarge, PairsGive}
-use Rattle.go_bench_text.specs.declared.gather.Gathered.{Gathered}
-use Rattle.go_bench_text.proofs.LineParts.{gains_none}
+use Rattle.go_bench_text.specs.declared.pairs.Pair.{Pair}
 
--- these samples are those of the pairs in front of the rest
-pub record Taken (before now : Gathered) (test : List ℕ) (pairs rest : List (List ℕ)) : Type 0 where
-  pub new : List Measurement
-  pub on : (more : List Measurement) → PairsGive test rest more → PairsGive test pairs (new ++ more)
-  pub gains : Gains before now new
-  pub large : HasLarge pairs → HasLarge rest
-  pub larger : HasLarge rest → HasLarge pairs
-  pub paired : ArePairs rest
+-- these pairs stand in front of the rest
+pub record Taken (fields rest : List (List ℕ)) (pairs : List Pair) : Type 0 where
+  pub gives : (test : List ℕ) (more : List Measurement) → PairsGive test rest more → PairsGive test fields (samples_of test pairs ++ more)
+  pub on : ArePairs rest → ArePairs fields
+  pub back : ArePairs fields → ArePairs rest
+  pub large : HasLarge fields → HasLarge rest
+  pub larger : HasLarge rest → HasLarge fields
+  pub each : All IsPair pairs
 
-pub taken_none : (before : Gathered) (test : List ℕ) (pairs : List (List ℕ)) → ArePairs pairs → Taken before before test pairs pairs
-taken_none before test pairs paired = record {
-  new = [];
-  on = λ more gives. gives;
-  gains = gains_none before;
+pub taken_none : (fields : List (List ℕ)) (pairs : List Pair) → pairs ≡ [] → Taken fields fields pairs
+taken_none fields pairs e = subst (Taken fields fields) (sym e) (record {
+  gives = λ test more given. given;
+  on = λ h. h;
+  back = λ h. h;
   large = λ h. h;
   larger = λ h. h;
-  paired = paired;
-}
+  each = λ k d l. absurd (omega arith);
+})
 
-gains_more : (before now next : Gathered) (new : List Measurement) (sample : Measurement) → Gains before now new → Gains now next (sample ∷ []) → Gains before next (new ++ sample ∷ [])
-gains_more before now next new sample first last given keeps = subst (Keeps next) (append_assoc given new (sample ∷ [])) (last (given ++ new) (first given keeps))
+one : (pair : Pair) → IsPair pair → All IsPair (pair ∷ [])
+one pair is zero d l = is
+one pair is (suc k) d l = absurd (omega arith)
 
-in_front : (new more : List Measurement) (sample : Measurement) → (new ++ sample ∷ []) ++ more ≡ new ++ sample ∷ more
-in_front new more sample = append_assoc new (sample ∷ []) more
+in_front : (test : List ℕ) (pairs : List Pair) (pair : Pair) (more : List Measurement) → samples_of test (pairs ++ pair ∷ []) ++ more ≡ samples_of test pairs ++ sample_of test pair ∷ more
+in_front test pairs pair more =
+    ap (λ (samples : List Measurement). samples ++ more) (map-append (sample_of test) pairs (pair ∷ [])) ∙ append_assoc (samples_of test pairs) (sample_of test pair ∷ []) more
 
-pub taken_more : (before now next : Gathered) (test value unit : List ℕ) (pairs more : List (List ℕ)) (sample : Measurement) → Taken before now test pairs (value ∷ unit ∷ more)
-    → IsSampleOf test value unit sample → ¬ HasNoneInRange unit value → Gains now next (sample ∷ []) → Taken before next test pairs more
-taken_more before now next test value unit pairs more sample taken is small gains = record {
-  new = taken.new ++ sample ∷ [];
-  on = λ rest gives. subst (PairsGive test pairs) (sym (in_front taken.new rest sample)) (taken.on (sample ∷ rest) (is, gives));
-  gains = gains_more before now next taken.new sample taken.gains gains;
+in_range : (value unit : List ℕ) (pair : Pair) → IsPairOf value unit pair → ¬ HasNoneInRange unit value
+in_range value unit pair of none = omega (arith, of.is.within, none pair.value of.gives)
+
+pub taken_more : (fields more : List (List ℕ)) (value unit : List ℕ) (pairs after : List Pair) (pair : Pair) → Taken fields (value ∷ unit ∷ more) pairs → IsPairOf value unit pair → after ≡ pairs ++ pair ∷ [] → Taken fields more after
+taken_more fields more value unit pairs after pair taken of e = subst (Taken fields more) (sym e) (record {
+  gives = λ test rest given. subst (PairsGive test fields) (sym (in_front test pairs pair rest)) (taken.gives test (sample_of test pair ∷ rest) (record { of_test = refl; by_metric = of.same; value = of.gives }, given));
+  on = λ h. taken.on (of.numeral, subst (λ (u : List ℕ). length u ≤ 64) of.same of.is.short, h);
+  back = λ h. (taken.back h).2;
   large = λ h. later (taken.large h);
   larger = λ h. taken.larger (inr h);
-  paired = taken.paired.2;
-} where
+  each = All-append IsPair pairs (pair ∷ []) taken.each (one pair of.is);
+}) where
   later : HasLarge (value ∷ unit ∷ more) → HasLarge more
-  later (inl h) = absurd (small h)
+  later (inl h) = absurd (in_range value unit pair of h)
   later (inr h) = h
 
-pub taken_all : (before now : Gathered) (test : List ℕ) (pairs rest : List (List ℕ)) → Taken before now test pairs rest → rest ≡ [] → AddsPairs before now test pairs
-taken_all before now test pairs rest taken e =
-    let done : Taken before now test pairs [] = subst (Taken before now test pairs) e taken in
-    record {
-      new = done.new;
-      gives = subst (PairsGive test pairs) (append-nil done.new) (done.on [] tt);
-      gains = done.gains;
-      in_range = done.large;
-    }
+-- no samples are those of no fields
+no_fields : (fields : List (List ℕ)) → PairsGive [] fields [] → fields ≡ []
+no_fields [] h = refl
+no_fields (value ∷ []) h = absurd h
+no_fields (value ∷ unit ∷ more) h = absurd h
 
--- a value out of range at the front of the rest is one of the pairs
-pub taken_large : (before now : Gathered) (test value unit : List ℕ) (pairs more : List (List ℕ)) → Taken before now test pairs (value ∷ unit ∷ more) → HasNoneInRange unit value → HasLarge pairs
-taken_large before now test value unit pairs more taken large = taken.larger (inl large)
+some_fields : (fields : List (List ℕ)) (samples : List Measurement) → PairsGive [] fields samples → 0 < length samples → 0 < length fields
+some_fields [] [] h l = absurd (omega arith)
+some_fields [] (sample ∷ samples) h l = absurd h
+some_fields (field ∷ fields) samples h l = omega arith
+
+all_given : (fields rest : List (List ℕ)) (pairs : List Pair) (test : List ℕ) → Taken fields rest pairs → rest ≡ [] → PairsGive test fields (samples_of test pairs)
+all_given fields rest pairs test taken e = subst (PairsGive test fields) (append-nil (samples_of test pairs)) (taken.gives test [] (subst (λ (fs : List (List ℕ)). PairsGive test fs []) (sym e) tt))
+
+pub taken_all : (fields rest : List (List ℕ)) (pairs : List Pair) → Taken fields rest pairs → rest ≡ [] → 0 < length pairs → ReadsPairs fields pairs
+taken_all fields rest pairs taken e some = record {
+  some = some_fields fields (samples_of [] pairs) (all_given fields rest pairs [] taken e) (omega (arith, some, length-map pairs (sample_of [])));
+  paired = taken.on (subst ArePairs (sym e) tt);
+  gives = λ test. all_given fields rest pairs test taken e;
+  in_range = λ h. subst HasLarge e (taken.large h);
+  each = taken.each;
+  any = some;
+}
+
+-- where no pair was taken there are no fields
+pub taken_no : (fields rest : List (List ℕ)) (pairs : List Pair) → Taken fields rest pairs → rest ≡ [] → pairs ≡ [] → 0 < length fields → ⊥
+taken_no fields rest pairs taken e none some =
+    let empty : fields ≡ [] = no_fields fields (subst (λ (ps : List Pair). PairsGive [] fields (samples_of [] ps)) none (all_given fields rest pairs [] taken e)) in
+    omega (arith, some, ap (λ (fs : List (List ℕ)). length fs) empty)
+
+-- a value out of range in front of pairs
+pub taken_large : (fields more : List (List ℕ)) (value unit : List ℕ) (pairs : List Pair) → Taken fields (value ∷ unit ∷ more) pairs → HasNumeral value → length unit ≤ 64 → HasNoneInRange unit value → ArePairs more → HasLargePair fields
+taken_large fields more value unit pairs taken numeral short none paired = (taken.on (numeral, short, paired), taken.larger (inl none))

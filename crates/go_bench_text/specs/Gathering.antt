@@ -1,9 +1,9 @@
 -- Private: no public contract cites this. What has become of the samples while a text is read.
-use Rattle.std.specs.Prelude.{◌≡◌, ℕ, ◌<◌, true, false, List, ◌++◌, length}
+use Rattle.std.specs.Prelude.{◌≡◌, ℕ, ◌<◌, ◌≤◌, ◌⊎◌, true, false, List, ◌++◌, length}
 use Rattle.metric_table.specs.Limits.{most}
 use Rattle.metric_table.specs.declared.limits.Limit.TheVariants.{RunSamples}
 use Rattle.history_model.specs.Samples.{Measurement}
-use Rattle.go_bench_text.specs.Readings.{PairsGive, HasLarge, LineGives, IsOver}
+use Rattle.go_bench_text.specs.Readings.{LineGives, IsOver}
 use Rattle.go_bench_text.specs.declared.gather.Gathered.{Gathered}
 
 -- all of the samples that were given, or the note that they are more than a run may have
@@ -15,12 +15,9 @@ pub record Keeps (gathered : Gathered) (given : List Measurement) : Type 0 where
 abbrev pub Gains : Gathered → Gathered → List Measurement → Type 0
 Gains before after new = (given : List Measurement) → Keeps before given → Keeps after (given ++ new)
 
--- the samples of the pairs were given behind the others
-pub record AddsPairs (before after : Gathered) (test : List ℕ) (pairs : List (List ℕ)) : Type 0 where
-  pub new : List Measurement
-  pub gives : PairsGive test pairs new
-  pub gains : Gains before after new
-  pub in_range : ¬ HasLarge pairs
+-- there are as many samples as a run may have, or more
+abbrev pub IsFull : Gathered → Type 0
+IsFull gathered = (gathered.full ≡ true) ⊎ (most RunSamples ≤ length gathered.samples)
 
 -- the line's samples, behind the lines before it, were given behind the others, and so many lines are ignored there
 pub record AddsLine (old new : Gathered) (before : List (List ℕ)) (line : List ℕ) (ignored : ℕ) : Type 0 where

@@ -4,6 +4,7 @@ pub mod Characters
 pub mod Fields
 pub mod Gathering
 pub mod Lines
+pub mod Pairs
 pub mod Parts
 pub mod Readings
 pub mod Spellings

@@ -1,14 +1,13 @@
 //! The samples of a text as far as it has been read, and what a line adds to them.
-ghost use Rattle.std.specs.Prelude.{◌≡◌, ◌≤◌, ◌∷◌, [], true, ℕ, List, OnOk, IfOk};
-ghost use Rattle.go_bench_text.specs.Gathering.{AddsPairs, AddsLine};
-ghost use Rattle.go_bench_text.specs.Fields.{fields_of};
-ghost use Rattle.go_bench_text.specs.Lines.{ArePairs, begins};
-ghost use Rattle.go_bench_text.specs.Readings.{HasLarge, IsOver, pkg_of};
+ghost use Rattle.std.specs.Prelude.{◌≡◌, ◌≤◌, true, ℕ, List, IfOk};
+ghost use Rattle.go_bench_text.specs.Gathering.{AddsLine};
+ghost use Rattle.go_bench_text.specs.Lines.{begins};
+ghost use Rattle.go_bench_text.specs.Readings.{IsOver, pkg_of};
 
 use crate::fault::LineFault;
-use crate::fields::next_field;
-use crate::line::parts_of;
-use crate::sample::{sample_of, test_name};
+use crate::line::head_of;
+use crate::pairs::{Pair, read_pairs};
+use crate::sample::{test_fits, test_name};
 use crate::units::Units;
 use history_model::{NoMemory, Sample, Samples};
 use line_text::Name;
@@ -24,7 +23,10 @@ pub(crate) struct Gathered {
 }
 
 impl Gathered {
-    ghost use Rattle.go_bench_text.specs.Gathering.{Keeps, Gains};
+    ghost use Rattle.std.specs.Prelude.{◌≡◌, ◌<◌, ◌≤◌, ◌↔◌, ◌∷◌, [], All, length, IsTrue, OnOk};
+    ghost use Rattle.go_bench_text.specs.Gathering.{Keeps, Gains, IsFull};
+    ghost use Rattle.go_bench_text.specs.Pairs.{IsPair, sample_of, samples_of};
+    ghost use Rattle.go_bench_text.specs.Readings.{test_of};
 
     // No samples.
     pub(crate) fn new(alloc: Global) -> Gathered
@@ -37,48 +39,77 @@ impl Gathered {
         }
     }
 
-    // One sample more, kept if a run may have it.
-    pub(crate) fn add(&mut self, sample: Sample) -> Result<(), NoMemory>
-        ensures { OnOk result (Gains self.old self.new (sample ∷ [])) }
+    // Whether there are as many samples as a run may have.
+    fn is_full(&self) -> bool
+        ensures { IsTrue result ↔ IsFull self.now }
     {
-        if self.full || self.samples.len() as u64 >= Limit::RunSamples.most() {
+        self.full || self.samples.len() as u64 >= Limit::RunSamples.most()
+    }
+
+    // The sample of a pair more, kept if a run may have it.
+    fn add(&mut self, alloc: Global, test: &Name, pair: &Pair<'_>) -> Result<(), NoMemory>
+        requires { IsPair pair.now }
+        ensures { OnOk result (Gains self.old self.new (sample_of test.now pair.now ∷ [])) }
+    {
+        if self.is_full() {
             self.full = true;
             return Ok(());
         }
-        self.samples.push(sample)
+        let metric = self.units.name_of(alloc, pair.unit)?;
+        self.samples.push(Sample {
+            test: test.copy(alloc)?,
+            metric,
+            value: pair.value,
+        })
     }
-}
 
-// Adds the samples of the pairs of a result line.
-fn add_pairs(
-    alloc: Global,
-    gathered: &mut Gathered,
-    test: &Name,
-    pairs: &str,
-) -> Result<(), LineFault>
-    requires { ArePairs (fields_of pairs.now) }
-    ensures ok { OnOk result (AddsPairs gathered.old gathered.new test.now (fields_of pairs.now)) }
-    ensures over { result ≡ Err LineFault.OutOfRange → HasLarge (fields_of pairs.now) }
-{
-    let mut rest = pairs;
-    while let Some((value, behind)) = next_field(rest) {
-        let Some((unit, more)) = next_field(behind) else {
-            unreachable!();
-        };
-        let sample = sample_of(alloc, &mut gathered.units, test, value, unit)?;
-        gathered.add(sample)?;
-        rest = more;
+    // The samples of pairs more, as far as a run may have them.
+    fn add_all(&mut self, alloc: Global, test: &Name, pairs: &[Pair<'_>]) -> Result<(), NoMemory>
+        requires { All IsPair pairs.now }
+        ensures { OnOk result (Gains self.old self.new (samples_of test.now pairs.now)) }
+    {
+        for pair in pairs {
+            self.add(alloc, test, pair)?;
+        }
+        Ok(())
     }
-    Ok(())
+
+    // The samples of the pairs of a result line more. No name is made where a run has no room for them.
+    fn add_pairs(
+        &mut self,
+        alloc: Global,
+        pkg: &str,
+        name: &str,
+        pairs: &[Pair<'_>],
+    ) -> Result<(), LineFault>
+        requires each { All IsPair pairs.now }
+        requires any { 0 < length pairs.now }
+        ensures ok { OnOk result (Gains self.old self.new
+            (samples_of (test_of pkg.now name.now) pairs.now)) }
+        ensures over { result ≡ Err LineFault.OutOfRange
+            → 256 < length (test_of pkg.now name.now) }
+        ensures short { OnOk result (length (test_of pkg.now name.now) ≤ 256) }
+    {
+        if !self.is_full() {
+            let test = test_name(alloc, pkg, name)?;
+            return Ok(self.add_all(alloc, &test, pairs)?);
+        }
+        if !test_fits(pkg, name) {
+            return Err(LineFault::OutOfRange);
+        }
+        self.full = true;
+        Ok(())
+    }
 }
 
 // Adds the samples of a line that begins with `Benchmark`, behind lines that leave `pkg` at this value. How many lines
-// are ignored there: one where the line is broken, else none.
-pub(crate) fn add_measured(
+// are ignored there: one where the line is broken, else none. What `pairs` holds is of no account.
+pub(crate) fn add_measured<'a>(
     alloc: Global,
     gathered: &mut Gathered,
+    pairs: &mut Vec<Pair<'a>>,
     pkg: &str,
-    line: &str,
+    line: &'a str,
 ) -> Result<u64, LineFault>
     requires { begins line.now ≡ true }
     ensures ok { IfOk result (λ ignored. (before : List (List ℕ)) → pkg_of before ≡ pkg.now
@@ -87,10 +118,12 @@ pub(crate) fn add_measured(
         → (before : List (List ℕ)) → pkg_of before ≡ pkg.now → IsOver before line.now }
     ensures few { IfOk result (λ ignored. ignored ≤ 1) }
 {
-    let Some((name, pairs)) = parts_of(line) else {
+    let Some((name, behind)) = head_of(line) else {
         return Ok(1);
     };
-    let test = test_name(alloc, pkg, name)?;
-    add_pairs(alloc, gathered, &test, pairs)?;
+    if !read_pairs(behind, pairs)? {
+        return Ok(1);
+    }
+    gathered.add_pairs(alloc, pkg, name, pairs)?;
     Ok(0)
 }

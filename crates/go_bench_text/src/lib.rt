@@ -19,6 +19,7 @@ mod fault;
 mod fields;
 mod gather;
 mod line;
+mod pairs;
 mod put;
 mod read;
 mod sample;

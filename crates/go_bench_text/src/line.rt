@@ -2,7 +2,8 @@
 ghost use Rattle.std.specs.Prelude.{◌≡◌, ◌++◌, ◌↔◌, ◌<◌, true, length, codes, IfSome, IfNone, IsTrue, List, ℕ};
 ghost use Rattle.std.specs.Str.{IsUtf8};
 ghost use Rattle.go_bench_text.specs.Fields.{fields_of};
-ghost use Rattle.go_bench_text.specs.Lines.{begins, ArePairs, IsResult, IsResultLine, IsKind};
+ghost use Rattle.go_bench_text.specs.Lines.{begins, ArePairs, IsResultLine, IsKind};
+ghost use Rattle.go_bench_text.specs.Pairs.{IsHead};
 
 use crate::characters::is_name;
 use crate::config::setting_of;
@@ -49,21 +50,32 @@ fn are_some_pairs(text: &str) -> bool
     }
 }
 
-// The name and the pairs of a result line.
-pub(crate) fn parts_of(line: &str) -> Option<(&str, &str)>
+// What a line begins with that may be a result line: the name, and what stands behind the count.
+pub(crate) fn head_of(line: &str) -> Option<(&str, &str)>
     requires { begins line.now ≡ true }
-    ensures some { IfSome result (λ parts. IsResult line.now parts.0.now (fields_of parts.1.now)) }
-    ensures name { IfSome result (λ parts. IsUtf8 parts.0.now) }
-    ensures pairs { IfSome result (λ parts. IsUtf8 parts.1.now) }
+    ensures some { IfSome result (λ head. IsHead line.now head.0.now (fields_of head.1.now)) }
+    ensures name { IfSome result (λ head. IsUtf8 head.0.now) }
+    ensures behind { IfSome result (λ head. IsUtf8 head.1.now) }
     ensures none { IfNone result (¬ IsResultLine line.now) }
 {
     let (first, rest) = next_field(line)?;
     let name = name_in(first)?;
-    let (count, pairs) = next_field(rest)?;
-    if is_name(name) && are_digits(count) && are_some_pairs(pairs) {
-        Some((name, pairs))
+    let (count, behind) = next_field(rest)?;
+    if is_name(name) && are_digits(count) {
+        Some((name, behind))
     } else {
         None
+    }
+}
+
+// Whether the line is a result line.
+fn is_result(line: &str) -> bool
+    requires { begins line.now ≡ true }
+    ensures { IsTrue result ↔ IsResultLine line.now }
+{
+    match head_of(line) {
+        Some((_, behind)) => are_some_pairs(behind),
+        None => false,
     }
 }
 
@@ -78,9 +90,10 @@ pub fn line_kind(line: &str) -> LineKind
     ensures { IsKind line.now result }
 {
     if begins(line) {
-        match parts_of(line) {
-            Some(_) => LineKind::Result,
-            None => LineKind::Broken,
+        if is_result(line) {
+            LineKind::Result
+        } else {
+            LineKind::Broken
         }
     } else {
         match setting_of(line) {

@@ -13,6 +13,7 @@ use crate::config::setting_of;
 use crate::fault::LineFault;
 use crate::gather::{Gathered, add_measured};
 use crate::line::begins;
+use crate::pairs::Pair;
 use history_model::{NoMemory, Samples};
 use metric_table::Limit;
 use metric_value::value_law;
@@ -68,6 +69,7 @@ fn pkg_value(line: &str) -> Option<&str>
 fn read_line<'a>(
     alloc: Global,
     gathered: &mut Gathered,
+    pairs: &mut Vec<Pair<'a>>,
     pkg: &'a str,
     line: &'a str,
 ) -> Result<(&'a str, u64), LineFault>
@@ -81,7 +83,7 @@ fn read_line<'a>(
     ensures text { IfOk result (λ read. IsUtf8 read.0.now) }
 {
     if begins(line) {
-        let ignored = add_measured(alloc, gathered, pkg, line)?;
+        let ignored = add_measured(alloc, gathered, pairs, pkg, line)?;
         return Ok((pkg, ignored));
     }
     match pkg_value(line) {
@@ -97,12 +99,13 @@ fn gather(alloc: Global, text: &str) -> Result<(Gathered, u64), GoFault>
     ensures fault { IfErr result (λ fault. IsFault text.now fault) }
 {
     let mut gathered = Gathered::new(alloc);
+    let mut pairs = Vec::new(alloc);
     let mut pkg = "";
     let mut number = 0u64;
     let mut ignored = 0u64;
     for line in text.split('\n') {
         number += 1;
-        match read_line(alloc, &mut gathered, pkg, line) {
+        match read_line(alloc, &mut gathered, &mut pairs, pkg, line) {
             Ok((value, count)) => {
                 pkg = value;
                 ignored += count;

@@ -1,8 +1,8 @@
 //! The names of units that have been met, so that they are shared.
-ghost use Rattle.std.specs.Prelude.{◌≡◌, ◌<◌, length, IfOk};
+ghost use Rattle.std.specs.Prelude.{◌≡◌, ◌<◌, ◌≤◌, length, IfOk};
 
-use crate::fault::LineFault;
 use crate::sample::name_of;
+use history_model::NoMemory;
 use line_text::Name;
 use std::alloc::Global;
 
@@ -24,19 +24,21 @@ impl Units {
     }
 
     // The name of a unit: shared, where the unit is kept.
-    pub(crate) fn name_of(&mut self, alloc: Global, unit: &str) -> Result<Name, LineFault>
-        requires { 0 < length unit.now }
-        ensures ok { IfOk result (λ name. name ≡ unit.now) }
-        ensures over { result ≡ Err LineFault.OutOfRange → 256 < length unit.now }
+    pub(crate) fn name_of(&mut self, alloc: Global, unit: &str) -> Result<Name, NoMemory>
+        requires some { 0 < length unit.now }
+        requires short { length unit.now ≤ 256 }
+        ensures { IfOk result (λ name. name ≡ unit.now) }
     {
         for name in &self.names {
             if name.as_str() == unit {
                 return Ok(name.copy(alloc)?);
             }
         }
-        let name = name_of(alloc, unit)?;
-        if self.names.len() < MOST && self.names.push(name.copy(alloc)?).is_err() {
-            return Err(LineFault::NoMemory);
+        let Ok(name) = name_of(alloc, unit) else {
+            return Err(NoMemory);
+        };
+        if self.names.len() < MOST {
+            self.names.push(name.copy(alloc)?)?;
         }
         Ok(name)
     }

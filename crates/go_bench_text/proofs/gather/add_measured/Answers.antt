@@ -1,10 +1,20 @@
+use Rattle.std.proofs.Common.{List, subst}
 use Rattle.go_bench_text.specs.Fields.{fields_of}
-use Rattle.go_bench_text.proofs.LineParts.{adds_measured, adds_broken}
+use Rattle.go_bench_text.specs.Gathering.{Gains}
+use Rattle.go_bench_text.specs.Pairs.{samples_of}
+use Rattle.go_bench_text.specs.Readings.{test_of}
+use Rattle.go_bench_text.specs.declared.pairs.Pair.{Pair}
+use Rattle.go_bench_text.proofs.LineParts.{adds_measured, adds_broken, is_headed}
 use Rattle.go_bench_text.proofs.gather.add_measured.Goals as goal
 
-pub returns-in_default-clause-ok : goal.returns-in_default-clause-ok
-returns-in_default-clause-ok c before e = adds_broken c.args.gathered.now before c.args.line.now c.requires c.in_default.ensures.none
+pub returns-then-not-branch-clause-ok : goal.returns-then-not-branch-clause-ok
+returns-then-not-branch-clause-ok c before e = adds_broken c.args.gathered.now before c.args.line.now c.requires (λ is.
+    let headed = is_headed c.args.line.now c.in-Some.name.now (fields_of c.in-Some.behind.now) c.in-Some.ensures.some is in
+    c.in_ok-read_pairs.ensures.none c.if-not-branch.true headed.0 headed.1)
 
 pub returns-clause-ok : goal.returns-clause-ok
 returns-clause-ok c before e =
-    adds_measured c.args.gathered.now c.add_pairs.new.gathered before c.args.line.now c.in-Some.name.now c.args.pkg.now c.in_ok-test.test (fields_of c.in-Some.pairs.now) c.in-Some.ensures.some e c.in_ok-test.ensures.ok c.in_ok-test.ensures.short c.in_ok-add_pairs.ensures.ok
+    let test = test_of c.args.pkg.now c.in-Some.name.now in
+    adds_measured c.args.gathered.now c.add_pairs.new.self before c.args.line.now c.in-Some.name.now c.args.pkg.now (fields_of c.in-Some.behind.now) c.read_pairs.new.pairs.items c.in-Some.ensures.some
+    (c.in_ok-read_pairs.ensures.read c.if-not-branch.false) e c.in_ok-add_pairs.ensures.short
+    (subst (λ (pairs : List Pair). Gains c.args.gathered.now c.add_pairs.new.self (samples_of test pairs)) c.deref.ensures.value c.in_ok-add_pairs.ensures.ok)
