@@ -1,13 +1,15 @@
 -- What was passed on the way through the characters of a text.
-use Rattle.std.proofs.Common.{◌≡◌, ℕ, Bool, true, false, ◌&&◌, not, List, [], ◌∷◌, ◌++◌, length, take, drop, ◌-◌, refl, sym, ◌∙◌, ap, subst, append_assoc, arith, length-append}
+use Rattle.std.proofs.Common.{◌≡◌, ℕ, zero, suc, ◌+◌, ◌<◌, ◌≤◌, get_or, Bool, true, false, ◌&&◌, not, List, [], ◌∷◌, ◌++◌, length, take, drop, ◌-◌, refl, sym, ◌∙◌, ap, subst, append_assoc, arith, length-append}
 use Rattle.std.specs.Char.{is_whitespace, encode_utf8, IsScalar}
 use Rattle.std.specs.List.{list_all}
 use Rattle.std.specs.Str.{chars, IsUtf8, IsCharBoundary}
 use Rattle.std.proofs.lemmas.Bool.{and_from}
-use Rattle.std.proofs.lemmas.Str.{IsUtf8-nil, IsUtf8-append, IsUtf8-encode, chars-append, chars_past_char, chars-nil, IsCharBoundary-at_seam}
-use Rattle.std.proofs.lemmas.List.{append-nil, take_at, drop_at}
+use Rattle.std.proofs.lemmas.Bool.Decides.{nat_tests}
+use Rattle.std.proofs.lemmas.Str.{IsUtf8-nil, IsUtf8-append, IsUtf8-drop, IsCharBoundary-after_ascii, encode_ascii, IsUtf8-encode, chars-append, chars_past_char, chars-nil, IsCharBoundary-at_seam}
+use Rattle.std.proofs.lemmas.List.{append-nil, take_at, drop_at, drop_more}
 use Rattle.std.proofs.lemmas.List.Folds.{list_all-append}
 use Rattle.go_bench_text.specs.Characters.{is_black}
+use Rattle.go_bench_text.specs.Parts.{IsBlackByte}
 
 -- the rest of the text behind characters other than white space
 pub record Passed (text rest : List ℕ) : Type 0 where
@@ -32,6 +34,25 @@ passed_more text rest more c scalar e is white before =
       black = ap (list_all is_black) all ∙ (list_all-append is_black (chars before.front) (c ∷ []) ∙ and_from (list_all is_black (chars before.front)) (list_all is_black (c ∷ [])) before.black last);
       more = is;
     }
+
+-- a byte of ASCII is a character
+passed_byte : (text : List ℕ) (n : ℕ) → n < length text → IsBlackByte (get_or text n 0) → Passed text (drop n text) → Passed text (drop (n + 1) text)
+passed_byte text n short black before =
+    let b = get_or text n 0 in
+    let e : drop n text ≡ b ∷ drop (n + 1) text = drop_more text n 0 short in
+    let ascii : encode_utf8 b ≡ b ∷ [] = encode_ascii b black.0 in
+    let cut : drop n text ≡ encode_utf8 b ++ drop (n + 1) text = e ∙ ap (λ (xs : List ℕ). xs ++ drop (n + 1) text) (sym ascii) in
+    let is : IsUtf8 text = subst IsUtf8 (sym before.joined) (IsUtf8-append before.front (drop n text) before.is before.more) in
+    let more : IsUtf8 (drop (n + 1) text) = IsUtf8-drop text (n + 1) is (IsCharBoundary-after_ascii text n is short black.0) in
+    passed_more text (drop n text) (drop (n + 1) text) b (scalar b black.0) cut more black.1 before where
+      scalar : (c : ℕ) → c < 128 → IsScalar c
+      scalar c h = grind (arith, nat_tests)
+
+pub passed_ascii : (text : List ℕ) (n : ℕ) → IsUtf8 text → n ≤ length text → ((k : ℕ) → k < n → IsBlackByte (get_or text k 0)) → Passed text (drop n text)
+passed_ascii text zero is within black = passed_none text is
+passed_ascii text (suc n) is within black =
+    let next : n + 1 ≡ suc n = omega arith in
+    subst (λ (m : ℕ). Passed text (drop m text)) next (passed_byte text n (omega arith) (black n (omega arith)) (passed_ascii text n is (omega arith) (λ k l. black k (omega arith))))
 
 -- where the rest begins, the text may be cut
 pub passed_seam : (text rest : List ℕ) → Passed text rest → IsCharBoundary text (length text - length rest)

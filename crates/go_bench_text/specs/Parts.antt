@@ -1,8 +1,12 @@
 -- Private: no public contract cites this. Where a field ends.
-use Rattle.std.specs.Prelude.{ℕ, Bool, true, List, [], ◌∷◌}
+use Rattle.std.specs.Prelude.{◌≡◌, ℕ, ◌<◌, Bool, true, false, List, [], ◌∷◌}
 use Rattle.std.specs.Char.{is_whitespace}
 
 -- nothing, or white space first
 abbrev pub is_stopped : List ℕ → Bool
 is_stopped [] = true
 is_stopped (c ∷ cs) = is_whitespace c
+
+-- an ASCII character other than white space
+abbrev pub IsBlackByte : ℕ → Type 0
+IsBlackByte b = (b < 128) × (is_whitespace b ≡ false)

@@ -1,17 +1,36 @@
 //! The fields of a line.
-ghost use Rattle.std.specs.Prelude.{◌≡◌, ◌<◌, ◌≤◌, ◌++◌, ◌∷◌, [], ◌↔◌, true, length, IfSome, IfNone, IsTrue};
+ghost use Rattle.std.specs.Prelude.{◌≡◌, ◌<◌, ◌≤◌, ◌++◌, ◌∷◌, [], ◌↔◌, ℕ, true, length, slice_index, IfSome, IfNone, IsTrue};
 ghost use Rattle.std.specs.List.{list_all};
 ghost use Rattle.std.specs.Str.{chars, IsUtf8, trim_start};
 ghost use Rattle.fixed_value.specs.Numerals.{AreDigits, HasNumeral};
 ghost use Rattle.go_bench_text.specs.Characters.{is_black};
 ghost use Rattle.go_bench_text.specs.Fields.{fields_of};
 ghost use Rattle.go_bench_text.specs.Lines.{ArePairs};
-ghost use Rattle.go_bench_text.specs.Parts.{is_stopped};
+ghost use Rattle.go_bench_text.specs.Parts.{is_stopped, IsBlackByte};
 
 use crate::characters::split_first;
 use fixed_value::Numeral;
 
-// The characters before the first white space, and what follows them.
+// Where the first byte is that is white space or no ASCII character.
+fn ascii_end(bytes: &[u8]) -> usize
+    ensures within { result ≤ length bytes.now }
+    ensures black { (k : ℕ) → k < result → IsBlackByte (slice_index bytes.now k) }
+{
+    let mut end = 0;
+    while end < bytes.len() && is_black_byte(bytes[end]) {
+        end += 1;
+    }
+    end
+}
+
+// Whether the byte is an ASCII character other than white space.
+fn is_black_byte(byte: u8) -> bool
+    ensures { IsTrue result ↔ IsBlackByte byte }
+{
+    byte.is_ascii() && !char::from(byte).is_whitespace()
+}
+
+// The characters before the first white space, and what follows them. Most texts are ASCII, so that is passed byte by byte.
 fn split_black(text: &str) -> (&str, &str)
     ensures joined { text.now ≡ result.0.now ++ result.1.now }
     ensures black { list_all is_black (chars result.0.now) ≡ true }
@@ -19,7 +38,7 @@ fn split_black(text: &str) -> (&str, &str)
     ensures front { IsUtf8 result.0.now }
     ensures back { IsUtf8 result.1.now }
 {
-    let mut rest = text;
+    let mut rest = &text[ascii_end(text.as_bytes())..];
     while let Some((c, more)) = split_first(rest) {
         if c.is_whitespace() {
             return text.split_at(text.len() - rest.len());

@@ -20,6 +20,7 @@ pub(crate) struct Gathered {
     pub(crate) samples: Samples,
     pub(crate) full: bool,
     pub(crate) units: Units,
+    buffer: String,
 }
 
 impl Gathered {
@@ -36,6 +37,7 @@ impl Gathered {
             samples: Samples::new(alloc),
             full: false,
             units: Units::new(alloc),
+            buffer: String::new(alloc),
         }
     }
 
@@ -91,7 +93,7 @@ impl Gathered {
         ensures short { OnOk result (length (test_of pkg.now name.now) ≤ 256) }
     {
         if !self.is_full() {
-            let test = test_name(alloc, pkg, name)?;
+            let test = test_name(alloc, &mut self.buffer, pkg, name)?;
             return Ok(self.add_all(alloc, &test, pairs)?);
         }
         if !test_fits(pkg, name) {

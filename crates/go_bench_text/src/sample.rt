@@ -31,8 +31,13 @@ pub(crate) fn test_fits(pkg: &str, name: &str) -> bool
     }
 }
 
-// The test of a result line with this name where `pkg` has this value.
-pub(crate) fn test_name(alloc: Global, pkg: &str, name: &str) -> Result<Name, LineFault>
+// The test of a result line with this name where `pkg` has this value. What `buffer` holds is of no account.
+pub(crate) fn test_name(
+    alloc: Global,
+    buffer: &mut String,
+    pkg: &str,
+    name: &str,
+) -> Result<Name, LineFault>
     ensures ok { IfOk result (λ test. test ≡ test_of pkg.now name.now) }
     ensures over { result ≡ Err LineFault.OutOfRange → 256 < length (test_of pkg.now name.now) }
     ensures short { OnOk result (length (test_of pkg.now name.now) ≤ 256) }
@@ -47,9 +52,9 @@ pub(crate) fn test_name(alloc: Global, pkg: &str, name: &str) -> Result<Name, Li
     if pkg.len() > 256 || name.len() > 256 {
         return Err(LineFault::OutOfRange);
     }
-    let mut text = String::with_capacity(alloc, pkg.len() + 1 + name.len())?;
-    text.push_str(pkg)?;
-    text.push_str("#")?;
-    text.push_str(name)?;
-    name_of(alloc, text.as_str())
+    buffer.clear();
+    buffer.push_str(pkg)?;
+    buffer.push_str("#")?;
+    buffer.push_str(name)?;
+    name_of(alloc, buffer.as_str())
 }

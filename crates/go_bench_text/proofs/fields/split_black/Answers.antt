@@ -1,10 +1,23 @@
-use Rattle.std.proofs.Common.{◌≡◌, rules, sym, ◌∙◌, false}
+use Rattle.std.proofs.Common.{◌≡◌, ℕ, ◌<◌, ◌≤◌, List, length, drop, get_or, rules, sym, ◌∙◌, subst, false}
+use Rattle.std.specs.Str.{IsUtf8}
+use Rattle.std.proofs.lemmas.Str.{IsCharBoundary-from_drop}
+use Rattle.go_bench_text.specs.Parts.{IsBlackByte}
 use Rattle.std.specs.Char.{is_whitespace}
-use Rattle.go_bench_text.proofs.Passed.{passed_none, passed_more, passed_seam}
+use Rattle.go_bench_text.proofs.Passed.{Passed, passed_ascii, passed_more, passed_seam}
 use Rattle.go_bench_text.proofs.fields.split_black.Goals as goal
 
+begun : (text bytes : List ℕ) (n : ℕ) → bytes ≡ text → IsUtf8 text → n ≤ length bytes → ((k : ℕ) → k < n → IsBlackByte (get_or bytes k 0)) → Passed text (drop n text)
+begun text bytes n same is within black =
+    subst (λ (xs : List ℕ). n ≤ length xs → ((k : ℕ) → k < n → IsBlackByte (get_or xs k 0)) → Passed text (drop n text)) (sym same) (passed_ascii text n is) within black
+
 pub loop-c-init : goal.loop-c-init
-loop-c-init c = passed_none c.args.text.now c.utf8.text
+loop-c-init c = subst (Passed c.args.text.now) (sym c.range_from-rest.ensures.value) (begun c.args.text.now c.as_bytes.result.now c.ascii_end.result c.as_bytes.ensures.value c.utf8.text c.ascii_end.ensures.within c.ascii_end.ensures.black)
+
+pub range_from-rest-requires : goal.range_from-rest-requires
+range_from-rest-requires c some =
+    let from = begun c.args.text.now c.as_bytes.result.now c.ascii_end.result c.as_bytes.ensures.value c.utf8.text c.ascii_end.ensures.within c.ascii_end.ensures.black in
+    let within : c.ascii_end.result ≤ length c.args.text.now = subst (λ (bytes : List ℕ). c.ascii_end.result ≤ length bytes) c.as_bytes.ensures.value c.ascii_end.ensures.within in
+    IsCharBoundary-from_drop c.args.text.now c.ascii_end.result within from.more
 
 pub split_at-requires : goal.split_at-requires
 split_at-requires c = passed_seam c.args.text.now c.loop-c.rest.now c.loop-c.invariant
