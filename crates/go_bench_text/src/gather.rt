@@ -6,9 +6,9 @@ ghost use Rattle.go_bench_text.specs.Readings.{IsOver, pkg_of};
 
 use crate::fault::LineFault;
 use crate::line::head_of;
+use crate::names::Names;
 use crate::pairs::{Pair, read_pairs};
 use crate::sample::{test_fits, test_name};
-use crate::units::Units;
 use history_model::{NoMemory, Sample, Samples};
 use line_text::Name;
 use metric_table::Limit;
@@ -19,26 +19,26 @@ use std::alloc::Global;
 pub(crate) struct Gathered {
     pub(crate) samples: Samples,
     pub(crate) full: bool,
-    pub(crate) units: Units,
+    names: Names,
     buffer: String,
 }
 
 impl Gathered {
-    ghost use Rattle.std.specs.Prelude.{◌≡◌, ◌<◌, ◌≤◌, ◌↔◌, ◌∷◌, [], All, length, IsTrue, OnOk};
+    ghost use Rattle.std.specs.Prelude.{◌≡◌, ◌<◌, ◌≤◌, ◌↔◌, ◌∷◌, [], All, length, IsTrue, IfOk, OnOk};
     ghost use Rattle.go_bench_text.specs.Gathering.{Keeps, Gains, IsFull};
     ghost use Rattle.go_bench_text.specs.Pairs.{IsPair, sample_of, samples_of};
     ghost use Rattle.go_bench_text.specs.Readings.{test_of};
 
-    // No samples.
-    pub(crate) fn new(alloc: Global) -> Gathered
-        ensures { Keeps result [] }
+    // No samples, of a text of this length.
+    pub(crate) fn new(alloc: Global, length: usize) -> Result<Gathered, NoMemory>
+        ensures { IfOk result (λ made. Keeps made []) }
     {
-        Gathered {
+        Ok(Gathered {
             samples: Samples::new(alloc),
             full: false,
-            units: Units::new(alloc),
+            names: Names::new(alloc, length)?,
             buffer: String::new(alloc),
-        }
+        })
     }
 
     // Whether there are as many samples as a run may have.
@@ -57,7 +57,7 @@ impl Gathered {
             self.full = true;
             return Ok(());
         }
-        let metric = self.units.name_of(alloc, pair.unit)?;
+        let metric = self.names.name_of(alloc, pair.unit)?;
         self.samples.push(Sample {
             test: test.copy(alloc)?,
             metric,
@@ -92,15 +92,15 @@ impl Gathered {
             → 256 < length (test_of pkg.now name.now) }
         ensures short { OnOk result (length (test_of pkg.now name.now) ≤ 256) }
     {
-        if !self.is_full() {
-            let test = test_name(alloc, &mut self.buffer, pkg, name)?;
-            return Ok(self.add_all(alloc, &test, pairs)?);
-        }
         if !test_fits(pkg, name) {
             return Err(LineFault::OutOfRange);
         }
-        self.full = true;
-        Ok(())
+        if self.is_full() {
+            self.full = true;
+            return Ok(());
+        }
+        let test = test_name(alloc, &mut self.names, &mut self.buffer, pkg, name)?;
+        Ok(self.add_all(alloc, &test, pairs)?)
     }
 }
 

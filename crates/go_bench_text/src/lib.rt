@@ -19,12 +19,12 @@ mod fault;
 mod fields;
 mod gather;
 mod line;
+mod names;
 mod pairs;
 mod put;
 mod read;
 mod sample;
 mod spelling;
-mod units;
 
 pub use line::{LineKind, line_kind};
 pub use put::{PutFault, put_go};

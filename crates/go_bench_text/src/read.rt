@@ -98,7 +98,9 @@ fn gather(alloc: Global, text: &str) -> Result<(Gathered, u64), GoFault>
         × Keeps all.0 given × IsRead text.now given all.1) }
     ensures fault { IfErr result (λ fault. IsFault text.now fault) }
 {
-    let mut gathered = Gathered::new(alloc);
+    let Ok(mut gathered) = Gathered::new(alloc, text.len()) else {
+        return Err(GoFault::NoMemory);
+    };
     let mut pairs = Vec::new(alloc);
     let mut pkg = "";
     let mut number = 0u64;
