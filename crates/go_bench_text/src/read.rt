@@ -153,7 +153,8 @@ pub fn one_reading_law()
 /// of the benchmark; its metric is the unit, and its value is scaled by the metric's decimals. Lines that begin with
 /// `Benchmark` and are no result lines are ignored and counted. The rules are those of docs/FORMATS.md.
 ///
-/// Linear in the length of the text; takes memory for the samples alone.
+/// Linear in the length of the text; takes memory for the samples and, while it reads, for the pairs of a line and for at most
+/// 4,096 places of names.
 pub fn read_go(alloc: Global, bytes: &[u8]) -> Result<GoRun, GoFault>
     // What is given are the text's samples, and where a text has samples within the limit they are
     // given, unless memory runs out.
