@@ -33,6 +33,20 @@ fn a_run_asks_for_one_series(rt: HostRuntime) -> Result<(), Fail> {
 }
 
 #[test]
+fn a_run_of_a_known_series_asks_for_none(rt: HostRuntime) -> Result<(), Fail> {
+    let alloc = rt.alloc();
+    let samples = two_samples(alloc)?;
+    samples.limits();
+    let test = Name::of_text(alloc, b"X")?;
+    let metric = Name::of_text(alloc, b"B/op")?;
+    let mut index = SeriesIndex::new(alloc);
+    index.insert(&test, &metric, 10, 3, 5)?;
+    let demand = index.demand(10, samples.as_slice())?;
+    assert!(rt; demand.new == 0 && demand.samples_fit && demand.positions_fit);
+    Ok(())
+}
+
+#[test]
 fn samples_come_and_go(rt: HostRuntime) -> Result<(), Fail> {
     let alloc = rt.alloc();
     let test = Name::of_text(alloc, b"X")?;

@@ -8,6 +8,7 @@ ghost use Rattle.history_model.specs.Runs.{Series};
 ghost use Rattle.series_index.specs.Seen.{seen, unseen};
 ghost use Rattle.series_index.specs.Taken.{of_series, with_samples};
 ghost use Rattle.series_index.specs.Demands.{new_ones, HaveRoomForSamples, HaveRoomForPosition, Tallies};
+ghost use Rattle.series_index.specs.Plenty.{HasPlenty};
 
 use crate::NoMemory;
 use crate::series::SeriesIndex;
@@ -125,6 +126,37 @@ impl SeriesIndex {
         true
     }
 
+    // Whether the series is known, and has room for so many values more and the commit, or room for it.
+    fn has_plenty(&self, test: &Name, metric: &Name, commit: u64, more: usize) -> bool
+        requires { more ≤ 65_536 }
+        ensures { IsTrue result → HasPlenty
+            (seen (record { test = test.now; metric = metric.now }) self.now) commit more }
+    {
+        let Some(tracked) = self.get(test, metric) else {
+            return false;
+        };
+        tracked.points.limits();
+        tracked.since.is_some()
+            && tracked.points.count() + more <= 65_536
+            && (tracked.points.has(commit) || tracked.points.len() < 16_384)
+    }
+
+    // Whether each series of the samples has plenty: room for all of them. Then no tally is needed.
+    fn have_plenty(&self, commit: u64, samples: &[Sample]) -> bool
+        requires { length samples.now ≤ 65_536 }
+        ensures new { IsTrue result → length (new_ones self.now samples.now) ≡ 0 }
+        ensures samples { IsTrue result → HaveRoomForSamples self.now samples.now }
+        ensures positions { IsTrue result → HaveRoomForPosition self.now commit samples.now }
+    {
+        series_law();
+        for sample in samples {
+            if !self.has_plenty(&sample.test, &sample.metric, commit, samples.len()) {
+                return false;
+            }
+        }
+        true
+    }
+
     /// What a run with these samples at a commit asks of the index. Linear in the samples, but for look-ups.
     pub fn demand(&self, commit: u64, samples: &[Sample]) -> Result<Demand, NoMemory>
         requires small { All (λ (x : Measurement). IsSmall x.value) samples.now }
@@ -136,6 +168,13 @@ impl SeriesIndex {
         ensures positions { IfOk result
             (λ d. IsTrue d.positions_fit ↔ HaveRoomForPosition self.now commit samples.now) }
     {
+        if self.have_plenty(commit, samples) {
+            return Ok(Demand {
+                new: 0,
+                samples_fit: true,
+                positions_fit: true,
+            });
+        }
         let mut tally = SeriesIndex::new(self.alloc);
         let new = self.count_new(&mut tally, commit, samples)?;
         let samples_fit = self.have_room(&tally, commit, samples);
