@@ -51,7 +51,7 @@ struct Looked {
 pub fn first_least<C: Cost>(
     cost: &C,
     least: &[i128],
-    candidates: &[usize],
+    candidates: &[u16],
     bounds: &mut [Bound],
     guess: usize,
 ) -> Found
@@ -68,7 +68,7 @@ pub fn first_least<C: Cost>(
     value_costs_law();
     let first = Found {
         index: guess,
-        total: last_total(cost, least, candidates[guess]),
+        total: last_total(cost, least, usize::from(candidates[guess])),
     };
     let mut best = first;
     for k in 0..blocks_of(candidates.len()) {
@@ -112,7 +112,7 @@ pub fn block_of(index: usize) -> usize
 fn look_at_block<C: Cost>(
     cost: &C,
     least: &[i128],
-    candidates: &[usize],
+    candidates: &[u16],
     bounds: &mut [Bound],
     guess: usize,
     k: usize,
@@ -170,7 +170,7 @@ fn comes_first(best: Found, total: i128, index: usize) -> bool
 fn best_of_block<C: Cost>(
     cost: &C,
     least: &[i128],
-    candidates: &[usize],
+    candidates: &[u16],
     guess: usize,
     k: usize,
     best: Found,
@@ -193,7 +193,7 @@ fn best_of_block<C: Cost>(
     for i in start..candidates.len().min(start + BLOCK) {
         let here = Found {
             index: i,
-            total: last_total(cost, least, candidates[i]),
+            total: last_total(cost, least, usize::from(candidates[i])),
         };
         best = better(best, here);
         low = lower_of(low, here, guess);

@@ -38,8 +38,8 @@ fn is_dear<C: Cost>(cost: &C, least: &[i128], s: usize) -> bool
 pub fn mark_dear<C: Cost>(
     cost: &C,
     least: &[i128],
-    pruned: &mut [u64],
-    candidates: &[usize],
+    pruned: &mut [u16],
+    candidates: &[u16],
     count: usize,
 ) -> usize
     requires limits { AreWithinLimits (C.positions cost.now) }
@@ -61,9 +61,9 @@ pub fn mark_dear<C: Cost>(
 {
     let mut marked = 0;
     for i in 0..count {
-        let place = candidates[i];
+        let place = usize::from(candidates[i]);
         if is_dear(cost, least, place) {
-            pruned[place] = cost.len() as u64;
+            pruned[place] = cost.len() as u16;
             marked += 1;
         }
     }
@@ -71,7 +71,7 @@ pub fn mark_dear<C: Cost>(
 }
 
 // Keeps the candidates that have no mark, where some of them were marked.
-pub fn sweep(candidates: &mut Vec<usize>, pruned: &[u64], marked: usize)
+pub fn sweep(candidates: &mut Vec<u16>, pruned: &[u16], marked: usize)
     ensures some { 0 < marked → candidates.new.items ≡ filter (λ c. slice_index_or pruned.now c 1 == 0) candidates.old.items }
     ensures none { marked ≡ 0 → candidates.new.items ≡ candidates.old.items }
     ensures capacity { vec_capacity candidates.old ≤ vec_capacity candidates.new }
@@ -82,7 +82,7 @@ pub fn sweep(candidates: &mut Vec<usize>, pruned: &[u64], marked: usize)
 }
 
 // Keeps the candidates that have no mark.
-fn drop_marked(candidates: &mut Vec<usize>, pruned: &[u64])
+fn drop_marked(candidates: &mut Vec<u16>, pruned: &[u16])
     ensures items { candidates.new.items ≡ filter (λ c. slice_index_or pruned.now c 1 == 0) candidates.old.items }
     ensures capacity { vec_capacity candidates.old ≤ vec_capacity candidates.new }
 {
@@ -90,33 +90,35 @@ fn drop_marked(candidates: &mut Vec<usize>, pruned: &[u64])
 }
 
 // Whether place s is there and has no mark.
-pub fn is_open(pruned: &[u64], s: usize) -> bool
+fn is_open(pruned: &[u16], s: u16) -> bool
     ensures { result ≡ (slice_index_or pruned.now s 1 == 0) }
 {
-    s < pruned.len() && pruned[s] == 0
+    let place = usize::from(s);
+    place < pruned.len() && pruned[place] == 0
 }
 
 // Takes away the marks behind place k.
-pub fn unmark(pruned: &mut [u64], k: usize)
+pub fn unmark(pruned: &mut [u16], k: usize)
     ensures { (s : ℕ) → s < length pruned.old → IsUnmarkedBehind k (slice_index pruned.old s) (slice_index pruned.new s) }
 {
     for i in 0..pruned.len() {
-        if pruned[i] > k as u64 {
+        if usize::from(pruned[i]) > k {
             pruned[i] = 0;
         }
     }
 }
 
 // Makes each place without a mark a candidate.
-pub fn refill(candidates: &mut Vec<usize>, pruned: &[u64])
+pub fn refill(candidates: &mut Vec<u16>, pruned: &[u16])
     requires room { length pruned.now ≤ vec_capacity candidates.old }
+    requires few { length pruned.now ≤ 16_385 }
     ensures places { candidates.new.items ≡ open_places pruned.now (length pruned.now) }
     ensures capacity { vec_capacity candidates.old ≤ vec_capacity candidates.new }
 {
     candidates.truncate(0);
     for place in 0..pruned.len() {
         if pruned[place] == 0 {
-            candidates.push_reserved(place);
+            candidates.push_reserved(place as u16);
         }
     }
 }

@@ -16,9 +16,9 @@ use std::alloc::Global;
 #[derive(Drop)]
 pub struct Rows {
     pub least: Vec<i128>,
-    pub back: Vec<u64>,
-    pub pruned: Vec<u64>,
-    pub candidates: Vec<usize>,
+    pub back: Vec<u16>,
+    pub pruned: Vec<u16>,
+    pub candidates: Vec<u16>,
     // For each block of candidates a lower bound of what last segments from them make.
     pub bounds: Vec<Bound>,
     // The index of the last winner, as a first guess at the next; no bound need hold for it.
@@ -50,16 +50,18 @@ impl Rows {
         })
     }
 
-    // Makes room for one place more; changes no list.
-    pub fn reserve(&mut self) -> Result<(), NoMemory>
-        requires { length self.old.least.items ≤ 16_385 }
+    // Makes room for so many places more; changes no list.
+    pub fn reserve(&mut self, more: usize) -> Result<(), NoMemory>
+        requires few { length self.old.least.items ≤ 16_385 }
+        requires some { 0 < more }
+        requires few_more { more ≤ 16_385 }
         ensures same { SameLists self.old self.new }
         ensures room { OnOk result (HaveRoom self.new) }
     {
-        self.least.reserve(1)?;
-        self.back.reserve(1)?;
-        self.pruned.reserve(1)?;
-        let places = self.least.len() + 1;
+        self.least.reserve(more)?;
+        self.back.reserve(more)?;
+        self.pruned.reserve(more)?;
+        let places = self.least.len() + more;
         self.candidates
             .reserve(places.saturating_sub(self.candidates.len()))?;
         Ok(())
@@ -91,7 +93,7 @@ impl Rows {
         let guess = self.leader.min(self.candidates.len() - 1);
         let found = first_least(cost, &self.least, &self.candidates, &mut self.bounds, guess);
         self.least.push_reserved(found.total + penalty);
-        self.back.push_reserved(self.candidates[found.index] as u64);
+        self.back.push_reserved(self.candidates[found.index]);
         self.pruned.push_reserved(0);
         found
     }
@@ -129,7 +131,7 @@ impl Rows {
             found.total,
             self.least[t],
         );
-        self.candidates.push_reserved(t);
+        self.candidates.push_reserved(t as u16);
         self.leader = found.index - marked;
     }
 

@@ -1,5 +1,5 @@
 //! The pruned table of some positions, which is advanced and rewound.
-ghost use Rattle.std.specs.Prelude.{◌≡◌, ℤ, ◌+◌, ◌^◌, ◌≤◌, [], ◌∷◌, ◌++◌, length, take, pos, ◌≤ℤ◌, OnOk, OnErr, IfOk};
+ghost use Rattle.std.specs.Prelude.{◌≡◌, ℤ, ◌+◌, ◌^◌, ◌<◌, ◌≤◌, [], ◌∷◌, ◌++◌, length, take, pos, ◌≤ℤ◌, OnOk, OnErr, IfOk};
 ghost use Rattle.segment_model.specs.Values.{AreWithinLimits, values_by_position, cost_between};
 
 use crate::rows::Rows;
@@ -65,6 +65,7 @@ impl<C: Cost + Drop> Table<C> {
     {
         points.limits();
         let mut table = Table::start(alloc, penalty)?;
+        table.reserve(points.len() + 1, points.count())?;
         for i in 0..points.len() {
             table.push(points.values(i))?;
         }
@@ -90,6 +91,16 @@ impl<C: Cost + Drop> Table<C> {
         self.push(values)
     }
 
+    // Makes room for so many places and values more at once, so that no list moves meanwhile.
+    fn reserve(&mut self, places: usize, values: usize) -> Result<(), NoMemory>
+        requires some { 0 < places }
+        requires few { places ≤ 16_385 }
+        ensures { self.new ≡ self.old }
+    {
+        self.cost.reserve(values)?;
+        self.rows.reserve(places)
+    }
+
     // The table with one position more, uncounted.
     fn push(&mut self, values: &[i64]) -> Result<(), NoMemory>
         requires limits { AreWithinLimits (self.old.positions ++ values.now ∷ []) }
@@ -101,7 +112,7 @@ impl<C: Cost + Drop> Table<C> {
         values_law();
         value_costs_law();
         self.cost.reserve(values.len())?;
-        self.rows.reserve()?;
+        self.rows.reserve(1)?;
         self.cost.push(values);
         self.rows.grow(&self.cost, self.penalty);
         Ok(())
@@ -148,14 +159,14 @@ impl<C: Cost + Drop> Table<C> {
             cuts: Numbers::of(best.cuts),
             total: best.total,
             least: Costs::of(Vec::from_slice(alloc, &self.rows.least)?),
-            back: Numbers::of(Vec::from_slice(alloc, &self.rows.back)?),
-            pruned: Numbers::of(Vec::from_slice(alloc, &self.rows.pruned)?),
+            back: Numbers::of(widened(alloc, &self.rows.back)?),
+            pruned: Numbers::of(widened(alloc, &self.rows.pruned)?),
         })
     }
 
-    /// The same of a table that is done with: its lists become those of the certificate.
+    /// The same of a table that is done with, which is given back before the certificate's lists of places are made.
     ///
-    /// O(n) time for n positions, and memory for the cuts alone.
+    /// O(n) time and memory for n positions.
     pub fn into_certificate(self, alloc: Global) -> Result<Cert, NoMemory>
         ensures { IfOk result (λ cert. IsCertificate
             (cost_between C.cost_of self.positions) (length self.positions) self.penalty cert) }
@@ -184,8 +195,8 @@ impl<C: Cost + Drop> Table<C> {
             cuts: Numbers::of(best.cuts),
             total: best.total,
             least: Costs::of(least),
-            back: Numbers::of(back),
-            pruned: Numbers::of(pruned),
+            back: Numbers::of(widened(alloc, &back)?),
+            pruned: Numbers::of(widened(alloc, &pruned)?),
         })
     }
 
@@ -205,6 +216,17 @@ impl<C: Cost + Drop> Table<C> {
         let total = if n == 0 { 0 } else { self.rows.least[n] };
         Ok(Best { cuts, total })
     }
+}
+
+// The places, in as many bits as a certificate has.
+fn widened(alloc: Global, places: &[u16]) -> Result<Vec<u64>, NoMemory>
+    ensures { IfOk result (λ made. made.items ≡ places.now) }
+{
+    let mut made = Vec::with_capacity(alloc, places.len())?;
+    for place in places {
+        made.push(u64::from(*place))?;
+    }
+    Ok(made)
 }
 
 // A best cut list, and its total.

@@ -6,7 +6,7 @@ use segment_cost::NoMemory;
 use std::alloc::Global;
 
 // The cuts that a table of last cuts gives from place n down, the last one first.
-pub fn cuts_back(alloc: Global, back: &[u64], n: usize) -> Result<Vec<u64>, NoMemory>
+pub fn cuts_back(alloc: Global, back: &[u16], n: usize) -> Result<Vec<u64>, NoMemory>
     requires below { (s : ℕ) → s < length back.now
         → (slice_index back.now s < s) ⊎ (slice_index back.now s ≡ 0) }
     requires placed { n < length back.now }
@@ -15,8 +15,8 @@ pub fn cuts_back(alloc: Global, back: &[u64], n: usize) -> Result<Vec<u64>, NoMe
     let mut cuts = Vec::new(alloc);
     let mut t = n;
     while back[t] > 0 {
-        cuts.push(back[t])?;
-        t = back[t] as usize;
+        cuts.push(u64::from(back[t]))?;
+        t = usize::from(back[t]);
     }
     Ok(cuts)
 }

@@ -29,6 +29,6 @@ returns-clause-bounds g c =
       | inr apart ↦
           let lowered = rw c.len.ensures at (simp to_z-of_z at (c.release.ensures.lowered apart)) in
           apart-moves (cost_between g.C.Cost.cost_of (g.C.Cost.positions c.args.cost.now)) c.args.least.now (length (g.C.Cost.positions c.args.cost.now)) (merges g k) (range g k) c.args.candidates.now c.requires.below
-          c.args.guess c.block_of.result c.last_total.result c.loop-k.bounds c.release.new.bounds c.loop-k.invariant.0 c.block_of.ensures.start c.block_of.ensures.end block_in made.low made.high made.total
+          c.args.guess c.block_of.result c.last_total.result c.loop-k.bounds c.release.new.bounds c.loop-k.invariant.0 c.block_of.ensures.start c.block_of.ensures.end block_in made.low made.high (rw c.from.ensures at made.total)
           c.release.auto.bounds lowered c.release.ensures.others c.loop-k.best.index
     ]
