@@ -6,6 +6,7 @@ mod Limits
 mod Removals
 mod Fewer
 mod Retractions
+mod Tunings
 mod Accepts
 mod Retracted
 mod Withdrawals

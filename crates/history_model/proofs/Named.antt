@@ -44,6 +44,11 @@ grown h (entry.Retract run) allowed claim =
     All-weaker (Named h) (Named (h ++ entry.Retract run ∷ [])) (λ a some. still-named h (entry.Retract run) a.run.commit some) (acceptances h) claim in
     let P : List Acceptance → Type 0 = λ runs. All (Named (h ++ entry.Retract run ∷ [])) runs in
     subst P (sym (chosen-skip acceptance h (entry.Retract run) refl)) all
+grown h (entry.Tune metric penalty) allowed claim =
+    let all : All (Named (h ++ entry.Tune metric penalty ∷ [])) (acceptances h) =
+    All-weaker (Named h) (Named (h ++ entry.Tune metric penalty ∷ [])) (λ a some. still-named h (entry.Tune metric penalty) a.run.commit some) (acceptances h) claim in
+    let P : List Acceptance → Type 0 = λ runs. All (Named (h ++ entry.Tune metric penalty ∷ [])) runs in
+    subst P (sym (chosen-skip acceptance h (entry.Tune metric penalty) refl)) all
 grown h (entry.Accept run) allowed claim =
     let all : All (Named (h ++ entry.Accept run ∷ [])) (acceptances h) =
     All-weaker (Named h) (Named (h ++ entry.Accept run ∷ [])) (λ a some. still-named h (entry.Accept run) a.run.commit some) (acceptances h) claim in

@@ -41,6 +41,7 @@ grown h e allowed claim run none =
     of_entry : (e : Entry) → Allowed h e → accepted run h ≡ None → find (takes_back run) (option_to_list (retraction (length h + 1) e)) ≡ None
     of_entry (entry.Commit number name) allowed unknown = refl
     of_entry (entry.Accept other) allowed unknown = refl
+    of_entry (entry.Tune metric penalty) allowed unknown = refl
     of_entry (entry.Retract other) allowed unknown = elim (cases_Bool (bytes_eq other run)) [
       | inl hit ↦ absurd (known (accepted other h) allowed.0.0 (ap (λ (r : List ℕ). accepted r h) (same-bytes other run hit) ∙ unknown))
       | inr miss ↦ ap (λ b. cond b (Some (record { step = length h + 1; run = other })) None) miss

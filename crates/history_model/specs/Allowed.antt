@@ -6,10 +6,11 @@ use Rattle.metric_table.specs.declared.limits.Limit.TheVariants.{Commits, Runs, 
 use Rattle.history_model.specs.Samples.{AreSamples}
 use Rattle.history_model.specs.declared.entries.Acceptance.{Acceptance}
 use Rattle.history_model.specs.declared.entries.Entry.{Entry}
-use Rattle.history_model.specs.declared.entries.Entry.TheVariants.{Commit, Accept, Retract}
+use Rattle.history_model.specs.declared.entries.Entry.TheVariants.{Commit, Accept, Retract, Tune}
 use Rattle.history_model.specs.Commits.{declarations, number_of, name_of}
 use Rattle.history_model.specs.Runs.{Series, acceptances, accepted, retracted, live_runs, known_series, sample_count}
 use Rattle.history_model.specs.Positions.{brought, positions}
+use Rattle.history_model.specs.Penalties.{IsPenalty}
 
 -- the greatest of some numbers, or 0
 abbrev pub greatest_of : List ℕ → ℕ
@@ -46,6 +47,7 @@ abbrev pub MayFollow : List Entry → Entry → Type 0
 MayFollow h (Commit number name) = (name_of number h ≡ None) × (number_of name h ≡ None)
 MayFollow h (Accept run) = (accepted run.run h ≡ None) × IsSome (name_of run.commit h) × AreSamples run.samples
 MayFollow h (Retract run) = IsSome (accepted run h) × (retracted run h ≡ None)
+MayFollow h (Tune metric penalty) = (length metric ≤ 64) × IsPenalty penalty
 
 -- the entry may follow, and the limits are kept with it
 abbrev pub Allowed : List Entry → Entry → Type 0

@@ -1,5 +1,5 @@
 -- What holds of all histories: how each projection, the positions and the limits change by one entry.
-use Rattle.std.specs.Prelude.{◌≡◌, ◌≤◌, ℕ, ◌+◌, ◌<◌, ◌&&◌, ◌==◌, Bool, false, not, List, [], ◌∷◌, ◌++◌, All, filter, length, option_to_list, if◌then◌else◌, ◌↔◌, IsSome, Some, None}
+use Rattle.std.specs.Prelude.{◌≡◌, ◌≤◌, ℕ, ℤ, ◌+◌, ◌<◌, ◌&&◌, ◌==◌, Bool, false, not, List, [], ◌∷◌, ◌++◌, All, filter, length, option_to_list, if◌then◌else◌, ◌↔◌, IsSome, Some, None}
 use Rattle.std.specs.List.{list_any}
 use Rattle.metric_table.specs.Limits.{most}
 use Rattle.metric_table.specs.declared.limits.Limit.TheVariants as limit
@@ -100,6 +100,11 @@ LimitsAfterCommit =
 abbrev pub LimitsAfterRetract : Type 0
 LimitsAfterRetract =
     (h : List Entry) (run : List ℕ) → KeepsLimits h → length h < most limit.Steps → KeepsLimits (h ++ entry.Retract run ∷ [])
+
+-- so does a penalty
+abbrev pub LimitsAfterTune : Type 0
+LimitsAfterTune =
+    (h : List Entry) (metric : List ℕ) (penalty : ℤ) → KeepsLimits h → length h < most limit.Steps → KeepsLimits (h ++ entry.Tune metric penalty ∷ [])
 
 -- where the limits are kept, each series has no more live samples and positions than there may be
 abbrev pub SeriesKeepLimits : Type 0

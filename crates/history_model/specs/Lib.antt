@@ -3,5 +3,6 @@ pub mod Entries
 pub mod Commits
 pub mod Runs
 pub mod Positions
+pub mod Penalties
 pub mod Allowed
 pub mod Laws

@@ -28,6 +28,8 @@ pub enum Entry {
     Accept { run: Run },
     /// The run of that name was taken back.
     Retract { run: Name },
+    /// The penalty of a metric was set, in squared units of its last decimal.
+    Tune { metric: Name, penalty: i128 },
 }
 
 impl Entry {
@@ -48,6 +50,11 @@ impl Entry {
             Entry::Retract { run } => {
                 let run = run.copy(alloc)?;
                 Ok(Entry::Retract { run })
+            }
+            Entry::Tune { metric, penalty } => {
+                let metric = metric.copy(alloc)?;
+                let penalty = *penalty;
+                Ok(Entry::Tune { metric, penalty })
             }
         }
     }

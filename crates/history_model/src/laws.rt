@@ -16,6 +16,7 @@ ghost use Rattle.history_model.specs.Laws.{
   RunsHaveCommits,
   LimitsAfterCommit,
   LimitsAfterRetract,
+  LimitsAfterTune,
   SeriesKeepLimits,
   SeriesHaveRoom,
   SeriesAreListedOnce,
@@ -26,6 +27,7 @@ ghost use Rattle.history_model.specs.Laws.{
   FirstKept,
   RunKeepsLimits,
 };
+ghost use Rattle.history_model.specs.Penalties.{PenaltyIsSet, PenaltyStays};
 
 /// What is read from a history grows by what is read from the entry that is added, and a legal history stays legal.
 pub fn growth_law()
@@ -53,10 +55,11 @@ pub fn retraction_law()
     ensures { OnlyAcceptedAreRetracted }
 {}
 
-/// A commit and a retraction keep the limits where there is room; and what the limits say of each series.
+/// A commit, a retraction and a penalty keep the limits where there is room; and what the limits say of each series.
 pub fn limits_law()
     ensures commit { LimitsAfterCommit }
     ensures retract { LimitsAfterRetract }
+    ensures tune { LimitsAfterTune }
     ensures series { SeriesKeepLimits }
     ensures room { SeriesHaveRoom }
 {}
@@ -83,4 +86,10 @@ pub fn within_law()
 /// The commit of each accepted run is declared.
 pub fn runs_law()
     ensures { RunsHaveCommits }
+{}
+
+/// A metric has the penalty that was set last.
+pub fn penalty_law()
+    ensures set { PenaltyIsSet }
+    ensures stays { PenaltyStays }
 {}

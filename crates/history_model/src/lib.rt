@@ -6,7 +6,7 @@
 //!
 //! A history is a list of entries, numbered from 1; the number of an entry is its step. All that is known of it is read
 //! from its entries anew: the commits (`specs/Commits`), the runs and series (`Runs`), the positions of a series
-//! (`Positions`), the counts that are limited and which histories are legal (`Allowed`). The law functions say how each
+//! (`Positions`), the penalty of a metric (`Penalties`), the counts that are limited and which histories are legal (`Allowed`). The law functions say how each
 //! of these changes with one entry more; they do nothing, and their contracts are what they are for.
 //!
 //! Stands on `line_text` for names, on `metric_table` for the limits and on `segment_model` for positions.
@@ -20,8 +20,8 @@ mod samples;
 
 pub use entries::{Acceptance, Author, Declaration, Entry, Placed};
 pub use laws::{
-    accept_law, growth_law, limits_law, positions_law, retraction_law, runs_law, series_law,
-    within_law,
+    accept_law, growth_law, limits_law, penalty_law, positions_law, retraction_law, runs_law,
+    series_law, within_law,
 };
 pub use run::Run;
 pub use sample::Sample;

@@ -69,5 +69,14 @@ fn entries_are_copied_whole(rt: HostRuntime) -> Result<(), Fail> {
         _ => 0,
     };
     assert_eq!(rt; commit, 10);
+    let tune = Entry::Tune {
+        metric: Name::of_text(alloc, b"B/op")?,
+        penalty: 50,
+    };
+    let penalty = match &tune.copy(alloc)? {
+        Entry::Tune { penalty, .. } => *penalty,
+        _ => 0,
+    };
+    assert_eq!(rt; penalty, 50);
     Ok(())
 }

@@ -1,5 +1,6 @@
 -- The text of a reply: lines of words.
 use Rattle.std.specs.Prelude.{ℕ, List, [], ◌∷◌, ◌++◌, length, map, decimal, codes, if◌then◌else◌}
+use Rattle.std.specs.Fmt.{signed_decimal}
 use Rattle.std.specs.List.{flat_map}
 use Rattle.line_text.specs.Names.{spelling}
 use Rattle.metric_table.specs.Limits.{word}
@@ -36,6 +37,7 @@ refusal_words (refusal.IdentityClash step) = codes "E10" ∷ codes "IdentityClas
 refusal_words refusal.UnknownRun = codes "E11" ∷ codes "UnknownRun" ∷ []
 refusal_words (refusal.AlreadyRetracted step) = codes "E12" ∷ codes "AlreadyRetracted" ∷ at step ∷ []
 refusal_words (refusal.Full limit) = codes "E21" ∷ codes "Full" ∷ word limit ∷ []
+refusal_words refusal.BadPenalty = codes "E22" ∷ codes "BadPenalty" ∷ []
 refusal_words refusal.BodyTooLong = codes "E26" ∷ codes "BodyTooLong" ∷ []
 refusal_words (refusal.TooDeep offset) = codes "E28" ∷ codes "TooDeep" ∷ decimal offset ∷ []
 
@@ -50,6 +52,7 @@ answer_words (answer.Commit number name) = codes "commit" ∷ decimal number ∷
 answer_words (answer.Duplicate step) = codes "duplicate" ∷ at step ∷ []
 answer_words (answer.Accepted name samples ignored) = codes "accepted" ∷ spelling name ∷ codes "samples" ∷ decimal samples ∷ codes "ignored" ∷ decimal ignored ∷ []
 answer_words (answer.Retracted name) = codes "retracted" ∷ spelling name ∷ []
+answer_words (answer.Tuned metric penalty) = codes "tuned" ∷ spelling metric ∷ signed_decimal penalty ∷ []
 answer_words (answer.Runs lines) = codes "runs" ∷ codes "lines" ∷ decimal (length lines) ∷ []
 answer_words (answer.Refused reason) = refusal_words reason
 

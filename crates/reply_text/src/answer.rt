@@ -5,7 +5,7 @@ ghost use Rattle.request_model.specs.declared.replies.Answer.TheVariants as answ
 
 use crate::NoMemory;
 use crate::refusal::put_refusal;
-use crate::words::{put_number, put_spelled, put_step, put_word};
+use crate::words::{put_amount, put_number, put_spelled, put_step, put_word};
 use line_text::{Name, put_name};
 use request_model::{Answer, RunLine};
 use std::alloc::Global;
@@ -36,6 +36,11 @@ pub(crate) fn put_answer(alloc: Global, out: &mut Vec<u8>, answer: &Answer) -> R
         Answer::Retracted { run } => {
             put_word(out, "retracted")?;
             put_spelled(alloc, out, run)
+        }
+        Answer::Tuned { metric, penalty } => {
+            put_word(out, "tuned")?;
+            put_spelled(alloc, out, metric)?;
+            put_amount(alloc, out, *penalty)
         }
         Answer::Runs { runs } => {
             put_word(out, "runs")?;

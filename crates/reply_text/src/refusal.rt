@@ -43,6 +43,7 @@ pub(crate) fn put_refusal(
             put_kind(out, "E21", "Full")?;
             put_word(out, limit.word())
         }
+        Refusal::BadPenalty => put_kind(out, "E22", "BadPenalty"),
         Refusal::BodyTooLong => put_kind(out, "E26", "BodyTooLong"),
         Refusal::TooDeep(offset) => put_placed(alloc, out, "E28", "TooDeep", *offset),
     }

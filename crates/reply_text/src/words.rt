@@ -1,10 +1,11 @@
 //! Words of a line, each behind a space.
 ghost use Rattle.std.specs.Prelude.{◌≡◌, ◌∷◌, ◌++◌, OnOk, decimal};
+ghost use Rattle.std.specs.Fmt.{signed_decimal};
 ghost use Rattle.line_text.specs.Names.{spelling};
 ghost use Rattle.reply_text.specs.Replies.{at};
 
 use crate::NoMemory;
-use line_text::{Name, put_escaped, put_name, put_u64};
+use line_text::{Name, put_escaped, put_i128, put_name, put_u64};
 use std::alloc::Global;
 
 // Appends a space and a word.
@@ -40,6 +41,15 @@ pub(crate) fn put_number(alloc: Global, out: &mut Vec<u8>, n: u64) -> Result<(),
 {
     out.push(b' ')?;
     put_u64(alloc, out, n)?;
+    Ok(())
+}
+
+// Appends a space and a signed number.
+pub(crate) fn put_amount(alloc: Global, out: &mut Vec<u8>, n: i128) -> Result<(), NoMemory>
+    ensures { OnOk result (out.new.items ≡ out.old.items ++ (32 ∷ signed_decimal n)) }
+{
+    out.push(b' ')?;
+    put_i128(alloc, out, n)?;
     Ok(())
 }
 

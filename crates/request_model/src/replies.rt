@@ -78,6 +78,8 @@ pub enum Refusal {
     AlreadyRetracted(u64),
     /// A limit would be passed.
     Full(Limit),
+    /// The penalty is out of range.
+    BadPenalty,
     /// The body is longer than a body may be.
     BodyTooLong,
     /// The byte of the body at this place opens a level too many.
@@ -126,6 +128,7 @@ impl Refusal {
                 let at = *at;
                 Ok(Refusal::Full(at))
             }
+            Refusal::BadPenalty => Ok(Refusal::BadPenalty),
             Refusal::BodyTooLong => Ok(Refusal::BodyTooLong),
             Refusal::TooDeep(at) => {
                 let at = *at;
@@ -168,6 +171,13 @@ pub enum Answer {
     Retracted {
         /// The run.
         run: Name,
+    },
+    /// The penalty was set.
+    Tuned {
+        /// The metric.
+        metric: Name,
+        /// The penalty, in squared units of the metric's last decimal.
+        penalty: i128,
     },
     /// The runs of the machine.
     Runs {
@@ -214,6 +224,11 @@ impl Answer {
             Answer::Retracted { run } => {
                 let run = run.copy(alloc)?;
                 Ok(Answer::Retracted { run })
+            }
+            Answer::Tuned { metric, penalty } => {
+                let metric = metric.copy(alloc)?;
+                let penalty = *penalty;
+                Ok(Answer::Tuned { metric, penalty })
             }
             Answer::Runs { runs } => {
                 let runs = copy_runs(alloc, runs)?;

@@ -44,6 +44,15 @@ pub enum Request {
         /// The run.
         run: Name,
     },
+    /// Sets the penalty of a metric.
+    Tune {
+        /// The machine.
+        machine: Name,
+        /// The metric.
+        metric: Name,
+        /// The penalty, in squared units of the metric's last decimal.
+        penalty: i128,
+    },
     /// Lists the runs of a machine.
     Runs {
         /// The machine.
@@ -102,6 +111,20 @@ impl Request {
                 let machine = machine.copy(alloc)?;
                 let run = run.copy(alloc)?;
                 Ok(Request::Retract { machine, run })
+            }
+            Request::Tune {
+                machine,
+                metric,
+                penalty,
+            } => {
+                let machine = machine.copy(alloc)?;
+                let metric = metric.copy(alloc)?;
+                let penalty = *penalty;
+                Ok(Request::Tune {
+                    machine,
+                    metric,
+                    penalty,
+                })
             }
             Request::Runs { machine } => {
                 let machine = machine.copy(alloc)?;

@@ -1,4 +1,5 @@
 pub mod HeadLines
+mod Digits
 pub mod Stops
 pub mod Looks
 pub mod PieceLists

@@ -16,9 +16,9 @@ use Rattle.request_model.specs.declared.requests.Request.{Request}
 use Rattle.request_model.specs.declared.replies.RangePlace.TheVariants as place
 use Rattle.request_model.specs.declared.replies.Refusal.{Refusal}
 use Rattle.request_model.specs.declared.replies.Refusal.TheVariants as refusal
-use Rattle.request_text.specs.Forms.{Form, machine, commit, submit_go, submit_lnt, retract, runs}
+use Rattle.request_text.specs.Forms.{Form, machine, commit, submit_go, submit_lnt, retract, tune, runs}
 use Rattle.request_text.specs.Bodies.{Item, GivesGo, RefusesGo, AsksGo, fault_of, AsksLnt, AsksNamed}
-use Rattle.request_text.specs.Items.{AsksForm, long, unnamed, named, Asks, formless, formed}
+use Rattle.request_text.specs.Items.{AsksForm, long, unnamed, wide, named, Asks, formless, formed}
 use Rattle.request_text.proofs.OneForm.{one_form}
 
 -- a line with its body asks one thing
@@ -48,6 +48,7 @@ told_by body (refusal.NotReport rule member) told = absurd told
 told_by body (refusal.IdentityClash step) told = absurd told
 told_by body refusal.UnknownRun told = absurd told
 told_by body (refusal.AlreadyRetracted step) told = absurd told
+told_by body refusal.BadPenalty told = absurd told
 told_by body refusal.BodyTooLong told = absurd told
 told_by body (refusal.TooDeep offset) told = absurd told
 
@@ -132,6 +133,7 @@ tells_fault body (refusal.CommitTaken number name) due = absurd due.2
 tells_fault body (refusal.IdentityClash step) due = absurd due.2
 tells_fault body refusal.UnknownRun due = absurd due.2
 tells_fault body (refusal.AlreadyRetracted step) due = absurd due.2
+tells_fault body refusal.BadPenalty due = absurd due.2
 tells_fault body refusal.BodyTooLong due = absurd due.2
 
 abbrev given : Report → Result Report ReportFault
@@ -165,18 +167,26 @@ one_named go lnt (commit m number name) body item other a b = a ∙ sym b
 one_named go lnt (submit_go m c r len) body item other a b = one_go go body _ item other a b
 one_named go lnt (submit_lnt m r len) body item other a b = one_lnt lnt body _ item other a b
 one_named go lnt (retract m r) body item other a b = a ∙ sym b
+one_named go lnt (tune m metric penalty) body item other a b = a ∙ sym b
 one_named go lnt (runs m) body item other a b = a ∙ sym b
 
 one_asked : OneReading → OneAnswer → (form : Form) (body : List ℕ) (item other : Item) → AsksForm form body item → AsksForm form body other → item ≡ other
 one_asked go lnt form body item other (long a b) (long d e) = b ∙ sym e
 one_asked go lnt form body item other (long a b) (unnamed d e f) = absurd (omega (arith, a, d))
-one_asked go lnt form body item other (long a b) (named d e f) = absurd (omega (arith, a, d))
+one_asked go lnt form body item other (long a b) (wide d e f k) = absurd (omega (arith, a, d))
+one_asked go lnt form body item other (long a b) (named d e f k) = absurd (omega (arith, a, d))
 one_asked go lnt form body item other (unnamed a b d) (long e f) = absurd (omega (arith, a, e))
-one_asked go lnt form body item other (unnamed a b d) (unnamed e f h) = d ∙ sym h
-one_asked go lnt form body item other (unnamed a b d) (named e f h) = absurd (b f)
-one_asked go lnt form body item other (named a b d) (long e f) = absurd (omega (arith, a, e))
-one_asked go lnt form body item other (named a b d) (unnamed e f h) = absurd (f b)
-one_asked go lnt form body item other (named a b d) (named e f h) = one_named go lnt form body item other d h
+one_asked go lnt form body item other (unnamed a b d) (unnamed e f k) = d ∙ sym k
+one_asked go lnt form body item other (unnamed a b d) (wide e f k l) = absurd (b f)
+one_asked go lnt form body item other (unnamed a b d) (named e f k l) = absurd (b f)
+one_asked go lnt form body item other (wide a b d i) (long e f) = absurd (omega (arith, a, e))
+one_asked go lnt form body item other (wide a b d i) (unnamed e f k) = absurd (f b)
+one_asked go lnt form body item other (wide a b d i) (wide e f k l) = i ∙ sym l
+one_asked go lnt form body item other (wide a b d i) (named e f k l) = absurd (d k)
+one_asked go lnt form body item other (named a b d i) (long e f) = absurd (omega (arith, a, e))
+one_asked go lnt form body item other (named a b d i) (unnamed e f k) = absurd (f b)
+one_asked go lnt form body item other (named a b d i) (wide e f k l) = absurd (k d)
+one_asked go lnt form body item other (named a b d i) (named e f k l) = one_named go lnt form body item other i l
 
 pub one_item : OneReading → OneAnswer → OneItem
 one_item go lnt line body item other (formless a b) (formless d e) = b ∙ sym e

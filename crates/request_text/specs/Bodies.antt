@@ -1,5 +1,6 @@
 -- What a form asks once its words are names: a request, or a refusal of its body.
-use Rattle.std.specs.Prelude.{◌≡◌, ℕ, ◌≤◌, List, length, Some, None, Result, Ok, Err}
+use Rattle.std.specs.Prelude.{◌≡◌, ℕ, pos, ◌≤◌, List, length, Some, None, Result, Ok, Err}
+use Rattle.std.specs.Str.Parse.{digits_value}
 use Rattle.std.specs.Str.{IsUtf8, IsValidUpTo}
 use Rattle.line_text.specs.Lines.{lines_of}
 use Rattle.metric_table.specs.Limits.{most}
@@ -15,7 +16,7 @@ use Rattle.request_model.specs.declared.requests.Request.TheVariants as request
 use Rattle.request_model.specs.declared.replies.RangePlace.TheVariants as place
 use Rattle.request_model.specs.declared.replies.Refusal.{Refusal}
 use Rattle.request_model.specs.declared.replies.Refusal.TheVariants as refusal
-use Rattle.request_text.specs.Forms.{Form, machine, commit, submit_go, submit_lnt, retract, runs, name_of}
+use Rattle.request_text.specs.Forms.{Form, machine, commit, submit_go, submit_lnt, retract, tune, runs, name_of}
 
 -- what an item of a script asks: a request, or the refusal of reading it
 abbrev pub Item : Type 0
@@ -76,4 +77,5 @@ AsksNamed (submit_go m c r len) body item =
 AsksNamed (submit_lnt m r len) body item =
     AsksLnt body (of_lnt (name_of m) (name_of r)) item
 AsksNamed (retract m r) body item = item ≡ Ok (request.Retract (name_of m) (name_of r))
+AsksNamed (tune m metric penalty) body item = item ≡ Ok (request.Tune (name_of m) (name_of metric) (pos (digits_value 10 penalty)))
 AsksNamed (runs m) body item = item ≡ Ok (request.Runs (name_of m))

@@ -1,10 +1,12 @@
 -- The one spelling of a request.
 use Rattle.std.specs.Prelude.{◌≡◌, ℕ, ◌^◌, ◌<◌, ◌≤◌, List, [], ◌∷◌, ◌++◌, length, slice_index_or, codes, Option, Some, None, Ok}
+use Rattle.std.specs.Fmt.{signed_decimal}
 use Rattle.std.specs.List.{flat_map}
 use Rattle.line_text.specs.Names.{IsName, spelling}
 use Rattle.metric_table.specs.Limits.{most}
 use Rattle.metric_table.specs.declared.limits.Limit.TheVariants.{RunSamples}
 use Rattle.history_model.specs.Samples.{Measurement}
+use Rattle.history_model.specs.Penalties.{IsPenalty}
 use Rattle.go_bench_text.specs.Readings.{IsRead}
 use Rattle.go_bench_text.specs.Spellings.{AreSpelled, IsFirstUnspelled}
 use Rattle.lnt_report.specs.Runs.{IsGiven}
@@ -12,7 +14,7 @@ use Rattle.lnt_report.specs.Outcomes.{IsDue}
 use Rattle.lnt_report.specs.Written.{compact, run_tree}
 use Rattle.request_model.specs.declared.requests.Request.{Request}
 use Rattle.request_model.specs.declared.requests.Request.TheVariants as request
-use Rattle.request_text.specs.Forms.{Form, machine, commit, submit_go, submit_lnt, retract, runs, words_in}
+use Rattle.request_text.specs.Forms.{Form, machine, commit, submit_go, submit_lnt, retract, tune, runs, words_in}
 use Rattle.request_text.specs.Items.{body_limit}
 use Rattle.request_text.specs.Scripts.{ArePieces}
 
@@ -27,6 +29,7 @@ form_of (request.Machine m) len = machine (spelling m)
 form_of (request.Commit m number name) len = commit (spelling m) number (spelling name)
 form_of (request.Submit m c run samples ignored stated) len = submission m c run stated len
 form_of (request.Retract m run) len = retract (spelling m) (spelling run)
+form_of (request.Tune m metric penalty) len = tune (spelling m) (spelling metric) (signed_decimal penalty)
 form_of (request.Runs m) len = runs (spelling m)
 
 -- a text of the samples: an LNT run where a machine is stated, else Go benchmark text
@@ -74,15 +77,16 @@ abbrev pub HasNoText : Request → ℕ → Type 0
 HasNoText (request.Submit m c run samples ignored stated) place = IsFirstUnwritten samples stated place
 HasNoText q place = ⊥
 
--- reading ignored nothing
-abbrev pub HasNoneIgnored : Request → Type 0
-HasNoneIgnored (request.Submit m c run samples ignored stated) = ignored ≡ 0
-HasNoneIgnored q = Unit {0}
+-- some text without ignored lines may ask it: nothing was ignored, a metric is short and a penalty in range
+abbrev pub MayBeRead : Request → Type 0
+MayBeRead (request.Submit m c run samples ignored stated) = ignored ≡ 0
+MayBeRead (request.Tune m metric penalty) = (length metric ≤ 64) × IsPenalty penalty
+MayBeRead q = Unit {0}
 
--- what is written of a request; with nothing ignored and a body within the limit it is read as the request
+-- what is written of a request; where it may be read and its body is within the limit, it is read as the request
 pub record WrittenIsReadBack (q : Request) (bytes : List ℕ) : Type 0 where
   pub written : IsWritten q bytes
-  pub back : HasNoneIgnored q → length written.body ≤ body_limit → ArePieces bytes (Ok q ∷ [])
+  pub back : MayBeRead q → length written.body ≤ body_limit → ArePieces bytes (Ok q ∷ [])
 
 -- its names are names, its number fits 64 bits, and its samples are no more than a run may have
 abbrev pub IsSound : Request → Type 0
@@ -91,6 +95,7 @@ IsSound (request.Commit m number name) = IsName m × (number < 2 ^ 64) × IsName
 IsSound (request.Submit m c run samples ignored stated) =
     IsName m × IsName c × IsName run × (length samples ≤ most RunSamples)
 IsSound (request.Retract m run) = IsName m × IsName run
+IsSound (request.Tune m metric penalty) = IsName m × IsName metric
 IsSound (request.Runs m) = IsName m
 
 -- the bytes are read as the samples, with none ignored

@@ -1,11 +1,13 @@
 //! The head of a request: what its line asks before its body is read.
 ghost use Rattle.std.specs.Prelude.{◌≡◌, ◌≢◌, ℕ, ◌^◌, ◌<◌, List, [], ◌∷◌, decimal, codes, IfOk, IfSome, IfNone};
+ghost use Rattle.line_text.specs.Numbers.{IsNumber};
 ghost use Rattle.request_text.specs.Heads.{IsHead, IsHeadBehind};
 ghost use Rattle.request_text.specs.Items.{Asks, Counts};
 
 use crate::NoMemory;
+use crate::amounts::{is_number, penalty_of};
 use crate::body::{go_asked, lnt_asked};
-use crate::names::{named, three_named, two_named};
+use crate::names::{metric_named, named, three_named, two_named};
 use crate::verb::{Verb, read_verb};
 use crate::words::Words;
 use line_text::{Name, read_u64};
@@ -44,6 +46,7 @@ pub(crate) fn read_head(alloc: Global, line: &[u8]) -> Result<Head, NoMemory>
         Verb::Commit => commit_head(alloc, words),
         Verb::Submit => submit_head(alloc, words),
         Verb::Retract => retract_head(alloc, words),
+        Verb::Tune => tune_head(alloc, words),
         Verb::Runs => runs_head(alloc, words),
     }
 }
@@ -127,6 +130,39 @@ fn retract_head(alloc: Global, mut words: Words) -> Result<Head, NoMemory>
         return Ok(unnamed(0));
     };
     Ok(Head::Asked(Request::Retract { machine, run }))
+}
+
+// `tune M METRIC PENALTY`.
+fn tune_head(alloc: Global, words: Words) -> Result<Head, NoMemory>
+    ensures { IfOk result (λ head. IsHeadBehind (codes "tune") words.entry head) }
+{
+    let Some((m, x, p)) = tune_words(words) else {
+        return Ok(formless());
+    };
+    let Some((machine, metric)) = metric_named(alloc, m, x)? else {
+        return Ok(unnamed(0));
+    };
+    let Some(penalty) = penalty_of(p) else {
+        return Ok(Head::Refused(Refusal::BadPenalty, 0));
+    };
+    Ok(Head::Asked(Request::Tune {
+        machine,
+        metric,
+        penalty,
+    }))
+}
+
+// The words of a penalty.
+fn tune_words<'a>(mut words: Words<'a>) -> Option<(&'a [u8], &'a [u8], &'a [u8])>
+    ensures some { IfSome result (λ parts. (words.entry ≡ parts.0.now ∷ parts.1.now ∷ parts.2.now ∷ [])
+        × IsNumber parts.2.now) }
+    ensures none { IfNone result ((m x p : List ℕ)
+        → IsNumber p → words.entry ≢ m ∷ x ∷ p ∷ []) }
+{
+    let m = words.next()?;
+    let x = words.next()?;
+    let p = words.one()?;
+    if is_number(p) { Some((m, x, p)) } else { None }
 }
 
 // `commit M NUMBER NAME`.

@@ -10,6 +10,7 @@
 //! for bodies, and on `track_outside` for sources.
 #![tactic(auto)]
 
+mod amounts;
 mod asked;
 mod body;
 mod body_read;

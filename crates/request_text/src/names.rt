@@ -1,10 +1,13 @@
 //! Words of a request line that spell names.
-ghost use Rattle.std.specs.Prelude.{◌≡◌, ℕ, IfOk, IfSome, IfNone};
+ghost use Rattle.std.specs.Prelude.{◌≡◌, ℕ, ◌≤◌, length, IfOk, IfSome, IfNone};
 ghost use Rattle.request_text.specs.Forms.{SpellsName, name_of};
 
 use crate::NoMemory;
 use line_text::{Name, NameError, read_name};
 use std::alloc::Global;
+
+// The most bytes of a metric's name.
+const METRIC_LIMIT: usize = 64;
 
 // The name that a word spells.
 pub(crate) fn named(alloc: Global, word: &[u8]) -> Result<Option<Name>, NoMemory>
@@ -62,4 +65,26 @@ pub(crate) fn three_named(
         return Ok(None);
     };
     Ok(Some((one, other, last)))
+}
+
+// The names that two words spell, of which the second is a metric's.
+pub(crate) fn metric_named(
+    alloc: Global,
+    first: &[u8],
+    metric: &[u8],
+) -> Result<Option<(Name, Name)>, NoMemory>
+    ensures some { IfOk result (λ found. IfSome found (λ names.
+        (names.0 ≡ name_of first.now) × (names.1 ≡ name_of metric.now))) }
+    ensures spelled { IfOk result (λ found. IfSome found (λ _.
+        (SpellsName first.now × SpellsName metric.now × (length (name_of metric.now) ≤ 64)))) }
+    ensures none { IfOk result (λ found. IfNone found
+        (¬ (SpellsName first.now × SpellsName metric.now × (length (name_of metric.now) ≤ 64)))) }
+{
+    let Some((one, other)) = two_named(alloc, first, metric)? else {
+        return Ok(None);
+    };
+    if other.as_str().len() > METRIC_LIMIT {
+        return Ok(None);
+    }
+    Ok(Some((one, other)))
 }

@@ -9,6 +9,7 @@ pub(crate) enum Verb {
     Commit,
     Submit,
     Retract,
+    Tune,
     Runs,
 }
 
@@ -25,6 +26,8 @@ pub(crate) fn read_verb(word: &[u8]) -> Option<Verb>
         Some(Verb::Submit)
     } else if word == b"retract".as_slice() {
         Some(Verb::Retract)
+    } else if word == b"tune".as_slice() {
+        Some(Verb::Tune)
     } else if word == b"runs".as_slice() {
         Some(Verb::Runs)
     } else {

@@ -1,5 +1,6 @@
 //! The text of a request.
 ghost use Rattle.std.specs.Prelude.{◌≡◌, ◌<◌, ◌≤◌, ◌^◌, ℕ, List, ◌++◌, ◌∷◌, [], None, Some, All, length, decimal, IfOk, IfSome, IfNone, OnOk, OnErr, IsTrue, ◌↔◌, codes};
+ghost use Rattle.std.specs.Fmt.{signed_decimal};
 ghost use Rattle.line_text.specs.Names.{IsName, spelling};
 ghost use Rattle.metric_table.specs.Limits.{most};
 ghost use Rattle.metric_table.specs.declared.limits.Limit.TheVariants.{RunSamples};
@@ -14,7 +15,7 @@ ghost use Rattle.request_text.specs.Written.{line_of, head_line, IsBody, IsBodyO
 use crate::NoMemory;
 use go_bench_text::put_go;
 use history_model::{Sample, Samples};
-use line_text::{Name, names_law, put_name, put_u64, words_law};
+use line_text::{Name, names_law, numbers_law, put_i128, put_name, put_u64, words_law};
 use lnt_report::{LntRun, put_report};
 use request_model::Request;
 use std::alloc::Global;
@@ -51,6 +52,7 @@ pub fn put_request(alloc: Global, out: &mut Vec<u8>, request: &Request) -> Resul
         → HasNoText request.now place }
 {
     names_law();
+    numbers_law();
     words_law();
     sound(request);
     let body = body_of(alloc, request)?;
@@ -80,6 +82,11 @@ fn sound(request: &Request)
             ..
         } => sound_run(machine, commit, run, samples),
         Request::Retract { machine, run } => two_names(machine, run),
+        Request::Tune {
+            machine,
+            metric,
+            ..
+        } => two_names(machine, metric),
         Request::Runs { machine } => machine.bytes_law(),
     }
 }
@@ -272,6 +279,11 @@ fn put_line(alloc: Global, out: &mut Vec<u8>, request: &Request, len: u64) -> Re
             Some(_) => put_lnt_line(alloc, out, machine, run, len),
         },
         Request::Retract { machine, run } => put_two(alloc, out, "retract", machine, run),
+        Request::Tune {
+            machine,
+            metric,
+            penalty,
+        } => put_tune(alloc, out, machine, metric, *penalty),
         Request::Runs { machine } => put_one(alloc, out, "runs", machine),
     }
 }
@@ -338,6 +350,26 @@ fn put_commit(
     put_spelled(alloc, out, machine)?;
     put_number(alloc, out, number)?;
     put_spelled(alloc, out, name)?;
+    out.push(b'\n')?;
+    Ok(())
+}
+
+// Appends the line of a penalty.
+fn put_tune(
+    alloc: Global,
+    out: &mut Vec<u8>,
+    machine: &Name,
+    metric: &Name,
+    penalty: i128,
+) -> Result<(), NoMemory>
+    ensures { OnOk result (out.new.items ≡ out.old.items ++ line_of (words_in
+        (form.tune (spelling machine.now) (spelling metric.now) (signed_decimal penalty)))) }
+{
+    out.extend_from_slice(b"tune")?;
+    put_spelled(alloc, out, machine)?;
+    put_spelled(alloc, out, metric)?;
+    out.push(b' ')?;
+    put_i128(alloc, out, penalty)?;
     out.push(b'\n')?;
     Ok(())
 }

@@ -41,6 +41,7 @@ script =
     ∷ Ok (request.Retract m (codes "r1"))
     ∷ Ok (request.Retract m (codes "r1"))
     ∷ Ok (request.Submit m (codes "a") (codes "r1") (value 0) 0 None)
+    ∷ Ok (request.Tune m (codes "B/op") (pos 50))
     ∷ Ok (request.Runs m)
     ∷ []
 
@@ -65,7 +66,8 @@ wanted =
     ∷ said 5 (answer.Retracted (codes "r1"))
     ∷ said 5 (answer.Refused (refusal.AlreadyRetracted 5))
     ∷ said 5 (answer.Duplicate 3)
-    ∷ said 5 (answer.Runs (run_line (codes "r1") (codes "a") false ∷ run_line (codes "r2") (codes "b") true ∷ []))
+    ∷ said 6 (answer.Tuned (codes "B/op") (pos 50))
+    ∷ said 6 (answer.Runs (run_line (codes "r1") (codes "a") false ∷ run_line (codes "r2") (codes "b") true ∷ []))
     ∷ []
 
 the_script_is_answered : replies (author.Script 1) [] script ≡ wanted
@@ -91,7 +93,8 @@ wanted_lines =
     ∷ codes "@5 retracted r1"
     ∷ codes "@5 E12 AlreadyRetracted @5"
     ∷ codes "@5 duplicate @3"
-    ∷ codes "@5 runs lines 2"
+    ∷ codes "@6 tuned B/op 50"
+    ∷ codes "@6 runs lines 2"
     ∷ codes "r1 a 1 retracted"
     ∷ codes "r2 b 1 live"
     ∷ []
@@ -111,9 +114,9 @@ a_machine_too_many = refl
 
 -- ---- the rows that a session adds, and those that a later one does
 stored : List Item
-stored = Ok (request.Machine m) ∷ Ok (request.Commit m 10 (codes "a")) ∷ Ok (request.Retract m (codes "r1")) ∷ []
+stored = Ok (request.Machine m) ∷ Ok (request.Commit m 10 (codes "a")) ∷ Ok (request.Retract m (codes "r1")) ∷ Ok (request.Tune m (codes "B/op") (pos 50)) ∷ []
 
-rows_are_added : new_rows (after (author.Script 1) [] stored) ≡ codes "machine m1" ∷ codes "entry m1 commit 10 a" ∷ []
+rows_are_added : new_rows (after (author.Script 1) [] stored) ≡ codes "machine m1" ∷ codes "entry m1 commit 10 a" ∷ codes "entry m1 tune B/op 50" ∷ []
 unfolding stored m digits
 rows_are_added = refl
 

@@ -143,6 +143,7 @@ module _ (author : Author) where
   unknown_stays tracks (request.Commit machine number name) none = stays_same tracks
   unknown_stays tracks (request.Submit machine commit run samples ignored stated) none = stays_same tracks
   unknown_stays tracks (request.Retract machine run) none = stays_same tracks
+  unknown_stays tracks (request.Tune machine metric penalty) none = stays_same tracks
   unknown_stays tracks (request.Runs machine) none = stays_same tracks
 
   about_stays : (found : Option Track) (tracks : List Track) (q : Request) (a : Answered) → find (is_track (machine_of q)) tracks ≡ found

@@ -93,6 +93,7 @@ fn machine_of(request: &Request) -> &Name
         Request::Commit { machine, .. } => machine,
         Request::Submit { machine, .. } => machine,
         Request::Retract { machine, .. } => machine,
+        Request::Tune { machine, .. } => machine,
         Request::Runs { machine } => machine,
     }
 }

@@ -60,6 +60,18 @@ fn answers_are_lines_of_words(rt: HostRuntime) -> Result<(), Fail> {
         text(alloc, Answer::Retracted { run })?.as_str(),
         "@11 retracted r1\n"
     );
+    let tuned = Answer::Tuned {
+        metric: Name::of_text(alloc, b"B op")?,
+        penalty: 1_000_000_000_000_000_000_000_000_000_000_000_000,
+    };
+    assert_eq!(rt;
+        text(alloc, tuned)?.as_str(),
+        "@11 tuned B%20op 1000000000000000000000000000000000000\n"
+    );
+    assert_eq!(rt;
+        refused(alloc, Refusal::BadPenalty)?.as_str(),
+        "@11 E22 BadPenalty\n"
+    );
     Ok(())
 }
 

@@ -53,6 +53,7 @@ fn form(request: &Request) -> &'static str {
         Request::Commit { .. } => "commit ",
         Request::Submit { .. } => "submit ",
         Request::Retract { .. } => "retract ",
+        Request::Tune { .. } => "tune ",
         Request::Runs { .. } => "runs ",
     }
 }
@@ -66,6 +67,7 @@ fn code(refusal: &Refusal) -> &'static str {
         Refusal::NotReport { .. } => "E08 ",
         Refusal::OutOfRange(_) => "E09 ",
         Refusal::Full(_) => "E21 ",
+        Refusal::BadPenalty => "E22 ",
         Refusal::BodyTooLong => "E26 ",
         Refusal::TooDeep(_) => "E28 ",
         _ => "other ",
@@ -75,7 +77,7 @@ fn code(refusal: &Refusal) -> &'static str {
 #[test]
 fn scripts_are_cut_into_requests_and_an_ending(rt: HostRuntime) -> Result<(), Fail> {
     let alloc = rt.alloc();
-    let cases: [(&[u8], &str); 16] = [
+    let cases: [(&[u8], &str); 20] = [
         (b"", "end"),
         (b"# x\n\n   \n", "end"),
         (
@@ -92,6 +94,22 @@ fn scripts_are_cut_into_requests_and_an_ending(rt: HostRuntime) -> Result<(), Fa
         ),
         (b"submit go %zz a r1 4\nruns\nruns m\n", "E02 runs end"),
         (b"submit lnt m1 r1 0", "E07 "),
+        (
+            b"tune m B/op 50\ntune m B/op 050\ntune m B/op\n",
+            "tune E01 E01 end",
+        ),
+        (
+            b"tune m B/op 1000000000000000000000000000000000000\ntune m B/op 1000000000000000000000000000000000001",
+            "tune E22 ",
+        ),
+        (
+            b"tune m B/op 99999999999999999999999999999999999999999999999999\ntune m %zz 99999999999999999999999999999999999999999\n",
+            "E22 E02 end",
+        ),
+        (
+            b"tune m aaaaaaaaaaaaaaaaaaaaaaaaaaaaaaaaaaaaaaaaaaaaaaaaaaaaaaaaaaaaaa%61a 1\ntune m aaaaaaaaaaaaaaaaaaaaaaaaaaaaaaaaaaaaaaaaaaaaaaaaaaaaaaaaaaaaaa%61aa 1\n",
+            "tune E02 end",
+        ),
         (b"submit go m a r 9000000\nxx", "cut 0"),
         (b"submit go %zz a r 9000000\nxx", "cut 0"),
         (b"submit go m a r 1", "cut 0"),
@@ -190,13 +208,17 @@ fn written(alloc: Global, script: &[u8]) -> Result<Vec<u8>, Fail> {
 #[test]
 fn a_request_is_written_in_its_one_spelling(rt: HostRuntime) -> Result<(), Fail> {
     let alloc = rt.alloc();
-    let cases: [(&[u8], &str); 3] = [
+    let cases: [(&[u8], &str); 4] = [
         (
             b"submit  go m%31 a,%2cb r1 20\nBenchmarkX 1 0 B/op\n",
             "submit go m1 a%2C%2Cb r1 25\npkg:\nBenchmarkX 1 0 B/op\n",
         ),
         (b"machine m1\r\n", "machine m1%0D\n"),
         (b"commit m 10 a%20b", "commit m 10 a%20b\n"),
+        (
+            b"tune  m B%2fop 1000000000000000000000000000000000000",
+            "tune m B/op 1000000000000000000000000000000000000\n",
+        ),
     ];
     for case in &cases {
         assert_eq!(rt; str::from_utf8(&written(alloc, case.0)?)?, case.1);

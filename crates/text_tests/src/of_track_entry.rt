@@ -23,6 +23,9 @@ fn entries_are_read_from_their_spelling(rt: HostRuntime) {
         "accept r2 0 2 BenchmarkX ns/op -10000000000000000 X B/op 10000000000000000",
         "accept r 7 0",
         "retract r1",
+        "tune B/op 50",
+        "tune %25 -170141183460469231731687303715884105728",
+        "tune x 170141183460469231731687303715884105727",
     ] {
         assert!(rt; is_spelling(rt.alloc(), text.as_bytes()), "{text}");
     }
@@ -50,6 +53,13 @@ fn other_texts_are_no_entries(rt: HostRuntime) {
         "retract",
         "retract a,b",
         "machine m",
+        "tune B/op",
+        "tune B/op x",
+        "tune B/op 050",
+        "tune B/op -0",
+        "tune B/op 50 1",
+        "tune B/op 170141183460469231731687303715884105728",
+        "tune aaaaaaaaaaaaaaaaaaaaaaaaaaaaaaaaaaaaaaaaaaaaaaaaaaaaaaaaaaaaaaaaa 1",
     ] {
         let read = read_entry(rt.alloc(), text.as_bytes());
         assert!(rt; matches!(read, Err(EntryFault::NotEntry)), "{text}");

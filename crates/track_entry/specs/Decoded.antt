@@ -4,7 +4,7 @@ use Rattle.std.specs.Str.Parse.{digits_value}
 use Rattle.percent_encoding.specs.Percent.{percent_decode}
 use Rattle.history_model.specs.Samples.{Measurement}
 use Rattle.history_model.specs.declared.entries.Entry.{Entry}
-use Rattle.history_model.specs.declared.entries.Entry.TheVariants.{Commit, Accept, Retract}
+use Rattle.history_model.specs.declared.entries.Entry.TheVariants.{Commit, Accept, Retract, Tune}
 use Rattle.track_entry.specs.declared.fault.EntryFault.{EntryFault}
 use Rattle.track_entry.specs.declared.fault.EntryFault.TheVariants.{NotEntry, NoMemory}
 
@@ -37,13 +37,18 @@ abbrev pub retract_of : List (List ℕ) → Option Entry
 retract_of (run ∷ []) = Some (Retract (percent_decode run))
 retract_of words = None
 
+abbrev pub tune_of : List (List ℕ) → Option Entry
+tune_of (metric ∷ penalty ∷ []) = Some (Tune (percent_decode metric) (value_of penalty))
+tune_of words = None
+
 -- the entry of words behind the word of its kind
 abbrev pub said_by : List ℕ → List (List ℕ) → Option Entry
 said_by kind words =
     if bytes_eq kind (codes "commit") then commit_of words
     else (if bytes_eq kind (codes "accept") then accept_of words
     else (if bytes_eq kind (codes "retract") then retract_of words
-    else None))
+    else (if bytes_eq kind (codes "tune") then tune_of words
+    else None)))
 
 abbrev pub decoded : List (List ℕ) → Option Entry
 decoded [] = None

@@ -1,5 +1,6 @@
 //! The text of an entry, written.
 ghost use Rattle.std.specs.Prelude.{◌≡◌, ◌++◌, [], OnOk, OnErr, flat_map, decimal, length};
+ghost use Rattle.std.specs.Fmt.{signed_decimal};
 ghost use Rattle.line_text.specs.Names.{spelling};
 ghost use Rattle.track_entry.specs.Texts.{next, sample_words, entry_text};
 
@@ -36,6 +37,11 @@ fn put_kind(alloc: Global, out: &mut Vec<u8>, entry: &Entry) -> Result<(), NoMem
             out.extend_from_slice(b"retract")?;
             put_word(alloc, out, run)
         }
+        Entry::Tune { metric, penalty } => {
+            out.extend_from_slice(b"tune")?;
+            put_word(alloc, out, metric)?;
+            put_signed(alloc, out, *penalty)
+        }
     }
 }
 
@@ -67,9 +73,7 @@ fn put_sample(alloc: Global, out: &mut Vec<u8>, sample: &Sample) -> Result<(), N
 {
     put_word(alloc, out, &sample.test)?;
     put_word(alloc, out, &sample.metric)?;
-    out.push(b' ')?;
-    put_i128(alloc, out, i128::from(sample.value))?;
-    Ok(())
+    put_signed(alloc, out, i128::from(sample.value))
 }
 
 fn put_word(alloc: Global, out: &mut Vec<u8>, name: &Name) -> Result<(), NoMemory>
@@ -85,5 +89,13 @@ fn put_number(alloc: Global, out: &mut Vec<u8>, n: u64) -> Result<(), NoMemory>
 {
     out.push(b' ')?;
     put_u64(alloc, out, n)?;
+    Ok(())
+}
+
+fn put_signed(alloc: Global, out: &mut Vec<u8>, n: i128) -> Result<(), NoMemory>
+    ensures { OnOk result (out.new.items ≡ out.old.items ++ next (signed_decimal n)) }
+{
+    out.push(b' ')?;
+    put_i128(alloc, out, n)?;
     Ok(())
 }

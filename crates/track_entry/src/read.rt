@@ -1,14 +1,14 @@
 //! Entries, read from their texts.
-ghost use Rattle.std.specs.Prelude.{◌≡◌, ◌≢◌, ℕ, ◌≤◌, List, [], ◌∷◌, length, drop, codes, flat_map, IfOk};
+ghost use Rattle.std.specs.Prelude.{◌≡◌, ◌≢◌, ℕ, ◌≤◌, List, [], ◌∷◌, length, drop, codes, flat_map, IfOk, IsTrue, IsFalse};
 ghost use Rattle.line_text.specs.Lines.{words_of};
 ghost use Rattle.history_model.specs.Samples.{Measurement, AreSamples};
 ghost use Rattle.history_model.specs.declared.entries.Entry.{Entry as AnEntry};
 ghost use Rattle.track_entry.specs.Texts.{sample_words, entry_words, IsEntry, SpellsEntry, IsOneEntry};
-ghost use Rattle.track_entry.specs.Decoded.{Reads, commit_of, accept_of, retract_of};
+ghost use Rattle.track_entry.specs.Decoded.{Reads, commit_of, accept_of, retract_of, tune_of};
 
 use crate::fault::EntryFault;
 use crate::put::put_entry;
-use crate::words::{end_at, name_at, number_at, sample_at};
+use crate::words::{METRIC_LIMIT, end_at, name_at, number_at, sample_at, signed_at};
 use history_model::{Entry, Run, Samples};
 use line_text::{names_law, next_word, words_law};
 use metric_table::Limit;
@@ -24,7 +24,9 @@ pub fn read_entry(alloc: Global, text: &[u8]) -> Result<Entry, EntryFault>
     words_law();
     names_law();
     let entry = read_words(alloc, text)?;
-    bounds_law(&entry);
+    if !is_entry(&entry) {
+        return Err(EntryFault::NotEntry);
+    }
     let mut spelt = Vec::new(alloc);
     put_entry(alloc, &mut spelt, &entry)?;
     // What isn't canonical is spelt otherwise.
@@ -52,6 +54,9 @@ fn read_words(alloc: Global, text: &[u8]) -> Result<Entry, EntryFault>
     }
     if kind == b"retract".as_slice() {
         return read_retract(alloc, text, to);
+    }
+    if kind == b"tune".as_slice() {
+        return read_tune(alloc, text, to);
     }
     Err(EntryFault::NotEntry)
 }
@@ -97,6 +102,18 @@ fn read_retract(alloc: Global, text: &[u8], at: usize) -> Result<Entry, EntryFau
     Ok(Entry::Retract { run })
 }
 
+fn read_tune(alloc: Global, text: &[u8], at: usize) -> Result<Entry, EntryFault>
+    requires { at ≤ length text.now }
+    ensures { (e : AnEntry) → IsEntry e → tune_of (words_of (drop at text.now)) ≡ Some e
+        → codes "tune" ∷ words_of (drop at text.now) ≡ entry_words e
+        → Reads result (λ read. read ≡ e) }
+{
+    let (metric, behind_metric) = name_at(alloc, text, at)?;
+    let (penalty, end) = signed_at(text, behind_metric)?;
+    end_at(text, end)?;
+    Ok(Entry::Tune { metric, penalty })
+}
+
 // The samples of all words from a place on.
 fn read_samples(alloc: Global, text: &[u8], at: usize) -> Result<Samples, EntryFault>
     requires { at ≤ length text.now }
@@ -117,21 +134,32 @@ fn read_samples(alloc: Global, text: &[u8], at: usize) -> Result<Samples, EntryF
     Ok(samples)
 }
 
-// What the types keep. Does nothing.
-fn bounds_law(entry: &Entry)
-    ensures { IsEntry entry.now }
+// Whether an entry has a text: the types keep all but the length of a metric.
+fn is_entry(entry: &Entry) -> bool
+    ensures yes { IsTrue result → IsEntry entry.now }
+    ensures no { IsFalse result → ¬ IsEntry entry.now }
 {
     match entry {
         Entry::Commit { number, name } => {
             let _number = *number;
             name.bytes_law();
+            true
         }
         Entry::Accept { run } => {
             let _commit = run.commit;
             run.run.bytes_law();
             run.samples.limits();
+            true
         }
-        Entry::Retract { run } => run.bytes_law(),
+        Entry::Retract { run } => {
+            run.bytes_law();
+            true
+        }
+        Entry::Tune { metric, penalty } => {
+            let _penalty = *penalty;
+            metric.bytes_law();
+            metric.as_str().len() <= METRIC_LIMIT
+        }
     }
 }
 

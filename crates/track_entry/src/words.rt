@@ -1,6 +1,7 @@
 //! Single words of an entry: names, numbers, values and samples.
-ghost use Rattle.std.specs.Prelude.{◌≡◌, ◌≢◌, ℕ, ℤ, ◌^◌, ◌<◌, ◌≤◌, List, [], ◌∷◌, ◌++◌, length, drop, decimal, unsigned_abs, IfOk};
+ghost use Rattle.std.specs.Prelude.{◌≡◌, ◌≢◌, ℕ, ℤ, FitsSigned, ◌^◌, ◌<◌, ◌≤◌, List, [], ◌∷◌, ◌++◌, length, drop, decimal, unsigned_abs, IfOk};
 ghost use Rattle.std.specs.Fmt.{signed_decimal};
+ghost use Rattle.std.specs.Int.{w128};
 ghost use Rattle.line_text.specs.Lines.{words_of};
 ghost use Rattle.line_text.specs.Names.{IsName, spelling};
 ghost use Rattle.history_model.specs.Samples.{Measurement, IsSample};
@@ -9,14 +10,14 @@ ghost use Rattle.track_entry.specs.Decoded.{Reads};
 
 use crate::fault::EntryFault;
 use history_model::Sample;
-use line_text::{Name, names_law, next_word, read_i64, read_name, read_u64};
+use line_text::{Name, names_law, next_word, read_i64, read_name, read_u64, read_u128};
 use std::alloc::Global;
 
 // The greatest magnitude of a value.
 const VALUE_LIMIT: u64 = 10_000_000_000_000_000;
 
 // The most bytes of a metric's name.
-const METRIC_LIMIT: usize = 64;
+pub const METRIC_LIMIT: usize = 64;
 
 // The name of the next word, and where the word ends.
 pub fn name_at(alloc: Global, text: &[u8], at: usize) -> Result<(Name, usize), EntryFault>
@@ -70,6 +71,43 @@ pub fn value_at(text: &[u8], at: usize) -> Result<(i64, usize), EntryFault>
         return Err(EntryFault::NotEntry);
     }
     Ok((value, to))
+}
+
+// The signed number of the next word, and where the word ends.
+pub fn signed_at(text: &[u8], at: usize) -> Result<(i128, usize), EntryFault>
+    requires { at ≤ length text.now }
+    ensures placed { IfOk result (λ read. (at < read.1) × (read.1 ≤ length text.now)) }
+    ensures reads { (value : ℤ) (more : List (List ℕ)) → FitsSigned w128 value
+        → words_of (drop at text.now) ≡ signed_decimal value ∷ more
+        → Reads result (λ read. (read.0 ≡ value) × (words_of (drop read.1 text.now) ≡ more)) }
+{
+    let Some((from, to)) = next_word(text, at) else {
+        return Err(EntryFault::NotEntry);
+    };
+    let Some(value) = signed(&text[from..to]) else {
+        return Err(EntryFault::NotEntry);
+    };
+    Ok((value, to))
+}
+
+// The signed number that a word spells, where it fits 128 bits.
+fn signed(word: &[u8]) -> Option<i128>
+    ensures { (z : ℤ) → FitsSigned w128 z → word.now ≡ signed_decimal z → result ≡ Some z }
+{
+    match word {
+        [b'-', digits @ ..] => negative(digits),
+        _ => i128::try_from(read_u128(word)?).ok(),
+    }
+}
+
+// The number that `-` and the digits spell.
+fn negative(digits: &[u8]) -> Option<i128>
+    ensures { (z : ℤ) → FitsSigned w128 z → 45 ∷ digits.now ≡ signed_decimal z → result ≡ Some z }
+{
+    let Some(magnitude) = read_u128(digits) else {
+        return None;
+    };
+    0i128.checked_sub_unsigned(magnitude)
 }
 
 // The sample of the next three words, and where the last of them ends.

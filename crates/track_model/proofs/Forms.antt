@@ -1,5 +1,5 @@
 -- Where a form comes to a limit, and what it adds elsewhere.
-use Rattle.std.proofs.Common.{◌≡◌, ℕ, ◌+◌, ◌<◌, ◌≤◌, List, [], ◌∷◌, ◌++◌, length, refl, ap, ◌∙◌, arith, Option}
+use Rattle.std.proofs.Common.{◌≡◌, ℕ, ℤ, ◌+◌, ◌<◌, ◌≤◌, List, [], ◌∷◌, ◌++◌, length, refl, ap, ◌∙◌, arith, Option}
 use Rattle.std.specs.Prelude.{Some, None, find, option_map}
 use Rattle.std.proofs.lemmas.List.{length-append}
 use Rattle.metric_table.specs.Limits.{most}
@@ -79,4 +79,22 @@ module _ (passed : FirstPassed) (kept : FirstKept) where
     pub retract-added : length h < most limit.Steps → forms.retract h run ≡ record { answer = answer.Retracted run; adds = Some r }
     retract-added room =
         let row = kept limit.Steps [] h r (omega (arith, more, room)) in
+        rw (free, row) refl
+
+  -- ---- tune
+  module _ (h : List Entry) (metric : List ℕ) (penalty : ℤ) (free : forms.tune_refusal metric penalty ≡ None) where
+    abbrev t : Entry
+    t = entry.Tune metric penalty
+
+    one_more : length (h ++ t ∷ []) ≡ length h + 1
+    one_more = length-append h (t ∷ [])
+
+    pub tune-steps-full : most limit.Steps ≤ length h → forms.tune h metric penalty ≡ refuses (refusal.Full limit.Steps)
+    tune-steps-full full =
+        let row = passed limit.Steps [] h t (omega (arith, one_more, full)) in
+        rw (free, row) refl
+
+    pub tune-added : length h < most limit.Steps → forms.tune h metric penalty ≡ record { answer = answer.Tuned metric penalty; adds = Some t }
+    tune-added room =
+        let row = kept limit.Steps [] h t (omega (arith, one_more, room)) in
         rw (free, row) refl

@@ -1,3 +1,4 @@
 pub mod Rows
 mod Forms
+mod Tunings
 mod Examples

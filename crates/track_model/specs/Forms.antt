@@ -1,5 +1,5 @@
 -- What each form of request comes to on the history of its machine: its refusals in their order, then its effect.
-use Rattle.std.specs.Prelude.{ℕ, Bool, not, if◌then◌else◌, List, [], ◌∷◌, map, length, find, option_map, is_none, unwrap_or, bytes_eq, codes, Option, Some, None, false}
+use Rattle.std.specs.Prelude.{ℕ, ℤ, pos, negsuc, ◌^◌, Bool, not, nat_le, nat_lt, if◌then◌else◌, List, [], ◌∷◌, map, length, find, option_map, is_none, unwrap_or, bytes_eq, codes, Option, Some, None, false}
 use Rattle.metric_table.specs.declared.limits.Limit.TheVariants.{Commits, Steps}
 use Rattle.history_model.specs.declared.entries.Acceptance.{Acceptance}
 use Rattle.history_model.specs.declared.entries.Declaration.{Declaration}
@@ -77,6 +77,25 @@ abbrev pub retract : List Entry → List ℕ → Outcome
 retract h run =
     unless (retract_refusal h run)
     (adds_within (Steps ∷ []) h (entry.Retract run) (answer.Retracted run))
+
+-- ---- tune M METRIC PENALTY
+
+-- from 0 to 10^36
+abbrev pub is_penalty : ℤ → Bool
+is_penalty (pos n) = nat_le n (10 ^ 36)
+is_penalty (negsuc n) = false
+
+-- what no request has that was read: a metric that is too long, a penalty out of range
+abbrev pub tune_refusal : List ℕ → ℤ → Option Answer
+tune_refusal metric penalty = first
+    (refusal_if (nat_lt 64 (length metric)) refusal.BadName
+    ∷ refusal_if (not (is_penalty penalty)) refusal.BadPenalty
+    ∷ [])
+
+abbrev pub tune : List Entry → List ℕ → ℤ → Outcome
+tune h metric penalty =
+    unless (tune_refusal metric penalty)
+    (adds_within (Steps ∷ []) h (entry.Tune metric penalty) (answer.Tuned metric penalty))
 
 -- ---- runs M
 

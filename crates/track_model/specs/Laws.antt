@@ -1,10 +1,10 @@
 -- What holds of the forms on every history: where each comes to a limit, and what it adds where none is passed.
-use Rattle.std.specs.Prelude.{◌≡◌, ◌≤◌, ◌<◌, ℕ, List, length, IsSome, Some, None}
+use Rattle.std.specs.Prelude.{◌≡◌, ◌≤◌, ◌<◌, ◌↔◌, ℕ, ℤ, List, length, IsSome, Some, None}
 use Rattle.metric_table.specs.Limits.{most}
 use Rattle.metric_table.specs.declared.limits.Limit.TheVariants as limit
 use Rattle.history_model.specs.declared.entries.Entry.{Entry}
 use Rattle.history_model.specs.declared.entries.Entry.TheVariants as entry
-use Rattle.history_model.specs.Allowed.{Allowed, KeepsLimits}
+use Rattle.history_model.specs.Allowed.{Allowed, KeepsLimits, MayFollow}
 use Rattle.history_model.specs.Commits.{declarations}
 use Rattle.history_model.specs.Runs.{accepted, retracted}
 use Rattle.request_model.specs.declared.replies.Answer.TheVariants as answer
@@ -59,3 +59,21 @@ RetractIsAdded =
 abbrev pub RetractIsAllowed : Type 0
 RetractIsAllowed =
     (h : List Entry) (run : List ℕ) → KeepsLimits h → IsSome (accepted run h) → retracted run h ≡ None → length h < most limit.Steps → Allowed h (entry.Retract run)
+
+-- ---- tune
+
+-- a penalty in range is refused where there are as many steps as there may be
+abbrev pub TuneStepsAreFull : Type 0
+TuneStepsAreFull =
+    (h : List Entry) (metric : List ℕ) (penalty : ℤ) → forms.tune_refusal metric penalty ≡ None → most limit.Steps ≤ length h
+    → forms.tune h metric penalty ≡ refuses (refusal.Full limit.Steps)
+
+-- else it is set
+abbrev pub TuneIsAdded : Type 0
+TuneIsAdded =
+    (h : List Entry) (metric : List ℕ) (penalty : ℤ) → forms.tune_refusal metric penalty ≡ None → length h < most limit.Steps
+    → forms.tune h metric penalty ≡ record { answer = answer.Tuned metric penalty; adds = Some (entry.Tune metric penalty) }
+
+-- nothing is refused of it exactly where it may follow
+abbrev pub TuneMayFollow : Type 0
+TuneMayFollow = (h : List Entry) (metric : List ℕ) (penalty : ℤ) → (forms.tune_refusal metric penalty ≡ None) ↔ MayFollow h (entry.Tune metric penalty)

@@ -14,6 +14,7 @@ machine_of (request.Machine machine) = machine
 machine_of (request.Commit machine number name) = machine
 machine_of (request.Submit machine commit run samples ignored stated) = machine
 machine_of (request.Retract machine run) = machine
+machine_of (request.Tune machine metric penalty) = machine
 machine_of (request.Runs machine) = machine
 
 -- an outcome on a history as a reply, which counts the entry that is added
@@ -34,4 +35,5 @@ outcome h (request.Machine machine) = tells (answer.Machine machine)
 outcome h (request.Commit machine number name) = forms.commit h number name
 outcome h (request.Submit machine commit run samples ignored stated) = forms.submit h machine commit run samples ignored stated
 outcome h (request.Retract machine run) = forms.retract h run
+outcome h (request.Tune machine metric penalty) = forms.tune h metric penalty
 outcome h (request.Runs machine) = forms.runs h

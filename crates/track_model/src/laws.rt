@@ -7,6 +7,9 @@ ghost use Rattle.track_model.specs.Laws.{
   RetractStepsAreFull,
   RetractIsAdded,
   RetractIsAllowed,
+  TuneStepsAreFull,
+  TuneIsAdded,
+  TuneMayFollow,
 };
 
 use history_model::{growth_law, limits_law, within_law};
@@ -30,5 +33,14 @@ pub fn retract_law()
     ensures allowed { RetractIsAllowed }
 {
     limits_law();
+    within_law();
+}
+
+/// Where a penalty comes to a limit, that it is set elsewhere, and where it is in range.
+pub fn tune_law()
+    ensures steps_full { TuneStepsAreFull }
+    ensures added { TuneIsAdded }
+    ensures follows { TuneMayFollow }
+{
     within_law();
 }

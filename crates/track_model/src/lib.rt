@@ -10,4 +10,4 @@
 
 mod laws;
 
-pub use laws::{commit_law, retract_law};
+pub use laws::{commit_law, retract_law, tune_law};

@@ -20,6 +20,7 @@ use Rattle.track_state.proofs.Marks.{all-marked}
 
 stored_runs-push : OnlyAcceptedAreRetracted → (h : List Entry) (e : Entry) → Legal h → MayFollow h e → stored_runs (h ++ e ∷ []) ≡ runs_after (length h + 1) e (stored_runs h)
 stored_runs-push only h (entry.Commit number name) legal may = rw (chosen-skip acceptance h (entry.Commit number name) refl, chosen-skip retraction h (entry.Commit number name) refl) refl
+stored_runs-push only h (entry.Tune metric penalty) legal may = rw (chosen-skip acceptance h (entry.Tune metric penalty) refl, chosen-skip retraction h (entry.Tune metric penalty) refl) refl
 stored_runs-push only h (entry.Retract run) legal may =
     rw (chosen-skip acceptance h (entry.Retract run) refl, chosen-push retraction h (entry.Retract run)) (sym (all-marked (retractions h) (length h + 1) run may.1 (acceptances h)))
 stored_runs-push only h (entry.Accept run) legal may =

@@ -1,5 +1,5 @@
 -- Which entries are allowed, as the indexes tell it.
-use Rattle.std.proofs.Common.{◌≡◌, ℕ, ◌+◌, ◌≤◌, Bool, true, false, cond, ◌&&◌, List, [], ◌∷◌, ◌++◌, length, refl, sym, ap, ◌∙◌, Option, Some, None, is_some, arith, inl, inr, nat_lt}
+use Rattle.std.proofs.Common.{◌≡◌, ℕ, ℤ, ◌+◌, ◌≤◌, Bool, true, false, cond, ◌&&◌, List, [], ◌∷◌, ◌++◌, length, refl, sym, ap, ◌∙◌, Option, Some, None, is_some, arith, inl, inr, nat_lt}
 use Rattle.std.specs.Prelude.{IsSome, is_none, option_map}
 use Rattle.std.proofs.lemmas.Bool.{cases_Bool, lt-ltb, ltb-true}
 use Rattle.std.proofs.lemmas.List.{length-append}
@@ -17,8 +17,9 @@ use Rattle.request_model.specs.declared.replies.Answer.TheVariants as answer
 use Rattle.request_model.specs.declared.replies.Refusal.TheVariants as refusal
 use Rattle.history_model.specs.Runs.{Retraction, accepted, retracted}
 use Rattle.history_model.proofs.Chosen.{chosen-push}
-use Rattle.history_model.specs.Laws.{LimitsAfterCommit, LimitsAfterRetract}
-use Rattle.track_state.specs.Replays.{IsAllowance, commit_fits, retraction_fits}
+use Rattle.history_model.specs.Laws.{LimitsAfterCommit, LimitsAfterRetract, LimitsAfterTune}
+use Rattle.track_model.specs.Laws.{TuneMayFollow}
+use Rattle.track_state.specs.Replays.{IsAllowance, commit_fits, retraction_fits, tuning_fits}
 use Rattle.track_state.proofs.Marks.{free-run}
 use Rattle.track_state.proofs.Series.{no-more}
 
@@ -98,6 +99,20 @@ module _ (h : List Entry) (keeps : KeepsLimits h) where
       let free : forms.retract_refusal h run ≡ None = free-again h run allowed.0.0 allowed.0.1 in
       let all = and (is_none (forms.retract_refusal h run)) (nat_lt (length h) (most limit.Steps)) (of-none (forms.retract_refusal h run) free)
       (lt-ltb _ _ (let size = length-append h (entry.Retract run ∷ []) in omega (arith, steps, size))) in
+      let never : true ≡ false = sym all ∙ fits in cc
+
+  pub tuning-fits : LimitsAfterTune → TuneMayFollow → (metric : List ℕ) (penalty : ℤ) → tuning_fits h metric penalty ≡ true → IsAllowance h (entry.Tune metric penalty) (Some 0)
+  tuning-fits limits follows metric penalty fits =
+      let one = both (is_none (forms.tune_refusal metric penalty)) (nat_lt (length h) (most limit.Steps)) fits in
+      let room = ltb-true _ _ one.1 in
+      (((follows h metric penalty).0 (none-of (forms.tune_refusal metric penalty) one.0), limits h metric penalty keeps (omega (arith, room))), no-more h (entry.Tune metric penalty) refl)
+
+  pub tuning-refused : TuneMayFollow → (metric : List ℕ) (penalty : ℤ) → tuning_fits h metric penalty ≡ false → IsAllowance h (entry.Tune metric penalty) None
+  tuning-refused follows metric penalty fits allowed =
+      let steps : length (h ++ entry.Tune metric penalty ∷ []) ≤ most limit.Steps = allowed.1 limit.Steps in
+      let free : forms.tune_refusal metric penalty ≡ None = (follows h metric penalty).1 allowed.0 in
+      let all = and (is_none (forms.tune_refusal metric penalty)) (nat_lt (length h) (most limit.Steps)) (of-none (forms.tune_refusal metric penalty) free)
+      (lt-ltb _ _ (let size = length-append h (entry.Tune metric penalty ∷ []) in omega (arith, steps, size))) in
       let never : true ≡ false = sym all ∙ fits in cc
 
 -- what is told of as passed is passed

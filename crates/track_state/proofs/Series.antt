@@ -82,6 +82,7 @@ module _ (fresh : PositionsAreFresh) (past : StepsArePast) (room : SeriesHaveRoo
   pub takes-in : (h : List Entry) (e : Entry) (series : Kept) → Legal h → Allowed h e → ((s : Series) → IsTracked h s (seen s series)) → TakesIn series (length h + 1) e
   takes-in h (entry.Commit number name) series legal allowed are = tt
   takes-in h (entry.Retract name) series legal allowed are = tt
+  takes-in h (entry.Tune metric penalty) series legal allowed are = tt
   takes-in h (entry.Accept run) series legal allowed are =
       let live : retracted run.run h ≡ None = only h run.run legal allowed.0.0 in
       record {
@@ -113,6 +114,11 @@ module _ (accept : PositionsAfterAccept) (retract : PositionsAfterRetract) (unto
     points = rw (chosen-skip acceptance h (entry.Commit number name) refl, chosen-skip retraction h (entry.Commit number name) refl) is.points;
     since = rw length-append (later (length h) t.since is.since);
     known = rw (chosen-skip acceptance h (entry.Commit number name) refl) is.known;
+  }
+  tracked-after h (entry.Tune metric penalty) s t legal allowed is = record {
+    points = rw (chosen-skip acceptance h (entry.Tune metric penalty) refl, chosen-skip retraction h (entry.Tune metric penalty) refl) is.points;
+    since = rw length-append (later (length h) t.since is.since);
+    known = rw (chosen-skip acceptance h (entry.Tune metric penalty) refl) is.known;
   }
   tracked-after h (entry.Accept run) s t legal allowed is =
       let a : Acceptance = record { step = length h + 1; run = run } in

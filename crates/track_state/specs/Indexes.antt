@@ -31,12 +31,14 @@ abbrev pub runs_after : ℕ → Entry → List Stored → List Stored
 runs_after step (entry.Commit number name) runs = runs
 runs_after step (entry.Accept run) runs = runs ++ record { step = step; run = run; retracted = None } ∷ []
 runs_after step (entry.Retract run) runs = map (marked step run) runs
+runs_after step (entry.Tune metric penalty) runs = runs
 
 -- the indexes of commits and runs take the entry in
 abbrev pub IsReady : List Declaration → List Stored → Entry → Type 0
 IsReady commits runs (entry.Commit number name) = pair.judged commits number name ≡ declared.New
 IsReady commits runs (entry.Accept new) = run.judged runs new ≡ accepted.New
 IsReady commits runs (entry.Retract name) = run.retraction runs name ≡ retracted.Done
+IsReady commits runs (entry.Tune metric penalty) = Unit {0}
 
 -- ---- series
 
@@ -58,6 +60,7 @@ abbrev pub seen_after : ℕ → Entry → List Stored → Series → Tracked →
 seen_after step (entry.Commit number name) runs s t = t
 seen_after step (entry.Accept run) runs s t = with_samples run.commit step (of_series s run.samples) t
 seen_after step (entry.Retract run) runs s t = given_back (found_run run runs) s t
+seen_after step (entry.Tune metric penalty) runs s t = t
 
 -- the series have room for a run's samples, and know nothing of its step
 pub record HasRoomForAll (series : Kept) (commit step : ℕ) (samples : List Measurement) : Type 0 where
@@ -69,3 +72,4 @@ abbrev pub TakesIn : Kept → ℕ → Entry → Type 0
 TakesIn series step (entry.Commit number name) = Unit {0}
 TakesIn series step (entry.Accept run) = HasRoomForAll series run.commit step run.samples
 TakesIn series step (entry.Retract run) = Unit {0}
+TakesIn series step (entry.Tune metric penalty) = Unit {0}

@@ -1,5 +1,5 @@
 -- A kept entry, added again where it is allowed.
-use Rattle.std.specs.Prelude.{◌≡◌, ◌↔◌, ℕ, ◌+◌, Bool, ◌&&◌, nat_lt, if◌then◌else◌, IsTrue, List, [], ◌∷◌, ◌++◌, length, is_none, Option, Some, None}
+use Rattle.std.specs.Prelude.{◌≡◌, ◌↔◌, ℕ, ℤ, ◌+◌, Bool, ◌&&◌, nat_lt, if◌then◌else◌, IsTrue, List, [], ◌∷◌, ◌++◌, length, is_none, Option, Some, None}
 use Rattle.metric_table.specs.Limits.{most}
 use Rattle.metric_table.specs.declared.limits.Limit.TheVariants as limit
 use Rattle.history_model.specs.declared.entries.Author.TheVariants.{Kept}
@@ -29,3 +29,7 @@ commit_fits h number name =
 -- a retraction of a live run, within the limits
 abbrev pub retraction_fits : List Entry → List ℕ → Bool
 retraction_fits h run = is_none (forms.retract_refusal h run) && nat_lt (length h) (most limit.Steps)
+
+-- a penalty in range, within the limits
+abbrev pub tuning_fits : List Entry → List ℕ → ℤ → Bool
+tuning_fits h metric penalty = is_none (forms.tune_refusal metric penalty) && nat_lt (length h) (most limit.Steps)

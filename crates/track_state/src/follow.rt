@@ -53,6 +53,7 @@ pub fn follow(
             let _ = runs.retract(step, run);
             Ok(())
         }
+        Entry::Tune { .. } => Ok(()),
     }
 }
 

@@ -9,6 +9,7 @@ mod replay;
 mod runs;
 mod state;
 mod submit;
+mod tune;
 mod verdict;
 
 pub use state::TrackState;

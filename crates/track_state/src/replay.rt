@@ -4,14 +4,16 @@ ghost use Rattle.history_model.specs.Entries.{entries_of};
 ghost use Rattle.history_model.specs.declared.entries.Entry.TheVariants as entry;
 ghost use Rattle.history_model.specs.Commits.{name_of};
 ghost use Rattle.history_model.specs.Runs.{accepted};
-ghost use Rattle.track_state.specs.Replays.{IsReplayed, IsAllowance, commit_fits, retraction_fits};
+ghost use Rattle.track_state.specs.Replays.{IsReplayed, IsAllowance, commit_fits, retraction_fits, tuning_fits};
 
 use crate::NoMemory;
 use crate::state::TrackState;
+use crate::tune::tune_refusal;
 use crate::verdict::Verdict;
 use history_model::{Author, Entry, Run, accept_law, limits_law, retraction_law, within_law};
 use line_text::Name;
 use metric_table::Limit;
+use track_model::tune_law;
 
 impl TrackState {
     fn was_accepted(&self, run: &Name) -> bool
@@ -41,6 +43,12 @@ impl TrackState {
         self.retract_refusal(run).is_none() && self.len() < Limit::Steps.most()
     }
 
+    fn tuning_fits(&self, metric: &Name, penalty: &i128) -> bool
+        ensures { result ≡ tuning_fits (entries_of self.now.history) metric.now penalty.now }
+    {
+        tune_refusal(metric, *penalty).is_none() && self.len() < Limit::Steps.most()
+    }
+
     fn run_allowance(&self, run: &Run) -> Result<Option<u64>, NoMemory>
         ensures { IfOk result
             (λ more. IsAllowance (entries_of self.now.history) (entry.Accept run.now) more) }
@@ -67,6 +75,7 @@ impl TrackState {
         ensures { IfOk result (λ more. IsAllowance (entries_of self.now.history) entry.now more) }
     {
         limits_law();
+        tune_law();
         self.history_law();
         match entry {
             Entry::Commit { number, name } => {
@@ -79,6 +88,12 @@ impl TrackState {
             Entry::Accept { run } => self.run_allowance(run),
             Entry::Retract { run } => {
                 if self.retraction_fits(run) {
+                    return Ok(Some(0));
+                }
+                Ok(None)
+            }
+            Entry::Tune { metric, penalty } => {
+                if self.tuning_fits(metric, penalty) {
                     return Ok(Some(0));
                 }
                 Ok(None)

@@ -59,6 +59,14 @@ impl TrackState {
                 self.submit(author, commit, run, samples, ignored, stated)
             }
             Request::Retract { machine: _, run } => self.retract(author, run),
+            Request::Tune {
+                machine: _,
+                metric,
+                penalty,
+            } => {
+                let penalty = *penalty;
+                self.tune(author, metric, penalty)
+            }
             Request::Runs { machine: _ } => self.runs(),
         }
     }

@@ -2,7 +2,7 @@ use Rattle.std.proofs.Common.{sym, subst, ◌∙◌, Some, None}
 use Rattle.history_model.specs.declared.entries.Entry.{Entry}
 use Rattle.history_model.specs.Entries.{entries_of}
 use Rattle.track_state.specs.Replays.{IsAllowance}
-use Rattle.track_state.proofs.Replaying.{commit-fits, commit-refused, retraction-fits, retraction-refused}
+use Rattle.track_state.proofs.Replaying.{commit-fits, commit-refused, retraction-fits, retraction-refused, tuning-fits, tuning-refused}
 use Rattle.track_state.proofs.state.TrackState.allowance.Goals as goal
 
 pub returns-then-commit_fits : goal.returns-then-commit_fits
@@ -24,3 +24,13 @@ pub returns-else-retraction_fits : goal.returns-else-retraction_fits
 returns-else-retraction_fits c =
     let P : Entry → Type 0 = λ e. IsAllowance (entries_of c.args.self.now.history) e None in
     subst P (sym c.in-Retract.is) (retraction-refused (entries_of c.args.self.now.history) c.history_law.ensures.limits c.in-Retract.run' (sym c.retraction_fits.ensures ∙ c.if-retraction_fits.false))
+
+pub returns-then-tuning_fits : goal.returns-then-tuning_fits
+returns-then-tuning_fits c =
+    let P : Entry → Type 0 = λ e. IsAllowance (entries_of c.args.self.now.history) e (Some 0) in
+    subst P (sym c.in-Tune.is) (tuning-fits (entries_of c.args.self.now.history) c.history_law.ensures.limits c.limits_law.ensures.tune c.tune_law.ensures.follows c.in-Tune.metric c.in-Tune.penalty (sym c.tuning_fits.ensures ∙ c.if-tuning_fits.true))
+
+pub returns-else-tuning_fits : goal.returns-else-tuning_fits
+returns-else-tuning_fits c =
+    let P : Entry → Type 0 = λ e. IsAllowance (entries_of c.args.self.now.history) e None in
+    subst P (sym c.in-Tune.is) (tuning-refused (entries_of c.args.self.now.history) c.history_law.ensures.limits c.tune_law.ensures.follows c.in-Tune.metric c.in-Tune.penalty (sym c.tuning_fits.ensures ∙ c.if-tuning_fits.false))

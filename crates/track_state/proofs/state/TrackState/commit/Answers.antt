@@ -13,7 +13,6 @@ use Rattle.history_model.specs.Commits.{declarations}
 use Rattle.history_model.specs.Entries.{entries_of}
 use Rattle.track_model.specs.Forms as forms
 use Rattle.track_model.specs.Tracks.{Track}
-use Rattle.track_model.specs.Laws.{CommitFits}
 use Rattle.track_state.proofs.Steps.{told-step, added-step}
 use Rattle.track_state.proofs.Series.{no-more}
 use Rattle.track_state.proofs.state.TrackState.commit.Goals as goal
