@@ -22,9 +22,13 @@ def spelled(name):
     return b"".join(bytes([c]) if 32 < c < 127 and c not in b"%," else b"%%%02X" % c for c in name)
 
 
+def amount_of(word):
+    return int(word) if re.fullmatch(rb"0|[1-9][0-9]*", word) else None
+
+
 def number_of(word):
-    ok = re.fullmatch(rb"0|[1-9][0-9]*", word) and int(word) < 2**64
-    return int(word) if ok else None
+    amount = amount_of(word)
+    return amount if amount is not None and amount < 2**64 else None
 
 
 def name_of(word):
@@ -420,6 +424,11 @@ class Machine:
             self.series[test, metric][there["commit"]] -= 1
         return b"retracted " + spelled(run)
 
+    def tune(self, metric, penalty):
+        self.expect_room(self.step < 1048576, b"steps")
+        self.add()
+        return b"tuned %s %d" % (spelled(metric), penalty)
+
     def list_runs(self):
         lines = [b"runs lines %d" % len(self.runs)]
         for run, there in self.runs.items():
@@ -435,22 +444,23 @@ class Machine:
 
 # ---- scripts
 
-# By the first words of a form: how many words it has, which are names, and which is a number.
+# By the first words of a form: how many words it has, which are names, and which is a number, of what kind.
 FORMS = {
-    (b"machine",): (2, [1], None),
-    (b"commit",): (4, [1, 3], 2),
-    (b"submit", b"go"): (6, [2, 3, 4], 5),
-    (b"submit", b"lnt"): (5, [2, 3], 4),
-    (b"retract",): (3, [1, 2], None),
-    (b"runs",): (2, [1], None),
+    (b"machine",): (2, [1], None, None),
+    (b"commit",): (4, [1, 3], 2, number_of),
+    (b"submit", b"go"): (6, [2, 3, 4], 5, number_of),
+    (b"submit", b"lnt"): (5, [2, 3], 4, number_of),
+    (b"retract",): (3, [1, 2], None, None),
+    (b"tune",): (4, [1, 2], 3, amount_of),
+    (b"runs",): (2, [1], None, None),
 }
 
 
 def form_of(words):
     """The first words, the names and the number of a request line, or None."""
-    for first, (count, names, number) in FORMS.items():
+    for first, (count, names, number, read) in FORMS.items():
         if tuple(words[:len(first)]) == first and len(words) == count:
-            value = None if number is None else number_of(words[number])
+            value = None if number is None else read(words[number])
             if number is None or value is not None:
                 return first, [words[i] for i in names], value
     return None
@@ -463,8 +473,10 @@ def answer(machines, first, names, number, body):
         if first[0] == b"submit" and number > 8388608:
             raise Refused(b"E26 BodyTooLong")
         names = [name_of(word) for word in names]
-        if None in names:
+        if None in names or first == (b"tune",) and len(names[1]) > 64:
             raise Refused(b"E02 BadName")
+        if first == (b"tune",) and number > 10**36:
+            raise Refused(b"E22 BadPenalty")
         given = {(b"submit", b"go"): read_go, (b"submit", b"lnt"): read_lnt}.get(first, lambda _: ())(body)
         if first == (b"machine",):
             if names[0] not in machines:
@@ -485,6 +497,8 @@ def answer(machines, first, names, number, body):
             text = machine.submit(given[1], names[1], *given[2:])
         elif first == (b"retract",):
             text = machine.retract(names[1])
+        elif first == (b"tune",):
+            text = machine.tune(names[1], number)
         else:
             text = machine.list_runs()
         return machine.step, text
