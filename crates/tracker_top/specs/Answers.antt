@@ -8,13 +8,15 @@ use Rattle.cost_certificate.specs.Text.{text_of}
 use Rattle.history_model.specs.declared.entries.Author.TheVariants as author
 use Rattle.script_session.specs.Sessions.{State}
 
--- the text of the best segmentation of the input's points at the penalty; the points are known where the input tells its bytes
-pub record IsCertificateText (penalty : ℕ) (input : Option (List ℕ)) (text : List ℕ) : Type 0 where
-  pub points : List Position
+-- the text of the best segmentation of these points at the penalty
+pub record IsTextOf (points : List Position) (penalty : ℕ) (text : List ℕ) : Type 0 where
   pub cert : Cert
-  pub read : ArePointsOfInput input points
   pub stands : StandsFor points (pos penalty) cert
   pub spelled : text ≡ text_of cert
+
+-- the text of the best segmentation of the input's points, which are known where the input tells its bytes
+abbrev pub IsCertificateText : ℕ → Option (List ℕ) → List ℕ → Type 0
+IsCertificateText penalty input text = (points : List Position) × ArePointsOfInput input points × IsTextOf points penalty text
 
 -- a session of the one script, without a store: no machine is declared before it
 abbrev pub new_state : State

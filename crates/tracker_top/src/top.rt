@@ -1,11 +1,11 @@
 //! The top call: it runs the command that the words are.
-ghost use Rattle.std.specs.Prelude.{◌≡◌, ◌≢◌, ◌^◌, ◌≤◌, ◌⊎◌, IfSome};
+ghost use Rattle.std.specs.Prelude.{◌≡◌, ◌≢◌, ◌^◌, ◌≤◌, ◌⊎◌, IfOk, IfSome};
 ghost use Rattle.track_outside.specs.Counts.{Rose};
 ghost use Rattle.tracker_top.specs.declared.command.Command.{Command};
 ghost use Rattle.tracker_top.specs.declared.command.Command.TheVariants.{Cut, Apply};
 ghost use Rattle.tracker_top.specs.Commands.{texts, IsSpelled, IsInRange, AreNoCommand};
 ghost use Rattle.tracker_top.specs.Statuses.{IsDue, OneStatusIsDue};
-ghost use Rattle.tracker_top.specs.Answers.{IsCertificateText};
+ghost use Rattle.tracker_top.specs.Answers.{IsCertificateText, IsTextOf};
 ghost use Rattle.tracker_top.specs.Endings.{EndsInput, EndsOutput, Ends, IsTold};
 
 use crate::command::{Command, command_of};
@@ -16,8 +16,9 @@ use cut_lines::{one_stop_law, read_points};
 use history_model::Author;
 use pelt_core::segmentation;
 use script_session::{Session, answer_script, output_law};
+use segment_cost::Points;
 use std::alloc::Global;
-use track_outside::{Sink, Source, put_all};
+use track_outside::{NoMemory, Sink, Source, put_all};
 
 /// No words and bytes of an input have two statuses, but for those that the outside or the memory give. Does nothing:
 /// its contract is what it is for.
@@ -103,17 +104,24 @@ fn cut<I: Source, O: Sink>(alloc: Global, penalty: u128, input: &mut I, out: &mu
         Ok(points) => points,
         Err(stop) => return Status::from(stop),
     };
-    let Ok(cert) = segmentation(alloc, &points, penalty as i128) else {
+    let Ok(text) = certificate_text(alloc, &points, penalty) else {
         return Status::NoMemory;
     };
-    let mut text = Vec::new(alloc);
-    if put_cert(alloc, &mut text, &cert).is_err() {
-        return Status::NoMemory;
-    }
     match put_all(out, &text) {
         Ok(()) => Status::Done,
         Err(_) => Status::WriteFault,
     }
+}
+
+// The text of the certificate of some points.
+fn certificate_text(alloc: Global, points: &Points, penalty: u128) -> Result<Vec<u8>, NoMemory>
+    requires { penalty ≤ 10 ^ 36 }
+    ensures { IfOk result (λ text. IsTextOf points.now penalty text.items) }
+{
+    let cert = segmentation(alloc, points, penalty as i128)?;
+    let mut text = Vec::new(alloc);
+    put_cert(alloc, &mut text, &cert)?;
+    Ok(text)
 }
 
 // Answers the script, and writes the replies.
