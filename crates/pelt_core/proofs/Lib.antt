@@ -4,4 +4,3 @@ mod Marks
 mod Open
 mod Growth
 mod Tables
-mod Shared

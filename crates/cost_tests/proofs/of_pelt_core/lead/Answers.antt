@@ -5,7 +5,7 @@ use Rattle.segment_model.specs.Values.{values_by_position}
 use Rattle.segment_model.proofs.Filling.{filled-next, filled-within}
 use Rattle.point_list.specs.Places.{common}
 use Rattle.pelt_core.specs.Seen.{Tabled}
-use Rattle.pelt_core.proofs.Shared.{shared-values, shared-fit}
+use Rattle.cost_tests.proofs.Shared.{shared-values, shared-fit}
 use Rattle.cost_tests.proofs.of_pelt_core.lead.Goals as goal
 
 pub rewind-requires : goal.rewind-requires
