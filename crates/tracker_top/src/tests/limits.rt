@@ -21,7 +21,7 @@ fn put(
 
 // Appends a run of the commit `a` with as many samples as a run may have, of one series.
 fn put_full_run(alloc: Global, script: &mut Vec<u8>, number: u64) -> Result<(), AllocError> {
-    put(alloc, script, "submit go m a r", number, " 1310720\n")?;
+    put(alloc, script, "submit go m a r", number, " 1376256\n")?;
     for _ in 0..65_536 {
         put(alloc, script, "BenchmarkX 1 0 u", number % 10, "/op\n")?;
     }
@@ -94,7 +94,7 @@ fn the_request_that_would_pass_a_limit_is_refused(rt: HostRuntime) -> Result<(),
         (Limit::Samples, "@9 E21 Full samples"),
         (Limit::Series, "@2 E21 Full series"),
         (Limit::SeriesSamples, "@2 E21 Full series_samples"),
-        (Limit::Positions, "@32769 E21 Full positions"),
+        (Limit::Positions, "@32770 E21 Full positions"),
     ] {
         let mut source = MemSource::new(alloc, &script_over(alloc, limit)?, &[])?;
         let mut out = MemSink::new(alloc, 10_000_000, &[])?;
