@@ -1,7 +1,7 @@
 -- What a line adds, and when it is out of range.
 use Rattle.std.proofs.Common.{◌≡◌, ℕ, ◌≤◌, ◌<◌, ◌⊎◌, inl, inr, true, false, List, [], ◌∷◌, ◌++◌, length, refl, sym, ◌∙◌, ap, subst, arith, append_assoc}
 use Rattle.std.specs.Prelude.{codes}
-use Rattle.history_model.specs.Samples.{Measurement}
+use Rattle.sample_model.specs.Samples.{Measurement}
 use Rattle.std.proofs.lemmas.List.{append-nil}
 use Rattle.go_bench_text.specs.Gathering.{Keeps, Gains, AddsLine}
 use Rattle.go_bench_text.specs.Lines.{begins, ArePairs, IsResult, IsResultLine}

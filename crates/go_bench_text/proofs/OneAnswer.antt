@@ -6,7 +6,7 @@ use Rattle.std.proofs.lemmas.List.{take_all}
 use Rattle.line_text.specs.Lines.{lines_of}
 use Rattle.metric_table.specs.Limits.{most}
 use Rattle.metric_table.specs.declared.limits.Limit.TheVariants.{RunSamples}
-use Rattle.history_model.specs.Samples.{Measurement}
+use Rattle.sample_model.specs.Samples.{Measurement}
 use Rattle.go_bench_text.specs.declared.read.GoRun.{GoRun}
 use Rattle.go_bench_text.specs.declared.read.GoFault.{GoFault}
 use Rattle.go_bench_text.specs.declared.read.GoFault.TheVariants.{NotText, OutOfRange, Full, NoMemory}

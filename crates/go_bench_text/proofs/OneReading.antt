@@ -3,7 +3,7 @@ use Rattle.std.proofs.Common.{◌≡◌, ℕ, Bool, true, false, ℤ, List, [], 
 use Rattle.std.specs.Prelude.{codes}
 use Rattle.std.proofs.lemmas.List.{append_cancel_left}
 use Rattle.metric_value.specs.Values.{ValueIsOne}
-use Rattle.history_model.specs.Samples.{Measurement}
+use Rattle.sample_model.specs.Samples.{Measurement}
 use Rattle.go_bench_text.specs.Lines.{begins, IsResult}
 use Rattle.go_bench_text.specs.Readings.{IsSampleOf, PairsGive, LineGives, LinesGive, pkg_of, test_of}
 use Rattle.go_bench_text.specs.Readings.LineGives.{measured, broken, silent}

@@ -3,7 +3,7 @@ use Rattle.std.proofs.Common.{◌≡◌, ℕ, ◌+◌, ◌≤◌, ◌<◌, List,
 use Rattle.std.specs.Str.{IsUtf8}
 use Rattle.std.proofs.lemmas.List.{append-nil, drop_more, take_more, drop_all}
 use Rattle.line_text.specs.Lines.{lines_of}
-use Rattle.history_model.specs.Samples.{Measurement}
+use Rattle.sample_model.specs.Samples.{Measurement}
 use Rattle.go_bench_text.specs.Gathering.{Keeps, AddsLine}
 use Rattle.go_bench_text.specs.Readings.{LinesGive, IsOver, IsOverAt, NoneOverBelow, IsFirstOver, IsRead, pkg_of}
 use Rattle.go_bench_text.specs.declared.gather.Gathered.{Gathered}

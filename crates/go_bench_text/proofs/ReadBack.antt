@@ -16,7 +16,7 @@ use Rattle.fixed_value.specs.Numerals.{IsNumeralText}
 use Rattle.fixed_value.specs.declared.numeral.Numeral.{Numeral}
 use Rattle.fixed_value.specs.Fixed.{IsFixedByte}
 use Rattle.metric_value.specs.Values.{value_text, IsValueOf, IsReadBackBy, ValueIsReadBack}
-use Rattle.history_model.specs.Samples.{Measurement, IsSample}
+use Rattle.sample_model.specs.Samples.{Measurement, IsSample}
 use Rattle.go_bench_text.specs.Characters.{is_black, is_name, is_blank}
 use Rattle.go_bench_text.specs.Lines.{begins, IsResult}
 use Rattle.go_bench_text.specs.Readings.{pkg_of, test_of, HasLarge, IsOver, IsRead, LineGives, LinesGive}

@@ -3,7 +3,7 @@ use Rattle.std.specs.Prelude.{◌≡◌, true, ℕ, ◌<◌, ◌≤◌, ◌^◌,
 use Rattle.std.specs.Str.{chars}
 use Rattle.fixed_value.specs.Numerals.{AreDigits, HasNumeral}
 use Rattle.metric_value.specs.Values.{IsValueOf, HasNoneInRange}
-use Rattle.history_model.specs.Samples.{Measurement}
+use Rattle.sample_model.specs.Samples.{Measurement}
 use Rattle.go_bench_text.specs.Characters.{is_name}
 use Rattle.go_bench_text.specs.Fields.{fields_of}
 use Rattle.go_bench_text.specs.Lines.{begins, ArePairs}

@@ -6,7 +6,7 @@ use Rattle.line_text.specs.Lines.{lines_of}
 use Rattle.metric_table.specs.Limits.{most}
 use Rattle.metric_table.specs.declared.limits.Limit.TheVariants.{RunSamples}
 use Rattle.metric_value.specs.Values.{IsValueOf, HasNoneInRange}
-use Rattle.history_model.specs.Samples.{Measurement}
+use Rattle.sample_model.specs.Samples.{Measurement}
 use Rattle.go_bench_text.specs.Bytes as byte
 use Rattle.go_bench_text.specs.Lines.{is_config, key_of, value_of, begins, IsResult, IsBroken}
 

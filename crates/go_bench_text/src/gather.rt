@@ -9,9 +9,9 @@ use crate::line::head_of;
 use crate::names::Names;
 use crate::pairs::{Pair, read_pairs};
 use crate::sample::{test_fits, test_name};
-use history_model::{NoMemory, Sample, Samples};
 use line_text::Name;
 use metric_table::Limit;
+use sample_model::{NoMemory, Sample, Samples};
 use std::alloc::Global;
 
 // The samples of a text so far, or the note that there are more than a run may have.

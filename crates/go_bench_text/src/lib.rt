@@ -8,7 +8,7 @@
 //! samples, and which sample is the first that has no spelling ([`put_go`]).
 //!
 //! The definitions are in `specs/`: `Bytes`, `Characters`, `Fields`, `Lines` (the kinds of lines),
-//! `Readings` (the samples of a text), `Spellings` (how samples are written). Stands on `history_model`
+//! `Readings` (the samples of a text), `Spellings` (how samples are written). Stands on `sample_model`
 //! for samples, `metric_value` for values, `line_text` for names and lines, and `unicode` for upper and
 //! lower case.
 #![tactic(auto)]

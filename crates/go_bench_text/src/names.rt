@@ -1,8 +1,8 @@
 //! The names that have been met, so that they are shared.
 ghost use Rattle.std.specs.Prelude.{◌≡◌, ◌<◌, ◌≤◌, length, IfOk, IfSome};
 
-use history_model::NoMemory;
 use line_text::Name;
+use sample_model::NoMemory;
 use std::alloc::Global;
 use std::hash::{FoldHasher, Hasher};
 

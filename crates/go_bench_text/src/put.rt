@@ -8,8 +8,8 @@ ghost use Rattle.go_bench_text.specs.Readings.{IsRead};
 ghost use Rattle.go_bench_text.specs.Spellings.{IsWrittenBy, HasSpelling, IsSpelling, AreSpelled, IsFirstUnspelled, pkg_line, result_line};
 
 use crate::spelling::{are_black, written_by};
-use history_model::{NoMemory, Sample, Samples};
 use metric_value::{put_value, value_law};
+use sample_model::{NoMemory, Sample, Samples};
 use std::alloc::Global;
 
 /// Why samples give no text.

@@ -1,7 +1,7 @@
 //! The reader of benchmark output: from the bytes over the lines to the samples.
 ghost use Rattle.std.specs.Prelude.{◌≡◌, ◌≤◌, ◌∷◌, ◌++◌, [], true, false, ℕ, List, length, IfOk, IfErr, IfSome, IfNone, MatchResult};
 ghost use Rattle.std.specs.Str.{IsUtf8};
-ghost use Rattle.history_model.specs.Samples.{Measurement};
+ghost use Rattle.sample_model.specs.Samples.{Measurement};
 ghost use Rattle.metric_table.specs.Limits.{most};
 ghost use Rattle.metric_table.specs.declared.limits.Limit.TheVariants.{RunSamples};
 ghost use Rattle.go_bench_text.specs.Answers.{IsFault};
@@ -14,9 +14,9 @@ use crate::fault::LineFault;
 use crate::gather::{Gathered, add_measured};
 use crate::line::begins;
 use crate::pairs::Pair;
-use history_model::{NoMemory, Samples};
 use metric_table::Limit;
 use metric_value::value_law;
+use sample_model::{NoMemory, Samples};
 use std::alloc::Global;
 
 /// What a text of benchmark output has.

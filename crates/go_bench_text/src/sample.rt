@@ -3,8 +3,8 @@ ghost use Rattle.std.specs.Prelude.{◌≡◌, ◌≤◌, ◌↔◌, length, IsT
 ghost use Rattle.go_bench_text.specs.Readings.{test_of};
 
 use crate::names::Names;
-use history_model::NoMemory;
 use line_text::Name;
+use sample_model::NoMemory;
 use std::alloc::Global;
 
 // Whether a result line with this name, where `pkg` has this value, has a test of at most 256 bytes.

@@ -6,7 +6,7 @@ use Rattle.json_text.specs.Tree.{Tree, object}
 use Rattle.json_text.specs.View.{members_of}
 use Rattle.metric_table.specs.Limits.{most}
 use Rattle.metric_table.specs.declared.limits.Limit.TheVariants.{RunSamples}
-use Rattle.history_model.specs.Samples.{Measurement}
+use Rattle.sample_model.specs.Samples.{Measurement}
 use Rattle.lnt_report.specs.Look.{Entry, fields, items_in, value_at, is_object, is_list}
 use Rattle.lnt_report.specs.Rules.{Break, unless, machine_name, commit_name, tests_in, tests_break, run_break, head_break, first_break, IsSound}
 use Rattle.lnt_report.specs.Numbers.{Reading, readings, ignored_in, test_readings, test_ignored, AreMeasured, IsOut}

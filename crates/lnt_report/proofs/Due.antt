@@ -8,7 +8,7 @@ use Rattle.json_text.specs.declared.reading.JsonFault.TheVariants as json
 use Rattle.metric_table.specs.Limits.{most}
 use Rattle.metric_table.specs.declared.limits.Limit.{Limit}
 use Rattle.metric_table.specs.declared.limits.Limit.TheVariants.{RunSamples}
-use Rattle.history_model.specs.Samples.{Measurement}
+use Rattle.sample_model.specs.Samples.{Measurement}
 use Rattle.lnt_report.specs.Rules.{Break, break, first_break}
 use Rattle.lnt_report.specs.Numbers.{Reading, readings, AreMeasured, none, one, IsMeasured, IsOut}
 use Rattle.lnt_report.specs.Runs.{Report, IsRun}

@@ -4,7 +4,7 @@ use Rattle.std.proofs.lemmas.Bool.{cases_lt}
 use Rattle.std.proofs.lemmas.List.Elements.{All-append}
 use Rattle.metric_table.specs.Limits.{most}
 use Rattle.metric_table.specs.declared.limits.Limit.TheVariants.{RunSamples}
-use Rattle.history_model.specs.Samples.{Measurement}
+use Rattle.sample_model.specs.Samples.{Measurement}
 use Rattle.lnt_report.specs.Runs.{IsGiven}
 use Rattle.metric_value.specs.Values.{HasNoneInRange}
 use Rattle.lnt_report.specs.Numbers.{Reading, reading, IsMeasured, AreMeasured, none, one, is_metric}

@@ -6,7 +6,7 @@ use Rattle.std.proofs.lemmas.List.Sums.{sum_by-cons}
 use Rattle.json_text.specs.Tree.{Tree, list, object}
 use Rattle.json_text.specs.View.{items_of, members_of}
 use Rattle.lnt_report.specs.Look.{Entry, fields, name_in, value_at}
-use Rattle.history_model.specs.Samples.{Measurement}
+use Rattle.sample_model.specs.Samples.{Measurement}
 use Rattle.lnt_report.specs.Runs.{IsGiven}
 use Rattle.lnt_report.specs.Numbers.{Reading, item_readings, value_readings, is_text_or_null, test_readings, test_ignored, named_readings, named_ignored, AreMeasured, none as nothing_measured}
 use Rattle.lnt_report.proofs.Lists.{trees_of_items, entries_of_members}

@@ -15,7 +15,7 @@ use Rattle.line_text.specs.Numbers.{NumbersAreSpelled}
 use Rattle.metric_value.specs.Values.{value_text, ValueIsReadBack}
 use Rattle.metric_table.specs.Limits.{most}
 use Rattle.metric_table.specs.declared.limits.Limit.TheVariants.{RunSamples}
-use Rattle.history_model.specs.Samples.{Measurement, IsSample, AreSamples}
+use Rattle.sample_model.specs.Samples.{Measurement, IsSample, AreSamples}
 use Rattle.lnt_report.specs.Look.{trees, is_name, has_metric_length}
 use Rattle.lnt_report.specs.Rules.{first_break, repeated_key, repeated_in_items, tests_break, test_break}
 use Rattle.lnt_report.specs.Numbers.{Reading, reading, test_readings, test_ignored, IsMeasured, AreMeasured, none, one}

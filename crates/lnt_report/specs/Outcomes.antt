@@ -5,7 +5,7 @@ use Rattle.json_text.specs.Places.{Reads, IsNotText, IsNotJson, IsTooDeep}
 use Rattle.metric_table.specs.Limits.{most}
 use Rattle.metric_table.specs.declared.limits.Limit.{Limit}
 use Rattle.metric_table.specs.declared.limits.Limit.TheVariants.{RunSamples}
-use Rattle.history_model.specs.Samples.{Measurement}
+use Rattle.sample_model.specs.Samples.{Measurement}
 use Rattle.lnt_report.specs.Rules.{break, first_break}
 use Rattle.lnt_report.specs.Numbers.{Reading, readings, AreMeasured, IsOut}
 use Rattle.lnt_report.specs.Runs.{Report, IsRun}

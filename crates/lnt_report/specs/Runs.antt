@@ -3,7 +3,7 @@ use Rattle.std.specs.Prelude.{◌≡◌, ◌≢◌, ℕ, ◌-◌, ◌≤◌, ◌
 use Rattle.json_text.specs.Tree.{Tree}
 use Rattle.metric_table.specs.Limits.{most}
 use Rattle.metric_table.specs.declared.limits.Limit.TheVariants.{RunSamples}
-use Rattle.history_model.specs.Samples.{Measurement}
+use Rattle.sample_model.specs.Samples.{Measurement}
 use Rattle.lnt_report.specs.Look.{fields}
 use Rattle.lnt_report.specs.Rules.{machine_name, commit_name}
 use Rattle.lnt_report.specs.Numbers.{readings, ignored_in, AreMeasured}

@@ -4,7 +4,7 @@ use Rattle.json_text.specs.Bytes as byte
 use Rattle.json_text.specs.Tree.{Tree, null, boolean, number, text, list, object, Items, no_items, item, Members, no_members, member}
 use Rattle.json_text.specs.View.{items_of}
 use Rattle.metric_value.specs.Values.{value_text}
-use Rattle.history_model.specs.Samples.{Measurement}
+use Rattle.sample_model.specs.Samples.{Measurement}
 use Rattle.lnt_report.specs.Quoted.{quoted}
 
 -- The text of a tree, with no white space. Items and members stand between commas: `more_items` and `more_members` are

@@ -11,11 +11,11 @@ use crate::NoMemory;
 use crate::fault::ReportFault;
 use crate::gathered::Gathered;
 use crate::look::name_at;
-use history_model::{Sample, Samples};
 use json_text::{Json, Member, Shape};
 use line_text::{Name, NameError, Text};
 use metric_table::Limit;
 use metric_value::value_of;
+use sample_model::{Sample, Samples};
 use std::alloc::Global;
 
 // A number of this test and metric is no sample.

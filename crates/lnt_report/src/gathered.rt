@@ -1,5 +1,5 @@
 //! What has been gathered of a run so far.
-use history_model::Samples;
+use sample_model::Samples;
 
 // What has been gathered of a run.
 #[derive(Drop)]

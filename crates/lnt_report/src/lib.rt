@@ -8,7 +8,7 @@
 //!
 //! The definitions are in `specs/`: `Rules` (the rules in their order), `Numbers` (the numbers of a run
 //! and the samples that they are), `Runs`, `Outcomes` (what bytes are due), `Written` (what is written).
-//! Stands on `json_text` for trees, `metric_value` for values, `history_model` for samples, `line_text`
+//! Stands on `json_text` for trees, `metric_value` for values, `sample_model` for samples, `line_text`
 //! for names.
 #![tactic(auto)]
 

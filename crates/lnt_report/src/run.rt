@@ -1,7 +1,7 @@
 //! What an LNT run says.
 use crate::NoMemory;
-use history_model::Samples;
 use line_text::Name;
+use sample_model::Samples;
 use std::alloc::Global;
 use std::marker::Model;
 

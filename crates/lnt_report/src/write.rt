@@ -7,9 +7,9 @@ ghost use Rattle.lnt_report.specs.Outcomes.{IsDue};
 use crate::NoMemory;
 use crate::quoted::put_quoted;
 use crate::run::LntRun;
-use history_model::Sample;
 use line_text::{Name, numbers_law};
 use metric_value::{put_value, value_law};
+use sample_model::Sample;
 use std::alloc::Global;
 
 // Appends bytes.

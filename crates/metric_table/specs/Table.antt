@@ -1,5 +1,5 @@
 -- The table of metrics: their decimals, their direction and their default penalty.
-use Rattle.std.specs.Prelude.{ℕ, ℤ, Bool, true, false, List, [], ◌∷◌, codes, pos, bytes_eq, if◌then◌else◌}
+use Rattle.std.specs.Prelude.{ℕ, ℤ, ◌^◌, ◌≤ℤ◌, Bool, true, false, List, [], ◌∷◌, codes, pos, bytes_eq, if◌then◌else◌}
 
 -- a metric's name, how many decimals its values are scaled by, whether larger is better, and the penalty of a cut in
 -- squared scaled units where none was set
@@ -37,3 +37,7 @@ row_in (r ∷ rows) metric = if bytes_eq metric r.metric then r else row_in rows
 -- the metric's row
 abbrev pub row_of : List ℕ → Row
 row_of metric = row_in known metric
+
+-- a penalty that a metric may be given: from 0 to 10^36
+abbrev pub IsPenalty : ℤ → Type 0
+IsPenalty penalty = (pos 0 ≤ℤ penalty) × (penalty ≤ℤ pos (10 ^ 36))

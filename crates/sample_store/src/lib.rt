@@ -12,6 +12,7 @@ mod answers;
 mod store;
 
 pub use answers::{Accepted, Retracted};
-pub use history_model::{Run, Sample, Samples};
+pub use history_model::Run;
+pub use sample_model::{Sample, Samples};
 pub use std::alloc::AllocError as NoMemory;
 pub use store::{SampleStore, Stored};

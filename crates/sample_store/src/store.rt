@@ -7,10 +7,11 @@ ghost use Rattle.sample_store.specs.Judged.{judged, retraction};
 
 use crate::NoMemory;
 use crate::answers::{Accepted, Retracted};
-use history_model::{Run, Sample};
+use history_model::Run;
 use indexmap::IndexSet;
 use line_text::Name;
 use metric_table::Limit;
+use sample_model::Sample;
 use std::alloc::Global;
 use std::marker::Model;
 

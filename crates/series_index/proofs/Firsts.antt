@@ -9,7 +9,7 @@ use Rattle.std.proofs.lemmas.Slice.Eq.{bytes_eq-Decides}
 use Rattle.segment_model.specs.Segments.{values_of}
 use Rattle.segment_model.proofs.Inserted.{count-inserted}
 use Rattle.history_model.specs.Laws.{SeriesAreListedOnce}
-use Rattle.history_model.specs.Samples.{Measurement}
+use Rattle.sample_model.specs.Samples.{Measurement}
 use Rattle.history_model.specs.Runs.{Series, is_of, measured, distinct, same_series}
 use Rattle.series_index.specs.declared.tracked.Tracked.{Tracked}
 use Rattle.series_index.specs.Seen.{with_sample}

@@ -9,7 +9,7 @@ use Rattle.segment_model.specs.Limits.{IsSmall}
 use Rattle.segment_model.specs.Edits.{position_of, with_value, inserted, has_values, by_another, without_step, removed, has_commit}
 use Rattle.point_list.specs.Places.{CameBy}
 use Rattle.segment_model.proofs.Inserted.{count-inserted}
-use Rattle.history_model.specs.Samples.{Measurement}
+use Rattle.sample_model.specs.Samples.{Measurement}
 use Rattle.series_index.specs.declared.tracked.Tracked.{Tracked}
 use Rattle.series_index.specs.Seen.{with_sample, without, forgotten, undone, HasRoom}
 use Rattle.series_index.specs.Taken.{with_samples, HasRoomFor}

@@ -3,7 +3,7 @@ ghost use Rattle.std.specs.Prelude.{◌≡◌, ◌≤◌, ◌<◌, ◌+◌, ◌�
 ghost use Rattle.segment_model.specs.Segments.{values_of};
 ghost use Rattle.segment_model.specs.Edits.{has_commit};
 ghost use Rattle.segment_model.specs.Limits.{IsSmall};
-ghost use Rattle.history_model.specs.Samples.{Measurement};
+ghost use Rattle.sample_model.specs.Samples.{Measurement};
 ghost use Rattle.history_model.specs.Runs.{Series};
 ghost use Rattle.series_index.specs.Seen.{seen, unseen};
 ghost use Rattle.series_index.specs.Taken.{of_series, with_samples};
@@ -12,8 +12,9 @@ ghost use Rattle.series_index.specs.Plenty.{HasPlenty};
 
 use crate::NoMemory;
 use crate::series::SeriesIndex;
-use history_model::{Sample, series_law};
+use history_model::series_law;
 use line_text::Name;
+use sample_model::Sample;
 
 /// What a run asks of an index.
 #[derive(Debug, Drop)]

@@ -2,7 +2,7 @@
 ghost use Rattle.std.specs.Prelude.{◌≡◌, [], if◌then◌else◌, OnOk, OnErr, All, length, unwrap_or, option_copied};
 ghost use Rattle.std.specs.List.{list_any};
 ghost use Rattle.segment_model.specs.Limits.{IsSmall};
-ghost use Rattle.history_model.specs.Samples.{Measurement};
+ghost use Rattle.sample_model.specs.Samples.{Measurement};
 ghost use Rattle.history_model.specs.Runs.{Series, is_of};
 ghost use Rattle.series_index.specs.Seen.{seen, unseen, is_series, with_sample, without, undone, HasRoom};
 ghost use Rattle.series_index.specs.Taken.{of_series, with_samples, HasRoomFor};
@@ -10,8 +10,8 @@ ghost use Rattle.series_index.specs.Taken.{of_series, with_samples, HasRoomFor};
 use crate::NoMemory;
 use crate::metrics::MetricIndex;
 use crate::tracked::Tracked;
-use history_model::Sample;
 use line_text::Name;
+use sample_model::Sample;
 use std::alloc::Global;
 use std::collections::BTreeMap;
 use std::marker::Model;

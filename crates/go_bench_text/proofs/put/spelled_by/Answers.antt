@@ -1,5 +1,5 @@
 use Rattle.std.proofs.Common.{◌≡◌, ℕ, List, ap, sym, ◌∙◌, subst}
-use Rattle.history_model.specs.Samples.{Measurement}
+use Rattle.sample_model.specs.Samples.{Measurement}
 use Rattle.go_bench_text.specs.Spellings.{IsWrittenBy}
 use Rattle.go_bench_text.proofs.put.spelled_by.Goals as goal
 

@@ -1,5 +1,5 @@
 use Rattle.std.proofs.Common.{◌≡◌, List, ℕ, subst, sym, ap, ◌∙◌, Ok, ◌++◌}
-use Rattle.history_model.specs.Samples.{AreSamples}
+use Rattle.sample_model.specs.Samples.{AreSamples}
 use Rattle.line_text.specs.Names.{IsName}
 use Rattle.lnt_report.specs.Runs.{Report}
 use Rattle.lnt_report.specs.Outcomes.{IsDue}

@@ -1,5 +1,5 @@
 use Rattle.std.proofs.Common.{◌≡◌, ◌<◌, ◌∙◌, ap, sym, true, false, length, arith, get_or}
-use Rattle.history_model.specs.Samples.{Measurement}
+use Rattle.sample_model.specs.Samples.{Measurement}
 use Rattle.history_model.specs.Runs.{same_sample}
 use Rattle.sample_store.proofs.Same.{same-more, same-not}
 use Rattle.sample_store.proofs.store.are_same.Goals as goal
