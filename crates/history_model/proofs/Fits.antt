@@ -17,8 +17,9 @@ use Rattle.history_model.specs.Commits.{declaration}
 use Rattle.history_model.specs.Laws.{observed, with_all, CountsWith}
 use Rattle.metric_table.specs.declared.limits.Limit.{Limit}
 use Rattle.history_model.specs.Positions.{Brought, brought_by, brought, rising, position_at, positions, positions_of}
+use Rattle.history_model.specs.Publications.{publication}
 use Rattle.history_model.specs.Runs.{Series, acceptance, acceptances, retracted, live_runs, known_series, is_of, sample_count}
-use Rattle.history_model.specs.Samples.{Measurement, AreSamples}
+use Rattle.sample_model.specs.Samples.{Measurement, AreSamples}
 use Rattle.history_model.proofs.Accepts.{positions-more, positions-accept}
 use Rattle.history_model.proofs.Counts.{all-more}
 use Rattle.segment_model.proofs.Inserted.{values-brought, size-new}
@@ -192,7 +193,7 @@ module _ (h : List Entry) (run : Run) (keeps : KeepsLimits h) (are : AreSamples 
   limits-accept limit.Steps = steps-kept.0
   limits-accept limit.Commits = rw (chosen-skip declaration h (entry.Accept run) refl) (keeps limit.Commits)
   limits-accept limit.Machines = keeps limit.Machines
-  limits-accept limit.Cuts = keeps limit.Cuts
+  limits-accept limit.Cuts = rw (chosen-skip publication h (entry.Accept run) refl) (keeps limit.Cuts)
   limits-accept limit.Jobs = keeps limit.Jobs
   limits-accept limit.Runs = runs-kept.0
   limits-accept limit.RunSamples =

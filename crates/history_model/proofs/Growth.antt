@@ -7,6 +7,7 @@ use Rattle.history_model.specs.declared.entries.Entry.TheVariants as entry
 use Rattle.metric_table.specs.declared.limits.Limit.TheVariants as limit
 use Rattle.metric_table.specs.Limits.{most}
 use Rattle.history_model.specs.Commits.{declarations, declaration}
+use Rattle.history_model.specs.Publications.{publication}
 use Rattle.history_model.specs.Runs.{acceptance, retraction}
 use Rattle.history_model.specs.Allowed.{Legal, Allowed, AllowedAfter, KeepsLimits}
 
@@ -22,13 +23,22 @@ AllowedAfter-push h (x ∷ es) e legal allowed =
 pub legal-push : (h : List Entry) (e : Entry) → Legal h → Allowed h e → Legal (h ++ e ∷ [])
 legal-push h e legal allowed = AllowedAfter-push [] h e legal allowed
 
+-- what holds of no entry and goes on with each that is allowed holds of each legal history
+module _ (P : List Entry → Type 0) (grown : (h : List Entry) (e : Entry) → Allowed h e → P h → P (h ++ e ∷ [])) where
+  each-later : (h es : List Entry) → AllowedAfter h es → P h → P (h ++ es)
+  each-later h [] legal holds = subst P (sym (append-nil h)) holds
+  each-later h (e ∷ es) legal holds = subst P (append_assoc h (e ∷ []) es) (each-later (h ++ e ∷ []) es legal.1 (grown h e legal.0 holds))
+
+pub legal-each : (P : List Entry → Type 0) → P [] → ((h : List Entry) (e : Entry) → Allowed h e → P h → P (h ++ e ∷ [])) → (h : List Entry) → Legal h → P h
+legal-each P none grown h legal = each-later P grown [] h legal none
+
 -- ---- a commit more
 module _ (h : List Entry) (number : ℕ) (name : List ℕ) where
   pub limits-commit : KeepsLimits h → length h + 1 ≤ most limit.Steps → length (declarations h) + 1 ≤ most limit.Commits → KeepsLimits (h ++ entry.Commit number name ∷ [])
   limits-commit keeps steps commits limit.Steps = rw length-append steps
   limits-commit keeps steps commits limit.Commits = rw (chosen-push declaration h (entry.Commit number name), length-append) commits
   limits-commit keeps steps commits limit.Machines = keeps limit.Machines
-  limits-commit keeps steps commits limit.Cuts = keeps limit.Cuts
+  limits-commit keeps steps commits limit.Cuts = rw (chosen-skip publication h (entry.Commit number name) refl) (keeps limit.Cuts)
   limits-commit keeps steps commits limit.Jobs = keeps limit.Jobs
   limits-commit keeps steps commits limit.Runs = rw (chosen-skip acceptance h (entry.Commit number name) refl) (keeps limit.Runs)
   limits-commit keeps steps commits limit.RunSamples = rw (chosen-skip acceptance h (entry.Commit number name) refl) (keeps limit.RunSamples)

@@ -16,3 +16,5 @@ mod Room
 mod Listed
 mod Fits
 mod Named
+mod Publishing
+mod Standing

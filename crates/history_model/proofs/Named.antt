@@ -2,16 +2,16 @@
 use Rattle.std.proofs.Common.{◌≡◌, ℕ, ◌+◌, List, [], ◌∷◌, ◌++◌, length, All, false, true, refl, sym, ap, ◌∙◌, subst, Option}
 use Rattle.std.specs.Prelude.{Some, None, find, IsSome, option_map, option_to_list}
 use Rattle.std.specs.Option.{option_or}
-use Rattle.std.proofs.lemmas.List.{append-nil, append_assoc}
 use Rattle.std.proofs.lemmas.List.Elements.{All-nil, All-push, All-weaker}
 use Rattle.std.proofs.lemmas.List.Folds.{find-append}
 use Rattle.history_model.specs.declared.entries.Acceptance.{Acceptance}
 use Rattle.history_model.specs.declared.entries.Declaration.{Declaration}
 use Rattle.history_model.specs.declared.entries.Entry.{Entry}
 use Rattle.history_model.specs.declared.entries.Entry.TheVariants as entry
-use Rattle.history_model.specs.Allowed.{Allowed, AllowedAfter, Legal}
+use Rattle.history_model.specs.Allowed.{Allowed, Legal}
 use Rattle.history_model.specs.Commits.{declaration, declarations, has_number, name_of}
 use Rattle.history_model.specs.Runs.{acceptance, acceptances}
+use Rattle.history_model.proofs.Growth.{legal-each}
 use Rattle.history_model.proofs.Chosen.{chosen-push, chosen-skip}
 
 abbrev Named : List Entry → Acceptance → Type 0
@@ -32,23 +32,19 @@ still-named h e n some =
     either None p none = absurd (let never : false ≡ true = none in cc)
     either (Some d) p one = refl
 
+-- an entry that accepts no run names no run that must have its commit
+skipped : (h : List Entry) (e : Entry) → acceptance (length h + 1) e ≡ None → Claim h → Claim (h ++ e ∷ [])
+unfolding Claim
+skipped h e none claim =
+    let P : List Acceptance → Type 0 = λ runs. All (Named (h ++ e ∷ [])) runs in
+    subst P (sym (chosen-skip acceptance h e none)) (All-weaker (Named h) (Named (h ++ e ∷ [])) (λ a some. still-named h e a.run.commit some) (acceptances h) claim)
+
 grown : (h : List Entry) (e : Entry) → Allowed h e → Claim h → Claim (h ++ e ∷ [])
 unfolding Claim
-grown h (entry.Commit number name) allowed claim =
-    let all : All (Named (h ++ entry.Commit number name ∷ [])) (acceptances h) =
-    All-weaker (Named h) (Named (h ++ entry.Commit number name ∷ [])) (λ a some. still-named h (entry.Commit number name) a.run.commit some) (acceptances h) claim in
-    let P : List Acceptance → Type 0 = λ runs. All (Named (h ++ entry.Commit number name ∷ [])) runs in
-    subst P (sym (chosen-skip acceptance h (entry.Commit number name) refl)) all
-grown h (entry.Retract run) allowed claim =
-    let all : All (Named (h ++ entry.Retract run ∷ [])) (acceptances h) =
-    All-weaker (Named h) (Named (h ++ entry.Retract run ∷ [])) (λ a some. still-named h (entry.Retract run) a.run.commit some) (acceptances h) claim in
-    let P : List Acceptance → Type 0 = λ runs. All (Named (h ++ entry.Retract run ∷ [])) runs in
-    subst P (sym (chosen-skip acceptance h (entry.Retract run) refl)) all
-grown h (entry.Tune metric penalty) allowed claim =
-    let all : All (Named (h ++ entry.Tune metric penalty ∷ [])) (acceptances h) =
-    All-weaker (Named h) (Named (h ++ entry.Tune metric penalty ∷ [])) (λ a some. still-named h (entry.Tune metric penalty) a.run.commit some) (acceptances h) claim in
-    let P : List Acceptance → Type 0 = λ runs. All (Named (h ++ entry.Tune metric penalty ∷ [])) runs in
-    subst P (sym (chosen-skip acceptance h (entry.Tune metric penalty) refl)) all
+grown h (entry.Commit number name) allowed claim = skipped h (entry.Commit number name) refl claim
+grown h (entry.Retract run) allowed claim = skipped h (entry.Retract run) refl claim
+grown h (entry.Tune metric penalty) allowed claim = skipped h (entry.Tune metric penalty) refl claim
+grown h (entry.Publish p) allowed claim = skipped h (entry.Publish p) refl claim
 grown h (entry.Accept run) allowed claim =
     let all : All (Named (h ++ entry.Accept run ∷ [])) (acceptances h) =
     All-weaker (Named h) (Named (h ++ entry.Accept run ∷ [])) (λ a some. still-named h (entry.Accept run) a.run.commit some) (acceptances h) claim in
@@ -56,13 +52,6 @@ grown h (entry.Accept run) allowed claim =
     subst P (sym (chosen-push acceptance h (entry.Accept run)))
     (All-push (Named (h ++ entry.Accept run ∷ [])) (acceptances h) (record { step = length h + 1; run = run }) all (still-named h (entry.Accept run) run.commit allowed.0.1))
 
-later : (h es : List Entry) → AllowedAfter h es → Claim h → Claim (h ++ es)
-unfolding Claim
-later h [] legal claim = let P : List Entry → Type 0 = λ k. Claim k in subst P (sym (append-nil h)) claim
-later h (e ∷ es) legal claim =
-    let P : List Entry → Type 0 = λ k. Claim k in
-    subst P (append_assoc h (e ∷ []) es) (later (h ++ e ∷ []) es legal.1 (grown h e legal.0 claim))
-
 pub runs-named : (h : List Entry) → Legal h → All (λ (a : Acceptance). IsSome (name_of a.run.commit h)) (acceptances h)
 unfolding Claim
-runs-named h legal = later [] h legal (All-nil (Named []))
+runs-named h legal = legal-each Claim (All-nil (Named [])) grown h legal

@@ -1,15 +1,15 @@
 -- In a legal history a run that was never accepted was never taken back.
-use Rattle.std.proofs.Common.{◌≡◌, ℕ, ◌+◌, List, [], ◌∷◌, ◌++◌, length, refl, sym, ap, ◌∙◌, subst, Option, inl, inr, true, false, cond}
+use Rattle.std.proofs.Common.{◌≡◌, ℕ, ◌+◌, List, [], ◌∷◌, ◌++◌, length, refl, sym, ap, ◌∙◌, Option, inl, inr, true, false, cond}
 use Rattle.std.specs.Prelude.{Some, None, find, IsSome, bytes_eq, option_to_list}
 use Rattle.std.specs.Option.{option_or}
 use Rattle.std.proofs.lemmas.Bool.{cases_Bool}
-use Rattle.std.proofs.lemmas.List.{append-nil, append_assoc}
 use Rattle.std.proofs.lemmas.List.Folds.{find-append}
 use Rattle.history_model.specs.declared.entries.Acceptance.{Acceptance}
 use Rattle.history_model.specs.declared.entries.Entry.{Entry}
 use Rattle.history_model.specs.declared.entries.Entry.TheVariants as entry
-use Rattle.history_model.specs.Allowed.{Allowed, AllowedAfter, Legal}
+use Rattle.history_model.specs.Allowed.{Allowed, Legal}
 use Rattle.history_model.specs.Runs.{acceptance, acceptances, retraction, retractions, accepted, retracted, is_run, takes_back}
+use Rattle.history_model.proofs.Growth.{legal-each}
 use Rattle.history_model.proofs.Chosen.{chosen-push}
 use Rattle.history_model.proofs.Lists.{same-bytes}
 
@@ -42,6 +42,7 @@ grown h e allowed claim run none =
     of_entry (entry.Commit number name) allowed unknown = refl
     of_entry (entry.Accept other) allowed unknown = refl
     of_entry (entry.Tune metric penalty) allowed unknown = refl
+    of_entry (entry.Publish p) allowed unknown = refl
     of_entry (entry.Retract other) allowed unknown = elim (cases_Bool (bytes_eq other run)) [
       | inl hit ↦ absurd (known (accepted other h) allowed.0.0 (ap (λ (r : List ℕ). accepted r h) (same-bytes other run hit) ∙ unknown))
       | inr miss ↦ ap (λ b. cond b (Some (record { step = length h + 1; run = other })) None) miss
@@ -51,13 +52,6 @@ grown h e allowed claim run none =
         known None some none = let no : false ≡ true = some in cc
         known (Some a) some none = let no : Some a ≡ None = none in cc
 
-later : (h es : List Entry) → AllowedAfter h es → Claim h → Claim (h ++ es)
-unfolding Claim
-later h [] legal claim = let P : List Entry → Type 0 = λ k. Claim k in subst P (sym (append-nil h)) claim
-later h (e ∷ es) legal claim =
-    let P : List Entry → Type 0 = λ k. Claim k in
-    subst P (append_assoc h (e ∷ []) es) (later (h ++ e ∷ []) es legal.1 (grown h e legal.0 claim))
-
 pub only-accepted : (h : List Entry) (run : List ℕ) → Legal h → accepted run h ≡ None → retracted run h ≡ None
 unfolding Claim
-only-accepted h run legal = later [] h legal (λ run none. refl) run
+only-accepted h run legal = legal-each Claim (λ run none. refl) grown h legal run

@@ -18,7 +18,7 @@ use Rattle.history_model.specs.Allowed.{count_of, greatest_of}
 use Rattle.history_model.specs.Laws.{observed, with_all}
 use Rattle.history_model.specs.Positions.{Brought, brought_by, brought, positions}
 use Rattle.history_model.specs.Runs.{Series, acceptances, retractions, retracted, takes_back, live_runs, known_series, same_series, is_of, distinct}
-use Rattle.history_model.specs.Samples.{Measurement}
+use Rattle.sample_model.specs.Samples.{Measurement}
 use Rattle.history_model.proofs.Accepts.{positions-accept}
 use Rattle.history_model.proofs.Counts.{all-more}
 use Rattle.segment_model.proofs.Inserted.{values-brought, size-new}

@@ -5,19 +5,19 @@ use Rattle.std.specs.Option.{option_or}
 use Rattle.std.specs.List.{list_any}
 use Rattle.std.specs.Cmp.Lexicographic.{nat_list_eq_equiv}
 use Rattle.std.proofs.lemmas.Bool.{cases_Bool, eq-eqb, ne_eqb}
-use Rattle.std.proofs.lemmas.List.{append-nil, append_assoc}
 use Rattle.std.proofs.lemmas.List.Elements.{filter-append}
 use Rattle.std.proofs.lemmas.List.Folds.{find-append}
 use Rattle.history_model.specs.declared.entries.Acceptance.{Acceptance}
 use Rattle.history_model.specs.declared.entries.Entry.{Entry}
 use Rattle.history_model.specs.declared.entries.Entry.TheVariants as entry
 use Rattle.segment_model.specs.Edits.{removed}
-use Rattle.history_model.specs.Allowed.{Allowed, AllowedAfter, Legal}
+use Rattle.history_model.specs.Allowed.{Allowed, Legal}
 use Rattle.history_model.specs.Laws.{is_other}
 use Rattle.history_model.specs.Positions.{Brought, brought_by, brought, positions, positions_of}
 use Rattle.history_model.specs.Runs.{Series, Retraction, acceptance, acceptances, retraction, retractions, accepted, is_run, takes_back, live_of, is_of}
-use Rattle.history_model.specs.Samples.{Measurement}
+use Rattle.sample_model.specs.Samples.{Measurement}
 use Rattle.history_model.specs.Entries.{chosen_from}
+use Rattle.history_model.proofs.Growth.{legal-each}
 use Rattle.history_model.proofs.Chosen.{chosen-push, chosen-skip}
 use Rattle.history_model.proofs.Lists.{same-bytes}
 use Rattle.history_model.proofs.Removals.{positions-without}
@@ -47,16 +47,10 @@ unfolding Once
 once-grown h (entry.Commit number name) allowed once = let P : List Acceptance → Type 0 = λ rs. NamedOnce rs in subst P (sym (chosen-skip acceptance h (entry.Commit number name) refl)) once
 once-grown h (entry.Retract name) allowed once = let P : List Acceptance → Type 0 = λ rs. NamedOnce rs in subst P (sym (chosen-skip acceptance h (entry.Retract name) refl)) once
 once-grown h (entry.Tune metric penalty) allowed once = let P : List Acceptance → Type 0 = λ rs. NamedOnce rs in subst P (sym (chosen-skip acceptance h (entry.Tune metric penalty) refl)) once
+once-grown h (entry.Publish p) allowed once = let P : List Acceptance → Type 0 = λ rs. NamedOnce rs in subst P (sym (chosen-skip acceptance h (entry.Publish p) refl)) once
 once-grown h (entry.Accept run) allowed once =
     let P : List Acceptance → Type 0 = λ rs. NamedOnce rs in
     subst P (sym (chosen-push acceptance h (entry.Accept run))) (once-push (acceptances h) (record { step = length h + 1; run = run }) once allowed.0.0)
-
-once-later : (h es : List Entry) → AllowedAfter h es → Once h → Once (h ++ es)
-unfolding Once
-once-later h [] legal once = let P : List Entry → Type 0 = λ k. Once k in subst P (sym (append-nil h)) once
-once-later h (e ∷ es) legal once =
-    let P : List Entry → Type 0 = λ k. Once k in
-    subst P (append_assoc h (e ∷ []) es) (once-later (h ++ e ∷ []) es legal.1 (once-grown h e legal.0 once))
 
 -- ---- steps rise
 abbrev StepsFrom : ℕ → List Acceptance → Type 0
@@ -72,6 +66,7 @@ steps-of k [] = tt
 steps-of k (entry.Commit number name ∷ h) = steps-lower (k + 1) k (chosen_from (k + 1) acceptance h) (omega arith) (steps-of (k + 1) h)
 steps-of k (entry.Retract name ∷ h) = steps-lower (k + 1) k (chosen_from (k + 1) acceptance h) (omega arith) (steps-of (k + 1) h)
 steps-of k (entry.Tune metric penalty ∷ h) = steps-lower (k + 1) k (chosen_from (k + 1) acceptance h) (omega arith) (steps-of (k + 1) h)
+steps-of k (entry.Publish p ∷ h) = steps-lower (k + 1) k (chosen_from (k + 1) acceptance h) (omega arith) (steps-of (k + 1) h)
 steps-of k (entry.Accept run ∷ h) = (omega arith, steps-lower (k + 1) (suc k) (chosen_from (k + 1) acceptance h) (omega arith) (steps-of (k + 1) h))
 
 found-above : (run : List ℕ) (low : ℕ) (runs : List Acceptance) (a : Acceptance) → StepsFrom low runs → find (is_run run) runs ≡ Some a → low ≤ a.step
@@ -219,7 +214,7 @@ pub positions-untouched : (h : List Entry) (run : List ℕ) (a : Acceptance) (s 
     → positions (h ++ entry.Retract run ∷ []) s ≡ positions h s
 unfolding Once
 positions-untouched h run a s legal known none =
-    let tell : Tells run a (acceptances h) = tells run a 1 (acceptances h) (steps-of 1 h) (once-later [] h legal tt) known in
+    let tell : Tells run a (acceptances h) = tells run a 1 (acceptances h) (steps-of 1 h) (legal-each Once tt once-grown h legal) known in
     let empty : brought_by s a ≡ [] = ap (map (λ (x : Measurement). let y : Brought = record { commit = a.run.commit; step = a.step; value = x.value } in y)) (none-of s a.run.samples none) in
     rw (chosen-skip acceptance h (entry.Retract run) refl, chosen-push retraction h (entry.Retract run))
     (ap positions_of (brought-same s run a (retractions h) (length h + 1) (acceptances h) tell empty))
@@ -228,7 +223,7 @@ pub positions-retract : (h : List Entry) (run : List ℕ) (a : Acceptance) (s : 
     → positions (h ++ entry.Retract run ∷ []) s ≡ removed a.run.commit a.step (positions h s)
 unfolding Once
 positions-retract h run a s legal known =
-    let tell : Tells run a (acceptances h) = tells run a 1 (acceptances h) (steps-of 1 h) (once-later [] h legal tt) known in
+    let tell : Tells run a (acceptances h) = tells run a 1 (acceptances h) (steps-of 1 h) (legal-each Once tt once-grown h legal) known in
     rw (chosen-skip acceptance h (entry.Retract run) refl, chosen-push retraction h (entry.Retract run))
     (ap positions_of (brought-without s run a (retractions h) (length h + 1) (acceptances h) tell)
     ∙ positions-without a.run.commit a.step (brought s (live_of (retractions h) (acceptances h))))

@@ -1,5 +1,5 @@
 -- What holds of all histories: how each projection, the positions and the limits change by one entry.
-use Rattle.std.specs.Prelude.{◌≡◌, ◌≤◌, ℕ, ℤ, ◌+◌, ◌<◌, ◌&&◌, ◌==◌, Bool, false, not, List, [], ◌∷◌, ◌++◌, All, filter, length, option_to_list, if◌then◌else◌, ◌↔◌, IsSome, Some, None}
+use Rattle.std.specs.Prelude.{◌≡◌, ◌≤◌, ℕ, ℤ, ◌+◌, ◌<◌, ◌&&◌, ◌==◌, Bool, true, false, not, List, [], ◌∷◌, ◌++◌, All, filter, length, take, option_to_list, if◌then◌else◌, ◌↔◌, IsSome, Some, None}
 use Rattle.std.specs.List.{list_any}
 use Rattle.metric_table.specs.Limits.{most}
 use Rattle.metric_table.specs.declared.limits.Limit.TheVariants as limit
@@ -11,11 +11,13 @@ use Rattle.history_model.specs.declared.entries.Entry.TheVariants as entry
 use Rattle.history_model.specs.declared.run.Run.{Run}
 use Rattle.history_model.specs.Allowed.{Allowed, Legal, KeepsLimits, count_of, first_passed, run_limits}
 use Rattle.history_model.specs.Commits.{declaration, declarations, name_of}
-use Rattle.history_model.specs.Samples.{AreSamples}
+use Rattle.sample_model.specs.Samples.{AreSamples}
 use Rattle.metric_table.specs.declared.limits.Limit.{Limit}
+use Rattle.history_model.specs.declared.publication.Publication.{Publication}
+use Rattle.history_model.specs.Publications.{publication_of, publications, published, cuts_in, cut_count, last_publication, Stands}
 pub use Rattle.segment_model.specs.Brought.{observed, ValuesAreBrought}
 use Rattle.history_model.specs.Positions.{Brought, brought_by, brought, positions, positions_of}
-use Rattle.history_model.specs.Runs.{Series, is_of, same_series, distinct, new_series, known_series, sample_count, live_runs, acceptance, acceptances, accepted, retraction, retractions, retracted}
+use Rattle.history_model.specs.Runs.{Series, is_of, same_series, distinct, new_series, known_series, is_known, sample_count, live_runs, acceptance, acceptances, accepted, retraction, retractions, retracted}
 
 -- ---- what is read from a history with one entry more
 
@@ -106,6 +108,12 @@ abbrev pub LimitsAfterTune : Type 0
 LimitsAfterTune =
     (h : List Entry) (metric : List ℕ) (penalty : ℤ) → KeepsLimits h → length h < most limit.Steps → KeepsLimits (h ++ entry.Tune metric penalty ∷ [])
 
+-- and a publication, where there is room for a step and its cuts
+abbrev pub LimitsAfterPublish : Type 0
+LimitsAfterPublish =
+    (h : List Entry) (p : Publication) → KeepsLimits h → length h < most limit.Steps → cut_count h + length p.cuts ≤ most limit.Cuts
+    → KeepsLimits (h ++ entry.Publish p ∷ [])
+
 -- where the limits are kept, each series has no more live samples and positions than there may be
 abbrev pub SeriesKeepLimits : Type 0
 SeriesKeepLimits =
@@ -165,3 +173,37 @@ FirstKept = (limit : Limit) (limits : List Limit) (h : List Entry) (e : Entry) �
 abbrev pub RunKeepsLimits : Type 0
 RunKeepsLimits =
     (h : List Entry) (run : Run) → KeepsLimits h → AreSamples run.samples → first_passed run_limits h (entry.Accept run) ≡ None → KeepsLimits (h ++ entry.Accept run ∷ [])
+
+-- ---- publications
+
+-- the last publication of a series with one entry more is the one that the entry publishes of it
+abbrev pub PublicationIsLast : Type 0
+PublicationIsLast =
+    (h : List Entry) (e : Entry) (s : Series) (p : Publication) → publication_of s (length h + 1) e ≡ Some p
+    → last_publication s (h ++ e ∷ []) ≡ Some p
+
+-- every other entry leaves it: nothing makes a publication void
+abbrev pub PublicationStays : Type 0
+PublicationStays =
+    (h : List Entry) (e : Entry) (s : Series) → publication_of s (length h + 1) e ≡ None
+    → last_publication s (h ++ e ∷ []) ≡ last_publication s h
+
+-- an entry adds the cuts that it publishes
+abbrev pub CutsGrow : Type 0
+CutsGrow = (h : List Entry) (e : Entry) → cut_count (h ++ e ∷ []) ≡ cut_count h + cuts_in e
+
+-- each publication of a legal history stands in it
+abbrev pub PublicationsStand : Type 0
+PublicationsStand = (h : List Entry) → Legal h → All (Stands h) (publications h)
+
+-- so does the last one of a series, which is of that series
+abbrev pub LastStands : Type 0
+LastStands = (h : List Entry) (s : Series) (p : Publication) → Legal h → last_publication s h ≡ Some p → (published p ≡ s) × Stands h p
+
+-- whatever comes later, a version of a history stays as it is
+abbrev pub VersionsStay : Type 0
+VersionsStay = (h more : List Entry) (version : ℕ) → version ≤ length h → take version (h ++ more) ≡ take version h
+
+-- a series that is known at a version of a history is known later
+abbrev pub KnownStays : Type 0
+KnownStays = (h : List Entry) (s : Series) (version : ℕ) → is_known s (take version h) ≡ true → is_known s h ≡ true

@@ -1,27 +1,19 @@
 -- The penalty of a cut that a history gives a metric: the last one that was set, else that of the table.
-use Rattle.std.specs.Prelude.{◌≡◌, ℕ, ℤ, ◌+◌, ◌^◌, pos, ◌≤ℤ◌, List, [], ◌∷◌, ◌++◌, length, bytes_eq, if◌then◌else◌, Option, Some, None}
+use Rattle.std.specs.Prelude.{◌≡◌, ℕ, ℤ, ◌+◌, List, [], ◌∷◌, ◌++◌, length, bytes_eq, unwrap_or, if◌then◌else◌, Option, Some, None}
+use Rattle.std.specs.List.{last_or}
 use Rattle.metric_table.specs.Table.{row_of}
 use Rattle.history_model.specs.declared.entries.Entry.{Entry}
 use Rattle.history_model.specs.declared.entries.Entry.TheVariants.{Tune}
 use Rattle.history_model.specs.Entries.{chosen}
-
--- from 0 to 10^36
-abbrev pub IsPenalty : ℤ → Type 0
-IsPenalty penalty = (pos 0 ≤ℤ penalty) × (penalty ≤ℤ pos (10 ^ 36))
 
 -- the penalty that an entry sets for the metric
 abbrev pub set_for : List ℕ → ℕ → Entry → Option ℤ
 set_for metric step (Tune other penalty) = if bytes_eq other metric then Some penalty else None
 set_for metric step e = None
 
--- the last of some numbers, or this one where there is none
-abbrev pub last_or : ℤ → List ℤ → ℤ
-last_or z [] = z
-last_or z (x ∷ xs) = last_or x xs
-
 -- the metric's penalty
 abbrev pub penalty_of : List ℕ → List Entry → ℤ
-penalty_of metric h = last_or (row_of metric).default_penalty (chosen (set_for metric) h)
+penalty_of metric h = unwrap_or (last_or None (chosen (set_for metric) h)) (row_of metric).default_penalty
 
 -- an entry that sets the metric's penalty gives it
 abbrev pub PenaltyIsSet : Type 0

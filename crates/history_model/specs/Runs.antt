@@ -8,7 +8,7 @@ use Rattle.history_model.specs.declared.entries.Acceptance.{Acceptance}
 use Rattle.history_model.specs.declared.entries.Entry.{Entry}
 use Rattle.history_model.specs.declared.entries.Entry.TheVariants.{Accept, Retract}
 use Rattle.history_model.specs.declared.run.Run.{Run}
-use Rattle.history_model.specs.Samples.{Measurement}
+use Rattle.sample_model.specs.Samples.{Measurement}
 
 -- a run, with the step at which it was accepted
 abbrev pub acceptance : ℕ → Entry → Option Acceptance

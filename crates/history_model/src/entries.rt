@@ -2,6 +2,7 @@
 ghost use Rattle.std.specs.Prelude.{◌≡◌, IfOk};
 
 use crate::NoMemory;
+use crate::publication::Publication;
 use crate::run::Run;
 use line_text::Name;
 use std::alloc::Global;
@@ -30,10 +31,12 @@ pub enum Entry {
     Retract { run: Name },
     /// The penalty of a metric was set, in squared units of its last decimal.
     Tune { metric: Name, penalty: i128 },
+    /// A segmentation of a series was published.
+    Publish { publication: Publication },
 }
 
 impl Entry {
-    /// An equal entry of its own. Linear in the number of a run's samples, else constant time.
+    /// An equal entry of its own. Linear in the number of a run's samples and of a publication's cuts, else constant time.
     pub fn copy(&self, alloc: Global) -> Result<Entry, NoMemory>
         ensures { IfOk result (λ made. made ≡ self.now) }
     {
@@ -55,6 +58,10 @@ impl Entry {
                 let metric = metric.copy(alloc)?;
                 let penalty = *penalty;
                 Ok(Entry::Tune { metric, penalty })
+            }
+            Entry::Publish { publication } => {
+                let publication = publication.copy(alloc)?;
+                Ok(Entry::Publish { publication })
             }
         }
     }

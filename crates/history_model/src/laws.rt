@@ -17,6 +17,7 @@ ghost use Rattle.history_model.specs.Laws.{
   LimitsAfterCommit,
   LimitsAfterRetract,
   LimitsAfterTune,
+  LimitsAfterPublish,
   SeriesKeepLimits,
   SeriesHaveRoom,
   SeriesAreListedOnce,
@@ -26,6 +27,13 @@ ghost use Rattle.history_model.specs.Laws.{
   FirstPassed,
   FirstKept,
   RunKeepsLimits,
+  PublicationIsLast,
+  PublicationStays,
+  CutsGrow,
+  PublicationsStand,
+  LastStands,
+  VersionsStay,
+  KnownStays,
 };
 ghost use Rattle.history_model.specs.Penalties.{PenaltyIsSet, PenaltyStays};
 
@@ -55,11 +63,12 @@ pub fn retraction_law()
     ensures { OnlyAcceptedAreRetracted }
 {}
 
-/// A commit, a retraction and a penalty keep the limits where there is room; and what the limits say of each series.
+/// A commit, a retraction, a penalty and a publication keep the limits where there is room; and what the limits say of each series.
 pub fn limits_law()
     ensures commit { LimitsAfterCommit }
     ensures retract { LimitsAfterRetract }
     ensures tune { LimitsAfterTune }
+    ensures publish { LimitsAfterPublish }
     ensures series { SeriesKeepLimits }
     ensures room { SeriesHaveRoom }
 {}
@@ -92,4 +101,15 @@ pub fn runs_law()
 pub fn penalty_law()
     ensures set { PenaltyIsSet }
     ensures stays { PenaltyStays }
+{}
+
+/// What is published of a series, and that each publication of a legal history stands: the version that it speaks of stays.
+pub fn publication_law()
+    ensures last { PublicationIsLast }
+    ensures stays { PublicationStays }
+    ensures cuts { CutsGrow }
+    ensures stand { PublicationsStand }
+    ensures last_stands { LastStands }
+    ensures versions { VersionsStay }
+    ensures known { KnownStays }
 {}

@@ -1,10 +1,10 @@
 -- Private: no public contract cites this. What words stand for, whether or not they are canonical.
-use Rattle.std.specs.Prelude.{ℕ, ℤ, pos, neg_ℤ, ◌==◌, if◌then◌else◌, List, [], ◌∷◌, drop, slice_index, bytes_eq, codes, Option, Some, None, Result, Ok, Err}
+use Rattle.std.specs.Prelude.{ℕ, ℤ, pos, neg_ℤ, ◌==◌, if◌then◌else◌, List, [], ◌∷◌, map, drop, slice_index, bytes_eq, codes, Option, Some, None, Result, Ok, Err}
 use Rattle.std.specs.Str.Parse.{digits_value}
 use Rattle.percent_encoding.specs.Percent.{percent_decode}
-use Rattle.history_model.specs.Samples.{Measurement}
+use Rattle.sample_model.specs.Samples.{Measurement}
 use Rattle.history_model.specs.declared.entries.Entry.{Entry}
-use Rattle.history_model.specs.declared.entries.Entry.TheVariants.{Commit, Accept, Retract, Tune}
+use Rattle.history_model.specs.declared.entries.Entry.TheVariants.{Commit, Accept, Retract, Tune, Publish}
 use Rattle.track_entry.specs.declared.fault.EntryFault.{EntryFault}
 use Rattle.track_entry.specs.declared.fault.EntryFault.TheVariants.{NotEntry, NoMemory}
 
@@ -41,6 +41,18 @@ abbrev pub tune_of : List (List ℕ) → Option Entry
 tune_of (metric ∷ penalty ∷ []) = Some (Tune (percent_decode metric) (value_of penalty))
 tune_of words = None
 
+abbrev pub publish_of : List (List ℕ) → Option Entry
+publish_of (test ∷ metric ∷ version ∷ base ∷ total ∷ count ∷ cuts) =
+    Some (Publish (record {
+      test = percent_decode test;
+      metric = percent_decode metric;
+      version = digits_value 10 version;
+      base = digits_value 10 base;
+      total = value_of total;
+      cuts = map (digits_value 10) cuts;
+    }))
+publish_of words = None
+
 -- the entry of words behind the word of its kind
 abbrev pub said_by : List ℕ → List (List ℕ) → Option Entry
 said_by kind words =
@@ -48,7 +60,8 @@ said_by kind words =
     else (if bytes_eq kind (codes "accept") then accept_of words
     else (if bytes_eq kind (codes "retract") then retract_of words
     else (if bytes_eq kind (codes "tune") then tune_of words
-    else None)))
+    else (if bytes_eq kind (codes "publish") then publish_of words
+    else None))))
 
 abbrev pub decoded : List (List ℕ) → Option Entry
 decoded [] = None

@@ -10,7 +10,7 @@ mod read;
 mod words;
 
 pub use fault::EntryFault;
-pub use history_model::{Author, Entry, Placed};
+pub use history_model::{Author, Entry, Placed, Publication};
 pub use put::put_entry;
 pub use read::{entries_law, read_entry};
 pub use std::alloc::AllocError as NoMemory;

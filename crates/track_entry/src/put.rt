@@ -1,12 +1,13 @@
 //! The text of an entry, written.
-ghost use Rattle.std.specs.Prelude.{◌≡◌, ◌++◌, [], OnOk, OnErr, flat_map, decimal, length};
+ghost use Rattle.std.specs.Prelude.{◌≡◌, ◌++◌, [], OnOk, OnErr, flat_map, map, decimal, length};
 ghost use Rattle.std.specs.Fmt.{signed_decimal};
 ghost use Rattle.line_text.specs.Names.{spelling};
 ghost use Rattle.track_entry.specs.Texts.{next, sample_words, entry_text};
 
 use crate::NoMemory;
-use history_model::{Entry, Run, Sample};
+use history_model::{Entry, Publication, Run};
 use line_text::{Name, put_i128, put_name, put_u64};
+use sample_model::Sample;
 use std::alloc::Global;
 
 /// Appends the text of an entry; changes nothing where there is no memory. Linear in the text.
@@ -42,6 +43,10 @@ fn put_kind(alloc: Global, out: &mut Vec<u8>, entry: &Entry) -> Result<(), NoMem
             put_word(alloc, out, metric)?;
             put_signed(alloc, out, *penalty)
         }
+        Entry::Publish { publication } => {
+            out.extend_from_slice(b"publish")?;
+            put_publication(alloc, out, publication)
+        }
     }
 }
 
@@ -63,6 +68,31 @@ fn put_samples(alloc: Global, out: &mut Vec<u8>, samples: &[Sample]) -> Result<(
 {
     for sample in samples {
         put_sample(alloc, out, sample)?;
+    }
+    Ok(())
+}
+
+fn put_publication(alloc: Global, out: &mut Vec<u8>, p: &Publication) -> Result<(), NoMemory>
+    ensures { OnOk result (out.new.items ≡ out.old.items ++ (next (spelling p.now.test)
+        ++ next (spelling p.now.metric) ++ next (decimal p.now.version)
+        ++ next (decimal p.now.base) ++ next (signed_decimal p.now.total)
+        ++ next (decimal (length p.now.cuts)) ++ flat_map next (map decimal p.now.cuts))) }
+{
+    put_word(alloc, out, &p.test)?;
+    put_word(alloc, out, &p.metric)?;
+    put_number(alloc, out, p.version)?;
+    put_number(alloc, out, p.base)?;
+    put_signed(alloc, out, p.total)?;
+    put_number(alloc, out, p.cuts.len() as u64)?;
+    put_cuts(alloc, out, p.cuts.as_slice())
+}
+
+fn put_cuts(alloc: Global, out: &mut Vec<u8>, cuts: &[u64]) -> Result<(), NoMemory>
+    ensures { OnOk result
+        (out.new.items ≡ out.old.items ++ flat_map next (map decimal cuts.now)) }
+{
+    for cut in cuts {
+        put_number(alloc, out, *cut)?;
     }
     Ok(())
 }

@@ -1,17 +1,18 @@
 //! Entries, read from their texts.
-ghost use Rattle.std.specs.Prelude.{◌≡◌, ◌≢◌, ℕ, ◌≤◌, List, [], ◌∷◌, length, drop, codes, flat_map, IfOk, IsTrue, IsFalse};
+ghost use Rattle.std.specs.Prelude.{◌≡◌, ◌≢◌, ℕ, ◌≤◌, List, [], ◌∷◌, ◌^◌, ◌<◌, All, length, map, drop, codes, decimal, flat_map, IfOk, IsTrue, IsFalse};
 ghost use Rattle.line_text.specs.Lines.{words_of};
-ghost use Rattle.history_model.specs.Samples.{Measurement, AreSamples};
+ghost use Rattle.sample_model.specs.Samples.{Measurement, AreSamples};
 ghost use Rattle.history_model.specs.declared.entries.Entry.{Entry as AnEntry};
-ghost use Rattle.track_entry.specs.Texts.{sample_words, entry_words, IsEntry, SpellsEntry, IsOneEntry};
-ghost use Rattle.track_entry.specs.Decoded.{Reads, commit_of, accept_of, retract_of, tune_of};
+ghost use Rattle.track_entry.specs.Texts.{sample_words, entry_words, IsEntry, IsPublication, SpellsEntry, IsOneEntry};
+ghost use Rattle.track_entry.specs.Decoded.{Reads, commit_of, accept_of, retract_of, tune_of, publish_of};
 
 use crate::fault::EntryFault;
 use crate::put::put_entry;
-use crate::words::{METRIC_LIMIT, end_at, name_at, number_at, sample_at, signed_at};
-use history_model::{Entry, Run, Samples};
-use line_text::{names_law, next_word, words_law};
+use crate::words::{METRIC_LIMIT, end_at, name_at, number_at, sample_at, series_at, signed_at};
+use history_model::{Entry, Publication, Run};
+use line_text::{Numbers, names_law, next_word, words_law};
 use metric_table::Limit;
+use sample_model::Samples;
 use std::alloc::Global;
 
 /// The entry that the text spells; `NotEntry` exactly where it spells none.
@@ -57,6 +58,9 @@ fn read_words(alloc: Global, text: &[u8]) -> Result<Entry, EntryFault>
     }
     if kind == b"tune".as_slice() {
         return read_tune(alloc, text, to);
+    }
+    if kind == b"publish".as_slice() {
+        return read_publish(alloc, text, to);
     }
     Err(EntryFault::NotEntry)
 }
@@ -114,6 +118,46 @@ fn read_tune(alloc: Global, text: &[u8], at: usize) -> Result<Entry, EntryFault>
     Ok(Entry::Tune { metric, penalty })
 }
 
+fn read_publish(alloc: Global, text: &[u8], at: usize) -> Result<Entry, EntryFault>
+    requires { at ≤ length text.now }
+    ensures { (e : AnEntry) → IsEntry e → publish_of (words_of (drop at text.now)) ≡ Some e
+        → codes "publish" ∷ words_of (drop at text.now) ≡ entry_words e
+        → Reads result (λ read. read ≡ e) }
+{
+    let (test, metric, behind_metric) = series_at(alloc, text, at)?;
+    let (version, behind_version) = number_at(text, behind_metric)?;
+    let (base, behind_base) = number_at(text, behind_version)?;
+    let (total, behind_total) = signed_at(text, behind_base)?;
+    let (_, behind_count) = number_at(text, behind_total)?;
+    let cuts = read_cuts(alloc, text, behind_count)?;
+    let publication = Publication {
+        test,
+        metric,
+        version,
+        base,
+        total,
+        cuts,
+    };
+    Ok(Entry::Publish { publication })
+}
+
+// The cuts of all words from a place on.
+fn read_cuts(alloc: Global, text: &[u8], at: usize) -> Result<Numbers, EntryFault>
+    requires { at ≤ length text.now }
+    ensures { (cuts : List ℕ) → All (λ c. c < 2 ^ 64) cuts
+        → words_of (drop at text.now) ≡ map decimal cuts
+        → Reads result (λ read. read ≡ cuts) }
+{
+    let mut cuts = Numbers::new(alloc);
+    let mut place = at;
+    while next_word(text, place).is_some() {
+        let (cut, end) = number_at(text, place)?;
+        cuts.push(cut)?;
+        place = end;
+    }
+    Ok(cuts)
+}
+
 // The samples of all words from a place on.
 fn read_samples(alloc: Global, text: &[u8], at: usize) -> Result<Samples, EntryFault>
     requires { at ≤ length text.now }
@@ -160,8 +204,28 @@ fn is_entry(entry: &Entry) -> bool
             metric.bytes_law();
             metric.as_str().len() <= METRIC_LIMIT
         }
+        Entry::Publish { publication } => is_publication(publication),
     }
 }
+
+fn is_publication(p: &Publication) -> bool
+    ensures yes { IsTrue result → IsPublication p.now }
+    ensures no { IsFalse result → ¬ IsPublication p.now }
+{
+    let _version = p.version;
+    let _base = p.base;
+    let _total = p.total;
+    p.test.bytes_law();
+    p.metric.bytes_law();
+    numbers_fit(p.cuts.as_slice());
+    p.metric.as_str().len() <= METRIC_LIMIT
+}
+
+// What the type of numbers keeps.
+fn numbers_fit(numbers: &[u64])
+    ensures few { length numbers.now < 2 ^ 64 }
+    ensures each { All (λ n. n < 2 ^ 64) numbers.now }
+{}
 
 /// No text spells two entries. Does nothing: its contract is what it is for.
 pub fn entries_law()

@@ -4,13 +4,13 @@ ghost use Rattle.std.specs.Fmt.{signed_decimal};
 ghost use Rattle.std.specs.Int.{w128};
 ghost use Rattle.line_text.specs.Lines.{words_of};
 ghost use Rattle.line_text.specs.Names.{IsName, spelling};
-ghost use Rattle.history_model.specs.Samples.{Measurement, IsSample};
+ghost use Rattle.sample_model.specs.Samples.{Measurement, IsSample};
 ghost use Rattle.track_entry.specs.Texts.{sample_words};
 ghost use Rattle.track_entry.specs.Decoded.{Reads};
 
 use crate::fault::EntryFault;
-use history_model::Sample;
 use line_text::{Name, names_law, next_word, read_i64, read_name, read_u64, read_u128};
+use sample_model::Sample;
 use std::alloc::Global;
 
 // The greatest magnitude of a value.
@@ -110,6 +110,24 @@ fn negative(digits: &[u8]) -> Option<i128>
     0i128.checked_sub_unsigned(magnitude)
 }
 
+// The test and the metric of the next two words, and where the second of them ends.
+pub fn series_at(alloc: Global, text: &[u8], at: usize) -> Result<(Name, Name, usize), EntryFault>
+    requires { at ≤ length text.now }
+    ensures short { IfOk result (λ read. length read.1 ≤ 64) }
+    ensures placed { IfOk result (λ read. (at < read.2) × (read.2 ≤ length text.now)) }
+    ensures reads { (test metric : List ℕ) (more : List (List ℕ)) → IsName test → IsName metric
+        → length metric ≤ 64 → words_of (drop at text.now) ≡ spelling test ∷ spelling metric ∷ more
+        → Reads result (λ read. (read.0 ≡ test) × (read.1 ≡ metric)
+        × (words_of (drop read.2 text.now) ≡ more)) }
+{
+    let (test, behind_test) = name_at(alloc, text, at)?;
+    let (metric, end) = name_at(alloc, text, behind_test)?;
+    if metric.as_str().len() > METRIC_LIMIT {
+        return Err(EntryFault::NotEntry);
+    }
+    Ok((test, metric, end))
+}
+
 // The sample of the next three words, and where the last of them ends.
 pub fn sample_at(alloc: Global, text: &[u8], at: usize) -> Result<(Sample, usize), EntryFault>
     requires { at ≤ length text.now }
@@ -118,11 +136,7 @@ pub fn sample_at(alloc: Global, text: &[u8], at: usize) -> Result<(Sample, usize
         → words_of (drop at text.now) ≡ sample_words m ++ more
         → Reads result (λ read. (read.0 ≡ m) × (words_of (drop read.1 text.now) ≡ more)) }
 {
-    let (test, behind_test) = name_at(alloc, text, at)?;
-    let (metric, behind_metric) = name_at(alloc, text, behind_test)?;
-    if metric.as_str().len() > METRIC_LIMIT {
-        return Err(EntryFault::NotEntry);
-    }
+    let (test, metric, behind_metric) = series_at(alloc, text, at)?;
     let (value, end) = value_at(text, behind_metric)?;
     let sample = Sample {
         test,

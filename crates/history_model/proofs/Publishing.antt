@@ -1,0 +1,62 @@
+-- A history with a publication more: its limits, its cuts, and what is published last of a series.
+use Rattle.std.proofs.Common.{◌≡◌, ℕ, ◌+◌, ◌≤◌, List, [], ◌∷◌, ◌++◌, length, refl, ap, ◌∙◌, arith, Option}
+use Rattle.std.specs.Prelude.{option_to_list, Some, None}
+use Rattle.std.specs.List.{last_or, sum_by}
+use Rattle.std.proofs.lemmas.List.{length-append}
+use Rattle.std.proofs.lemmas.List.Sums.{sum_by-append}
+use Rattle.metric_table.specs.Limits.{most}
+use Rattle.metric_table.specs.declared.limits.Limit.TheVariants as limit
+use Rattle.history_model.specs.declared.entries.Entry.{Entry}
+use Rattle.history_model.specs.declared.entries.Entry.TheVariants as entry
+use Rattle.history_model.specs.declared.publication.Publication.{Publication}
+use Rattle.history_model.specs.Allowed.{KeepsLimits}
+use Rattle.history_model.specs.Commits.{declaration}
+use Rattle.history_model.specs.Publications.{publication, publications, publication_of, publications_of, last_publication, cuts_in, cut_count}
+use Rattle.history_model.specs.Runs.{Series, acceptance, retraction}
+use Rattle.history_model.proofs.Chosen.{chosen-push, chosen-skip}
+use Rattle.history_model.proofs.Tunings.{last-push}
+
+abbrev size : Publication → ℕ
+size p = length p.cuts
+
+pub cuts-grow : (h : List Entry) (e : Entry) → cut_count (h ++ e ∷ []) ≡ cut_count h + cuts_in e
+cuts-grow h e =
+    ap (sum_by size) (chosen-push publication h e)
+    ∙ sum_by-append size (publications h) (option_to_list (publication (length h + 1) e))
+    ∙ ap (λ n. cut_count h + n) (of_entry e)
+  where
+    of_entry : (e : Entry) → sum_by size (option_to_list (publication (length h + 1) e)) ≡ cuts_in e
+    of_entry (entry.Commit number name) = refl
+    of_entry (entry.Accept run) = refl
+    of_entry (entry.Retract run) = refl
+    of_entry (entry.Tune metric penalty) = refl
+    of_entry (entry.Publish p) = omega arith
+
+module _ (h : List Entry) (p : Publication) where
+  abbrev e : Entry
+  e = entry.Publish p
+
+  pub limits-publish : KeepsLimits h → length h + 1 ≤ most limit.Steps → cut_count h + length p.cuts ≤ most limit.Cuts → KeepsLimits (h ++ e ∷ [])
+  limits-publish keeps steps cuts limit.Steps = rw length-append steps
+  limits-publish keeps steps cuts limit.Commits = rw (chosen-skip declaration h e refl) (keeps limit.Commits)
+  limits-publish keeps steps cuts limit.Machines = keeps limit.Machines
+  limits-publish keeps steps cuts limit.Cuts = rw (cuts-grow h e) cuts
+  limits-publish keeps steps cuts limit.Jobs = keeps limit.Jobs
+  limits-publish keeps steps cuts limit.Runs = rw (chosen-skip acceptance h e refl) (keeps limit.Runs)
+  limits-publish keeps steps cuts limit.RunSamples = rw (chosen-skip acceptance h e refl) (keeps limit.RunSamples)
+  limits-publish keeps steps cuts limit.Samples = rw (chosen-skip acceptance h e refl) (keeps limit.Samples)
+  limits-publish keeps steps cuts limit.Series = rw (chosen-skip acceptance h e refl) (keeps limit.Series)
+  limits-publish keeps steps cuts limit.SeriesSamples = rw (chosen-skip acceptance h e refl, chosen-skip retraction h e refl) (keeps limit.SeriesSamples)
+  limits-publish keeps steps cuts limit.Positions = rw (chosen-skip acceptance h e refl, chosen-skip retraction h e refl) (keeps limit.Positions)
+
+-- ---- what is published last of a series
+pub published-last : (h : List Entry) (e : Entry) (s : Series) (p : Publication) → publication_of s (length h + 1) e ≡ Some p
+    → last_publication s (h ++ e ∷ []) ≡ Some p
+published-last h e s p is =
+    let before : List Publication = publications_of s h in
+    ap (last_or None) (chosen-push (publication_of s) h e ∙ ap (λ (o : Option Publication). before ++ option_to_list o) is)
+    ∙ last-push None before p
+
+pub published-stays : (h : List Entry) (e : Entry) (s : Series) → publication_of s (length h + 1) e ≡ None
+    → last_publication s (h ++ e ∷ []) ≡ last_publication s h
+published-stays h e s none = ap (last_or None) (chosen-skip (publication_of s) h e none)

@@ -1,0 +1,122 @@
+-- The publications of a legal history stand in it, since each version of it stays.
+use Rattle.std.proofs.Common.{◌≡◌, ℕ, ◌+◌, ◌≤◌, Bool, true, false, ◌&&◌, ◌||◌, cond, List, [], ◌∷◌, ◌++◌, length, All, refl, sym, ap, ◌∙◌, subst, arith, inl, inr}
+use Rattle.std.specs.Prelude.{Some, None, take, drop, bytes_eq, option_to_list}
+use Rattle.std.specs.List.{list_any}
+use Rattle.std.proofs.lemmas.Bool.{cases_Bool}
+use Rattle.std.proofs.lemmas.List.{append-nil, append_assoc, length-append, take-append-le, take-append-drop}
+use Rattle.std.proofs.lemmas.List.Elements.{All-nil, All-push, All-weaker}
+use Rattle.std.proofs.lemmas.List.Folds.{list_any-append}
+use Rattle.history_model.specs.declared.entries.Acceptance.{Acceptance}
+use Rattle.history_model.specs.declared.entries.Entry.{Entry}
+use Rattle.history_model.specs.declared.entries.Entry.TheVariants as entry
+use Rattle.history_model.specs.declared.publication.Publication.{Publication}
+use Rattle.history_model.specs.Allowed.{Allowed, Legal}
+use Rattle.history_model.specs.Publications.{publication, publications, publication_of, published, last_publication, spoken_of, IsBestAt, IsBaseAt, Stands}
+use Rattle.history_model.specs.Runs.{Series, acceptance, acceptances, is_known, is_of}
+use Rattle.history_model.proofs.Chosen.{chosen-push, chosen-skip}
+use Rattle.history_model.proofs.Growth.{legal-each}
+use Rattle.history_model.proofs.Lists.{same-bytes}
+use Rattle.history_model.proofs.Publishing.{published-last, published-stays}
+
+pub versions-stay : (h more : List Entry) (version : ℕ) → version ≤ length h → take version (h ++ more) ≡ take version h
+versions-stay h more version le = take-append-le version h more le
+
+-- ---- what is known stays known
+known-push : (s : Series) (h : List Entry) (e : Entry) → is_known s h ≡ true → is_known s (h ++ e ∷ []) ≡ true
+known-push s h e known =
+    let brings : Acceptance → Bool = λ a. list_any (is_of s) a.run.samples in
+    let more : List Acceptance = option_to_list (acceptance (length h + 1) e) in
+    ap (list_any brings) (chosen-push acceptance h e) ∙ list_any-append brings (acceptances h) more ∙ ap (λ b. b || list_any brings more) known
+
+known-more : (s : Series) (h more : List Entry) → is_known s h ≡ true → is_known s (h ++ more) ≡ true
+known-more s h [] known = ap (is_known s) (append-nil h) ∙ known
+known-more s h (e ∷ more) known = ap (is_known s) (sym (append_assoc h (e ∷ []) more)) ∙ known-more s (h ++ e ∷ []) more (known-push s h e known)
+
+pub known-stays : (h : List Entry) (s : Series) (version : ℕ) → is_known s (take version h) ≡ true → is_known s h ≡ true
+known-stays h s version known = ap (is_known s) (sym (take-append-drop version h)) ∙ known-more s (take version h) (drop version h) known
+
+-- ---- publications
+stands-later : (h : List Entry) (e : Entry) (p : Publication) → Stands h p → Stands (h ++ e ∷ []) p
+stands-later h e p stands =
+    let same : spoken_of h p ≡ spoken_of (h ++ e ∷ []) p = sym (versions-stay h (e ∷ []) p.version stands.past) in
+    let Best : List Entry → Type 0 = λ v. IsBestAt v p in
+    let Based : List Entry → Type 0 = λ v. IsBaseAt v p in
+    let past : p.version ≤ length (h ++ e ∷ []) = rw length-append (let le = stands.past in omega (arith, le)) in
+    let known : is_known (published p) (spoken_of (h ++ e ∷ []) p) ≡ true = ap (is_known (published p)) (sym same) ∙ stands.known in
+    record { past = past; known = known; best = subst Best same stands.best; based = subst Based same stands.based }
+
+AllStand : List Entry → Type 0
+AllStand h = All (Stands h) (publications h)
+
+pub publications-stand : (h : List Entry) → Legal h → All (Stands h) (publications h)
+unfolding AllStand
+publications-stand h legal = legal-each AllStand (All-nil (Stands [])) grown h legal
+  where
+    weaker : (h : List Entry) (e : Entry) → AllStand h → All (Stands (h ++ e ∷ [])) (publications h)
+    weaker h e all = All-weaker (Stands h) (Stands (h ++ e ∷ [])) (stands-later h e) (publications h) all
+
+    skipped : (h : List Entry) (e : Entry) → publication (length h + 1) e ≡ None → AllStand h → AllStand (h ++ e ∷ [])
+    skipped h e none all =
+        let P : List Publication → Type 0 = λ ps. All (Stands (h ++ e ∷ [])) ps in
+        subst P (sym (chosen-skip publication h e none)) (weaker h e all)
+
+    grown : (h : List Entry) (e : Entry) → Allowed h e → AllStand h → AllStand (h ++ e ∷ [])
+    grown h (entry.Commit number name) allowed all = skipped h (entry.Commit number name) refl all
+    grown h (entry.Accept run) allowed all = skipped h (entry.Accept run) refl all
+    grown h (entry.Retract run) allowed all = skipped h (entry.Retract run) refl all
+    grown h (entry.Tune metric penalty) allowed all = skipped h (entry.Tune metric penalty) refl all
+    grown h (entry.Publish p) allowed all =
+        let e : Entry = entry.Publish p in
+        let P : List Publication → Type 0 = λ ps. All (Stands (h ++ e ∷ [])) ps in
+        subst P (sym (chosen-push publication h e)) (All-push (Stands (h ++ e ∷ [])) (publications h) p (weaker h e all) (stands-later h e p allowed.0.0))
+
+-- ---- the last one of a series
+module _ (s : Series) where
+  LastOne : List Entry → Type 0
+  LastOne h = (p : Publication) → last_publication s h ≡ Some p → (published p ≡ s) × Stands h p
+
+  skips : (h : List Entry) (e : Entry) → publication_of s (length h + 1) e ≡ None → LastOne h → LastOne (h ++ e ∷ [])
+  unfolding LastOne
+  skips h e none last p is =
+      let two = last p (sym (published-stays h e s none) ∙ is) in
+      (two.0, stands-later h e p two.1)
+
+  of-series : (q : Publication) → (bytes_eq q.test s.test && bytes_eq q.metric s.metric) ≡ true → published q ≡ s
+  of-series q both =
+      let halves = split (bytes_eq q.test s.test) (bytes_eq q.metric s.metric) both in
+      let tests : q.test ≡ s.test = same-bytes q.test s.test halves.0 in
+      let metrics : q.metric ≡ s.metric = same-bytes q.metric s.metric halves.1 in
+      ap (λ (t : List ℕ). let k : Series = record { test = t; metric = q.metric } in k) tests
+      ∙ ap (λ (m : List ℕ). let k : Series = record { test = s.test; metric = m } in k) metrics
+    where
+      split : (a b : Bool) → (a && b) ≡ true → (a ≡ true) × (b ≡ true)
+      split true true both = (refl, refl)
+      split true false both = absurd (cc)
+      split false b both = absurd (cc)
+
+  publishes : (h : List Entry) (q : Publication) → Stands h q → LastOne h → LastOne (h ++ entry.Publish q ∷ [])
+  unfolding LastOne
+  publishes h q stands last = elim (cases_Bool (bytes_eq q.test s.test && bytes_eq q.metric s.metric)) [
+    | inl hit ↦ (λ p is.
+        let e : Entry = entry.Publish q in
+        let last_is : Some q ≡ Some p = sym (published-last h e s q (ap (λ b. cond b (Some q) None) hit)) ∙ is in
+        let same : q ≡ p = cc in
+        let P : Publication → Type 0 = λ p. (published p ≡ s) × Stands (h ++ e ∷ []) p in
+        subst P same (of-series q hit, stands-later h e q stands))
+    | inr miss ↦ skips h (entry.Publish q) (ap (λ b. cond b (Some q) None) miss) last
+  ]
+
+  last-stands-of : (h : List Entry) → Legal h → LastOne h
+  unfolding LastOne
+  last-stands-of h legal = legal-each LastOne (λ p is. absurd (let no : None ≡ Some p = is in cc)) grown h legal
+    where
+      grown : (h : List Entry) (e : Entry) → Allowed h e → LastOne h → LastOne (h ++ e ∷ [])
+      grown h (entry.Commit number name) allowed last = skips h (entry.Commit number name) refl last
+      grown h (entry.Accept run) allowed last = skips h (entry.Accept run) refl last
+      grown h (entry.Retract run) allowed last = skips h (entry.Retract run) refl last
+      grown h (entry.Tune metric penalty) allowed last = skips h (entry.Tune metric penalty) refl last
+      grown h (entry.Publish p) allowed last = publishes h p allowed.0.0 last
+
+pub last-stands : (h : List Entry) (s : Series) (p : Publication) → Legal h → last_publication s h ≡ Some p → (published p ≡ s) × Stands h p
+unfolding LastOne
+last-stands h s p legal is = last-stands-of s h legal p is
