@@ -1,0 +1,3 @@
+pub mod Ordered
+pub mod Distances
+pub mod Small
