@@ -4,13 +4,16 @@
 //! Contracts see names as their bytes and lists as lists, so definitions speak of these very types. A form or a refusal
 //! more is a variant more, and concerns neither the readers of bodies nor what is said of histories, which stand below.
 //!
-//! Stands on `line_text` for names and lists, on `history_model` for samples and on `metric_table` for limits.
+//! Stands on `line_text` for names and lists, on `sample_model` for samples, on `segment_cost` for certificates and on
+//! `metric_table` for limits.
 #![tactic(auto)]
 
+mod changes;
 mod replies;
 mod requests;
 mod runs;
 
+pub use changes::{NamedChange, NamedChanges, copy_changes};
 pub use replies::{Answer, RangePlace, Refusal, Reply};
 pub use requests::Request;
 pub use runs::{RunLine, Runs, copy_runs};

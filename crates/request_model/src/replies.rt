@@ -1,9 +1,11 @@
 //! What a request is answered: the answer itself, why it is refused, and the reply that has it.
 ghost use Rattle.std.specs.Prelude.{◌≡◌, IfOk};
 
+use crate::changes::{NamedChanges, copy_changes};
 use crate::runs::{Runs, copy_runs};
 use line_text::{Name, Text};
 use metric_table::Limit;
+use segment_cost::Cert;
 use std::alloc::{AllocError, Global};
 
 /// Where a value is out of range.
@@ -76,10 +78,16 @@ pub enum Refusal {
     UnknownRun,
     /// The run was retracted at this step.
     AlreadyRetracted(u64),
+    /// No accepted run had a sample of the series.
+    UnknownSeries,
+    /// No segmentation of the series was published.
+    NothingPublished,
     /// A limit would be passed.
     Full(Limit),
-    /// The penalty is out of range.
+    /// The penalty, or the factor that it is made by, is out of range.
     BadPenalty,
+    /// The series has so few positions that no noise can be told.
+    TooFewPoints(u64),
     /// The body is longer than a body may be.
     BodyTooLong,
     /// The byte of the body at this place opens a level too many.
@@ -124,11 +132,17 @@ impl Refusal {
                 let at = *at;
                 Ok(Refusal::AlreadyRetracted(at))
             }
+            Refusal::UnknownSeries => Ok(Refusal::UnknownSeries),
+            Refusal::NothingPublished => Ok(Refusal::NothingPublished),
             Refusal::Full(at) => {
                 let at = *at;
                 Ok(Refusal::Full(at))
             }
             Refusal::BadPenalty => Ok(Refusal::BadPenalty),
+            Refusal::TooFewPoints(at) => {
+                let at = *at;
+                Ok(Refusal::TooFewPoints(at))
+            }
             Refusal::BodyTooLong => Ok(Refusal::BodyTooLong),
             Refusal::TooDeep(at) => {
                 let at = *at;
@@ -139,7 +153,7 @@ impl Refusal {
 }
 
 /// What a request is answered.
-#[derive(Debug, Drop)]
+#[derive(Drop)]
 pub enum Answer {
     /// The machine is declared.
     Machine {
@@ -178,6 +192,37 @@ pub enum Answer {
         metric: Name,
         /// The penalty, in squared units of the metric's last decimal.
         penalty: i128,
+    },
+    /// The series was segmented, and what was found was published.
+    Segmented {
+        /// How many entries of the history it was made from.
+        version: u64,
+        /// The version of the publication whose table it began with, or 0.
+        base: u64,
+        /// How many positions the series has.
+        points: u64,
+        /// How many cuts were found.
+        cuts: u64,
+        /// How many positions were looked at anew.
+        redone: u64,
+        /// The costs of the segments and the penalties of the cuts.
+        total: i128,
+    },
+    /// The changes of the series' last publication.
+    Changes {
+        /// How many entries of the history it was made from.
+        version: u64,
+        /// The metric, which tells how the centres are written.
+        metric: Name,
+        /// One change for each cut, in order.
+        items: NamedChanges,
+    },
+    /// The certificate of the series' last publication.
+    Verified {
+        /// How many entries of the history it was made from.
+        version: u64,
+        /// The cuts, with the tables that show them to be the best.
+        cert: Cert,
     },
     /// The runs of the machine.
     Runs {
@@ -230,6 +275,40 @@ impl Answer {
                 let penalty = *penalty;
                 Ok(Answer::Tuned { metric, penalty })
             }
+            Answer::Segmented {
+                version,
+                base,
+                points,
+                cuts,
+                redone,
+                total,
+            } => Ok(Answer::Segmented {
+                version: *version,
+                base: *base,
+                points: *points,
+                cuts: *cuts,
+                redone: *redone,
+                total: *total,
+            }),
+            Answer::Changes {
+                version,
+                metric,
+                items,
+            } => {
+                let version = *version;
+                let metric = metric.copy(alloc)?;
+                let items = copy_changes(alloc, items)?;
+                Ok(Answer::Changes {
+                    version,
+                    metric,
+                    items,
+                })
+            }
+            Answer::Verified { version, cert } => {
+                let version = *version;
+                let cert = cert.copy(alloc)?;
+                Ok(Answer::Verified { version, cert })
+            }
             Answer::Runs { runs } => {
                 let runs = copy_runs(alloc, runs)?;
                 Ok(Answer::Runs { runs })
@@ -240,7 +319,7 @@ impl Answer {
 }
 
 /// An answer, with the number of entries of the machine's history behind the request.
-#[derive(Debug, Drop)]
+#[derive(Drop)]
 pub struct Reply {
     /// The number of entries; 0 where the answer names no machine.
     pub step: u64,

@@ -1,8 +1,8 @@
 //! Requests of a script, as they are once they were read.
 ghost use Rattle.std.specs.Prelude.{◌≡◌, IfOk};
 
-use history_model::Samples;
 use line_text::Name;
+use sample_model::Samples;
 use std::alloc::{AllocError, Global};
 
 /// A request of a script, read.
@@ -52,6 +52,44 @@ pub enum Request {
         metric: Name,
         /// The penalty, in squared units of the metric's last decimal.
         penalty: i128,
+    },
+    /// Sets the penalty of a series' metric from the noise of the series.
+    Calibrate {
+        /// The machine.
+        machine: Name,
+        /// The test of the series.
+        test: Name,
+        /// Its metric.
+        metric: Name,
+        /// How many squares of the noise the penalty is.
+        factor: u64,
+    },
+    /// Segments a series and publishes what is found.
+    Segment {
+        /// The machine.
+        machine: Name,
+        /// The test of the series.
+        test: Name,
+        /// Its metric.
+        metric: Name,
+    },
+    /// Lists the changes of a series' last publication.
+    Changes {
+        /// The machine.
+        machine: Name,
+        /// The test of the series.
+        test: Name,
+        /// Its metric.
+        metric: Name,
+    },
+    /// Shows the certificate of a series' last publication.
+    Verify {
+        /// The machine.
+        machine: Name,
+        /// The test of the series.
+        test: Name,
+        /// Its metric.
+        metric: Name,
     },
     /// Lists the runs of a machine.
     Runs {
@@ -124,6 +162,65 @@ impl Request {
                     machine,
                     metric,
                     penalty,
+                })
+            }
+            Request::Calibrate {
+                machine,
+                test,
+                metric,
+                factor,
+            } => {
+                let machine = machine.copy(alloc)?;
+                let test = test.copy(alloc)?;
+                let metric = metric.copy(alloc)?;
+                let factor = *factor;
+                Ok(Request::Calibrate {
+                    machine,
+                    test,
+                    metric,
+                    factor,
+                })
+            }
+            Request::Segment {
+                machine,
+                test,
+                metric,
+            } => {
+                let machine = machine.copy(alloc)?;
+                let test = test.copy(alloc)?;
+                let metric = metric.copy(alloc)?;
+                Ok(Request::Segment {
+                    machine,
+                    test,
+                    metric,
+                })
+            }
+            Request::Changes {
+                machine,
+                test,
+                metric,
+            } => {
+                let machine = machine.copy(alloc)?;
+                let test = test.copy(alloc)?;
+                let metric = metric.copy(alloc)?;
+                Ok(Request::Changes {
+                    machine,
+                    test,
+                    metric,
+                })
+            }
+            Request::Verify {
+                machine,
+                test,
+                metric,
+            } => {
+                let machine = machine.copy(alloc)?;
+                let test = test.copy(alloc)?;
+                let metric = metric.copy(alloc)?;
+                Ok(Request::Verify {
+                    machine,
+                    test,
+                    metric,
                 })
             }
             Request::Runs { machine } => {

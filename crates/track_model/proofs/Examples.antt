@@ -11,15 +11,25 @@ use Rattle.request_model.specs.declared.replies.Answer.{Answer}
 use Rattle.request_model.specs.declared.replies.Answer.TheVariants as answer
 use Rattle.request_model.specs.declared.replies.Refusal.TheVariants as refusal
 use Rattle.request_model.specs.declared.replies.Reply.{Reply}
-use Rattle.history_model.specs.Samples.{Measurement}
+use Rattle.sample_model.specs.Samples.{Measurement}
 use Rattle.history_model.specs.Runs.{Series}
 use Rattle.history_model.specs.Positions.{positions}
-use Rattle.track_model.specs.Replies.{outcome, reply_of}
+use Rattle.track_model.specs.Forms as forms
+use Rattle.track_model.specs.Outcomes.{Outcome}
+use Rattle.track_model.specs.Replies.{reply_of}
 
 -- ---- the requests about one declared machine, answered one after another
 after : List Entry → Option Entry → List Entry
 after h None = h
 after h (Some e) = h ++ e ∷ []
+
+-- what the requests of these scripts come to
+abbrev outcome : List Entry → Request → Outcome
+outcome h (request.Commit machine number name) = forms.commit h number name
+outcome h (request.Submit machine commit run samples ignored stated) = forms.submit h machine commit run samples ignored stated
+outcome h (request.Retract machine run) = forms.retract h run
+outcome h (request.Tune machine metric penalty) = forms.tune h metric penalty
+outcome h q = forms.runs h
 
 abbrev replies : List Entry → List Request → List Reply
 replies h [] = []

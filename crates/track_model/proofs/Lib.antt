@@ -2,3 +2,4 @@ pub mod Rows
 mod Forms
 mod Tunings
 mod Examples
+mod Determined

@@ -10,7 +10,7 @@ use Rattle.request_model.specs.declared.replies.Answer.TheVariants as answer
 use Rattle.request_model.specs.declared.replies.Refusal.TheVariants as refusal
 use Rattle.request_model.specs.declared.runs.RunLine.{RunLine}
 use Rattle.history_model.specs.declared.run.Run.{Run}
-use Rattle.history_model.specs.Samples.{Measurement}
+use Rattle.sample_model.specs.Samples.{Measurement}
 use Rattle.history_model.specs.Commits.{declarations, has_number, has_name, number_of, name_of}
 use Rattle.history_model.specs.Runs.{Retraction, acceptances, accepted, retracted, same_run}
 use Rattle.history_model.specs.Allowed.{run_limits}

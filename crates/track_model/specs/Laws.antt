@@ -1,5 +1,6 @@
--- What holds of the forms on every history: where each comes to a limit, and what it adds where none is passed.
-use Rattle.std.specs.Prelude.{◌≡◌, ◌≤◌, ◌<◌, ◌↔◌, ℕ, ℤ, List, length, IsSome, Some, None}
+-- What holds of the forms on every history: where each comes to a limit, what it adds where none is passed, and that a
+-- request comes to one outcome.
+use Rattle.std.specs.Prelude.{◌≡◌, ◌≤◌, ◌<◌, ◌↔◌, ◌+◌, ℕ, ℤ, List, length, IsSome, Some, None}
 use Rattle.metric_table.specs.Limits.{most}
 use Rattle.metric_table.specs.declared.limits.Limit.TheVariants as limit
 use Rattle.history_model.specs.declared.entries.Entry.{Entry}
@@ -10,7 +11,13 @@ use Rattle.history_model.specs.Runs.{accepted, retracted}
 use Rattle.request_model.specs.declared.replies.Answer.TheVariants as answer
 use Rattle.request_model.specs.declared.replies.Refusal.TheVariants as refusal
 use Rattle.track_model.specs.Forms as forms
-use Rattle.track_model.specs.Outcomes.{refuses}
+use Rattle.track_model.specs.Outcomes.{Outcome, refuses}
+use Rattle.track_model.specs.Publishing.{publish}
+use Rattle.track_model.specs.Tracks.{ComesTo}
+use Rattle.request_model.specs.declared.requests.Request.{Request}
+use Rattle.request_model.specs.declared.replies.Answer.{Answer}
+use Rattle.history_model.specs.declared.publication.Publication.{Publication}
+use Rattle.history_model.specs.Publications.{cut_count, MayPublish}
 
 -- ---- commit
 
@@ -77,3 +84,36 @@ TuneIsAdded =
 -- nothing is refused of it exactly where it may follow
 abbrev pub TuneMayFollow : Type 0
 TuneMayFollow = (h : List Entry) (metric : List ℕ) (penalty : ℤ) → (forms.tune_refusal metric penalty ≡ None) ↔ MayFollow h (entry.Tune metric penalty)
+
+-- ---- publications
+
+-- there is room for a step and for the cuts
+pub record PublicationFits (h : List Entry) (p : Publication) : Type 0 where
+  pub steps : length h < most limit.Steps
+  pub cuts : cut_count h + length p.cuts ≤ most limit.Cuts
+
+-- a publication is refused where there are as many steps as there may be
+abbrev pub PublishStepsAreFull : Type 0
+PublishStepsAreFull =
+    (h : List Entry) (p : Publication) (told : Answer) → most limit.Steps ≤ length h → publish h p told ≡ refuses (refusal.Full limit.Steps)
+
+-- else where its cuts would be too many
+abbrev pub PublishCutsAreFull : Type 0
+PublishCutsAreFull =
+    (h : List Entry) (p : Publication) (told : Answer) → length h < most limit.Steps → most limit.Cuts < cut_count h + length p.cuts
+    → publish h p told ≡ refuses (refusal.Full limit.Cuts)
+
+-- else it is added
+abbrev pub PublishIsAdded : Type 0
+PublishIsAdded =
+    (h : List Entry) (p : Publication) (told : Answer) → PublicationFits h p → publish h p told ≡ record { answer = told; adds = Some (entry.Publish p) }
+
+-- and may follow a history that keeps its limits and in which it stands
+abbrev pub PublishIsAllowed : Type 0
+PublishIsAllowed = (h : List Entry) (p : Publication) → KeepsLimits h → MayPublish h p → PublicationFits h p → Allowed h (entry.Publish p)
+
+-- ---- all forms
+
+-- a request comes to one outcome
+abbrev pub OneOutcome : Type 0
+OneOutcome = (h : List Entry) (q : Request) (one other : Outcome) → ComesTo h q one → ComesTo h q other → one ≡ other

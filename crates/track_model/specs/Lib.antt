@@ -1,5 +1,6 @@
 pub mod Outcomes
 pub mod Forms
+pub mod Publishing
 pub mod Replies
 pub mod Tracks
 pub mod Laws

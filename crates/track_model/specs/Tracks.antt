@@ -5,10 +5,14 @@ use Rattle.history_model.specs.declared.entries.Entry.{Entry}
 use Rattle.history_model.specs.declared.entries.Placed.{Placed}
 use Rattle.request_model.specs.declared.replies.Reply.{Reply}
 use Rattle.history_model.specs.Entries.{entries_of}
-use Rattle.track_model.specs.Outcomes.{Outcome}
+use Rattle.track_model.specs.Forms as forms
+use Rattle.track_model.specs.Outcomes.{Outcome, tells}
+use Rattle.track_model.specs.Publishing.{CalibrateComesTo, SegmentComesTo, ChangesComeTo, VerifyComesTo}
 use Rattle.request_model.specs.declared.requests.Request.{Request}
 use Rattle.request_model.specs.declared.requests.Request.TheVariants as request
-use Rattle.track_model.specs.Replies.{outcome, reply_of}
+use Rattle.request_model.specs.declared.replies.Answer.TheVariants as answer
+use Rattle.history_model.specs.Runs.{Series}
+use Rattle.track_model.specs.Replies.{reply_of}
 
 -- a machine, whether the store had it, and its history
 pub record Track : Type 0 where
@@ -33,18 +37,22 @@ pub record IsStep (old : Track) (author : Author) (o : Outcome) (new : Track) (r
   pub track : new ≡ with_outcome author old o
   pub told : reply ≡ reply_of (entries_of old.history) o
 
--- requests about one machine were answered one after another
-abbrev pub AreSteps : Track → Author → List Request → List Reply → Track → Type 0
-AreSteps old author [] [] new = new ≡ old
-AreSteps old author (q ∷ qs) (reply ∷ replies) new =
-    IsStep old author (outcome (entries_of old.history) q) (with_outcome author old (outcome (entries_of old.history) q)) reply
-    × AreSteps (with_outcome author old (outcome (entries_of old.history) q)) author qs replies new
-AreSteps old author [] (reply ∷ replies) new = ⊥
-AreSteps old author (q ∷ qs) [] new = ⊥
+-- the series of a test and a metric
+abbrev series : List ℕ → List ℕ → Series
+series test metric = record { test = test; metric = metric }
 
--- what a request comes to on the history of its machine; a form with a choice is a case of its own
+-- what a request comes to on the history of its machine
 abbrev pub ComesTo : List Entry → Request → Outcome → Type 0
-ComesTo h q o = o ≡ outcome h q
+ComesTo h (request.Machine machine) o = o ≡ tells (answer.Machine machine)
+ComesTo h (request.Commit machine number name) o = o ≡ forms.commit h number name
+ComesTo h (request.Submit machine commit run samples ignored stated) o = o ≡ forms.submit h machine commit run samples ignored stated
+ComesTo h (request.Retract machine run) o = o ≡ forms.retract h run
+ComesTo h (request.Tune machine metric penalty) o = o ≡ forms.tune h metric penalty
+ComesTo h (request.Calibrate machine test metric factor) o = CalibrateComesTo h (series test metric) factor o
+ComesTo h (request.Segment machine test metric) o = SegmentComesTo h (series test metric) o
+ComesTo h (request.Changes machine test metric) o = ChangesComeTo h (series test metric) o
+ComesTo h (request.Verify machine test metric) o = VerifyComesTo h (series test metric) o
+ComesTo h (request.Runs machine) o = o ≡ forms.runs h
 
 -- the request is about a machine that is declared, and its state alone answers it
 abbrev pub IsAsked : Request → Type 0

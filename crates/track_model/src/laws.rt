@@ -10,9 +10,17 @@ ghost use Rattle.track_model.specs.Laws.{
   TuneStepsAreFull,
   TuneIsAdded,
   TuneMayFollow,
+  PublishStepsAreFull,
+  PublishCutsAreFull,
+  PublishIsAdded,
+  PublishIsAllowed,
+  OneOutcome,
 };
 
-use history_model::{growth_law, limits_law, within_law};
+use history_model::{growth_law, limits_law, publication_law, within_law};
+use segment_cost::one_certificate_law;
+use segment_model::centre_law;
+use series_noise::noise_law;
 
 /// Where a commit of a free pair comes to a limit, and that it is added elsewhere.
 pub fn commit_law()
@@ -43,4 +51,25 @@ pub fn tune_law()
     ensures follows { TuneMayFollow }
 {
     within_law();
+}
+
+/// Where a publication comes to a limit, and that it is added elsewhere.
+pub fn publish_law()
+    ensures steps_full { PublishStepsAreFull }
+    ensures cuts_full { PublishCutsAreFull }
+    ensures added { PublishIsAdded }
+    ensures allowed { PublishIsAllowed }
+{
+    limits_law();
+    within_law();
+    publication_law();
+}
+
+/// A request comes to one outcome on a history.
+pub fn outcome_law()
+    ensures { OneOutcome }
+{
+    one_certificate_law();
+    centre_law();
+    noise_law();
 }
