@@ -1,5 +1,9 @@
 mod Steps
 mod Marks
+mod Publishing
+mod Told
+mod Segmenting
+mod Declared
 mod OneMore
 mod Ready
 mod Series

@@ -71,6 +71,7 @@ ready h (entry.Accept new) allowed =
     (omega (arith, runs_few, sizes, length-append (acceptances h) (a ∷ []), length-map (acceptances h) (stored (retractions h))))
     (omega (arith, samples_few, counts, samples-stored (retractions h) (acceptances h), sum_by_push (λ (b : Acceptance). length b.run.samples) (acceptances h) a))
 ready h (entry.Tune metric penalty) allowed = tt
+ready h (entry.Publish p) allowed = tt
 ready h (entry.Retract name) allowed =
     let known = some-of (accepted name h) allowed.0.0 in
     let a : Acceptance = known.0 in

@@ -16,7 +16,7 @@ use Rattle.history_model.specs.declared.entries.Entry.TheVariants as entry
 use Rattle.history_model.specs.Allowed.{Allowed, Legal}
 use Rattle.history_model.specs.Laws.{with_all, PositionsAfterAccept, PositionsAfterRetract, PositionsUntouched, PositionsAreFresh, StepsArePast, SeriesHaveRoom, OnlyAcceptedAreRetracted}
 use Rattle.history_model.specs.Positions.{Brought, positions}
-use Rattle.history_model.specs.Samples.{Measurement, IsSample}
+use Rattle.sample_model.specs.Samples.{Measurement, IsSample}
 use Rattle.history_model.specs.Runs.{Series, is_of, acceptance, acceptances, accepted, retraction, retractions, retracted, known_series, series_of}
 use Rattle.history_model.proofs.Chosen.{chosen-push, chosen-skip}
 use Rattle.sample_store.specs.declared.store.Stored.{Stored}
@@ -83,6 +83,7 @@ module _ (fresh : PositionsAreFresh) (past : StepsArePast) (room : SeriesHaveRoo
   takes-in h (entry.Commit number name) series legal allowed are = tt
   takes-in h (entry.Retract name) series legal allowed are = tt
   takes-in h (entry.Tune metric penalty) series legal allowed are = tt
+  takes-in h (entry.Publish p) series legal allowed are = tt
   takes-in h (entry.Accept run) series legal allowed are =
       let live : retracted run.run h ≡ None = only h run.run legal allowed.0.0 in
       record {
@@ -119,6 +120,11 @@ module _ (accept : PositionsAfterAccept) (retract : PositionsAfterRetract) (unto
     points = rw (chosen-skip acceptance h (entry.Tune metric penalty) refl, chosen-skip retraction h (entry.Tune metric penalty) refl) is.points;
     since = rw length-append (later (length h) t.since is.since);
     known = rw (chosen-skip acceptance h (entry.Tune metric penalty) refl) is.known;
+  }
+  tracked-after h (entry.Publish p) s t legal allowed is = record {
+    points = rw (chosen-skip acceptance h (entry.Publish p) refl, chosen-skip retraction h (entry.Publish p) refl) is.points;
+    since = rw length-append (later (length h) t.since is.since);
+    known = rw (chosen-skip acceptance h (entry.Publish p) refl) is.known;
   }
   tracked-after h (entry.Accept run) s t legal allowed is =
       let a : Acceptance = record { step = length h + 1; run = run } in

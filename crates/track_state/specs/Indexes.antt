@@ -1,12 +1,12 @@
 -- Private: no public contract cites this. The indexes of a state, as they follow from its history.
-use Rattle.std.specs.Prelude.{◌≡◌, ℕ, if◌then◌else◌, List, [], ◌∷◌, ◌++◌, All, length, map, option_map, find, Option, Some, None}
+use Rattle.std.specs.Prelude.{◌≡◌, ℕ, ℤ, bytes_eq, if◌then◌else◌, List, [], ◌∷◌, ◌++◌, All, length, map, option_map, find, Option, Some, None}
 use Rattle.std.specs.List.{list_any}
 use Rattle.segment_model.specs.Limits.{IsSmall}
 use Rattle.history_model.specs.declared.entries.Acceptance.{Acceptance}
 use Rattle.history_model.specs.declared.entries.Declaration.{Declaration}
 use Rattle.history_model.specs.declared.entries.Entry.{Entry}
 use Rattle.history_model.specs.declared.entries.Entry.TheVariants as entry
-use Rattle.history_model.specs.Samples.{Measurement}
+use Rattle.sample_model.specs.Samples.{Measurement}
 use Rattle.history_model.specs.Runs.{Retraction, Series, acceptances, retractions, takes_back, is_of}
 use Rattle.order_index.specs.Judged as pair
 use Rattle.order_index.specs.declared.declared.Declared.TheVariants as declared
@@ -15,6 +15,7 @@ use Rattle.sample_store.specs.Runs.{names, marked}
 use Rattle.sample_store.specs.declared.answers.Accepted.TheVariants as accepted
 use Rattle.sample_store.specs.declared.answers.Retracted.TheVariants as retracted
 use Rattle.sample_store.specs.declared.store.Stored.{Stored}
+use Rattle.publication_index.specs.Given.{given}
 use Rattle.series_index.specs.Seen.{seen, without, undone}
 use Rattle.series_index.specs.Taken.{of_series, with_samples, HasRoomFor}
 use Rattle.series_index.specs.declared.tracked.Tracked.{Tracked}
@@ -32,6 +33,7 @@ runs_after step (entry.Commit number name) runs = runs
 runs_after step (entry.Accept run) runs = runs ++ record { step = step; run = run; retracted = None } ∷ []
 runs_after step (entry.Retract run) runs = map (marked step run) runs
 runs_after step (entry.Tune metric penalty) runs = runs
+runs_after step (entry.Publish p) runs = runs
 
 -- the indexes of commits and runs take the entry in
 abbrev pub IsReady : List Declaration → List Stored → Entry → Type 0
@@ -39,6 +41,7 @@ IsReady commits runs (entry.Commit number name) = pair.judged commits number nam
 IsReady commits runs (entry.Accept new) = run.judged runs new ≡ accepted.New
 IsReady commits runs (entry.Retract name) = run.retraction runs name ≡ retracted.Done
 IsReady commits runs (entry.Tune metric penalty) = Unit {0}
+IsReady commits runs (entry.Publish p) = Unit {0}
 
 -- ---- series
 
@@ -61,6 +64,7 @@ seen_after step (entry.Commit number name) runs s t = t
 seen_after step (entry.Accept run) runs s t = with_samples run.commit step (of_series s run.samples) t
 seen_after step (entry.Retract run) runs s t = given_back (found_run run runs) s t
 seen_after step (entry.Tune metric penalty) runs s t = t
+seen_after step (entry.Publish p) runs s t = t
 
 -- the series have room for a run's samples, and know nothing of its step
 pub record HasRoomForAll (series : Kept) (commit step : ℕ) (samples : List Measurement) : Type 0 where
@@ -73,3 +77,23 @@ TakesIn series step (entry.Commit number name) = Unit {0}
 TakesIn series step (entry.Accept run) = HasRoomForAll series run.commit step run.samples
 TakesIn series step (entry.Retract run) = Unit {0}
 TakesIn series step (entry.Tune metric penalty) = Unit {0}
+TakesIn series step (entry.Publish p) = Unit {0}
+
+-- ---- penalties
+
+-- the penalties as an index keeps them
+abbrev pub Penalties : Type 0
+Penalties = List (List ℕ × ℤ)
+
+-- a metric's penalty after an entry
+abbrev pub given_after : Entry → List ℕ → ℤ → ℤ
+given_after (entry.Tune other penalty) metric z = if bytes_eq other metric then penalty else z
+given_after e metric z = z
+
+-- ---- what is seen of the indexes is the same
+
+pub record AreSame (commits commits' : List Declaration) (runs runs' : List Stored) (series series' : Kept) (penalties penalties' : Penalties) : Type 0 where
+  pub same_commits : commits' ≡ commits
+  pub same_runs : runs' ≡ runs
+  pub same_series : (s : Series) → seen s series' ≡ seen s series
+  pub same_penalties : (metric : List ℕ) → given metric penalties' ≡ given metric penalties

@@ -1,5 +1,7 @@
--- Private: no public contract cites this. A stored run as `runs` lists it.
-use Rattle.std.specs.Prelude.{List, [], length, is_none, unwrap_or}
+-- Private: no public contract cites this. A stored run as `runs` lists it, and a change as `changes` does.
+use Rattle.std.specs.Prelude.{List, [], length, is_none, unwrap_or, IsSome}
+use Rattle.change_list.specs.declared.change.Change.{Change}
+use Rattle.request_model.specs.declared.changes.NamedChange.{NamedChange}
 use Rattle.history_model.specs.declared.entries.Declaration.{Declaration}
 use Rattle.request_model.specs.declared.runs.RunLine.{RunLine}
 use Rattle.history_model.specs.Commits.{name_in}
@@ -8,3 +10,12 @@ use Rattle.sample_store.specs.declared.store.Stored.{Stored}
 abbrev pub line_of : List Declaration → Stored → RunLine
 line_of commits s =
     record { run = s.run.run; commit = unwrap_or (name_in s.run.commit commits) []; samples = length s.run.samples; live = is_none s.retracted }
+
+-- a change, its commits by name
+abbrev pub named_by : List Declaration → Change → NamedChange
+named_by commits c =
+    record { before = unwrap_or (name_in c.before commits) []; after = unwrap_or (name_in c.after commits) []; left = c.left; right = c.right; worse = c.worse }
+
+-- both commits are declared
+abbrev pub HasNames : List Declaration → Change → Type 0
+HasNames commits c = IsSome (name_in c.before commits) × IsSome (name_in c.after commits)

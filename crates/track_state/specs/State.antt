@@ -1,5 +1,6 @@
 -- Private: no public contract cites this. What the indexes of a state keep to.
-use Rattle.std.specs.Prelude.{◌≡◌, ◌≤◌, ℕ, List, length, Option, Some, None, is_some}
+use Rattle.std.specs.Prelude.{◌≡◌, ◌≤◌, ℕ, true, false, List, length, Option, Some, None, is_some}
+use Rattle.segment_model.specs.Segments.{Position}
 use Rattle.history_model.specs.declared.entries.Declaration.{Declaration}
 use Rattle.history_model.specs.declared.entries.Entry.{Entry}
 use Rattle.history_model.specs.Allowed.{Legal, KeepsLimits}
@@ -9,7 +10,15 @@ use Rattle.history_model.specs.Runs.{Series, is_known, known_series}
 use Rattle.sample_store.specs.declared.store.Stored.{Stored}
 use Rattle.series_index.specs.Seen.{seen}
 use Rattle.series_index.specs.declared.tracked.Tracked.{Tracked}
-use Rattle.track_state.specs.Indexes.{Kept, stored_runs}
+use Rattle.history_model.specs.declared.publication.Publication.{Publication}
+use Rattle.history_model.specs.Penalties.{penalty_of}
+use Rattle.history_model.specs.Publications.{last_publication, cut_count}
+use Rattle.metric_table.specs.Table.{IsPenalty}
+use Rattle.segment_cost.specs.declared.done.Done.{Done}
+use Rattle.publication_index.specs.Given.{given}
+use Rattle.publication_index.specs.Kept.{kept}
+use Rattle.track_state.specs.Indexes.{Kept, Penalties, stored_runs}
+use Rattle.track_state.specs.Made.{Segmentations, publication_from, IsMadeFrom}
 
 -- a step that came, if it is one
 abbrev pub IsPast : ℕ → Option ℕ → Type 0
@@ -22,11 +31,27 @@ pub record IsTracked (h : List Entry) (s : Series) (t : Tracked) : Type 0 where
   pub since : IsPast (length h) t.since
   pub known : is_some t.since ≡ is_known s h
 
+-- what is found of a series: nothing where it isn't known, else its positions
+abbrev pub IsFound : List Entry → Series → Option (List Position) → Type 0
+IsFound h s None = is_known s h ≡ false
+IsFound h s (Some points) = (is_known s h ≡ true) × (points ≡ positions h s)
+
+-- what is kept of a series is what was made for its last publication
+abbrev pub IsKept : List Entry → Option Publication → Option Done → Type 0
+IsKept h None None = Unit {0}
+IsKept h (Some p) (Some done) = (p ≡ publication_from done) × IsMadeFrom h done
+IsKept h None (Some done) = ⊥
+IsKept h (Some p) None = ⊥
+
 -- the history is legal, and each index is what follows from it
-pub record StandsFor (h : List Entry) (commits : List Declaration) (runs : List Stored) (series : Kept) (known : ℕ) : Type 0 where
+pub record StandsFor (h : List Entry) (commits : List Declaration) (runs : List Stored) (series : Kept) (known : ℕ) (penalties : Penalties) (published : Segmentations) (cuts : ℕ) : Type 0 where
   pub legal : Legal h
   pub limits : KeepsLimits h
   pub commits_are : commits ≡ declarations h
   pub runs_are : runs ≡ stored_runs h
   pub series_are : (s : Series) → IsTracked h s (seen s series)
   pub known_are : known ≡ length (known_series h)
+  pub penalties_are : (metric : List ℕ) → given metric penalties ≡ penalty_of metric h
+  pub penalties_fit : (metric : List ℕ) → IsPenalty (penalty_of metric h)
+  pub published_are : (s : Series) → IsKept h (last_publication s h) (kept s published)
+  pub cuts_are : cuts ≡ cut_count h

@@ -1,18 +1,20 @@
 //! The indexes after an entry.
-ghost use Rattle.std.specs.Prelude.{◌≡◌, ◌++◌, [], ◌∷◌, OnOk, OnErr, option_to_list, None, if◌then◌else◌};
+ghost use Rattle.std.specs.Prelude.{◌≡◌, ℕ, List, ◌++◌, [], ◌∷◌, OnOk, OnErr, option_to_list, None, if◌then◌else◌};
 ghost use Rattle.history_model.specs.Commits.{declaration};
 ghost use Rattle.history_model.specs.Runs.{Series};
 ghost use Rattle.history_model.specs.declared.entries.Entry.TheVariants as entry;
+ghost use Rattle.publication_index.specs.Given.{given};
 ghost use Rattle.sample_store.specs.Judged as judge;
 ghost use Rattle.sample_store.specs.declared.answers.Accepted.TheVariants as accepted;
 ghost use Rattle.series_index.specs.Seen.{seen};
 ghost use Rattle.series_index.specs.Taken.{of_series, with_samples};
-ghost use Rattle.track_state.specs.Indexes.{IsReady, TakesIn, runs_after, given_back, found_run, seen_after};
+ghost use Rattle.track_state.specs.Indexes.{IsReady, TakesIn, runs_after, given_back, found_run, seen_after, given_after, AreSame};
 
 use crate::NoMemory;
 use history_model::{Entry, Run};
 use line_text::Name;
 use order_index::OrderIndex;
+use publication_index::PenaltyIndex;
 use sample_store::SampleStore;
 use series_index::{SeriesIndex, undo_law};
 use std::alloc::Global;
@@ -23,6 +25,7 @@ pub fn follow(
     commits: &mut OrderIndex,
     runs: &mut SampleStore,
     series: &mut SeriesIndex,
+    penalties: &mut PenaltyIndex,
     step: u64,
     entry: &Entry,
 ) -> Result<(), NoMemory>
@@ -33,9 +36,10 @@ pub fn follow(
     ensures runs { OnOk result (runs.new ≡ runs_after step entry.now runs.old) }
     ensures series { OnOk result ((s : Series) → seen s series.new
         ≡ seen_after step entry.now runs.old s (seen s series.old)) }
-    ensures same_commits { OnErr result (commits.new ≡ commits.old) }
-    ensures same_runs { OnErr result (runs.new ≡ runs.old) }
-    ensures same_series { OnErr result ((s : Series) → seen s series.new ≡ seen s series.old) }
+    ensures penalties { OnOk result ((metric : List ℕ) → given metric penalties.new
+        ≡ given_after entry.now metric (given metric penalties.old)) }
+    ensures same { OnErr result (AreSame commits.old commits.new runs.old runs.new
+        series.old series.new penalties.old penalties.new) }
 {
     match entry {
         Entry::Commit { number, name } => {
@@ -53,7 +57,12 @@ pub fn follow(
             let _ = runs.retract(step, run);
             Ok(())
         }
-        Entry::Tune { .. } => Ok(()),
+        Entry::Tune { metric, penalty } => {
+            let penalty = *penalty;
+            penalties.set(metric, penalty)?;
+            Ok(())
+        }
+        Entry::Publish { .. } => Ok(()),
     }
 }
 

@@ -4,6 +4,7 @@ ghost use Rattle.history_model.specs.Entries.{entries_of};
 ghost use Rattle.history_model.specs.declared.entries.Entry.TheVariants as entry;
 ghost use Rattle.history_model.specs.Commits.{name_of};
 ghost use Rattle.history_model.specs.Runs.{accepted};
+ghost use Rattle.track_state.specs.Made.{IsPlain};
 ghost use Rattle.track_state.specs.Replays.{IsReplayed, IsAllowance, commit_fits, retraction_fits, tuning_fits};
 
 use crate::NoMemory;
@@ -70,8 +71,9 @@ impl TrackState {
         }
     }
 
-    // How many series the entry makes known; none where it isn't allowed.
+    // How many series the entry, which is no publication, makes known; none where it isn't allowed.
     fn allowance(&self, entry: &Entry) -> Result<Option<u64>, NoMemory>
+        requires { IsPlain entry.now }
         ensures { IfOk result (λ more. IsAllowance (entries_of self.now.history) entry.now more) }
     {
         limits_law();
@@ -98,11 +100,13 @@ impl TrackState {
                 }
                 Ok(None)
             }
+            Entry::Publish { .. } => unreachable!(),
         }
     }
 
-    /// Adds a kept entry; false exactly where it isn't allowed after those before it, and then nothing changes.
+    /// Adds a kept entry, which is no publication; false exactly where it isn't allowed after those before it, and then nothing changes.
     pub fn replay(&mut self, entry: Entry) -> Result<bool, NoMemory>
+        requires { IsPlain entry }
         ensures replayed { IfOk result (λ added. IsReplayed self.old entry added self.new) }
         ensures same { OnErr result (self.new ≡ self.old) }
     {

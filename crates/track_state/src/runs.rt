@@ -3,8 +3,9 @@ ghost use Rattle.std.specs.Prelude.{◌≡◌, All, IfOk, IsSome, OnErr, map};
 ghost use Rattle.history_model.specs.Commits.{declarations, name_in};
 ghost use Rattle.history_model.specs.Entries.{entries_of};
 ghost use Rattle.track_model.specs.Forms as forms;
-ghost use Rattle.track_model.specs.Replies.{machine_of, outcome, reply_of};
-ghost use Rattle.track_model.specs.Tracks.{IsStep};
+ghost use Rattle.track_model.specs.Outcomes.{Outcome};
+ghost use Rattle.track_model.specs.Replies.{machine_of, reply_of};
+ghost use Rattle.track_model.specs.Tracks.{ComesTo, IsStep};
 ghost use Rattle.sample_store.specs.declared.store.Stored.{Stored};
 ghost use Rattle.track_state.specs.Lines.{line_of};
 
@@ -30,8 +31,9 @@ impl TrackState {
     /// Answers a request about this machine.
     pub fn step(&mut self, author: Author, request: &Request) -> Result<Reply, NoMemory>
         requires { machine_of request.now ≡ self.old.machine }
-        ensures step { IfOk result (λ reply. IsStep self.old author
-            (outcome (entries_of self.old.history) request.now) self.new reply) }
+        ensures step { IfOk result (λ reply. (o : Outcome)
+            × ComesTo (entries_of self.old.history) request.now o
+            × IsStep self.old author o self.new reply) }
         ensures same { OnErr result (self.new ≡ self.old) }
     {
         match request {
@@ -67,6 +69,30 @@ impl TrackState {
                 let penalty = *penalty;
                 self.tune(author, metric, penalty)
             }
+            Request::Calibrate {
+                machine: _,
+                test,
+                metric,
+                factor,
+            } => {
+                let factor = *factor;
+                self.calibrate(author, test, metric, factor)
+            }
+            Request::Segment {
+                machine: _,
+                test,
+                metric,
+            } => self.segment(author, test, metric),
+            Request::Changes {
+                machine: _,
+                test,
+                metric,
+            } => self.changes(author, test, metric),
+            Request::Verify {
+                machine: _,
+                test,
+                metric,
+            } => self.verify(author, test, metric),
             Request::Runs { machine: _ } => self.runs(),
         }
     }

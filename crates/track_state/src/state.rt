@@ -8,15 +8,18 @@ ghost use Rattle.track_model.specs.Forms as forms;
 ghost use Rattle.track_model.specs.Outcomes.{tells};
 ghost use Rattle.track_model.specs.Replies.{reply_of};
 ghost use Rattle.track_model.specs.Tracks.{IsStep, with_entry};
+ghost use Rattle.track_state.specs.Made.{IsPlain};
 
 use crate::NoMemory;
 use crate::follow::follow;
 use history_model::{
-    Author, Declaration, Entry, Placed, growth_law, limits_law, positions_law, retraction_law,
+    Author, Declaration, Entry, Placed, growth_law, limits_law, penalty_law, positions_law,
+    publication_law, retraction_law,
 };
 use line_text::Name;
 use metric_table::Limit;
 use order_index::OrderIndex;
+use publication_index::{PenaltyIndex, PublicationIndex};
 use request_model::{Answer, Refusal, Reply};
 use sample_store::SampleStore;
 use series_index::SeriesIndex;
@@ -35,6 +38,9 @@ pub struct TrackState {
     pub(crate) runs: SampleStore,
     pub(crate) series: SeriesIndex,
     pub(crate) known: u64,
+    pub(crate) penalties: PenaltyIndex,
+    pub(crate) published: PublicationIndex,
+    pub(crate) cuts: u64,
 }
 
 impl Model for TrackState {
@@ -47,7 +53,8 @@ impl Model for TrackState {
     ghost view = { λ s. record { machine = s.machine; kept = s.kept; history = s.history.items } };
 
     ghost invariant = { λ s.
-        StandsFor (entries_of s.history.items) s.commits s.runs s.series s.known };
+        StandsFor (entries_of s.history.items) s.commits s.runs s.series s.known
+        s.penalties s.published s.cuts };
 }
 
 impl TrackState {
@@ -64,6 +71,9 @@ impl TrackState {
             runs: SampleStore::new(alloc),
             series: SeriesIndex::new(alloc),
             known: 0,
+            penalties: PenaltyIndex::new(alloc),
+            published: PublicationIndex::new(alloc),
+            cuts: 0,
         }
     }
 
@@ -109,9 +119,10 @@ impl TrackState {
         }
     }
 
-    // Adds an entry that is allowed and makes so many series known, and gives its step.
+    // Adds an entry that is no publication, is allowed and makes so many series known, and gives its step.
     pub(crate) fn add(&mut self, author: Author, entry: Entry, more: u64) -> Result<u64, NoMemory>
         requires allowed { Allowed (entries_of self.old.history) entry }
+        requires plain { IsPlain entry }
         requires more { length (known_series (entries_of self.old.history ++ entry ∷ []))
             ≡ length (known_series (entries_of self.old.history)) + more }
         ensures step { IfOk result (λ step. step ≡ length (entries_of self.old.history) + 1) }
@@ -122,6 +133,8 @@ impl TrackState {
         positions_law();
         retraction_law();
         limits_law();
+        penalty_law();
+        publication_law();
         self.history.reserve(1)?;
         let step = self.history.len() as u64 + 1;
         follow(
@@ -129,6 +142,7 @@ impl TrackState {
             &mut self.commits,
             &mut self.runs,
             &mut self.series,
+            &mut self.penalties,
             step,
             &entry,
         )?;

@@ -10,10 +10,11 @@ ghost use Rattle.track_state.specs.Verdicts.{Asks, IsVerdict};
 use crate::NoMemory;
 use crate::state::TrackState;
 use crate::verdict::Verdict;
-use history_model::{Author, Entry, Run, Samples, accept_law, retraction_law, within_law};
+use history_model::{Author, Entry, Run, accept_law, retraction_law, within_law};
 use line_text::{Name, Text};
 use metric_table::Limit;
 use request_model::{Answer, Refusal, Reply};
+use sample_model::Samples;
 use sample_store::Accepted;
 use series_index::Demand;
 
@@ -78,8 +79,8 @@ impl TrackState {
         Ok(self.told_again(new))
     }
 
-    // The history keeps its limits and is legal.
-    pub(crate) fn history_law(&self)
+    /// The history keeps its limits and is legal. Changes nothing: its contract is what it is for.
+    pub fn history_law(&self)
         ensures limits { KeepsLimits (entries_of self.now.history) }
         ensures legal { Legal (entries_of self.now.history) }
     {

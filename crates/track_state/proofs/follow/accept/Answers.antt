@@ -2,7 +2,7 @@ use Rattle.std.proofs.Common.{◌≡◌, true, false, cond, ◌||◌, Bool, List
 use Rattle.std.specs.Prelude.{filter}
 use Rattle.std.specs.List.{list_any}
 use Rattle.std.proofs.lemmas.Bool.{cases_Bool}
-use Rattle.history_model.specs.Samples.{Measurement}
+use Rattle.sample_model.specs.Samples.{Measurement}
 use Rattle.history_model.specs.Runs.{Series, is_of}
 use Rattle.series_index.specs.Seen.{seen, undone}
 use Rattle.series_index.specs.Taken.{of_series, with_samples}

@@ -9,11 +9,13 @@ use Rattle.history_model.specs.Commits.{declaration}
 use Rattle.history_model.specs.Entries.{entries_of}
 use Rattle.track_model.specs.Tracks.{Track}
 use Rattle.history_model.proofs.Chosen.{entries-push}
-use Rattle.track_state.specs.Indexes.{TakesIn, runs_after, seen_after}
+use Rattle.publication_index.specs.Given.{given}
+use Rattle.track_state.specs.Indexes.{TakesIn, runs_after, seen_after, given_after}
 use Rattle.history_model.specs.Runs.{Series, known_series}
 use Rattle.series_index.specs.Seen.{seen}
 use Rattle.track_state.proofs.Series.{takes-in}
 use Rattle.track_state.proofs.OneMore.{follows}
+use Rattle.track_state.proofs.Publishing.{plain-kept, plain-counted}
 use Rattle.track_state.proofs.Ready.{ready}
 use Rattle.track_state.proofs.state.TrackState.add.Goals as goal
 
@@ -52,9 +54,15 @@ invariant_of-self-2 c =
     let series_are : (s : Series) → seen s c.follow.new.series ≡ seen_after (length h + 1) e c.self.inside.runs s (seen s c.self.inside.series) =
     rw (← step_is) c.in_ok-follow.ensures.series in
     let grown : length (known_series (h ++ e ∷ [])) ≡ length (known_series h) + c.args.more = rw h_is at c.requires.more in
+    let given_are : (metric : List ℕ) → given metric c.follow.new.penalties ≡ given_after e metric (given metric c.self.inside.penalties) = c.in_ok-follow.ensures.penalties in
     rw (entries_are, commits_are, runs_are)
     (follows c.growth_law.ensures.legal c.positions_law.ensures.accept c.positions_law.ensures.retract c.positions_law.ensures.untouched c.retraction_law.ensures
-    h e c.self.inside.commits c.self.inside.runs c.self.inside.series c.follow.new.series c.self.inside.known c.args.more c.self.invariant allowed grown series_are)
+    c.penalty_law.ensures.set c.penalty_law.ensures.stays
+    h e c.self.inside.commits c.self.inside.runs c.self.inside.series c.follow.new.series c.self.inside.known c.args.more
+    c.self.inside.penalties c.follow.new.penalties c.self.inside.published c.self.inside.published c.self.inside.cuts c.self.inside.cuts
+    c.self.invariant allowed grown series_are given_are
+    (plain-kept c.publication_law.ensures.stays c.publication_law.ensures.versions h e c.self.inside.published c.requires.plain c.self.invariant.published_are)
+    (plain-counted c.publication_law.ensures.cuts h e c.self.inside.cuts c.requires.plain c.self.invariant.cuts_are))
 
 pub overflow_add-self : goal.overflow_add-self
 overflow_add-self c =

@@ -7,7 +7,7 @@ use Rattle.segment_model.specs.Edits.{has_commit}
 use Rattle.history_model.specs.declared.entries.Entry.{Entry}
 use Rattle.history_model.specs.Entries.{entries_of}
 use Rattle.history_model.specs.Runs.{Series, is_of, is_known, distinct, same_series, measured}
-use Rattle.history_model.specs.Samples.{Measurement, IsSample}
+use Rattle.sample_model.specs.Samples.{Measurement, IsSample}
 use Rattle.track_model.specs.Tracks.{Track}
 use Rattle.series_index.specs.Demands.{Kept, is_new}
 use Rattle.series_index.specs.Seen.{seen}

@@ -5,7 +5,7 @@ use Rattle.history_model.specs.declared.run.Run.{Run}
 use Rattle.history_model.specs.Commits.{name_of}
 use Rattle.history_model.specs.Entries.{entries_of}
 use Rattle.track_model.specs.Forms as forms
-use Rattle.history_model.specs.Samples.{AreSamples}
+use Rattle.sample_model.specs.Samples.{AreSamples}
 use Rattle.track_state.specs.declared.verdict.Verdict.{Verdict}
 use Rattle.track_state.specs.Verdicts.{IsVerdict}
 use Rattle.track_state.proofs.Submits.{free-submit, number-is-named}

@@ -1,0 +1,41 @@
+-- What a form about a series comes to where nothing is done, and where something is.
+use Rattle.std.proofs.Common.{◌≡◌, ℕ, Bool, true, false, refl}
+use Rattle.history_model.specs.declared.entries.Author.{Author}
+use Rattle.history_model.specs.Entries.{entries_of}
+use Rattle.request_model.specs.declared.replies.Answer.{Answer}
+use Rattle.request_model.specs.declared.replies.Reply.{Reply}
+use Rattle.request_model.specs.declared.replies.Refusal.TheVariants as refusal
+use Rattle.track_model.specs.Outcomes.{Outcome, tells, refuses}
+use Rattle.track_model.specs.Publishing.{OfKnown, OfFactor, OfMany}
+use Rattle.track_model.specs.Replies.{reply_of}
+use Rattle.track_model.specs.Tracks.{Track, IsStep}
+
+-- an outcome that tells something and adds nothing
+pub tells-it : (Comes : Outcome → Type 0) (old : Track) (author : Author) (answer : Answer) (reply : Reply) → Comes (tells answer) → reply ≡ reply_of (entries_of old.history) (tells answer)
+    → (o : Outcome) × Comes o × IsStep old author o old reply
+tells-it Comes old author answer reply comes told = (tells answer, comes, record { track = refl; told = told })
+
+-- the tests in front of a form
+pub factor-out : (Comes : Outcome → Type 0) (b : Bool) → b ≡ false → OfFactor b Comes (refuses refusal.BadPenalty)
+factor-out Comes false is = refl
+factor-out Comes true is = absurd (let no : true ≡ false = is in cc)
+
+pub factor-in : (Comes : Outcome → Type 0) (o : Outcome) (b : Bool) → b ≡ true → Comes o → OfFactor b Comes o
+factor-in Comes o true is comes = comes
+factor-in Comes o false is comes = absurd (let no : false ≡ true = is in cc)
+
+pub unknown : (Comes : Outcome → Type 0) (b : Bool) → b ≡ false → OfKnown b Comes (refuses refusal.UnknownSeries)
+unknown Comes false is = refl
+unknown Comes true is = absurd (let no : true ≡ false = is in cc)
+
+pub known : (Comes : Outcome → Type 0) (o : Outcome) (b : Bool) → b ≡ true → Comes o → OfKnown b Comes o
+known Comes o true is comes = comes
+known Comes o false is comes = absurd (let no : false ≡ true = is in cc)
+
+pub few : (Comes : Outcome → Type 0) (n : ℕ) (b : Bool) → b ≡ true → OfMany b n Comes (refuses (refusal.TooFewPoints n))
+few Comes n true is = refl
+few Comes n false is = absurd (let no : false ≡ true = is in cc)
+
+pub many : (Comes : Outcome → Type 0) (o : Outcome) (n : ℕ) (b : Bool) → b ≡ false → Comes o → OfMany b n Comes o
+many Comes o n false is comes = comes
+many Comes o n true is comes = absurd (let no : true ≡ false = is in cc)

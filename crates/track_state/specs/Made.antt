@@ -1,0 +1,35 @@
+-- What a finished segmentation has to do with the history that it was made from.
+use Rattle.std.specs.Prelude.{◌≡◌, ℕ, ◌≤◌, true, List, length, take}
+use Rattle.segment_cost.specs.Certificate.{StandsFor}
+use Rattle.segment_cost.specs.declared.done.Done.{Done}
+use Rattle.history_model.specs.declared.entries.Entry.{Entry}
+use Rattle.history_model.specs.declared.entries.Entry.TheVariants.{Publish}
+use Rattle.history_model.specs.declared.publication.Publication.{Publication}
+use Rattle.history_model.specs.Penalties.{penalty_of}
+use Rattle.history_model.specs.Positions.{positions}
+use Rattle.history_model.specs.Runs.{is_known}
+use Rattle.publication_index.specs.Kept.{series_of}
+
+-- the finished segmentations as an index keeps them
+abbrev pub Segmentations : Type 0
+Segmentations = List (List ℕ × List (List ℕ × Done))
+
+-- what is published of it
+abbrev pub publication_from : Done → Publication
+publication_from done =
+    record { test = done.test; metric = done.metric; version = done.version; base = done.base; total = done.cert.total; cuts = done.cert.cuts }
+
+-- it was made from a version of the history at which its series was known: from the positions and the penalty that the
+-- version gives it, with no table before
+pub record IsMadeFrom (h : List Entry) (done : Done) : Type 0 where
+  pub past : done.version ≤ length h
+  pub known : is_known (series_of done) (take done.version h) ≡ true
+  pub points : done.points ≡ positions (take done.version h) (series_of done)
+  pub penalty : done.cert.penalty ≡ penalty_of done.metric (take done.version h)
+  pub from_start : done.base ≡ 0
+  pub stands : StandsFor done.points done.cert.penalty done.cert
+
+-- an entry that publishes nothing
+abbrev pub IsPlain : Entry → Type 0
+IsPlain (Publish p) = ⊥
+IsPlain e = Unit {0}
