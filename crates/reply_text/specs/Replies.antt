@@ -4,6 +4,10 @@ use Rattle.std.specs.Fmt.{signed_decimal}
 use Rattle.std.specs.List.{flat_map}
 use Rattle.line_text.specs.Names.{spelling}
 use Rattle.metric_table.specs.Limits.{word}
+use Rattle.metric_value.specs.Values.{value_text}
+use Rattle.cost_certificate.specs.Text as certificate
+use Rattle.request_model.specs.Lines.{line_of}
+use Rattle.request_model.specs.declared.changes.NamedChange.{NamedChange}
 use Rattle.request_model.specs.declared.replies.Answer.{Answer}
 use Rattle.request_model.specs.declared.replies.Answer.TheVariants as answer
 use Rattle.request_model.specs.declared.replies.RangePlace.{RangePlace}
@@ -36,14 +40,31 @@ refusal_words (refusal.OutOfRange where_) = codes "E09" ∷ codes "OutOfRange" �
 refusal_words (refusal.IdentityClash step) = codes "E10" ∷ codes "IdentityClash" ∷ at step ∷ []
 refusal_words refusal.UnknownRun = codes "E11" ∷ codes "UnknownRun" ∷ []
 refusal_words (refusal.AlreadyRetracted step) = codes "E12" ∷ codes "AlreadyRetracted" ∷ at step ∷ []
+refusal_words refusal.UnknownSeries = codes "E13" ∷ codes "UnknownSeries" ∷ []
+refusal_words refusal.NothingPublished = codes "E14" ∷ codes "NothingPublished" ∷ []
 refusal_words (refusal.Full limit) = codes "E21" ∷ codes "Full" ∷ word limit ∷ []
 refusal_words refusal.BadPenalty = codes "E22" ∷ codes "BadPenalty" ∷ []
+refusal_words (refusal.TooFewPoints points) = codes "E23" ∷ codes "TooFewPoints" ∷ decimal points ∷ []
 refusal_words refusal.BodyTooLong = codes "E26" ∷ codes "BodyTooLong" ∷ []
 refusal_words (refusal.TooDeep offset) = codes "E28" ∷ codes "TooDeep" ∷ decimal offset ∷ []
 
 -- a run, as it is listed
 abbrev pub run_words : RunLine → List (List ℕ)
 run_words line = spelling line.run ∷ spelling line.commit ∷ decimal line.samples ∷ (if line.live then codes "live" else codes "retracted") ∷ []
+
+-- a change, as it is listed: its commits, and the centres before and behind it with the metric's decimals
+abbrev pub change_words : List ℕ → NamedChange → List (List ℕ)
+change_words metric c =
+    spelling c.before ∷ spelling c.after ∷ value_text metric c.left ∷ value_text metric c.right
+    ∷ (if c.worse then codes "regression" else codes "improvement") ∷ []
+
+-- what speaks of the history's first entries, so many
+abbrev pub version_words : List ℕ → ℕ → List (List ℕ)
+version_words kind version = kind ∷ codes "version" ∷ decimal version ∷ []
+
+-- the same, with so many lines behind
+abbrev pub listed_words : List ℕ → ℕ → ℕ → List (List ℕ)
+listed_words kind version lines = version_words kind version ++ codes "lines" ∷ decimal lines ∷ []
 
 -- the words of an answer on the reply's first line
 abbrev pub answer_words : Answer → List (List ℕ)
@@ -53,23 +74,21 @@ answer_words (answer.Duplicate step) = codes "duplicate" ∷ at step ∷ []
 answer_words (answer.Accepted name samples ignored) = codes "accepted" ∷ spelling name ∷ codes "samples" ∷ decimal samples ∷ codes "ignored" ∷ decimal ignored ∷ []
 answer_words (answer.Retracted name) = codes "retracted" ∷ spelling name ∷ []
 answer_words (answer.Tuned metric penalty) = codes "tuned" ∷ spelling metric ∷ signed_decimal penalty ∷ []
+answer_words (answer.Segmented version base points cuts redone total) =
+    version_words (codes "segmented") version
+    ++ codes "base" ∷ decimal base ∷ codes "points" ∷ decimal points ∷ codes "cuts" ∷ decimal cuts ∷ codes "redone" ∷ decimal redone ∷ codes "total" ∷ signed_decimal total ∷ []
+answer_words (answer.Changes version metric items) = listed_words (codes "changes") version (length items)
+answer_words (answer.Verified version cert) = listed_words (codes "verified") version 7
 answer_words (answer.Runs lines) = codes "runs" ∷ codes "lines" ∷ decimal (length lines) ∷ []
 answer_words (answer.Refused reason) = refusal_words reason
 
--- the lines behind it, each of some words
-abbrev pub answer_lines : Answer → List (List (List ℕ))
-answer_lines (answer.Runs lines) = map run_words lines
-answer_lines _ = []
-
--- words, each behind a space
-abbrev pub spaced : List (List ℕ) → List ℕ
-spaced words = flat_map (λ w. 32 ∷ w) words
-
--- a line of words with single spaces between them, and its line feed
-abbrev pub line_of : List (List ℕ) → List ℕ
-line_of [] = 10 ∷ []
-line_of (first ∷ words) = first ++ (spaced words ++ 10 ∷ [])
+-- the text of the lines behind it
+abbrev pub text_behind : Answer → List ℕ
+text_behind (answer.Changes version metric items) = flat_map line_of (map (change_words metric) items)
+text_behind (answer.Verified version cert) = certificate.text_of cert
+text_behind (answer.Runs lines) = flat_map line_of (map run_words lines)
+text_behind _ = []
 
 -- the text of a reply
 abbrev pub text_of : Reply → List ℕ
-text_of reply = flat_map line_of ((at reply.step ∷ answer_words reply.answer) ∷ answer_lines reply.answer)
+text_of reply = line_of (at reply.step ∷ answer_words reply.answer) ++ text_behind reply.answer

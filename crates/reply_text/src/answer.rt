@@ -1,13 +1,16 @@
 //! The words of an answer, and the lines of a list.
-ghost use Rattle.std.specs.Prelude.{◌≡◌, ◌++◌, ◌∷◌, [], OnOk};
-ghost use Rattle.reply_text.specs.Replies.{spaced, line_of, answer_words, run_words};
+ghost use Rattle.std.specs.Prelude.{◌≡◌, ◌++◌, ◌∷◌, [], OnOk, codes, decimal};
+ghost use Rattle.std.specs.Fmt.{signed_decimal};
+ghost use Rattle.line_text.specs.Names.{spelling};
+ghost use Rattle.request_model.specs.Lines.{spaced, line_of};
+ghost use Rattle.reply_text.specs.Replies.{answer_words, change_words, listed_words, run_words, version_words};
 ghost use Rattle.request_model.specs.declared.replies.Answer.TheVariants as answer;
 
 use crate::NoMemory;
 use crate::refusal::put_refusal;
-use crate::words::{put_amount, put_number, put_spelled, put_step, put_word};
+use crate::words::{put_amount, put_number, put_spelled, put_step, put_word, put_worth};
 use line_text::{Name, put_name};
-use request_model::{Answer, RunLine};
+use request_model::{Answer, NamedChange, RunLine};
 use std::alloc::Global;
 
 // Appends the words of an answer on the first line, each behind a space.
@@ -15,10 +18,7 @@ pub(crate) fn put_answer(alloc: Global, out: &mut Vec<u8>, answer: &Answer) -> R
     ensures { OnOk result (out.new.items ≡ out.old.items ++ spaced (answer_words answer.now)) }
 {
     match answer {
-        Answer::Machine { machine } => {
-            put_word(out, "machine")?;
-            put_spelled(alloc, out, machine)
-        }
+        Answer::Machine { machine } => put_named(alloc, out, "machine", machine),
         Answer::Commit { number, name } => {
             put_word(out, "commit")?;
             put_number(alloc, out, *number)?;
@@ -33,22 +33,100 @@ pub(crate) fn put_answer(alloc: Global, out: &mut Vec<u8>, answer: &Answer) -> R
             samples,
             ignored,
         } => put_accepted(alloc, out, run, *samples, *ignored),
-        Answer::Retracted { run } => {
-            put_word(out, "retracted")?;
-            put_spelled(alloc, out, run)
-        }
+        Answer::Retracted { run } => put_named(alloc, out, "retracted", run),
         Answer::Tuned { metric, penalty } => {
-            put_word(out, "tuned")?;
-            put_spelled(alloc, out, metric)?;
+            put_named(alloc, out, "tuned", metric)?;
             put_amount(alloc, out, *penalty)
         }
+        Answer::Segmented {
+            version,
+            base,
+            points,
+            cuts,
+            redone,
+            total,
+        } => {
+            put_version(alloc, out, "segmented", *version)?;
+            put_sizes(alloc, out, *base, *points, *cuts)?;
+            put_effort(alloc, out, *redone, *total)
+        }
+        Answer::Changes { version, items, .. } => {
+            put_listed(alloc, out, "changes", *version, items.len() as u64)
+        }
+        Answer::Verified { version, .. } => put_listed(alloc, out, "verified", *version, 7),
         Answer::Runs { runs } => {
             put_word(out, "runs")?;
-            put_word(out, "lines")?;
-            put_number(alloc, out, runs.len() as u64)
+            put_counted(alloc, out, "lines", runs.len() as u64)
         }
         Answer::Refused(refusal) => put_refusal(alloc, out, refusal),
     }
+}
+
+// Appends a word and a name.
+fn put_named(alloc: Global, out: &mut Vec<u8>, kind: &str, name: &Name) -> Result<(), NoMemory>
+    ensures { OnOk result
+        (out.new.items ≡ out.old.items ++ spaced (kind.now ∷ spelling name.now ∷ [])) }
+{
+    put_word(out, kind)?;
+    put_spelled(alloc, out, name)
+}
+
+// Appends a word and a number.
+fn put_counted(alloc: Global, out: &mut Vec<u8>, what: &str, n: u64) -> Result<(), NoMemory>
+    ensures { OnOk result (out.new.items ≡ out.old.items ++ spaced (what.now ∷ decimal n ∷ [])) }
+{
+    put_word(out, what)?;
+    put_number(alloc, out, n)
+}
+
+// Appends a word, and the number of entries that the answer speaks of.
+fn put_version(alloc: Global, out: &mut Vec<u8>, kind: &str, version: u64) -> Result<(), NoMemory>
+    ensures { OnOk result
+        (out.new.items ≡ out.old.items ++ spaced (version_words kind.now version)) }
+{
+    put_word(out, kind)?;
+    put_counted(alloc, out, "version", version)
+}
+
+// Appends the same, and how many lines follow.
+fn put_listed(
+    alloc: Global,
+    out: &mut Vec<u8>,
+    kind: &str,
+    version: u64,
+    lines: u64,
+) -> Result<(), NoMemory>
+    ensures { OnOk result
+        (out.new.items ≡ out.old.items ++ spaced (listed_words kind.now version lines)) }
+{
+    put_version(alloc, out, kind, version)?;
+    put_counted(alloc, out, "lines", lines)
+}
+
+// Appends what a segmentation began with, and how many positions and cuts it has.
+fn put_sizes(
+    alloc: Global,
+    out: &mut Vec<u8>,
+    base: u64,
+    points: u64,
+    cuts: u64,
+) -> Result<(), NoMemory>
+    ensures { OnOk result (out.new.items ≡ out.old.items ++ spaced (codes "base" ∷ decimal base
+        ∷ codes "points" ∷ decimal points ∷ codes "cuts" ∷ decimal cuts ∷ [])) }
+{
+    put_counted(alloc, out, "base", base)?;
+    put_counted(alloc, out, "points", points)?;
+    put_counted(alloc, out, "cuts", cuts)
+}
+
+// Appends how many positions were looked at anew, and the total.
+fn put_effort(alloc: Global, out: &mut Vec<u8>, redone: u64, total: i128) -> Result<(), NoMemory>
+    ensures { OnOk result (out.new.items ≡ out.old.items ++ spaced (codes "redone"
+        ∷ decimal redone ∷ codes "total" ∷ signed_decimal total ∷ [])) }
+{
+    put_counted(alloc, out, "redone", redone)?;
+    put_word(out, "total")?;
+    put_amount(alloc, out, total)
 }
 
 // Appends the words of a run that was accepted.
@@ -68,6 +146,32 @@ fn put_accepted(
     put_number(alloc, out, samples)?;
     put_word(out, "ignored")?;
     put_number(alloc, out, ignored)
+}
+
+// Appends the line of a change in this metric.
+pub(crate) fn put_change(
+    alloc: Global,
+    out: &mut Vec<u8>,
+    metric: &[u8],
+    change: &NamedChange,
+) -> Result<(), NoMemory>
+    ensures { OnOk result
+        (out.new.items ≡ out.old.items ++ line_of (change_words metric.now change.now)) }
+{
+    put_name(alloc, out, &change.before)?;
+    put_spelled(alloc, out, &change.after)?;
+    put_worth(alloc, out, metric, change.left)?;
+    put_worth(alloc, out, metric, change.right)?;
+    put_word(
+        out,
+        if change.worse {
+            "regression"
+        } else {
+            "improvement"
+        },
+    )?;
+    out.push(b'\n')?;
+    Ok(())
 }
 
 // Appends the line of a run.

@@ -1,6 +1,7 @@
 //! The words of a refusal.
 ghost use Rattle.std.specs.Prelude.{◌≡◌, ◌∷◌, ◌++◌, [], OnOk, decimal};
-ghost use Rattle.reply_text.specs.Replies.{at, spaced, place_words, refusal_words};
+ghost use Rattle.request_model.specs.Lines.{spaced};
+ghost use Rattle.reply_text.specs.Replies.{at, place_words, refusal_words};
 ghost use Rattle.request_model.specs.declared.replies.Refusal.TheVariants as refusal;
 
 use crate::NoMemory;
@@ -23,10 +24,10 @@ pub(crate) fn put_refusal(
         Refusal::UnknownMachine => put_kind(out, "E03", "UnknownMachine"),
         Refusal::UnknownCommit => put_kind(out, "E04", "UnknownCommit"),
         Refusal::CommitTaken { number, name } => put_taken(alloc, out, *number, name),
-        Refusal::NotText(offset) => put_placed(alloc, out, "E06", "NotText", *offset),
-        Refusal::NotJson(offset) => put_placed(alloc, out, "E07", "NotJson", *offset),
+        Refusal::NotText(offset) => put_numbered(alloc, out, "E06", "NotText", *offset),
+        Refusal::NotJson(offset) => put_numbered(alloc, out, "E07", "NotJson", *offset),
         Refusal::NotReport { rule, member } => {
-            put_placed(alloc, out, "E08", "NotReport", u64::from(*rule))?;
+            put_numbered(alloc, out, "E08", "NotReport", u64::from(*rule))?;
             put_text(alloc, out, member.as_str())
         }
         Refusal::OutOfRange(place) => put_out_of_range(alloc, out, place),
@@ -39,13 +40,16 @@ pub(crate) fn put_refusal(
             "AlreadyRetracted",
             *step,
         ),
+        Refusal::UnknownSeries => put_kind(out, "E13", "UnknownSeries"),
+        Refusal::NothingPublished => put_kind(out, "E14", "NothingPublished"),
         Refusal::Full(limit) => {
             put_kind(out, "E21", "Full")?;
             put_word(out, limit.word())
         }
         Refusal::BadPenalty => put_kind(out, "E22", "BadPenalty"),
+        Refusal::TooFewPoints(points) => put_numbered(alloc, out, "E23", "TooFewPoints", *points),
         Refusal::BodyTooLong => put_kind(out, "E26", "BodyTooLong"),
-        Refusal::TooDeep(offset) => put_placed(alloc, out, "E28", "TooDeep", *offset),
+        Refusal::TooDeep(offset) => put_numbered(alloc, out, "E28", "TooDeep", *offset),
     }
 }
 
@@ -58,19 +62,19 @@ fn put_kind(out: &mut Vec<u8>, number: &str, word: &str) -> Result<(), NoMemory>
     put_word(out, word)
 }
 
-// Appends a kind of refusal, and a place.
-fn put_placed(
+// Appends a kind of refusal, and a number.
+fn put_numbered(
     alloc: Global,
     out: &mut Vec<u8>,
     number: &str,
     word: &str,
-    place: u64,
+    told: u64,
 ) -> Result<(), NoMemory>
     ensures { OnOk result (out.new.items ≡ out.old.items
-        ++ spaced (number.now ∷ word.now ∷ decimal place ∷ [])) }
+        ++ spaced (number.now ∷ word.now ∷ decimal told ∷ [])) }
 {
     put_kind(out, number, word)?;
-    put_number(alloc, out, place)
+    put_number(alloc, out, told)
 }
 
 // Appends a kind of refusal, and a step.
@@ -93,7 +97,7 @@ fn put_taken(alloc: Global, out: &mut Vec<u8>, number: u64, name: &Name) -> Resu
     ensures { OnOk result (out.new.items ≡ out.old.items
         ++ spaced (refusal_words (refusal.CommitTaken number name.now))) }
 {
-    put_placed(alloc, out, "E05", "CommitTaken", number)?;
+    put_numbered(alloc, out, "E05", "CommitTaken", number)?;
     put_spelled(alloc, out, name)?;
     Ok(())
 }

@@ -1,16 +1,18 @@
 //! A reply, written.
 ghost use Rattle.std.specs.Prelude.{◌≡◌, ◌++◌, ◌∷◌, [], map, OnOk, OnErr, IfOk};
 ghost use Rattle.std.specs.List.{flat_map};
-ghost use Rattle.reply_text.specs.Replies.{at, line_of, answer_words, answer_lines, run_words, text_of};
+ghost use Rattle.request_model.specs.Lines.{line_of};
+ghost use Rattle.reply_text.specs.Replies.{text_behind, change_words, run_words, text_of};
 
 use crate::NoMemory;
-use crate::answer::{put_answer, put_run};
+use crate::answer::{put_answer, put_change, put_run};
 use crate::words::put_at;
-use request_model::{Answer, Reply, RunLine};
+use cost_certificate::put_cert;
+use request_model::{Answer, NamedChange, Reply, RunLine};
 use std::alloc::Global;
 
 /// Appends the text of a reply: a line with `@`, the number of entries, and the words of the answer, and behind it the
-/// lines of a list. The forms are those of docs/FORMATS.md.
+/// lines of a list or of a certificate. The forms are those of docs/FORMATS.md.
 ///
 /// Linear in the text, which it takes memory for; changes nothing where there is no memory.
 pub fn put_reply(alloc: Global, out: &mut Vec<u8>, reply: &Reply) -> Result<(), NoMemory>
@@ -36,13 +38,35 @@ fn reply_text(alloc: Global, reply: &Reply) -> Result<Vec<u8>, NoMemory>
 
 // Appends the lines behind the first.
 fn put_lines(alloc: Global, out: &mut Vec<u8>, answer: &Answer) -> Result<(), NoMemory>
-    ensures { OnOk result
-        (out.new.items ≡ out.old.items ++ flat_map line_of (answer_lines answer.now)) }
+    ensures { OnOk result (out.new.items ≡ out.old.items ++ text_behind answer.now) }
 {
     match answer {
+        Answer::Changes { metric, items, .. } => put_changes(
+            alloc,
+            out,
+            metric.as_str().as_bytes(),
+            items.as_slice(),
+        ),
+        Answer::Verified { cert, .. } => put_cert(alloc, out, cert),
         Answer::Runs { runs } => put_runs(alloc, out, runs.as_slice()),
         _ => Ok(()),
     }
+}
+
+// Appends the lines of changes in this metric.
+fn put_changes(
+    alloc: Global,
+    out: &mut Vec<u8>,
+    metric: &[u8],
+    changes: &[NamedChange],
+) -> Result<(), NoMemory>
+    ensures { OnOk result (out.new.items ≡ out.old.items
+        ++ flat_map line_of (map (change_words metric.now) changes.now)) }
+{
+    for change in changes {
+        put_change(alloc, out, metric, change)?;
+    }
+    Ok(())
 }
 
 // Appends the lines of runs.

@@ -2,10 +2,12 @@
 ghost use Rattle.std.specs.Prelude.{◌≡◌, ◌∷◌, ◌++◌, OnOk, decimal};
 ghost use Rattle.std.specs.Fmt.{signed_decimal};
 ghost use Rattle.line_text.specs.Names.{spelling};
+ghost use Rattle.metric_value.specs.Values.{value_text};
 ghost use Rattle.reply_text.specs.Replies.{at};
 
 use crate::NoMemory;
 use line_text::{Name, put_escaped, put_i128, put_name, put_u64};
+use metric_value::put_value;
 use std::alloc::Global;
 
 // Appends a space and a word.
@@ -51,6 +53,19 @@ pub(crate) fn put_amount(alloc: Global, out: &mut Vec<u8>, n: i128) -> Result<()
     out.push(b' ')?;
     put_i128(alloc, out, n)?;
     Ok(())
+}
+
+// Appends a space and a value of a metric.
+pub(crate) fn put_worth(
+    alloc: Global,
+    out: &mut Vec<u8>,
+    metric: &[u8],
+    value: i64,
+) -> Result<(), NoMemory>
+    ensures { OnOk result (out.new.items ≡ out.old.items ++ (32 ∷ value_text metric.now value)) }
+{
+    out.push(b' ')?;
+    put_value(alloc, out, metric, value)
 }
 
 // Appends a step.

@@ -1,3 +1,4 @@
+pub mod SeriesWords
 pub mod HeadLines
 mod Digits
 pub mod Stops

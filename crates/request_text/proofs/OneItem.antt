@@ -6,7 +6,7 @@ use Rattle.std.proofs.lemmas.Bool.{leb-true, leb-false}
 use Rattle.std.proofs.lemmas.List.{take_all}
 use Rattle.line_text.specs.Lines.{lines_of}
 use Rattle.metric_table.specs.declared.limits.Limit.TheVariants.{RunSamples}
-use Rattle.history_model.specs.Samples.{Measurement}
+use Rattle.sample_model.specs.Samples.{Measurement}
 use Rattle.go_bench_text.specs.Readings.{IsRead, IsFirstOver, HasTooMany, OneReading}
 use Rattle.lnt_report.specs.declared.fault.ReportFault.{ReportFault}
 use Rattle.lnt_report.specs.declared.fault.ReportFault.TheVariants as fault
@@ -16,7 +16,7 @@ use Rattle.request_model.specs.declared.requests.Request.{Request}
 use Rattle.request_model.specs.declared.replies.RangePlace.TheVariants as place
 use Rattle.request_model.specs.declared.replies.Refusal.{Refusal}
 use Rattle.request_model.specs.declared.replies.Refusal.TheVariants as refusal
-use Rattle.request_text.specs.Forms.{Form, machine, commit, submit_go, submit_lnt, retract, tune, runs}
+use Rattle.request_text.specs.Forms.{Form, machine, commit, submit_go, submit_lnt, retract, tune, calibrate, of_series, runs}
 use Rattle.request_text.specs.Bodies.{Item, GivesGo, RefusesGo, AsksGo, fault_of, AsksLnt, AsksNamed}
 use Rattle.request_text.specs.Items.{AsksForm, long, unnamed, wide, named, Asks, formless, formed}
 use Rattle.request_text.proofs.OneForm.{one_form}
@@ -48,7 +48,10 @@ told_by body (refusal.NotReport rule member) told = absurd told
 told_by body (refusal.IdentityClash step) told = absurd told
 told_by body refusal.UnknownRun told = absurd told
 told_by body (refusal.AlreadyRetracted step) told = absurd told
+told_by body refusal.UnknownSeries told = absurd told
+told_by body refusal.NothingPublished told = absurd told
 told_by body refusal.BadPenalty told = absurd told
+told_by body (refusal.TooFewPoints points) told = absurd told
 told_by body refusal.BodyTooLong told = absurd told
 told_by body (refusal.TooDeep offset) told = absurd told
 
@@ -133,7 +136,10 @@ tells_fault body (refusal.CommitTaken number name) due = absurd due.2
 tells_fault body (refusal.IdentityClash step) due = absurd due.2
 tells_fault body refusal.UnknownRun due = absurd due.2
 tells_fault body (refusal.AlreadyRetracted step) due = absurd due.2
+tells_fault body refusal.UnknownSeries due = absurd due.2
+tells_fault body refusal.NothingPublished due = absurd due.2
 tells_fault body refusal.BadPenalty due = absurd due.2
+tells_fault body (refusal.TooFewPoints points) due = absurd due.2
 tells_fault body refusal.BodyTooLong due = absurd due.2
 
 abbrev given : Report → Result Report ReportFault
@@ -168,6 +174,8 @@ one_named go lnt (submit_go m c r len) body item other a b = one_go go body _ it
 one_named go lnt (submit_lnt m r len) body item other a b = one_lnt lnt body _ item other a b
 one_named go lnt (retract m r) body item other a b = a ∙ sym b
 one_named go lnt (tune m metric penalty) body item other a b = a ∙ sym b
+one_named go lnt (calibrate m test metric factor) body item other a b = a ∙ sym b
+one_named go lnt (of_series asked m test metric) body item other a b = a ∙ sym b
 one_named go lnt (runs m) body item other a b = a ∙ sym b
 
 one_asked : OneReading → OneAnswer → (form : Form) (body : List ℕ) (item other : Item) → AsksForm form body item → AsksForm form body other → item ≡ other

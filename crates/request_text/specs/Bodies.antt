@@ -5,7 +5,7 @@ use Rattle.std.specs.Str.{IsUtf8, IsValidUpTo}
 use Rattle.line_text.specs.Lines.{lines_of}
 use Rattle.metric_table.specs.Limits.{most}
 use Rattle.metric_table.specs.declared.limits.Limit.TheVariants.{RunSamples}
-use Rattle.history_model.specs.Samples.{Measurement}
+use Rattle.sample_model.specs.Samples.{Measurement}
 use Rattle.go_bench_text.specs.Readings.{IsRead, IsFirstOver, HasTooMany}
 use Rattle.lnt_report.specs.declared.fault.ReportFault.{ReportFault}
 use Rattle.lnt_report.specs.declared.fault.ReportFault.TheVariants as fault
@@ -16,7 +16,9 @@ use Rattle.request_model.specs.declared.requests.Request.TheVariants as request
 use Rattle.request_model.specs.declared.replies.RangePlace.TheVariants as place
 use Rattle.request_model.specs.declared.replies.Refusal.{Refusal}
 use Rattle.request_model.specs.declared.replies.Refusal.TheVariants as refusal
-use Rattle.request_text.specs.Forms.{Form, machine, commit, submit_go, submit_lnt, retract, tune, runs, name_of}
+use Rattle.request_text.specs.Forms.{Form, machine, commit, submit_go, submit_lnt, retract, tune, calibrate, of_series, runs, name_of}
+use Rattle.request_text.specs.declared.verb.SeriesVerb.{SeriesVerb}
+use Rattle.request_text.specs.declared.verb.SeriesVerb.TheVariants.{Segment, Changes, Verify}
 
 -- what an item of a script asks: a request, or the refusal of reading it
 abbrev pub Item : Type 0
@@ -69,6 +71,12 @@ AsksLnt body submitted (Err r) = IsDue body (Err (fault_of r))
 
 -- ---- all forms, whose words are names
 
+-- what is asked of a series
+abbrev pub series_request : SeriesVerb → (m test metric : List ℕ) → Request
+series_request Segment m test metric = request.Segment m test metric
+series_request Changes m test metric = request.Changes m test metric
+series_request Verify m test metric = request.Verify m test metric
+
 abbrev pub AsksNamed : Form → List ℕ → Item → Type 0
 AsksNamed (machine m) body item = item ≡ Ok (request.Machine (name_of m))
 AsksNamed (commit m number name) body item = item ≡ Ok (request.Commit (name_of m) number (name_of name))
@@ -78,4 +86,6 @@ AsksNamed (submit_lnt m r len) body item =
     AsksLnt body (of_lnt (name_of m) (name_of r)) item
 AsksNamed (retract m r) body item = item ≡ Ok (request.Retract (name_of m) (name_of r))
 AsksNamed (tune m metric penalty) body item = item ≡ Ok (request.Tune (name_of m) (name_of metric) (pos (digits_value 10 penalty)))
+AsksNamed (calibrate m test metric factor) body item = item ≡ Ok (request.Calibrate (name_of m) (name_of test) (name_of metric) factor)
+AsksNamed (of_series asked m test metric) body item = item ≡ Ok (series_request asked (name_of m) (name_of test) (name_of metric))
 AsksNamed (runs m) body item = item ≡ Ok (request.Runs (name_of m))

@@ -1,8 +1,9 @@
 -- Private: no public contract cites this. What a request line asks before its body is read.
-use Rattle.std.specs.Prelude.{◌≡◌, ℕ, ◌≤◌, List, ◌∷◌, Ok, Err}
+use Rattle.std.specs.Prelude.{◌≡◌, ℕ, ◌≤◌, List, ◌∷◌, length, Ok, Err}
 use Rattle.line_text.specs.Lines.{words_of}
 use Rattle.request_text.specs.declared.head.Head.{Head}
 use Rattle.request_text.specs.declared.head.Head.TheVariants.{Refused, Asked, Go, Lnt}
+use Rattle.request_text.specs.Forms.{SpellsName, name_of}
 use Rattle.request_text.specs.Bodies.{Item, of_go, AsksGo, of_lnt, AsksLnt}
 use Rattle.request_text.specs.Items.{Asks, Counts, body_limit}
 
@@ -23,3 +24,7 @@ IsHead line (Lnt m r len) =
 -- the same of each line that has this word in front of the words
 abbrev pub IsHeadBehind : List ℕ → List (List ℕ) → Head → Type 0
 IsHeadBehind verb words head = (line : List ℕ) → words_of line ≡ verb ∷ words → IsHead line head
+
+-- the words spell names, and the third a metric's
+abbrev pub AreSeriesNames : (m test metric : List ℕ) → Type 0
+AreSeriesNames m test metric = SpellsName m × SpellsName test × SpellsName metric × (length (name_of metric) ≤ 64)

@@ -1,20 +1,22 @@
 -- The one spelling of a request.
 use Rattle.std.specs.Prelude.{◌≡◌, ℕ, ◌^◌, ◌<◌, ◌≤◌, List, [], ◌∷◌, ◌++◌, length, slice_index_or, codes, Option, Some, None, Ok}
 use Rattle.std.specs.Fmt.{signed_decimal}
-use Rattle.std.specs.List.{flat_map}
 use Rattle.line_text.specs.Names.{IsName, spelling}
 use Rattle.metric_table.specs.Limits.{most}
 use Rattle.metric_table.specs.declared.limits.Limit.TheVariants.{RunSamples}
-use Rattle.history_model.specs.Samples.{Measurement}
-use Rattle.history_model.specs.Penalties.{IsPenalty}
+use Rattle.sample_model.specs.Samples.{Measurement}
+use Rattle.metric_table.specs.Table.{IsPenalty}
 use Rattle.go_bench_text.specs.Readings.{IsRead}
 use Rattle.go_bench_text.specs.Spellings.{AreSpelled, IsFirstUnspelled}
 use Rattle.lnt_report.specs.Runs.{IsGiven}
 use Rattle.lnt_report.specs.Outcomes.{IsDue}
 use Rattle.lnt_report.specs.Written.{compact, run_tree}
+use Rattle.request_model.specs.Factors.{IsFactor}
+use Rattle.request_model.specs.Lines.{line_of}
 use Rattle.request_model.specs.declared.requests.Request.{Request}
 use Rattle.request_model.specs.declared.requests.Request.TheVariants as request
-use Rattle.request_text.specs.Forms.{Form, machine, commit, submit_go, submit_lnt, retract, tune, runs, words_in}
+use Rattle.request_text.specs.Forms.{Form, machine, commit, submit_go, submit_lnt, retract, tune, calibrate, of_series, runs, words_in}
+use Rattle.request_text.specs.declared.verb.SeriesVerb.TheVariants.{Segment, Changes, Verify}
 use Rattle.request_text.specs.Items.{body_limit}
 use Rattle.request_text.specs.Scripts.{ArePieces}
 
@@ -30,6 +32,10 @@ form_of (request.Commit m number name) len = commit (spelling m) number (spellin
 form_of (request.Submit m c run samples ignored stated) len = submission m c run stated len
 form_of (request.Retract m run) len = retract (spelling m) (spelling run)
 form_of (request.Tune m metric penalty) len = tune (spelling m) (spelling metric) (signed_decimal penalty)
+form_of (request.Calibrate m test metric factor) len = calibrate (spelling m) (spelling test) (spelling metric) factor
+form_of (request.Segment m test metric) len = of_series Segment (spelling m) (spelling test) (spelling metric)
+form_of (request.Changes m test metric) len = of_series Changes (spelling m) (spelling test) (spelling metric)
+form_of (request.Verify m test metric) len = of_series Verify (spelling m) (spelling test) (spelling metric)
 form_of (request.Runs m) len = runs (spelling m)
 
 -- a text of the samples: an LNT run where a machine is stated, else Go benchmark text
@@ -41,15 +47,6 @@ IsBodyOf c samples (Some stated) body = body ≡ compact (run_tree stated c samp
 abbrev pub IsBody : Request → List ℕ → Type 0
 IsBody (request.Submit m c run samples ignored stated) body = IsBodyOf c samples stated body
 IsBody q body = body ≡ []
-
--- words, each behind a space
-abbrev pub spaced : List (List ℕ) → List ℕ
-spaced words = flat_map (λ w. 32 ∷ w) words
-
--- a line of words with single spaces between them, and its line feed
-abbrev pub line_of : List (List ℕ) → List ℕ
-line_of [] = 10 ∷ []
-line_of (first ∷ words) = first ++ (spaced words ++ 10 ∷ [])
 
 -- the line of a request whose body has so many bytes: the words of its form with single spaces between them
 abbrev pub head_line : Request → ℕ → List ℕ
@@ -77,10 +74,14 @@ abbrev pub HasNoText : Request → ℕ → Type 0
 HasNoText (request.Submit m c run samples ignored stated) place = IsFirstUnwritten samples stated place
 HasNoText q place = ⊥
 
--- some text without ignored lines may ask it: nothing was ignored, a metric is short and a penalty in range
+-- some text without ignored lines may ask it: nothing was ignored, a metric is short, a penalty or a factor in range
 abbrev pub MayBeRead : Request → Type 0
 MayBeRead (request.Submit m c run samples ignored stated) = ignored ≡ 0
 MayBeRead (request.Tune m metric penalty) = (length metric ≤ 64) × IsPenalty penalty
+MayBeRead (request.Calibrate m test metric factor) = (length metric ≤ 64) × IsFactor factor
+MayBeRead (request.Segment m test metric) = length metric ≤ 64
+MayBeRead (request.Changes m test metric) = length metric ≤ 64
+MayBeRead (request.Verify m test metric) = length metric ≤ 64
 MayBeRead q = Unit {0}
 
 -- what is written of a request; where it may be read and its body is within the limit, it is read as the request
@@ -96,6 +97,10 @@ IsSound (request.Submit m c run samples ignored stated) =
     IsName m × IsName c × IsName run × (length samples ≤ most RunSamples)
 IsSound (request.Retract m run) = IsName m × IsName run
 IsSound (request.Tune m metric penalty) = IsName m × IsName metric
+IsSound (request.Calibrate m test metric factor) = IsName m × IsName test × IsName metric × (factor < 2 ^ 64)
+IsSound (request.Segment m test metric) = IsName m × IsName test × IsName metric
+IsSound (request.Changes m test metric) = IsName m × IsName test × IsName metric
+IsSound (request.Verify m test metric) = IsName m × IsName test × IsName metric
 IsSound (request.Runs m) = IsName m
 
 -- the bytes are read as the samples, with none ignored

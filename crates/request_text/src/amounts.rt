@@ -3,11 +3,22 @@ ghost use Rattle.std.specs.Prelude.{◌≡◌, ◌<◌, ◌≤◌, ◌^◌, ◌�
 ghost use Rattle.std.specs.Char.{digit_value};
 ghost use Rattle.std.specs.Str.Parse.{AllDigits, digits_value};
 ghost use Rattle.line_text.specs.Numbers.{IsNumber};
+ghost use Rattle.request_model.specs.Factors.{IsFactor};
 
 use line_text::{numbers_law, read_u128};
 
 // The greatest penalty.
 const PENALTY_LIMIT: u128 = 1_000_000_000_000_000_000_000_000_000_000_000_000;
+
+// The greatest factor of a penalty.
+const FACTOR_LIMIT: u64 = 1_000;
+
+// Whether a penalty may be made by a factor.
+pub(crate) fn is_factor(factor: u64) -> bool
+    ensures { IsTrue result ↔ IsFactor factor }
+{
+    1 <= factor && factor <= FACTOR_LIMIT
+}
 
 // Whether a word is a number, of whatever size.
 pub(crate) fn is_number(word: &[u8]) -> bool

@@ -1,14 +1,16 @@
 //! The head of a request: what its line asks before its body is read.
 ghost use Rattle.std.specs.Prelude.{◌≡◌, ◌≢◌, ℕ, ◌^◌, ◌<◌, List, [], ◌∷◌, decimal, codes, IfOk, IfSome, IfNone};
 ghost use Rattle.line_text.specs.Numbers.{IsNumber};
+ghost use Rattle.request_text.specs.Forms.{series_word};
+ghost use Rattle.request_text.specs.Bodies.{series_request};
 ghost use Rattle.request_text.specs.Heads.{IsHead, IsHeadBehind};
 ghost use Rattle.request_text.specs.Items.{Asks, Counts};
 
 use crate::NoMemory;
-use crate::amounts::{is_number, penalty_of};
+use crate::amounts::{is_factor, is_number, penalty_of};
 use crate::body::{go_asked, lnt_asked};
-use crate::names::{metric_named, named, three_named, two_named};
-use crate::verb::{Verb, read_verb};
+use crate::names::{metric_named, named, series_named, three_named, two_named};
+use crate::verb::{SeriesVerb, Verb, read_verb};
 use crate::words::Words;
 use line_text::{Name, read_u64};
 use request_model::{Refusal, Request};
@@ -47,6 +49,8 @@ pub(crate) fn read_head(alloc: Global, line: &[u8]) -> Result<Head, NoMemory>
         Verb::Submit => submit_head(alloc, words),
         Verb::Retract => retract_head(alloc, words),
         Verb::Tune => tune_head(alloc, words),
+        Verb::Calibrate => calibrate_head(alloc, words),
+        Verb::Series(asked) => series_head(alloc, words, asked),
         Verb::Runs => runs_head(alloc, words),
     }
 }
@@ -165,6 +169,63 @@ fn tune_words<'a>(mut words: Words<'a>) -> Option<(&'a [u8], &'a [u8], &'a [u8])
     if is_number(p) { Some((m, x, p)) } else { None }
 }
 
+// `calibrate M TEST METRIC FACTOR`.
+fn calibrate_head(alloc: Global, words: Words) -> Result<Head, NoMemory>
+    ensures { IfOk result (λ head. IsHeadBehind (codes "calibrate") words.entry head) }
+{
+    let Some((m, t, x, factor)) = three_and_number(words) else {
+        return Ok(formless());
+    };
+    let Some((machine, test, metric)) = series_named(alloc, m, t, x)? else {
+        return Ok(unnamed(0));
+    };
+    if !is_factor(factor) {
+        return Ok(Head::Refused(Refusal::BadPenalty, 0));
+    }
+    Ok(Head::Asked(Request::Calibrate {
+        machine,
+        test,
+        metric,
+        factor,
+    }))
+}
+
+// `segment M TEST METRIC`, `changes M TEST METRIC` and `verify M TEST METRIC`.
+fn series_head(alloc: Global, mut words: Words, asked: SeriesVerb) -> Result<Head, NoMemory>
+    ensures { IfOk result (λ head. IsHeadBehind (series_word asked) words.entry head) }
+{
+    let Some((m, t, x)) = words.three() else {
+        return Ok(formless());
+    };
+    let Some((machine, test, metric)) = series_named(alloc, m, t, x)? else {
+        return Ok(unnamed(0));
+    };
+    Ok(Head::Asked(series_request(asked, machine, test, metric)))
+}
+
+// What is asked of a series.
+fn series_request(asked: SeriesVerb, machine: Name, test: Name, metric: Name) -> Request
+    ensures { result ≡ series_request asked machine test metric }
+{
+    match asked {
+        SeriesVerb::Segment => Request::Segment {
+            machine,
+            test,
+            metric,
+        },
+        SeriesVerb::Changes => Request::Changes {
+            machine,
+            test,
+            metric,
+        },
+        SeriesVerb::Verify => Request::Verify {
+            machine,
+            test,
+            metric,
+        },
+    }
+}
+
 // `commit M NUMBER NAME`.
 fn commit_head(alloc: Global, words: Words) -> Result<Head, NoMemory>
     ensures { IfOk result (λ head. IsHeadBehind (codes "commit") words.entry head) }
@@ -215,7 +276,7 @@ fn submit_head(alloc: Global, mut words: Words) -> Result<Head, NoMemory>
 fn go_head(alloc: Global, words: Words) -> Result<Head, NoMemory>
     ensures { IfOk result (λ head. IsHeadBehind (codes "submit") (codes "go" ∷ words.entry) head) }
 {
-    let Some((m, c, r, len)) = go_words(words) else {
+    let Some((m, c, r, len)) = three_and_number(words) else {
         return Ok(formless());
     };
     if len > BODY_LIMIT {
@@ -227,18 +288,18 @@ fn go_head(alloc: Global, words: Words) -> Result<Head, NoMemory>
     Ok(Head::Go(machine, commit, run, len))
 }
 
-// The words of a submission of Go benchmark text.
-fn go_words<'a>(mut words: Words<'a>) -> Option<(&'a [u8], &'a [u8], &'a [u8], u64)>
+// Three words, and a number behind them.
+fn three_and_number<'a>(mut words: Words<'a>) -> Option<(&'a [u8], &'a [u8], &'a [u8], u64)>
     ensures some { IfSome result
         (λ parts. words.entry ≡ parts.0.now ∷ parts.1.now ∷ parts.2.now ∷ decimal parts.3 ∷ []) }
-    ensures none { IfNone result ((m c r : List ℕ) (len : ℕ)
-        → len < 2 ^ 64 → words.entry ≢ m ∷ c ∷ r ∷ decimal len ∷ []) }
+    ensures none { IfNone result ((first second third : List ℕ) (n : ℕ)
+        → n < 2 ^ 64 → words.entry ≢ first ∷ second ∷ third ∷ decimal n ∷ []) }
 {
-    let m = words.next()?;
-    let c = words.next()?;
-    let r = words.next()?;
-    let len = words.number()?;
-    Some((m, c, r, len))
+    let first = words.next()?;
+    let second = words.next()?;
+    let third = words.next()?;
+    let n = words.number()?;
+    Some((first, second, third, n))
 }
 
 // `submit lnt M RUN LEN`.

@@ -1,6 +1,7 @@
 //! Words of a request line that spell names.
 ghost use Rattle.std.specs.Prelude.{◌≡◌, ℕ, ◌≤◌, length, IfOk, IfSome, IfNone};
 ghost use Rattle.request_text.specs.Forms.{SpellsName, name_of};
+ghost use Rattle.request_text.specs.Heads.{AreSeriesNames};
 
 use crate::NoMemory;
 use line_text::{Name, NameError, read_name};
@@ -87,4 +88,27 @@ pub(crate) fn metric_named(
         return Ok(None);
     }
     Ok(Some((one, other)))
+}
+
+// The names that three words spell, of which the third is a metric's.
+pub(crate) fn series_named(
+    alloc: Global,
+    first: &[u8],
+    second: &[u8],
+    metric: &[u8],
+) -> Result<Option<(Name, Name, Name)>, NoMemory>
+    ensures some { IfOk result (λ found. IfSome found (λ names.
+        (names.0 ≡ name_of first.now) × (names.1 ≡ name_of second.now) × (names.2 ≡ name_of metric.now))) }
+    ensures spelled { IfOk result (λ found. IfSome found (λ _.
+        AreSeriesNames first.now second.now metric.now)) }
+    ensures none { IfOk result (λ found. IfNone found
+        (¬ AreSeriesNames first.now second.now metric.now)) }
+{
+    let Some((one, other, last)) = three_named(alloc, first, second, metric)? else {
+        return Ok(None);
+    };
+    if last.as_str().len() > METRIC_LIMIT {
+        return Ok(None);
+    }
+    Ok(Some((one, other, last)))
 }

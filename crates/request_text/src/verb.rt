@@ -1,6 +1,15 @@
 //! The first words of request lines.
 ghost use Rattle.std.specs.Prelude.{◌≡◌, ◌≢◌, IfSome, IfNone};
+ghost use Rattle.request_text.specs.Forms.{series_word};
 ghost use Rattle.request_text.specs.Verbs.{word_of};
+
+// What is asked of a series by its names alone: a machine, a test and a metric.
+#[derive(Clone, Copy)]
+pub(crate) enum SeriesVerb {
+    Segment,
+    Changes,
+    Verify,
+}
 
 // The first word of a request line.
 #[derive(Clone, Copy)]
@@ -10,6 +19,8 @@ pub(crate) enum Verb {
     Submit,
     Retract,
     Tune,
+    Calibrate,
+    Series(SeriesVerb),
     Runs,
 }
 
@@ -28,8 +39,26 @@ pub(crate) fn read_verb(word: &[u8]) -> Option<Verb>
         Some(Verb::Retract)
     } else if word == b"tune".as_slice() {
         Some(Verb::Tune)
+    } else if word == b"calibrate".as_slice() {
+        Some(Verb::Calibrate)
     } else if word == b"runs".as_slice() {
         Some(Verb::Runs)
+    } else {
+        Some(Verb::Series(read_series_verb(word)?))
+    }
+}
+
+// What a word asks of a series.
+fn read_series_verb(word: &[u8]) -> Option<SeriesVerb>
+    ensures some { IfSome result (λ verb. word.now ≡ series_word verb) }
+    ensures none { IfNone result ((verb : SeriesVerb) → word.now ≢ series_word verb) }
+{
+    if word == b"segment".as_slice() {
+        Some(SeriesVerb::Segment)
+    } else if word == b"changes".as_slice() {
+        Some(SeriesVerb::Changes)
+    } else if word == b"verify".as_slice() {
+        Some(SeriesVerb::Verify)
     } else {
         None
     }

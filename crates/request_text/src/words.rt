@@ -68,6 +68,18 @@ impl<'a> Words<'a> {
         Some((first, second))
     }
 
+    // The three words that are left.
+    pub(crate) fn three(&mut self) -> Option<(&'a [u8], &'a [u8], &'a [u8])>
+        ensures some { IfSome result
+            (λ words. self.old ≡ words.0.now ∷ words.1.now ∷ words.2.now ∷ []) }
+        ensures none { IfNone result
+            ((first second third : List ℕ) → self.old ≢ first ∷ second ∷ third ∷ []) }
+    {
+        let first = self.next()?;
+        let (second, third) = self.two()?;
+        Some((first, second, third))
+    }
+
     // The number that is left.
     pub(crate) fn number(&mut self) -> Option<u64>
         ensures some { IfSome result (λ n. self.old ≡ decimal n ∷ []) }

@@ -10,14 +10,15 @@ ghost use Rattle.lnt_report.specs.Runs.{IsGiven};
 ghost use Rattle.lnt_report.specs.Written.{compact, run_tree};
 ghost use Rattle.request_text.specs.Forms.{words_in};
 ghost use Rattle.request_text.specs.Forms as form;
-ghost use Rattle.request_text.specs.Written.{line_of, head_line, IsBody, IsBodyOf, IsWritten, IsFirstNamed, IsFirstUnwritten, HasNoText, WrittenIsReadBack, IsSound, IsReadAs, AsksBack};
+ghost use Rattle.request_model.specs.Lines.{line_of};
+ghost use Rattle.request_text.specs.Written.{head_line, IsBody, IsBodyOf, IsWritten, IsFirstNamed, IsFirstUnwritten, HasNoText, WrittenIsReadBack, IsSound, IsReadAs, AsksBack};
 
 use crate::NoMemory;
 use go_bench_text::put_go;
-use history_model::{Sample, Samples};
 use line_text::{Name, names_law, numbers_law, put_i128, put_name, put_u64, words_law};
 use lnt_report::{LntRun, put_report};
 use request_model::Request;
+use sample_model::{Sample, Samples};
 use std::alloc::Global;
 
 /// Why a request has no text.
@@ -87,6 +88,27 @@ fn sound(request: &Request)
             metric,
             ..
         } => two_names(machine, metric),
+        Request::Calibrate {
+            machine,
+            test,
+            metric,
+            factor,
+        } => sound_calibration(machine, test, metric, *factor),
+        Request::Segment {
+            machine,
+            test,
+            metric,
+        }
+        | Request::Changes {
+            machine,
+            test,
+            metric,
+        }
+        | Request::Verify {
+            machine,
+            test,
+            metric,
+        } => three_names(machine, test, metric),
         Request::Runs { machine } => machine.bytes_law(),
     }
 }
@@ -97,6 +119,21 @@ fn two_names(first: &Name, second: &Name)
 {
     first.bytes_law();
     second.bytes_law();
+}
+
+// The same of three names.
+fn three_names(first: &Name, second: &Name, third: &Name)
+    ensures { IsName first.now × IsName second.now × IsName third.now }
+{
+    two_names(first, second);
+    third.bytes_law();
+}
+
+// The same of a penalty that is made from noise.
+fn sound_calibration(machine: &Name, test: &Name, metric: &Name, factor: u64)
+    ensures { IsName machine.now × IsName test.now × IsName metric.now × (factor < 2 ^ 64) }
+{
+    three_names(machine, test, metric);
 }
 
 // The same of a commit.
@@ -284,6 +321,27 @@ fn put_line(alloc: Global, out: &mut Vec<u8>, request: &Request, len: u64) -> Re
             metric,
             penalty,
         } => put_tune(alloc, out, machine, metric, *penalty),
+        Request::Calibrate {
+            machine,
+            test,
+            metric,
+            factor,
+        } => put_calibrate(alloc, out, machine, test, metric, *factor),
+        Request::Segment {
+            machine,
+            test,
+            metric,
+        } => put_three(alloc, out, "segment", machine, test, metric),
+        Request::Changes {
+            machine,
+            test,
+            metric,
+        } => put_three(alloc, out, "changes", machine, test, metric),
+        Request::Verify {
+            machine,
+            test,
+            metric,
+        } => put_three(alloc, out, "verify", machine, test, metric),
         Request::Runs { machine } => put_one(alloc, out, "runs", machine),
     }
 }
@@ -335,6 +393,26 @@ fn put_two(
     Ok(())
 }
 
+// Appends a line of a word and three names.
+fn put_three(
+    alloc: Global,
+    out: &mut Vec<u8>,
+    verb: &str,
+    first: &Name,
+    second: &Name,
+    third: &Name,
+) -> Result<(), NoMemory>
+    ensures { OnOk result (out.new.items ≡ out.old.items ++ line_of
+        (verb.now ∷ spelling first.now ∷ spelling second.now ∷ spelling third.now ∷ [])) }
+{
+    out.extend_from_slice(verb.as_bytes())?;
+    put_spelled(alloc, out, first)?;
+    put_spelled(alloc, out, second)?;
+    put_spelled(alloc, out, third)?;
+    out.push(b'\n')?;
+    Ok(())
+}
+
 // Appends the line of a commit.
 fn put_commit(
     alloc: Global,
@@ -370,6 +448,27 @@ fn put_tune(
     put_spelled(alloc, out, metric)?;
     out.push(b' ')?;
     put_i128(alloc, out, penalty)?;
+    out.push(b'\n')?;
+    Ok(())
+}
+
+// Appends the line of a penalty that is made from noise.
+fn put_calibrate(
+    alloc: Global,
+    out: &mut Vec<u8>,
+    machine: &Name,
+    test: &Name,
+    metric: &Name,
+    factor: u64,
+) -> Result<(), NoMemory>
+    ensures { OnOk result (out.new.items ≡ out.old.items ++ line_of (words_in
+        (form.calibrate (spelling machine.now) (spelling test.now) (spelling metric.now) factor))) }
+{
+    out.extend_from_slice(b"calibrate")?;
+    put_spelled(alloc, out, machine)?;
+    put_spelled(alloc, out, test)?;
+    put_spelled(alloc, out, metric)?;
+    put_number(alloc, out, factor)?;
     out.push(b'\n')?;
     Ok(())
 }
