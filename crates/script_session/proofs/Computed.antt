@@ -1,23 +1,38 @@
--- The answers to items, computed: what each request comes to on a history is determined.
+-- The answers to items, computed, where each request is of a form whose outcome is a function of the history.
 use Rattle.std.proofs.Common.{List, [], ◌∷◌, refl, Option, Some, None, Ok, Err}
 use Rattle.std.specs.Prelude.{find}
-use Rattle.std.specs.List.{flat_map}
+use Rattle.std.specs.List.{AllByRecursion, flat_map}
 use Rattle.request_model.specs.declared.requests.Request.{Request}
+use Rattle.request_model.specs.declared.requests.Request.TheVariants as request
+use Rattle.request_model.specs.declared.replies.Answer.TheVariants as answer
+use Rattle.request_model.specs.declared.replies.Refusal.TheVariants as refusal
 use Rattle.request_model.specs.declared.replies.Reply.{Reply}
 use Rattle.reply_text.specs.Replies.{text_of}
 use Rattle.request_text.specs.Bodies.{Item}
 use Rattle.history_model.specs.declared.entries.Author.{Author}
+use Rattle.history_model.specs.declared.entries.Entry.{Entry}
 use Rattle.history_model.specs.Entries.{entries_of}
-use Rattle.track_model.specs.Outcomes.{refuses}
-use Rattle.track_model.specs.Replies.{machine_of, outcome}
-use Rattle.track_model.specs.Tracks.{Track}
+use Rattle.track_model.specs.Forms as forms
+use Rattle.track_model.specs.Outcomes.{Outcome, tells, refuses}
+use Rattle.track_model.specs.Replies.{machine_of}
+use Rattle.track_model.specs.Tracks.{Track, ComesTo}
 use Rattle.script_session.specs.Sessions.{Answered, is_track, untouched, unknown, stepped, AnswersAbout, State, AnswersFor}
 use Rattle.script_session.specs.Outputs.{AnswersItem, AreAnswers}
-use Rattle.script_session.specs.Laws.{OutputsExist}
+use Rattle.script_session.specs.Laws.{IsComputed, AsksComputed, OutputsExist}
+
+-- what a request of these forms comes to; of the other forms it is anything
+abbrev computed : List Entry → Request → Outcome
+computed h (request.Machine machine) = tells (answer.Machine machine)
+computed h (request.Commit machine number name) = forms.commit h number name
+computed h (request.Submit machine commit run samples ignored stated) = forms.submit h machine commit run samples ignored stated
+computed h (request.Retract machine run) = forms.retract h run
+computed h (request.Tune machine metric penalty) = forms.tune h metric penalty
+computed h (request.Runs machine) = forms.runs h
+computed h q = refuses refusal.BadRequest
 
 abbrev pub about : Option Track → Author → List Track → Request → Answered
 about None author tracks q = unknown tracks q
-about (Some t) author tracks q = stepped author tracks q t (outcome (entries_of t.history) q)
+about (Some t) author tracks q = stepped author tracks q t (computed (entries_of t.history) q)
 
 abbrev pub answered : Author → List Track → Item → Answered
 answered author tracks (Err reason) = untouched tracks (refuses reason)
@@ -34,31 +49,43 @@ after author tracks (item ∷ items) = after author (answered author tracks item
 abbrev state : Author → List Track → State
 state author tracks = record { author = author; tracks = tracks }
 
-about_is : (found : Option Track) (author : Author) (tracks : List Track) (q : Request) → AnswersAbout found author tracks q (about found author tracks q)
-about_is None author tracks q = refl
-about_is (Some t) author tracks q = (outcome (entries_of t.history) q, refl, refl)
+comes : (h : List Entry) (q : Request) → IsComputed q → ComesTo h q (computed h q)
+comes h (request.Machine machine) is = refl
+comes h (request.Commit machine number name) is = refl
+comes h (request.Submit machine commit run samples ignored stated) is = refl
+comes h (request.Retract machine run) is = refl
+comes h (request.Tune machine metric penalty) is = refl
+comes h (request.Calibrate machine test metric factor) is = absurd is
+comes h (request.Segment machine test metric) is = absurd is
+comes h (request.Changes machine test metric) is = absurd is
+comes h (request.Verify machine test metric) is = absurd is
+comes h (request.Runs machine) is = refl
 
-answered_is : (author : Author) (tracks : List Track) (item : Item)
+about_is : (found : Option Track) (author : Author) (tracks : List Track) (q : Request) → IsComputed q → AnswersAbout found author tracks q (about found author tracks q)
+about_is None author tracks q is = refl
+about_is (Some t) author tracks q is = (computed (entries_of t.history) q, comes (entries_of t.history) q is, refl)
+
+answered_is : (author : Author) (tracks : List Track) (item : Item) → AsksComputed item
     → AnswersItem AnswersFor (state author tracks) item (answered author tracks item).reply (state author (answered author tracks item).tracks)
-answered_is author tracks (Err reason) = (refl, refl)
-answered_is author tracks (Ok q) = (refl, about_is (find (is_track (machine_of q)) tracks) author tracks q)
+answered_is author tracks (Err reason) is = (refl, refl)
+answered_is author tracks (Ok q) is = (refl, about_is (find (is_track (machine_of q)) tracks) author tracks q is)
 
-answers_are : (author : Author) (tracks : List Track) (items : List Item)
+answers_are : (author : Author) (tracks : List Track) (items : List Item) → AllByRecursion AsksComputed items
     → AreAnswers AnswersFor (state author tracks) items (replies author tracks items) (state author (after author tracks items))
-answers_are author tracks [] = (refl, refl)
-answers_are author tracks (item ∷ items) = (
+answers_are author tracks [] are = (refl, refl)
+answers_are author tracks (item ∷ items) are = (
   (answered author tracks item).reply,
   state author (answered author tracks item).tracks,
   replies author (answered author tracks item).tracks items,
-  answered_is author tracks item,
+  answered_is author tracks item are.0,
   refl,
-  answers_are author (answered author tracks item).tracks items,
+  answers_are author (answered author tracks item).tracks items are.1,
 )
 
--- all items have an output
+-- all items of these forms have an output
 pub outputs_exist : OutputsExist AnswersFor
-outputs_exist before items = (
+outputs_exist before items are = (
   flat_map text_of (replies before.author before.tracks items),
   state before.author (after before.author before.tracks items),
-  record { replies = replies before.author before.tracks items; answers = answers_are before.author before.tracks items; told = refl },
+  record { replies = replies before.author before.tracks items; answers = answers_are before.author before.tracks items are; told = refl },
 )

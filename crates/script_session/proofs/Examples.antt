@@ -11,7 +11,7 @@ use Rattle.request_model.specs.declared.replies.Answer.TheVariants as answer
 use Rattle.request_model.specs.declared.runs.RunLine.{RunLine}
 use Rattle.metric_table.specs.declared.limits.Limit.TheVariants.{Machines}
 use Rattle.reply_text.specs.Replies.{text_of}
-use Rattle.history_model.specs.Samples.{Measurement}
+use Rattle.sample_model.specs.Samples.{Measurement}
 use Rattle.request_text.specs.Bodies.{Item}
 use Rattle.history_model.specs.declared.entries.Author.TheVariants as author
 use Rattle.history_model.specs.declared.entries.Entry.TheVariants as entry

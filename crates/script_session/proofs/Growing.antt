@@ -144,6 +144,10 @@ module _ (author : Author) where
   unknown_stays tracks (request.Submit machine commit run samples ignored stated) none = stays_same tracks
   unknown_stays tracks (request.Retract machine run) none = stays_same tracks
   unknown_stays tracks (request.Tune machine metric penalty) none = stays_same tracks
+  unknown_stays tracks (request.Calibrate machine test metric factor) none = stays_same tracks
+  unknown_stays tracks (request.Segment machine test metric) none = stays_same tracks
+  unknown_stays tracks (request.Changes machine test metric) none = stays_same tracks
+  unknown_stays tracks (request.Verify machine test metric) none = stays_same tracks
   unknown_stays tracks (request.Runs machine) none = stays_same tracks
 
   about_stays : (found : Option Track) (tracks : List Track) (q : Request) (a : Answered) → find (is_track (machine_of q)) tracks ≡ found

@@ -11,27 +11,29 @@ use Rattle.request_text.specs.Bodies.{Item}
 use Rattle.request_text.specs.Scripts.{Ending, end, Reads, IsScript, input_limit}
 use Rattle.request_text.specs.Reading.{OneReading, PiecesAreFirst}
 use Rattle.history_model.specs.declared.entries.Author.{Author}
+use Rattle.history_model.specs.Entries.{entries_of}
+use Rattle.track_model.specs.Laws.{OneOutcome}
 use Rattle.track_model.specs.Replies.{machine_of}
 use Rattle.track_model.specs.Tracks.{Track}
 use Rattle.script_session.specs.Sessions.{Answered, is_track, stepped, AnswersAbout, Answers, State, AnswersFor}
 use Rattle.script_session.specs.Outputs.{AnswersItem, AreAnswers, IsOutput, AsksFirst}
 use Rattle.script_session.specs.Laws.{AnswersOnce, OutputsOnce, OneScript, ScriptsOnce, BeginsOutput}
 
--- ---- the machines of a session
-about_once : (found : Option Track) (author : Author) (tracks : List Track) (q : Request) (a b : Answered)
+-- ---- the machines of a session, over whatever request comes to one outcome
+about_once : OneOutcome → (found : Option Track) (author : Author) (tracks : List Track) (q : Request) (a b : Answered)
     → AnswersAbout found author tracks q a → AnswersAbout found author tracks q b → a ≡ b
-about_once None author tracks q a b one two = one ∙ sym two
-about_once (Some t) author tracks q a b one two = one.2 ∙ ap (stepped author tracks q t) (one.1 ∙ sym two.1) ∙ sym two.2
+about_once outcome None author tracks q a b one two = one ∙ sym two
+about_once outcome (Some t) author tracks q a b one two = one.2 ∙ ap (stepped author tracks q t) (outcome (entries_of t.history) q one.0 two.0 one.1 two.1) ∙ sym two.2
 
-answered_once : (author : Author) (tracks : List Track) (q : Request) (a b : Answered) → Answers author tracks q a → Answers author tracks q b → a ≡ b
-answered_once author tracks q a b one two = about_once (find (is_track (machine_of q)) tracks) author tracks q a b one two
+answered_once : OneOutcome → (author : Author) (tracks : List Track) (q : Request) (a b : Answered) → Answers author tracks q a → Answers author tracks q b → a ≡ b
+answered_once outcome author tracks q a b one two = about_once outcome (find (is_track (machine_of q)) tracks) author tracks q a b one two
 
 abbrev state : Author → List Track → State
 state author tracks = record { author = author; tracks = tracks }
 
-pub answers_once : AnswersOnce AnswersFor
-answers_once before q reply other after last one two =
-    let same = answered_once before.author before.tracks q (record { reply = reply; tracks = after.tracks }) (record { reply = other; tracks = last.tracks }) one.1 two.1 in
+pub answers_once : OneOutcome → AnswersOnce AnswersFor
+answers_once outcome before q reply other after last one two =
+    let same = answered_once outcome before.author before.tracks q (record { reply = reply; tracks = after.tracks }) (record { reply = other; tracks = last.tracks }) one.1 two.1 in
     (ap (λ (a : Answered). a.reply) same, ap₂ state (one.0 ∙ sym two.0) (ap (λ (a : Answered). a.tracks) same))
 
 -- ---- the items of a script

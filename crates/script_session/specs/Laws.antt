@@ -1,6 +1,8 @@
 -- What holds of all outputs.
-use Rattle.std.specs.Prelude.{◌≡◌, List, ◌++◌, ℕ, Option}
+use Rattle.std.specs.Prelude.{◌≡◌, List, ◌++◌, ℕ, Option, Ok, Err}
+use Rattle.std.specs.List.{AllByRecursion}
 use Rattle.request_model.specs.declared.requests.Request.{Request}
+use Rattle.request_model.specs.declared.requests.Request.TheVariants as request
 use Rattle.request_model.specs.declared.replies.Reply.{Reply}
 use Rattle.request_text.specs.Bodies.{Item}
 use Rattle.request_text.specs.Scripts.{Ending, IsScript}
@@ -11,9 +13,22 @@ use Rattle.script_session.specs.Endings.{GaveOpen}
 abbrev pub AnswersOnce : {S : Type 0} → (S → Request → Reply → S → Type 0) → Type 0
 AnswersOnce {S = S} does = (before : S) (q : Request) (reply other : Reply) (after last : S) → does before q reply after → does before q other last → (reply ≡ other) × (after ≡ last)
 
--- items have an output
+-- a request whose outcome is a function of the history; of the others it is a relation
+abbrev pub IsComputed : Request → Type 0
+IsComputed (request.Calibrate machine test metric factor) = ⊥
+IsComputed (request.Segment machine test metric) = ⊥
+IsComputed (request.Changes machine test metric) = ⊥
+IsComputed (request.Verify machine test metric) = ⊥
+IsComputed q = Unit {0}
+
+-- an item that is such a request, or was refused when it was read
+abbrev pub AsksComputed : Item → Type 0
+AsksComputed (Ok q) = IsComputed q
+AsksComputed (Err reason) = Unit {0}
+
+-- items that ask nothing else have an output
 abbrev pub OutputsExist : {S : Type 0} → (S → Request → Reply → S → Type 0) → Type 0
-OutputsExist {S = S} does = (before : S) (items : List Item) → (text : List ℕ) × (after : S) × IsOutput does before items text after
+OutputsExist {S = S} does = (before : S) (items : List Item) → AllByRecursion AsksComputed items → (text : List ℕ) × (after : S) × IsOutput does before items text after
 
 -- items have one output
 abbrev pub OutputsOnce : {S : Type 0} → (S → Request → Reply → S → Type 0) → Type 0

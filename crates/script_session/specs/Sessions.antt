@@ -8,6 +8,7 @@ use Rattle.request_model.specs.declared.replies.Answer.TheVariants as answer
 use Rattle.request_model.specs.declared.replies.Refusal.TheVariants as refusal
 use Rattle.request_model.specs.declared.replies.Reply.{Reply}
 use Rattle.history_model.specs.declared.entries.Author.{Author}
+use Rattle.history_model.specs.Allowed.{Legal}
 use Rattle.history_model.specs.Entries.{entries_of}
 use Rattle.track_model.specs.Outcomes.{Outcome, tells, refuses}
 use Rattle.track_model.specs.Replies.{machine_of, reply_of, apart}
@@ -57,6 +58,10 @@ AnswersAbout (Some t) author tracks q answered = (o : Outcome) × ComesTo (entri
 
 abbrev pub Answers : Author → List Track → Request → Answered → Type 0
 Answers author tracks q answered = AnswersAbout (find (is_track (machine_of q)) tracks) author tracks q answered
+
+-- a machine's history is legal
+abbrev pub HasLegalHistory : Track → Type 0
+HasLegalHistory t = Legal (entries_of t.history)
 
 -- ---- a session: whose script it is, and the tracks
 pub record State : Type 0 where

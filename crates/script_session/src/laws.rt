@@ -12,9 +12,10 @@ ghost use Rattle.script_session.specs.Laws.{
 };
 
 use request_text::reading_law;
+use track_model::outcome_law;
 
-/// A request has one answer, requests have an output and no other, a script has one output and one ending, and what
-/// answers its first requests, or those before a fault of the input, begins that output.
+/// A request has one answer and items have one output, which exists where their outcomes are computed; a script has one
+/// output and one ending, and what answers its first requests, or those before a fault of the input, begins that output.
 pub fn output_law()
     ensures answer { AnswersOnce AnswersFor }
     ensures some { OutputsExist AnswersFor }
@@ -24,6 +25,7 @@ pub fn output_law()
     ensures begins { BeginsOutput AnswersFor }
     ensures open { OpenIsFirst }
 {
+    outcome_law();
     reading_law();
 }
 

@@ -94,6 +94,10 @@ fn machine_of(request: &Request) -> &Name
         Request::Submit { machine, .. } => machine,
         Request::Retract { machine, .. } => machine,
         Request::Tune { machine, .. } => machine,
+        Request::Calibrate { machine, .. } => machine,
+        Request::Segment { machine, .. } => machine,
+        Request::Changes { machine, .. } => machine,
+        Request::Verify { machine, .. } => machine,
         Request::Runs { machine } => machine,
     }
 }

@@ -1,5 +1,6 @@
 //! The machines of one thread.
-ghost use Rattle.std.specs.Prelude.{◌≡◌};
+ghost use Rattle.std.specs.Prelude.{◌≡◌, All};
+ghost use Rattle.script_session.specs.Sessions.{HasLegalHistory};
 
 use crate::NoMemory;
 use crate::desk::Desk;
@@ -36,6 +37,15 @@ impl Session {
             alloc,
             author,
             machines,
+        }
+    }
+
+    /// Says what the machines keep: each has a legal history. Changes nothing: its contract is what it is for.
+    pub fn histories_law(&self)
+        ensures { All HasLegalHistory self.now.tracks }
+    {
+        for machine in &self.machines {
+            machine.history_law();
         }
     }
 

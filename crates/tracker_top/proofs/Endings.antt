@@ -14,13 +14,14 @@ use Rattle.cut_lines.specs.declared.stop.Stop.{Stop}
 use Rattle.cut_lines.specs.declared.stop.Stop.TheVariants as stop
 use Rattle.cut_lines.specs.Stops.{BytesShow, StopsFor}
 use Rattle.tracker_top.specs.declared.command.Command.{Command}
-use Rattle.tracker_top.specs.declared.command.Command.TheVariants.{Cut, Apply}
+use Rattle.tracker_top.specs.declared.command.Command.TheVariants.{Cut, Apply, Gen}
 use Rattle.tracker_top.specs.declared.status.Status.{Status}
 use Rattle.tracker_top.specs.declared.status.Status.TheVariants.{Done, BadWords, ReadFault, WriteFault, CutOff, NoMemory, InputTooLong, BadLine, Full}
 use Rattle.tracker_top.specs.Commands.{IsSpelled}
 use Rattle.tracker_top.specs.Statuses.{status_of, script_status, ended, CutShows, ScriptShows, Shows, IsDue, OneStatusIsDue}
-use Rattle.tracker_top.specs.Endings.{HasCause, EndsInput, EndsOutput, Ends}
+use Rattle.tracker_top.specs.Endings.{HasCause, EndsInput, EndsOutput, IsOfOutput, Ends}
 use Rattle.tracker_top.specs.Answers.{IsCertificateText}
+use Rattle.series_gen.specs.Script.{script as script_of}
 
 -- ---- where reading stops
 
@@ -104,6 +105,19 @@ module _ {I O : Type 0} (g : source.Ghosts I) (h : sink.Ghosts O) (words : List 
       shown Apply spelled (g.left old) (InputTooLong 0) _ _ (script_shows (g.left old) items unfinished read)
   apply_comes spelled items text (Err script.NoMemory) read wrote = if_some (g.left old) (λ bytes status due. inr (inl refl))
 
+  gen_comes : (number : ℕ) → IsSpelled words (Gen number) → (result : Status) → IsOfOutput result
+      → EndsOutput h (λ text. text ≡ script_of number) before after result → WhatIsDueComes result
+  gen_comes number spelled Done cause output = shown (Gen number) spelled (g.left old) Done _ _ (if_some (g.left old) (λ bytes. refl))
+  gen_comes number spelled WriteFault cause output = if_some (g.left old) (λ bytes status due. inr (inr (inr output.2.rose)))
+  gen_comes number spelled NoMemory cause output = if_some (g.left old) (λ bytes status due. inr (inl refl))
+  gen_comes number spelled BadWords cause output = absurd cause
+  gen_comes number spelled ReadFault cause output = absurd cause
+  gen_comes number spelled (CutOff script offset) cause output = absurd cause
+  gen_comes number spelled (InputTooLong script) cause output = absurd cause
+  gen_comes number spelled (BadLine k) cause output = absurd cause
+  gen_comes number spelled (Full k) cause output = absurd cause
+
   pub comes : (command : Command) (result : Status) → IsSpelled words command → Ends g h command old new before after result → WhatIsDueComes result
   comes (Cut penalty) result spelled ends = cut_comes penalty (IsCertificateText penalty (g.left old)) spelled result ends.input.cause ends.output
   comes Apply result spelled ends = subst WhatIsDueComes (sym ends.told) (apply_comes spelled ends.items ends.text ends.result ends.read ends.wrote)
+  comes (Gen number) result spelled ends = gen_comes number spelled result ends.cause ends.output

@@ -1,11 +1,14 @@
--- Which text answers `cut`, and what `apply` begins with.
-use Rattle.std.specs.Prelude.{◌≡◌, ℕ, List, [], Option, pos}
+-- Which text answers `cut`, what `apply` begins with, and what its machines publish.
+use Rattle.std.specs.Prelude.{◌≡◌, ℕ, List, [], All, Option, pos}
 use Rattle.segment_model.specs.Segments.{Position}
 use Rattle.segment_cost.specs.declared.cert.Cert.{Cert}
 use Rattle.segment_cost.specs.Certificate.{StandsFor}
 use Rattle.cut_lines.specs.Reading.{ArePointsOfInput}
 use Rattle.cost_certificate.specs.Text.{text_of}
 use Rattle.history_model.specs.declared.entries.Author.TheVariants as author
+use Rattle.history_model.specs.Entries.{entries_of}
+use Rattle.history_model.specs.Publications.{publications, Stands}
+use Rattle.track_model.specs.Tracks.{Track}
 use Rattle.script_session.specs.Sessions.{State}
 
 -- the text of the best segmentation of these points at the penalty
@@ -21,3 +24,11 @@ IsCertificateText penalty input text = (points : List Position) × ArePointsOfIn
 -- a session of the one script, without a store: no machine is declared before it
 abbrev pub new_state : State
 new_state = record { author = author.Script 1; tracks = [] }
+
+-- each published segmentation of a machine names a version of its history, and is the best of exactly that version's
+-- positions at its penalty
+abbrev pub PublishesWell : Track → Type 0
+PublishesWell t = All (Stands (entries_of t.history)) (publications (entries_of t.history))
+
+abbrev pub AllPublishWell : State → Type 0
+AllPublishWell state = All PublishesWell state.tracks

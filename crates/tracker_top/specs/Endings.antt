@@ -12,11 +12,12 @@ use Rattle.script_session.specs.declared.stop.Stop.{Stop}
 use Rattle.script_session.specs.Endings.{HasRead, HasAnswered, HasWritten}
 use Rattle.script_session.specs.Outputs.{Out}
 use Rattle.script_session.specs.Sessions.{State, AnswersFor}
+use Rattle.series_gen.specs.Script.{script as script_of}
 use Rattle.tracker_top.specs.declared.command.Command.{Command}
-use Rattle.tracker_top.specs.declared.command.Command.TheVariants.{Cut, Apply}
+use Rattle.tracker_top.specs.declared.command.Command.TheVariants.{Cut, Apply, Gen}
 use Rattle.tracker_top.specs.declared.status.Status.{Status}
 use Rattle.tracker_top.specs.declared.status.Status.TheVariants.{Done, BadWords, ReadFault, WriteFault, NoMemory}
-use Rattle.tracker_top.specs.Answers.{IsCertificateText, new_state}
+use Rattle.tracker_top.specs.Answers.{IsCertificateText, new_state, AllPublishWell}
 use Rattle.tracker_top.specs.Statuses.{CutShows, script_status}
 use Rattle.tracker_top.specs.Text.{line_of}
 
@@ -56,7 +57,8 @@ abbrev pub Prints : {O : Type 0} → sink.Ghosts O → List ℕ → O → O → 
 Prints h bytes before after = (text : List ℕ) × (last : State) × Out AnswersFor new_state bytes text last end × Took h before after text
 
 -- the input and the output, at this status of `apply`: some items of the script were read, with the status' cause, and
--- answered by a text, beginning with no machine, and the output took of the text what the status says
+-- answered by a text, beginning with no machine, the output took of the text what the status says, and all that the machines
+-- published stands
 pub record EndsApply {I O : Type 0} (g : source.Ghosts I) (h : sink.Ghosts O) (old new : I) (before after : O) (status : Status) : Type 0 where
   pub result : Result (Unit {0}) Stop
   pub told : status ≡ script_status result
@@ -66,15 +68,32 @@ pub record EndsApply {I O : Type 0} (g : source.Ghosts I) (h : sink.Ghosts O) (o
   pub read : HasRead g old new items result
   pub answered : HasAnswered AnswersFor new_state now items text result
   pub wrote : HasWritten h before after text result
+  pub published : AllPublishWell now
   pub whole : status ≡ Done → IfSome (g.left old) (λ bytes. Prints h bytes before after)
   pub few : GaveAtMost (2 ^ 30 + 1) (g.left old) (g.left new)
   pub counts : g.faults old ≤ g.faults new
+
+-- ---- gen
+
+-- a status that no input gives: the output is well, or failed, or memory was wanting
+abbrev pub IsOfOutput : Status → Type 0
+IsOfOutput Done = Unit {0}
+IsOfOutput WriteFault = Unit {0}
+IsOfOutput NoMemory = Unit {0}
+IsOfOutput status = ⊥
+
+-- the input and the output, at this status of `gen`
+pub record EndsGen {I O : Type 0} (h : sink.Ghosts O) (number : ℕ) (old new : I) (before after : O) (status : Status) : Type 0 where
+  pub unread : new ≡ old
+  pub cause : IsOfOutput status
+  pub output : EndsOutput h (λ text. text ≡ script_of number) before after status
 
 -- ---- any command
 
 abbrev pub Ends : {I O : Type 0} → source.Ghosts I → sink.Ghosts O → Command → I → I → O → O → Status → Type 0
 Ends g h (Cut penalty) old new before after status = EndsCut g h penalty old new before after status
 Ends g h Apply old new before after status = EndsApply g h old new before after status
+Ends g h (Gen number) old new before after status = EndsGen h number old new before after status
 
 -- the status' line was written, or a first part of it where that failed
 abbrev pub IsTold : {O : Type 0} → sink.Ghosts O → O → O → Status → Type 0

@@ -11,7 +11,7 @@ use Rattle.cut_lines.specs.declared.stop.Stop.TheVariants as stop
 use Rattle.cut_lines.specs.Reading.{ArePointsOf}
 use Rattle.cut_lines.specs.Stops.{BytesShow}
 use Rattle.tracker_top.specs.declared.command.Command.{Command}
-use Rattle.tracker_top.specs.declared.command.Command.TheVariants.{Cut, Apply}
+use Rattle.tracker_top.specs.declared.command.Command.TheVariants.{Cut, Apply, Gen}
 use Rattle.tracker_top.specs.declared.status.Status.{Status}
 use Rattle.tracker_top.specs.declared.status.Status.TheVariants.{Done, BadWords, ReadFault, WriteFault, CutOff, NoMemory, InputTooLong, BadLine, Full}
 use Rattle.tracker_top.specs.Commands.{IsSpelled, AreNoCommand}
@@ -57,6 +57,7 @@ ScriptShows bytes status = (items : List Item) × (ending : Ending) × IsScript 
 abbrev pub Shows : Command → List ℕ → Status → Type 0
 Shows (Cut penalty) bytes status = CutShows bytes status
 Shows Apply bytes status = ScriptShows bytes status
+Shows (Gen number) bytes status = status ≡ Done
 
 -- the words and the bytes show this status: the words are no command, or one of which the bytes show it
 abbrev pub IsDue : List (List ℕ) → List ℕ → Status → Type 0

@@ -1,8 +1,8 @@
 //! The commands, and the words that spell them.
 ghost use Rattle.std.specs.Prelude.{◌≡◌, ◌≢◌, ℕ, [], ◌∷◌, codes, IfSome, IfNone, IsTrue};
-ghost use Rattle.tracker_top.specs.Commands.{texts, IsCutCommand, IsSpelled, AreNoCommand};
+ghost use Rattle.tracker_top.specs.Commands.{texts, IsCutCommand, IsGenCommand, IsSpelled, AreNoCommand};
 
-use line_text::read_u128;
+use line_text::{read_u64, read_u128};
 
 /// The greatest penalty.
 const PENALTY_LIMIT: u128 = 1_000_000_000_000_000_000_000_000_000_000_000_000;
@@ -14,6 +14,8 @@ pub enum Command {
     Cut(u128),
     /// Answers the script that the input has.
     Apply,
+    /// Writes the script of this number.
+    Gen(u64),
 }
 
 /// The command that the words are.
@@ -23,6 +25,9 @@ pub fn command_of(words: &[String]) -> Option<Command>
 {
     if are_apply(words) {
         return Some(Command::Apply);
+    }
+    if let Some(number) = number_of(words) {
+        return Some(Command::Gen(number));
     }
     match penalty_of(words) {
         Some(penalty) => Some(Command::Cut(penalty)),
@@ -39,6 +44,21 @@ fn are_apply(words: &[String]) -> bool
         return false;
     };
     command.as_str() == "apply"
+}
+
+// The number, where the words are `gen` and one of 64 bits.
+fn number_of(words: &[String]) -> Option<u64>
+    ensures some { IfSome result (IsGenCommand (texts words.now)) }
+    ensures none { IfNone result ((number : ℕ) → ¬ IsGenCommand (texts words.now) number) }
+{
+    let [command, word] = words else {
+        return None;
+    };
+    if command.as_str() != "gen" {
+        return None;
+    }
+    let number = read_u64(word.as_bytes())?;
+    Some(number)
 }
 
 // The penalty, where the words are `cut` and one of at most 10^36.

@@ -6,17 +6,19 @@ ghost use Rattle.tracker_top.specs.declared.command.Command.TheVariants.{Cut, Ap
 ghost use Rattle.tracker_top.specs.Commands.{texts, IsSpelled, IsInRange, AreNoCommand};
 ghost use Rattle.tracker_top.specs.Statuses.{IsDue, OneStatusIsDue};
 ghost use Rattle.tracker_top.specs.Answers.{IsCertificateText, IsTextOf};
-ghost use Rattle.tracker_top.specs.Endings.{EndsInput, EndsOutput, Ends, IsTold};
+ghost use Rattle.tracker_top.specs.Endings.{EndsInput, EndsOutput, IsOfOutput, Ends, IsTold};
+ghost use Rattle.series_gen.specs.Script.{script as script_of};
 
 use crate::command::{Command, command_of};
 use crate::printing::put_status;
 use crate::status::Status;
 use cost_certificate::put_cert;
 use cut_lines::{one_stop_law, read_points};
-use history_model::Author;
+use history_model::{Author, publication_law};
 use pelt_core::segmentation;
 use script_session::{Session, answer_script, output_law};
 use segment_cost::Points;
+use series_gen::put_script;
 use std::alloc::Global;
 use track_outside::{NoMemory, Sink, Source, put_all};
 
@@ -34,6 +36,7 @@ pub fn one_status_law()
 /// `cut PENALTY`, with a number of at most 10^36, reads cut lines from the input, an order and a value each, and writes
 /// the certificate of the best segmentation of their points to `out`, in seven lines. `apply` reads the requests of a
 /// script from the input, answers one after another on the machines that it declares, and writes the replies to `out`.
+/// `gen NUMBER`, with a number of 64 bits, reads nothing and writes the script of the number to `out`.
 /// The status' line goes to `err`; where that fails the status stands. At most 2^30 bytes of an input are read, and one
 /// more to see that there are no more. The texts are those of docs/FORMATS.md, the statuses those of docs/COMMANDS.md.
 ///
@@ -90,6 +93,7 @@ fn run_command<I: Source, O: Sink>(
     match command {
         Command::Cut(penalty) => cut(alloc, penalty, input, out),
         Command::Apply => apply(alloc, input, out),
+        Command::Gen(number) => generate(alloc, number, out),
     }
 }
 
@@ -129,8 +133,26 @@ fn apply<I: Source, O: Sink>(alloc: Global, input: &mut I, out: &mut O) -> Statu
     ensures { Ends I.Source O.Sink Apply input.old input.new out.old out.new result }
 {
     let mut session = Session::new(alloc, Author::Script(1), Vec::new(alloc));
-    match answer_script(alloc, &mut session, input, out) {
+    let answered = answer_script(alloc, &mut session, input, out);
+    publication_law();
+    session.histories_law();
+    match answered {
         Ok(()) => Status::Done,
         Err(stop) => Status::from(stop),
     }
+}
+
+// Writes the script of a number.
+fn generate<O: Sink>(alloc: Global, number: u64, out: &mut O) -> Status
+    ensures cause { IsOfOutput result }
+    ensures output { EndsOutput O.Sink (λ text. text ≡ script_of number) out.old out.new result }
+{
+    let mut text = Vec::new(alloc);
+    if put_script(alloc, &mut text, number).is_err() {
+        return Status::NoMemory;
+    }
+    if put_all(out, &text).is_err() {
+        return Status::WriteFault;
+    }
+    Status::Done
 }
