@@ -1,31 +1,41 @@
 //! The changes of a small series, by a metric of either direction.
-use crate::given::{Said, cert_of, points_in_order};
-use change_list::{Change, changes};
+ghost use Rattle.std.specs.Prelude.{IsTrue, pos, ◌≤ℤ◌, ◌^◌};
+ghost use Rattle.segment_cost.specs.Certificate.{StandsFor};
+
+use crate::given::points_of;
+use change_list::{Change, ChangeItems, changes};
 use cost_certificate::check;
 use line_text::Name;
-use segment_cost::{Done, Square};
+use part_core::part;
+use segment_cost::{Cert, Done, Points, Square};
 use std::alloc::Global;
 
-// The finished segmentation of the values 0 0 10 10 -5 -5 at a penalty of 50; none where there is no memory.
-fn done_of(alloc: Global, metric: &[u8]) -> Option<Done> {
-    let points = points_in_order(alloc, &[0, 0, 10, 10, -5, -5])?;
-    let square = Square::of_points(alloc, &points).ok()?;
-    let said = Said {
-        points: 6,
-        penalty: 50,
-        cuts: &[2, 4],
-        total: 100,
-        least: &[-50, 0, 0, 50, 50, 100, 100],
-        back: &[0, 0, 0, 2, 2, 4, 4],
-        pruned: &[5, 4, 5, 5, 0, 0, 0],
-    };
-    let cert = cert_of(alloc, &said)?;
-    if !check(&cert, &points, &square) {
+// The points of the values 0 0 10 10 -5 -5.
+fn six_points(alloc: Global) -> Option<Points> {
+    points_of(alloc, &[(0, 0), (1, 0), (2, 10), (3, 10), (4, -5), (5, -5)])
+}
+
+// Whether the certificate passes; no where there is no memory.
+fn stands(alloc: Global, cert: &Cert, points: &Points) -> bool
+    ensures { IsTrue result → (pos 0 ≤ℤ cert.now.penalty) × (cert.now.penalty ≤ℤ pos (10 ^ 36))
+        × StandsFor points.now cert.now.penalty cert.now }
+{
+    match Square::of_points(alloc, points) {
+        Ok(square) => check(cert, points, &square),
+        Err(_) => false,
+    }
+}
+
+// Their finished segmentation at a penalty of 50, under these names; none where there is no memory.
+fn done_of(alloc: Global, test: Name, metric: Name) -> Option<Done> {
+    let points = six_points(alloc)?;
+    let cert = part(alloc, &points, 50).ok()?;
+    if !stands(alloc, &cert, &points) {
         return None;
     }
     Some(Done {
-        test: Name::of_text(alloc, b"T").ok()?,
-        metric: Name::of_text(alloc, metric).ok()?,
+        test,
+        metric,
         version: 9,
         base: 0,
         redone: 6,
@@ -34,14 +44,20 @@ fn done_of(alloc: Global, metric: &[u8]) -> Option<Done> {
     })
 }
 
-// Its two changes; none where there is no memory.
-fn two_changes(alloc: Global, metric: &[u8]) -> Option<(Change, Change)> {
-    let done = done_of(alloc, metric)?;
-    let made = changes(alloc, &done).ok()?;
-    if made.len() != 2 {
-        return None;
+// Its changes; none where there is no memory.
+fn made_of(alloc: Global, metric: &[u8]) -> Option<ChangeItems> {
+    let test = Name::of_text(alloc, b"T").ok()?;
+    let metric = Name::of_text(alloc, metric).ok()?;
+    let done = done_of(alloc, test, metric)?;
+    changes(alloc, &done).ok()
+}
+
+// Whether these are all.
+fn are(alloc: Global, metric: &[u8], wanted: &[Change]) -> bool {
+    match made_of(alloc, metric) {
+        Some(made) => made.as_slice() == wanted,
+        None => false,
     }
-    Some((*made.get(0)?, *made.get(1)?))
 }
 
 // Times are worse where they rise, and rates where they fall.
@@ -61,7 +77,6 @@ fn changes_have_their_direction(rt: HostRuntime) {
         right: -5,
         worse: false,
     };
-    assert_eq!(rt; two_changes(rt.alloc(), b"ns/op"), Some((first, second)));
     let faster = Change {
         worse: false,
         ..first
@@ -70,5 +85,6 @@ fn changes_have_their_direction(rt: HostRuntime) {
         worse: true,
         ..second
     };
-    assert_eq!(rt; two_changes(rt.alloc(), b"MB/s"), Some((faster, slower)));
+    assert!(rt; are(rt.alloc(), b"ns/op", &[first, second]));
+    assert!(rt; are(rt.alloc(), b"MB/s", &[faster, slower]));
 }

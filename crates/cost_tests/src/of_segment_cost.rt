@@ -1,77 +1,60 @@
-//! Costs and centres of some values, and copies.
-use crate::given::points_in_order;
-use line_text::Numbers;
-use segment_cost::{Cert, Cost, Costs, Square};
+//! Costs and centres of some values, and a copy of a certificate.
+use crate::given::{has_text, points_of};
+use part_core::part;
+use segment_cost::{Cert, Cost, Square};
 use std::alloc::Global;
-use std::test::Fail;
 
-// With ample memory the lists grow, and copies are equal.
-#[test]
-fn costs_and_certificates_are_copied(rt: HostRuntime) -> Result<(), Fail> {
-    let alloc = rt.alloc();
-    let mut costs = Costs::new(alloc);
-    costs.push(-50)?;
-    costs.push(7)?;
-    let mut cuts = Numbers::new(alloc);
-    cuts.push(2)?;
-    let cert = Cert {
-        points: 4,
-        penalty: 50,
-        cuts,
-        total: 57,
-        least: costs.copy(alloc)?,
-        back: Numbers::new(alloc),
-        pruned: Numbers::new(alloc),
-    };
-    let copy = cert.copy(alloc)?;
-    assert_eq!(rt; copy.least.as_slice(), [-50, 7].as_slice());
-    assert_eq!(rt; copy.cuts.as_slice(), [2].as_slice());
-    assert_eq!(rt; (copy.points, copy.penalty, copy.total), (4, 50, 57));
-    assert_eq!(rt; costs.get(1), Some(&7));
-    assert_eq!(rt; costs.get(2), None);
-    Ok(())
+// The costs of the segments of some values, each at a commit of its own; none where there is no memory.
+fn square_of(alloc: Global, lines: &[(u64, i64)]) -> Option<Square> {
+    let points = points_of(alloc, lines)?;
+    Square::of_points(alloc, &points).ok()
 }
 
-// What the segment of some values costs, and its centre; none where there are no values or there is no memory.
-fn cost_and_centre(alloc: Global, values: &[i64]) -> Option<(i128, i64)> {
-    let points = points_in_order(alloc, values)?;
-    let square = Square::of_points(alloc, &points).ok()?;
-    let n = square.len();
-    if n == 0 {
-        return None;
+// Whether the segment of all of them costs so much and has this centre.
+fn has(alloc: Global, lines: &[(u64, i64)], cost: i128, centre: i64) -> bool {
+    match square_of(alloc, lines) {
+        Some(square) => {
+            let n = square.len();
+            n > 0 && square.cost(0, n) == cost && square.centre(0, n) == centre
+        }
+        None => false,
     }
-    Some((square.cost(0, n), square.centre(0, n)))
 }
 
 // The centre is the whole number nearest to the mean, and the smaller of two that are as near.
 #[test]
 fn centres_are_nearest_to_the_mean(rt: HostRuntime) {
-    let alloc = rt.alloc();
-    assert_eq!(rt; cost_and_centre(alloc, &[0, 1]), Some((1, 0)));
-    assert_eq!(rt; cost_and_centre(alloc, &[-1, 0]), Some((1, -1)));
-    assert_eq!(rt; cost_and_centre(alloc, &[0, 0, 1]), Some((1, 0)));
-    assert_eq!(rt; cost_and_centre(alloc, &[0, 1, 1]), Some((1, 1)));
-    assert_eq!(rt; cost_and_centre(alloc, &[-1, 0, 0]), Some((1, 0)));
+    let rows: [(&[(u64, i64)], i128, i64); 5] = [
+        (&[(1, 0), (2, 1)], 1, 0),
+        (&[(1, -1), (2, 0)], 1, -1),
+        (&[(1, 0), (2, 0), (3, 1)], 1, 0),
+        (&[(1, 0), (2, 1), (3, 1)], 1, 1),
+        (&[(1, -1), (2, 0), (3, 0)], 1, 0),
+    ];
+    for (lines, cost, centre) in &rows {
+        assert!(rt; has(rt.alloc(), lines, *cost, *centre), "{lines:?}");
+    }
 }
 
-// What the segments of the positions 0 0 10 10 cost when the last one is taken away; none where there is no memory.
-fn costs_cut_back(alloc: Global) -> Option<(usize, i128, i128, i64)> {
-    let points = points_in_order(alloc, &[0, 0, 10, 10])?;
-    let mut square = Square::of_points(alloc, &points).ok()?;
-    square.reserve(1).ok()?;
-    if square.len() < 3 {
-        return None;
+// A copy of the certificate of no position; none where there is no memory.
+fn copied(alloc: Global) -> Option<Cert> {
+    let cert = part(alloc, &points_of(alloc, &[])?, 5).ok()?;
+    cert.copy(alloc).ok()
+}
+
+// Whether the copy has its text.
+fn is_copied(alloc: Global) -> bool {
+    match copied(alloc) {
+        Some(cert) => has_text(
+            alloc,
+            &cert,
+            "points 0\npenalty 5\ncuts\ntotal 0\nleast -5\nback 0\npruned 0\n",
+        ),
+        None => false,
     }
-    square.cut_back(3);
-    Some((
-        square.len(),
-        square.cost(0, 3),
-        square.cost(2, 3),
-        square.centre(1, 3),
-    ))
 }
 
 #[test]
-fn segments_of_the_first_positions(rt: HostRuntime) {
-    assert_eq!(rt; costs_cut_back(rt.alloc()), Some((3, 67, 0, 5)));
+fn certificates_are_copied(rt: HostRuntime) {
+    assert!(rt; is_copied(rt.alloc()));
 }

@@ -1,7 +1,8 @@
 //! Tests of the crates that hold histories, each crate's in the module `of_` and its name.
 //!
-//! They show what no clause says: worked examples, and each call with ample memory. They use what those crates export
-//! and nothing else, so they stand apart from them: a crate is then proved once, and not once more for its tests.
+//! They show what no clause says: worked examples, and each call with ample memory that no script reaches. What scripts
+//! reach is shown by the rows of `tracker_top`. They use what those crates export and nothing else, so they stand apart
+//! from them: a crate is then proved once, and not once more for its tests.
 #![tactic(auto)]
 
 #[cfg(test)]
@@ -10,7 +11,3 @@ mod of_bisect_core;
 mod of_history_model;
 #[cfg(test)]
 mod of_order_index;
-#[cfg(test)]
-mod of_sample_store;
-#[cfg(test)]
-mod of_series_index;

@@ -1,56 +1,40 @@
-//! Commits declared and looked up, with ample memory.
+//! Ranges of commits, with ample memory.
 use line_text::Name;
-use order_index::{Declared, OrderIndex};
+use order_index::OrderIndex;
 use std::alloc::Global;
-use std::test::Fail;
 
-// Declares a pair at a step.
-fn declare(
-    index: &mut OrderIndex,
-    alloc: Global,
-    step: u64,
-    number: u64,
-    name: &[u8],
-) -> Result<Declared, Fail> {
-    let name = Name::of_text(alloc, name)?;
-    Ok(index.declare(step, number, name)?)
+// Declares a pair at a step; no where there is no memory.
+fn declares(index: &mut OrderIndex, alloc: Global, step: u64, number: u64, name: &[u8]) -> bool {
+    match Name::of_text(alloc, name) {
+        Ok(name) => index.declare(step, number, name).is_ok(),
+        Err(_) => false,
+    }
 }
 
-// The commits c, a and b, declared in this order.
-fn three_commits(alloc: Global) -> Result<OrderIndex, Fail> {
+// Whether the commits 30, 10 and 20 have these in a range.
+fn have(alloc: Global, lo: u64, hi: u64, wanted: &[u64]) -> bool {
     let mut index = OrderIndex::new(alloc);
-    declare(&mut index, alloc, 1, 30, b"c")?;
-    declare(&mut index, alloc, 2, 10, b"a")?;
-    declare(&mut index, alloc, 3, 20, b"b")?;
-    Ok(index)
+    if !declares(&mut index, alloc, 1, 30, b"c")
+        || !declares(&mut index, alloc, 2, 10, b"a")
+        || !declares(&mut index, alloc, 3, 20, b"b")
+    {
+        return false;
+    }
+    match index.between(alloc, lo, hi) {
+        Ok(found) => found.as_slice() == wanted,
+        Err(_) => false,
+    }
 }
 
 #[test]
-fn commits_are_declared_once(rt: HostRuntime) -> Result<(), Fail> {
-    let alloc = rt.alloc();
-    let mut index = three_commits(alloc)?;
-    let same = declare(&mut index, alloc, 4, 20, b"b")?;
-    let number = declare(&mut index, alloc, 4, 20, b"a")?;
-    let name = declare(&mut index, alloc, 4, 40, b"c")?;
-    let answers = [same, number, name];
-    assert!(rt; answers == [Declared::Same(3), Declared::Taken(20), Declared::Taken(30)]);
-    assert!(rt;
-        index.len() == 3 && index.number_of(b"c") == Some(30) && index.number_of(b"d").is_none()
-    );
-    let name = index.name_of(10).ok_or("no name")?;
-    assert!(rt; name.as_str() == "a" && index.name_of(40).is_none());
-    Ok(())
-}
-
-#[test]
-fn a_range_has_its_ends(rt: HostRuntime) -> Result<(), Fail> {
-    let alloc = rt.alloc();
-    let index = three_commits(alloc)?;
-    let all = index.between(alloc, 0, 99)?;
-    let two = index.between(alloc, 10, 20)?;
-    let one = index.between(alloc, 11, 29)?;
-    let none = index.between(alloc, 31, 10)?;
-    assert!(rt; all.as_slice() == [10, 20, 30].as_slice() && two.as_slice() == [10, 20].as_slice());
-    assert!(rt; one.as_slice() == [20].as_slice() && none.is_empty());
-    Ok(())
+fn a_range_has_its_ends(rt: HostRuntime) {
+    let rows: [(u64, u64, &[u64]); 4] = [
+        (0, 99, &[10, 20, 30]),
+        (10, 20, &[10, 20]),
+        (11, 29, &[20]),
+        (31, 10, &[]),
+    ];
+    for (lo, hi, wanted) in &rows {
+        assert!(rt; have(rt.alloc(), *lo, *hi, wanted), "{lo} to {hi}");
+    }
 }

@@ -1,28 +1,20 @@
 //! Tests of the crates that read and write text, each crate's in the module `of_` and its name.
 //!
-//! They show what no clause says: worked examples, values from outside, and each call with ample memory. They use what
-//! those crates export and nothing else, so they stand apart from them: a crate is then proved once, and not once more
-//! for its tests.
+//! They show what no clause says: worked examples, values from outside, and each call with ample memory that no script
+//! reaches. What scripts reach (requests and replies) is shown by the rows of `tracker_top`. They use what those crates
+//! export and nothing else, so they stand apart from them: a crate is then proved once, and not once more for its tests.
 #![tactic(auto)]
 
 #[cfg(test)]
 mod of_fixed_value;
 #[cfg(test)]
-mod of_go_bench_text;
-#[cfg(test)]
-mod of_json_text;
-#[cfg(test)]
 mod of_line_text;
-#[cfg(test)]
-mod of_lnt_report;
 #[cfg(test)]
 mod of_metric_table;
 #[cfg(test)]
 mod of_metric_value;
 #[cfg(test)]
 mod of_regression_state;
-#[cfg(test)]
-mod of_reply_text;
 #[cfg(test)]
 mod of_report_pages;
 #[cfg(test)]

@@ -1,6 +1,6 @@
 //! Numerals of benchmark output, with their scaled values, and scaled values as text.
 use fixed_value::*;
-use std::test::Fail;
+use std::alloc::Global;
 
 // Texts, decimals and scaled values.
 const SCALED: [(&str, u8, i64); 27] = [
@@ -75,75 +75,84 @@ const NO_NUMERALS: [&str; 26] = [
     "1e999999999999999999999999999999999999999",
 ];
 
+// Fields that no text has: digits, exponent, decimals, and the scaled value.
+const FIELDS: [(u128, i128, u8, Result<i64, OutOfRange>); 10] = [
+    (u128::MAX, i128::MIN, 9, Ok(0)),
+    (u128::MAX, i128::MAX, 9, Err(OutOfRange)),
+    (1, i128::MAX, 0, Err(OutOfRange)),
+    (0, i128::MAX, 9, Ok(0)),
+    (u128::MAX, -22, 0, Err(OutOfRange)),
+    (u128::MAX, -23, 0, Ok(3_402_823_669_209_385)),
+    (u128::MAX, -38, 0, Ok(3)),
+    (u128::MAX, -39, 0, Ok(0)),
+    (u128::MAX, -48, 9, Ok(0)),
+    (u128::MAX, -47, 9, Ok(3)),
+];
+
+// Scaled values, their decimals, and their texts.
+const WRITTEN: [(i64, u8, &str); 11] = [
+    (-5000, 4, "-0.5000"),
+    (0, 0, "0"),
+    (0, 4, "0.0000"),
+    (12345, 0, "12345"),
+    (12345, 4, "1.2345"),
+    (-1, 9, "-0.000000001"),
+    (10_000_000_000_000_000, 4, "1000000000000.0000"),
+    (i64::MIN, 0, "-9223372036854775808"),
+    (i64::MAX, 18, "9.223372036854775807"),
+    (i64::MIN, 19, "-0.9223372036854775808"),
+    (7, 21, "0.000000000000000000007"),
+];
+
+// Whether the text is a numeral with this scaled value.
+fn is_scaled(text: &str, d: u8, value: Result<i64, OutOfRange>) -> bool {
+    match Numeral::read(text.as_bytes()) {
+        Some(numeral) => d <= 9 && scale(&numeral, d) == value,
+        None => false,
+    }
+}
+
 #[test]
-fn numerals_are_read_and_scaled(rt: HostRuntime) -> Result<(), Fail> {
-    for (text, d, value) in SCALED {
-        let numeral = Numeral::read(text.as_bytes()).ok_or("no numeral")?;
-        if d <= 9 {
-            assert_eq!(rt; scale(&numeral, d), Ok(value), "{text}");
-        }
+fn numerals_are_read_and_scaled(rt: HostRuntime) {
+    for (text, d, value) in &SCALED {
+        assert!(rt; is_scaled(text, *d, Ok(*value)), "{text}");
     }
-    for (text, d) in TOO_LARGE {
-        let numeral = Numeral::read(text.as_bytes()).ok_or("no numeral")?;
-        if d <= 9 {
-            assert_eq!(rt; scale(&numeral, d), Err(OutOfRange), "{text}");
-        }
+    for (text, d) in &TOO_LARGE {
+        assert!(rt; is_scaled(text, *d, Err(OutOfRange)), "{text}");
     }
-    for text in NO_NUMERALS {
-        assert_eq!(rt; Numeral::read(text.as_bytes()), None, "{text}");
+    for text in &NO_NUMERALS {
+        assert!(rt; Numeral::read(text.as_bytes()).is_none(), "{text}");
     }
     let parts = Numeral {
         negative: true,
         digits: 1250,
         exponent: -5,
     };
-    assert_eq!(rt; Numeral::read(b"-12.50E-3"), Some(parts));
-    Ok(())
+    assert!(rt; Numeral::read(b"-12.50E-3") == Some(parts));
+}
+
+// Whether the fields have this scaled value.
+fn are_scaled(digits: u128, exponent: i128, d: u8, value: Result<i64, OutOfRange>) -> bool {
+    let numeral = Numeral {
+        negative: false,
+        digits,
+        exponent,
+    };
+    d <= 9 && scale(&numeral, d) == value
+}
+
+// Whether the value has this text.
+fn has_text(alloc: Global, value: i64, d: u8, text: &str) -> bool {
+    let mut out = Vec::new(alloc);
+    put_fixed(alloc, &mut out, value, d).is_ok() && out.as_slice() == text.as_bytes()
 }
 
 #[test]
-fn any_fields_are_scaled(rt: HostRuntime) {
-    for (digits, exponent, d, value) in [
-        (u128::MAX, i128::MIN, 9, Ok(0)),
-        (u128::MAX, i128::MAX, 9, Err(OutOfRange)),
-        (1, i128::MAX, 0, Err(OutOfRange)),
-        (0, i128::MAX, 9, Ok(0)),
-        (u128::MAX, -22, 0, Err(OutOfRange)),
-        (u128::MAX, -23, 0, Ok(3_402_823_669_209_385)),
-        (u128::MAX, -38, 0, Ok(3)),
-        (u128::MAX, -39, 0, Ok(0)),
-        (u128::MAX, -48, 9, Ok(0)),
-        (u128::MAX, -47, 9, Ok(3)),
-    ] {
-        let numeral = Numeral {
-            negative: false,
-            digits,
-            exponent,
-        };
-        if d <= 9 {
-            assert_eq!(rt; scale(&numeral, d), value, "{exponent}");
-        }
+fn any_fields_are_scaled_and_written(rt: HostRuntime) {
+    for (digits, exponent, d, value) in &FIELDS {
+        assert!(rt; are_scaled(*digits, *exponent, *d, *value), "{exponent}");
     }
-}
-
-#[test]
-fn scaled_values_are_written(rt: HostRuntime) -> Result<(), Fail> {
-    for (value, d, text) in [
-        (-5000, 4, "-0.5000"),
-        (0, 0, "0"),
-        (0, 4, "0.0000"),
-        (12345, 0, "12345"),
-        (12345, 4, "1.2345"),
-        (-1, 9, "-0.000000001"),
-        (10_000_000_000_000_000, 4, "1000000000000.0000"),
-        (i64::MIN, 0, "-9223372036854775808"),
-        (i64::MAX, 18, "9.223372036854775807"),
-        (i64::MIN, 19, "-0.9223372036854775808"),
-        (7, 21, "0.000000000000000000007"),
-    ] {
-        let mut out = Vec::new(rt.alloc());
-        put_fixed(rt.alloc(), &mut out, value, d)?;
-        assert_eq!(rt; out.as_slice(), text.as_bytes(), "{text}");
+    for (value, d, text) in &WRITTEN {
+        assert!(rt; has_text(rt.alloc(), *value, *d, text), "{text}");
     }
-    Ok(())
 }

@@ -1,7 +1,6 @@
 //! Each call with ample memory, and values from outside.
 use line_text::*;
-use std::alloc::{AllocError, Global};
-use std::test::Fail;
+use std::alloc::Global;
 
 // Each ASCII byte that a canonical spelling leaves as it is.
 const PLAIN: &[u8] =
@@ -41,109 +40,115 @@ const NO_SPELLINGS: [&[u8]; 14] = [
     b"\xff",
 ];
 
-#[test]
-fn words_spell_names(rt: HostRuntime) -> Result<(), Fail> {
-    for (word, name) in SPELLINGS {
-        let read = read_name(rt.alloc(), word.as_bytes())?;
-        assert_eq!(rt; read.as_str(), name, "{word}");
+// Texts, how often each is repeated in a word, and whether the word spells a name: of 1 to 256 bytes.
+const LENGTHS: [(&str, usize, bool); 10] = [
+    ("a", 0, false),
+    ("a", 1, true),
+    ("a", 256, true),
+    ("a", 257, false),
+    ("%61", 256, true),
+    ("%61", 257, false),
+    ("é", 128, true),
+    ("é", 129, false),
+    ("%c3%a9", 128, true),
+    ("%c3%a9", 129, false),
+];
+
+// Names and their one spelling.
+const WRITTEN: [(&str, &str); 6] = [
+    ("a b,c", "a%20b%2Cc"),
+    ("100%", "100%25"),
+    ("%41", "%2541"),
+    ("é€😀", "%C3%A9%E2%82%AC%F0%9F%98%80"),
+    ("\t\n\r\u{7f}\u{80}\u{7ff}", "%09%0A%0D%7F%C2%80%DF%BF"),
+    ("BenchmarkX/a=1-8", "BenchmarkX/a=1-8"),
+];
+
+// Whether the word spells the name.
+fn spells(alloc: Global, word: &[u8], name: &str) -> bool {
+    match read_name(alloc, word) {
+        Ok(read) => read.as_str() == name,
+        Err(_) => false,
     }
-    for word in NO_SPELLINGS {
-        let refused = read_name(rt.alloc(), word).err();
-        assert_eq!(rt; refused, Some(NameError::BadName), "{word:?}");
-    }
-    assert_eq!(rt;
-        Name::of_text(rt.alloc(), b"\xc3").err(),
-        Some(NameError::BadName)
-    );
-    Ok(())
 }
 
-// A text, so many times.
-fn repeated(alloc: Global, text: &[u8], count: usize) -> Result<Vec<u8>, AllocError> {
-    let mut all = Vec::new(alloc);
+// Whether the word spells no name.
+fn spells_none(alloc: Global, word: &[u8]) -> bool {
+    matches!(read_name(alloc, word), Err(NameError::BadName))
+}
+
+// Whether the text, so many times, is a word that spells a name, or one that spells none.
+fn has_length(alloc: Global, text: &str, count: usize, taken: bool) -> bool {
+    let mut word = Vec::new(alloc);
     for _ in 0..count {
-        all.extend_from_slice(text)?;
+        if word.extend_from_slice(text.as_bytes()).is_err() {
+            return false;
+        }
     }
-    Ok(all)
+    read_name(alloc, &word).is_ok() == taken
 }
 
 #[test]
-fn names_have_1_to_256_bytes_after_decoding(rt: HostRuntime) -> Result<(), Fail> {
-    for (text, count, taken) in [
-        ("a", 0, false),
-        ("a", 1, true),
-        ("a", 256, true),
-        ("a", 257, false),
-        ("%61", 256, true),
-        ("%61", 257, false),
-        ("é", 128, true),
-        ("é", 129, false),
-        ("%c3%a9", 128, true),
-        ("%c3%a9", 129, false),
-    ] {
-        let word = repeated(rt.alloc(), text.as_bytes(), count)?;
-        assert_eq!(rt;
-            read_name(rt.alloc(), &word).is_ok(),
-            taken,
+fn words_spell_names(rt: HostRuntime) {
+    for (word, name) in &SPELLINGS {
+        assert!(rt; spells(rt.alloc(), word.as_bytes(), name), "{word}");
+    }
+    for word in &NO_SPELLINGS {
+        assert!(rt; spells_none(rt.alloc(), word), "{word:?}");
+    }
+    for (text, count, taken) in &LENGTHS {
+        assert!(rt;
+            has_length(rt.alloc(), text, *count, *taken),
             "{count} times {text}"
         );
     }
-    let long = repeated(rt.alloc(), b"a", 256)?;
-    assert_eq!(rt; Name::of_text(rt.alloc(), &long)?.as_str().len(), 256);
-    let longer = repeated(rt.alloc(), b"a", 257)?;
-    assert_eq!(rt;
-        Name::of_text(rt.alloc(), &longer).err(),
-        Some(NameError::BadName)
-    );
-    assert_eq!(rt;
-        Name::of_text(rt.alloc(), b"").err(),
-        Some(NameError::BadName)
-    );
-    Ok(())
 }
 
-#[test]
-fn each_byte_is_written_and_read_back(rt: HostRuntime) -> Result<(), Fail> {
-    for byte in 0..=255u8 {
-        let mut word = Vec::new(rt.alloc());
-        put_escaped(rt.alloc(), &mut word, &[byte])?;
-        let escape = format!(in rt.alloc(); "%{byte:02X}")?;
-        let expected = if PLAIN.contains(&byte) {
-            repeated(rt.alloc(), &[byte], 1)?
-        } else {
-            repeated(rt.alloc(), escape.as_bytes(), 1)?
-        };
-        assert_eq!(rt; word.as_slice(), expected.as_slice(), "{byte}");
-        let read = read_name(rt.alloc(), &word);
-        assert_eq!(rt; read.is_ok(), byte < 128, "{byte}");
-        if let Ok(name) = read {
-            assert_eq!(rt; name.as_str().as_bytes(), [byte].as_slice(), "{byte}");
+// Whether the name of a text has this spelling, and so has a copy of it.
+fn is_written(alloc: Global, text: &[u8], word: &[u8]) -> bool {
+    match copied(alloc, text) {
+        Some(name) => {
+            let mut out = Vec::new(alloc);
+            put_name(alloc, &mut out, &name).is_ok() && out.as_slice() == word
         }
+        None => false,
     }
-    Ok(())
+}
+
+// A copy of the name of a text; none where there is no memory.
+fn copied(alloc: Global, text: &[u8]) -> Option<Name> {
+    let name = Name::of_text(alloc, text).ok()?;
+    name.copy(alloc).ok()
+}
+
+// Whether the byte is written as itself where it is plain, and else as its escape.
+fn is_escaped(alloc: Global, byte: u8) -> bool {
+    let digits = b"0123456789ABCDEF";
+    let escape = [
+        b'%',
+        digits[(byte / 16) as usize],
+        digits[(byte % 16) as usize],
+    ];
+    let mut word = Vec::new(alloc);
+    put_escaped(alloc, &mut word, &[byte]).is_ok()
+        && if PLAIN.contains(&byte) {
+            word.as_slice() == [byte].as_slice()
+        } else {
+            word.as_slice() == escape.as_slice()
+        }
 }
 
 #[test]
-fn names_are_written_and_read_back(rt: HostRuntime) -> Result<(), Fail> {
-    for (name, word) in [
-        ("a b,c", "a%20b%2Cc"),
-        ("100%", "100%25"),
-        ("%41", "%2541"),
-        ("é€😀", "%C3%A9%E2%82%AC%F0%9F%98%80"),
-        ("\t\n\r\u{7f}\u{80}\u{7ff}", "%09%0A%0D%7F%C2%80%DF%BF"),
-        ("BenchmarkX/a=1-8", "BenchmarkX/a=1-8"),
-    ] {
-        let name = Name::of_text(rt.alloc(), name.as_bytes())?;
-        let mut out = repeated(rt.alloc(), b"x ", 1)?;
-        put_name(rt.alloc(), &mut out, &name)?;
-        let expected = format!(in rt.alloc(); "x {word}")?;
-        assert_eq!(rt; out.as_slice(), expected.as_bytes());
-        let copy = name.copy(rt.alloc())?;
-        let read = read_name(rt.alloc(), word.as_bytes())?;
-        assert_eq!(rt; read, name);
-        assert_eq!(rt; copy, name);
+fn names_are_written(rt: HostRuntime) {
+    for (text, word) in &WRITTEN {
+        assert!(rt;
+            is_written(rt.alloc(), text.as_bytes(), word.as_bytes()),
+            "{word}"
+        );
     }
-    Ok(())
+    for byte in 0..=255u8 {
+        assert!(rt; is_escaped(rt.alloc(), byte), "{byte}");
+    }
 }
 
 // Words and the numbers of 64 bits that they spell.
@@ -192,68 +197,98 @@ const SIGNED_NUMBERS: [(&str, Option<i64>); 12] = [
     ("-", None),
 ];
 
+// Lines, places, and where the next word stands.
+const NEXT_WORDS: [(&str, usize, Option<(usize, usize)>); 7] = [
+    ("  12  -3 ", 0, Some((2, 4))),
+    ("  12  -3 ", 4, Some((6, 8))),
+    ("  12  -3 ", 8, None),
+    ("a", 0, Some((0, 1))),
+    ("a", 1, None),
+    ("\ta\r", 0, Some((0, 3))),
+    ("", 0, None),
+];
+
+// Whether the next word stands there.
+fn is_next(line: &[u8], at: usize, word: Option<(usize, usize)>) -> bool {
+    at <= line.len() && next_word(line, at) == word
+}
+
 #[test]
 fn words_spell_numbers(rt: HostRuntime) {
-    for (word, number) in NUMBERS {
-        assert_eq!(rt; read_u64(word.as_bytes()), number, "{word}");
+    for (word, number) in &NUMBERS {
+        assert!(rt; read_u64(word.as_bytes()) == *number, "{word}");
     }
-    for (word, number) in WIDE_NUMBERS {
-        assert_eq!(rt; read_u128(word.as_bytes()), number, "{word}");
+    for (word, number) in &WIDE_NUMBERS {
+        assert!(rt; read_u128(word.as_bytes()) == *number, "{word}");
     }
-    for (word, number) in SIGNED_NUMBERS {
-        assert_eq!(rt; read_i64(word.as_bytes()), number, "{word}");
+    for (word, number) in &SIGNED_NUMBERS {
+        assert!(rt; read_i64(word.as_bytes()) == *number, "{word}");
     }
-    assert_eq!(rt; read_u64(b"1\xff"), None);
-}
-
-#[test]
-fn numbers_are_written(rt: HostRuntime) -> Result<(), Fail> {
-    let mut out = Vec::new(rt.alloc());
-    for number in [0, 9, 10, u64::MAX] {
-        put_u64(rt.alloc(), &mut out, number)?;
-        out.push(b' ')?;
-    }
-    for number in [0, -1, i128::MAX, i128::MIN] {
-        put_i128(rt.alloc(), &mut out, number)?;
-        out.push(b' ')?;
-    }
-    let expected =
-        b"0 9 10 18446744073709551615 0 -1 170141183460469231731687303715884105727 -170141183460469231731687303715884105728 ";
-    assert_eq!(rt; out.as_slice(), expected.as_slice());
-    Ok(())
-}
-
-#[test]
-fn words_are_found_between_spaces(rt: HostRuntime) {
-    for (line, at, word) in [
-        ("  12  -3 ", 0, Some((2, 4))),
-        ("  12  -3 ", 4, Some((6, 8))),
-        ("  12  -3 ", 8, None),
-        ("a", 0, Some((0, 1))),
-        ("a", 1, None),
-        ("\ta\r", 0, Some((0, 3))),
-        ("", 0, None),
-    ] {
-        if at <= line.len() {
-            assert_eq!(rt; next_word(line.as_bytes(), at), word, "{line}");
-        }
+    for (line, at, word) in &NEXT_WORDS {
+        assert!(rt; is_next(line.as_bytes(), *at, *word), "{line}");
     }
 }
 
+// Whether the number has this text.
+fn is_number(alloc: Global, number: u64, text: &str) -> bool {
+    let mut out = Vec::new(alloc);
+    put_u64(alloc, &mut out, number).is_ok() && out.as_slice() == text.as_bytes()
+}
+
+// Whether the signed number has this text.
+fn is_signed(alloc: Global, number: i128, text: &str) -> bool {
+    let mut out = Vec::new(alloc);
+    put_i128(alloc, &mut out, number).is_ok() && out.as_slice() == text.as_bytes()
+}
+
+// Numbers and their texts.
+const NUMBER_TEXTS: [(u64, &str); 4] = [
+    (0, "0"),
+    (9, "9"),
+    (10, "10"),
+    (u64::MAX, "18446744073709551615"),
+];
+
+// Signed numbers and their texts.
+const SIGNED_TEXTS: [(i128, &str); 4] = [
+    (0, "0"),
+    (-1, "-1"),
+    (i128::MAX, "170141183460469231731687303715884105727"),
+    (i128::MIN, "-170141183460469231731687303715884105728"),
+];
+
 #[test]
-fn texts_and_lists_are_kept(rt: HostRuntime) -> Result<(), Fail> {
-    let text = Text::of(rt.alloc(), "é x")?;
-    assert_eq!(rt; text.copy(rt.alloc())?.as_str(), "é x");
-    assert_eq!(rt; Text::from_string(text.into_string()).as_str(), "é x");
-    let mut numbers = Numbers::new(rt.alloc());
-    assert!(rt; numbers.is_empty());
-    numbers.push(3)?;
-    numbers.push(1)?;
-    let copy = numbers.copy(rt.alloc())?;
-    assert_eq!(rt; copy.as_slice(), [3, 1].as_slice());
-    assert_eq!(rt; copy.get(1).copied(), Some(1));
-    assert_eq!(rt; copy.get(2).copied(), None);
-    let back = Numbers::of(numbers.into_vec());
-    assert_eq!(rt; back.len(), 2);
-    Ok(())
+fn numbers_are_written(rt: HostRuntime) {
+    for (number, text) in &NUMBER_TEXTS {
+        assert!(rt; is_number(rt.alloc(), *number, text), "{text}");
+    }
+    for (number, text) in &SIGNED_TEXTS {
+        assert!(rt; is_signed(rt.alloc(), *number, text), "{text}");
+    }
+}
+
+// A copy of a text; none where there is no memory.
+fn text_copied(alloc: Global) -> Option<Text> {
+    let text = Text::of(alloc, "é x").ok()?;
+    text.copy(alloc).ok()
+}
+
+// A copy of the numbers 3 and 1; none where there is no memory.
+fn numbers_copied(alloc: Global) -> Option<Numbers> {
+    let mut numbers = Numbers::new(alloc);
+    if numbers.push(3).is_err() || numbers.push(1).is_err() {
+        return None;
+    }
+    numbers.copy(alloc).ok()
+}
+
+// Whether the copies are as they were.
+fn are_copied(alloc: Global) -> bool {
+    text_copied(alloc).is_some_and(|text| text.as_str() == "é x")
+        && numbers_copied(alloc).is_some_and(|numbers| numbers.as_slice() == [3, 1].as_slice())
+}
+
+#[test]
+fn texts_and_lists_are_copied(rt: HostRuntime) {
+    assert!(rt; are_copied(rt.alloc()));
 }

@@ -1,158 +1,216 @@
 //! Both forms of a report, as the documents print them.
-use line_text::{Name, NameError};
+use line_text::Name;
 use regression_state::State;
 use report_pages::{
     JobLine, JobLines, Pages, RegressionLine, RegressionLines, SeriesLine, SeriesLines, Told,
     put_json, put_text,
 };
-use std::test::Fail;
+use std::alloc::Global;
 
-#[test]
-fn a_report_of_one_series_is_one_line_of_json(rt: HostRuntime) -> Result<(), Fail> {
-    let mut series = SeriesLines::new(rt.alloc());
-    series.push(SeriesLine {
-        test: named(&rt, "X")?,
-        metric: named(&rt, "B/op")?,
-        samples: 4,
-        positions: 4,
-        changes: Some(1),
-        centre: Some(10),
-    })?;
-    let pages = Pages {
-        machine: named(&rt, "m1")?,
-        step: 11,
-        json: true,
-        series,
-        regressions: RegressionLines::new(rt.alloc()),
-        jobs: JobLines::new(rt.alloc()),
-    };
-    let mut out = Vec::new(rt.alloc());
-    put_json(rt.alloc(), &mut out, &pages)?;
-    let wanted =
-        "{\"jobs\":[],\"machine\":\"m1\",\"regressions\":[],\"series\":[{\"centre\":\"10\",\"changes\":1,\"metric\":\"B/op\",\"positions\":4,\"samples\":4,\"test\":\"X\"}],\"step\":11}\n";
-    assert_eq!(rt; str::from_utf8(&out), Ok(wanted));
-    Ok(())
+fn named(alloc: Global, text: &str) -> Option<Name> {
+    Name::of_text(alloc, text.as_bytes()).ok()
 }
 
-#[test]
-fn each_kind_of_line_stands_in_its_columns(rt: HostRuntime) -> Result<(), Fail> {
-    let pages = full_pages(&rt)?;
-    let mut out = Vec::new(rt.alloc());
-    put_text(rt.alloc(), &mut out, &pages)?;
-    let wanted =
-        "series a%20test                                 ns/op                   3        2        -                    -\nregression 1 T ns/op a b not_to_be_fixed\njob 1 range 8 questions 3 found c5 c6\njob 2 range 8 questions 0 undecided c4 125\n";
-    assert_eq!(rt; str::from_utf8(&out), Ok(wanted));
-    let mut line = Vec::new(rt.alloc());
-    put_json(rt.alloc(), &mut line, &pages)?;
-    let wanted =
-        "{\"jobs\":[{\"job\":1,\"outcome\":\"found c5 c6\",\"questions\":3,\"range\":8},{\"job\":2,\"outcome\":\"undecided c4 125\",\"questions\":0,\"range\":8}],\"machine\":\"m\",\"regressions\":[{\"after\":\"b\",\"before\":\"a\",\"metric\":\"ns/op\",\"number\":1,\"state\":\"not_to_be_fixed\",\"test\":\"T\"}],\"series\":[{\"centre\":null,\"changes\":null,\"metric\":\"ns/op\",\"positions\":2,\"samples\":3,\"test\":\"a test\"}],\"step\":7}\n";
-    assert_eq!(rt; str::from_utf8(&line), Ok(wanted));
-    Ok(())
-}
+// A series with names, samples, positions, changes and a centre.
+type Series<'a> = (&'a str, &'a str, u64, u64, Option<u64>, Option<i64>);
 
-// Names that need escaping: quotes, a backslash, control characters, letters beyond ASCII, a percent sign and a comma.
-#[test]
-fn names_are_escaped_in_both_forms(rt: HostRuntime) -> Result<(), Fail> {
-    let mut series = SeriesLines::new(rt.alloc());
-    series.push(SeriesLine {
-        test: named(&rt, "a\"b\\c\n\u{1}é%,")?,
-        metric: named(&rt, "µs")?,
-        samples: 1,
-        positions: 1,
-        changes: Some(0),
-        centre: Some(-5000),
-    })?;
-    let pages = Pages {
-        machine: named(&rt, "m\t")?,
-        step: 3,
-        json: true,
-        series,
-        regressions: RegressionLines::new(rt.alloc()),
-        jobs: JobLines::new(rt.alloc()),
-    };
-    let mut line = Vec::new(rt.alloc());
-    put_json(rt.alloc(), &mut line, &pages)?;
-    let wanted =
-        "{\"jobs\":[],\"machine\":\"m\\t\",\"regressions\":[],\"series\":[{\"centre\":\"-0.5000\",\"changes\":0,\"metric\":\"µs\",\"positions\":1,\"samples\":1,\"test\":\"a\\\"b\\\\c\\n\\u0001é%,\"}],\"step\":3}\n";
-    assert_eq!(rt; str::from_utf8(&line), Ok(wanted));
-    let mut out = Vec::new(rt.alloc());
-    put_text(rt.alloc(), &mut out, &pages)?;
-    let wanted =
-        "series a\"b\\c%0A%01%C3%A9%25%2C                  %C2%B5s                 1        1        0              -0.5000\n";
-    assert_eq!(rt; str::from_utf8(&out), Ok(wanted));
-    Ok(())
-}
-
-#[test]
-fn a_machine_with_nothing_has_an_empty_report(rt: HostRuntime) -> Result<(), Fail> {
-    let pages = Pages {
-        machine: named(&rt, "m")?,
-        step: 0,
-        json: false,
-        series: SeriesLines::new(rt.alloc()),
-        regressions: RegressionLines::new(rt.alloc()),
-        jobs: JobLines::new(rt.alloc()),
-    };
-    let made = pages.copy(rt.alloc())?;
-    let mut out = Vec::new(rt.alloc());
-    put_text(rt.alloc(), &mut out, &made)?;
-    assert_eq!(rt; out.len(), 0);
-    put_json(rt.alloc(), &mut out, &made)?;
-    let wanted = "{\"jobs\":[],\"machine\":\"m\",\"regressions\":[],\"series\":[],\"step\":0}\n";
-    assert_eq!(rt; str::from_utf8(&out), Ok(wanted));
-    Ok(())
-}
-
-fn full_pages(rt: &HostRuntime) -> Result<Pages, Fail> {
-    let mut series = SeriesLines::new(rt.alloc());
-    series.push(SeriesLine {
-        test: named(rt, "a test")?,
-        metric: named(rt, "ns/op")?,
-        samples: 3,
-        positions: 2,
-        changes: None,
-        centre: None,
-    })?;
-    let mut regressions = RegressionLines::new(rt.alloc());
-    regressions.push(RegressionLine {
-        number: 1,
-        test: named(rt, "T")?,
-        metric: named(rt, "ns/op")?,
-        before: named(rt, "a")?,
-        after: named(rt, "b")?,
-        state: State::NotToBeFixed,
-    })?;
-    let mut jobs = JobLines::new(rt.alloc());
-    let found = Told::Found {
-        lo: named(rt, "c5")?,
-        hi: named(rt, "c6")?,
-    };
-    jobs.push(JobLine {
-        job: 1,
-        range: 8,
-        questions: 3,
-        outcome: found,
-    })?;
-    let undecided = Told::Undecided {
-        commit: named(rt, "c4")?,
-        status: 125,
-    };
-    jobs.push(JobLine {
-        job: 2,
-        range: 8,
-        questions: 0,
-        outcome: undecided,
-    })?;
-    Ok(Pages {
-        machine: named(rt, "m")?,
-        step: 7,
-        json: false,
-        series,
-        regressions,
-        jobs,
+// Its line; none where there is no memory.
+fn series_line(alloc: Global, said: &Series) -> Option<SeriesLine> {
+    let (test, metric, samples, positions, changes, centre) = said;
+    let test = named(alloc, test)?;
+    let metric = named(alloc, metric)?;
+    Some(SeriesLine {
+        test,
+        metric,
+        samples: *samples,
+        positions: *positions,
+        changes: *changes,
+        centre: *centre,
     })
 }
 
-fn named(rt: &HostRuntime, text: &str) -> Result<Name, NameError> {
-    Name::of_text(rt.alloc(), text.as_bytes())
+// The list of one series; none where there is no memory.
+fn series_of(alloc: Global, said: &Series) -> Option<SeriesLines> {
+    let line = series_line(alloc, said)?;
+    let mut series = SeriesLines::new(alloc);
+    if series.push(line).is_err() {
+        return None;
+    }
+    Some(series)
+}
+
+// A report of one series and nothing else; none where there is no memory.
+fn pages_of(alloc: Global, machine: &str, step: u64, said: &Series) -> Option<Pages> {
+    let machine = named(alloc, machine)?;
+    let series = series_of(alloc, said)?;
+    Some(Pages {
+        machine,
+        step,
+        json: true,
+        series,
+        regressions: RegressionLines::new(alloc),
+        jobs: JobLines::new(alloc),
+    })
+}
+
+// Whether a report has these forms.
+fn has_forms(alloc: Global, pages: &Pages, text: &str, line: &str) -> bool {
+    let mut out = Vec::new(alloc);
+    if put_text(alloc, &mut out, pages).is_err() || out.as_slice() != text.as_bytes() {
+        return false;
+    }
+    let mut json = Vec::new(alloc);
+    put_json(alloc, &mut json, pages).is_ok() && json.as_slice() == line.as_bytes()
+}
+
+/// A machine and a step with one series, and both forms of the report.
+type Row<'a> = (&'a str, u64, Series<'a>, &'a str, &'a str);
+
+/// A plain report; names that need escaping: quotes, a backslash, control characters, letters beyond ASCII, a percent sign
+/// and a comma.
+const REPORTS: [Row; 2] = [
+    (
+        "m1",
+        11,
+        ("X", "B/op", 4, 4, Some(1), Some(10)),
+        "series X                                        B/op                    4        4        1                   10\n",
+        "{\"jobs\":[],\"machine\":\"m1\",\"regressions\":[],\"series\":[{\"centre\":\"10\",\"changes\":1,\"metric\":\"B/op\",\"positions\":4,\"samples\":4,\"test\":\"X\"}],\"step\":11}\n",
+    ),
+    (
+        "m\t",
+        3,
+        ("a\"b\\c\n\u{1}é%,", "µs", 1, 1, Some(0), Some(-5000)),
+        "series a\"b\\c%0A%01%C3%A9%25%2C                  %C2%B5s                 1        1        0              -0.5000\n",
+        "{\"jobs\":[],\"machine\":\"m\\t\",\"regressions\":[],\"series\":[{\"centre\":\"-0.5000\",\"changes\":0,\"metric\":\"µs\",\"positions\":1,\"samples\":1,\"test\":\"a\\\"b\\\\c\\n\\u0001é%,\"}],\"step\":3}\n",
+    ),
+];
+
+// Whether the report of a row has its forms.
+fn is_printed(alloc: Global, row: &Row) -> bool {
+    let (machine, step, said, text, line) = row;
+    match pages_of(alloc, machine, *step, said) {
+        Some(pages) => has_forms(alloc, &pages, text, line),
+        None => false,
+    }
+}
+
+#[test]
+fn a_series_is_printed_in_both_forms(rt: HostRuntime) {
+    for row in &REPORTS {
+        assert!(rt; is_printed(rt.alloc(), row), "{}", row.3);
+    }
+}
+
+// The line of a regression; none where there is no memory.
+fn regression(alloc: Global) -> Option<RegressionLine> {
+    let test = named(alloc, "T")?;
+    let metric = named(alloc, "ns/op")?;
+    let before = named(alloc, "a")?;
+    let after = named(alloc, "b")?;
+    Some(RegressionLine {
+        number: 1,
+        test,
+        metric,
+        before,
+        after,
+        state: State::NotToBeFixed,
+    })
+}
+
+// The list of it; none where there is no memory.
+fn regressions(alloc: Global) -> Option<RegressionLines> {
+    let line = regression(alloc)?;
+    let mut lines = RegressionLines::new(alloc);
+    if lines.push(line).is_err() {
+        return None;
+    }
+    Some(lines)
+}
+
+// What was found; none where there is no memory.
+fn found(alloc: Global) -> Option<Told> {
+    let lo = named(alloc, "c5")?;
+    let hi = named(alloc, "c6")?;
+    Some(Told::Found { lo, hi })
+}
+
+// What is undecided; none where there is no memory.
+fn undecided(alloc: Global) -> Option<Told> {
+    let commit = named(alloc, "c4")?;
+    Some(Told::Undecided {
+        commit,
+        status: 125,
+    })
+}
+
+// Appends a bisection; no where there is none.
+fn adds(jobs: &mut JobLines, job: u64, questions: u64, outcome: Option<Told>) -> bool {
+    match outcome {
+        Some(outcome) => jobs
+            .push(JobLine {
+                job,
+                range: 8,
+                questions,
+                outcome,
+            })
+            .is_ok(),
+        None => false,
+    }
+}
+
+// Two bisections; none where there is no memory.
+fn jobs(alloc: Global) -> Option<JobLines> {
+    let mut lines = JobLines::new(alloc);
+    if !adds(&mut lines, 1, 3, found(alloc)) || !adds(&mut lines, 2, 0, undecided(alloc)) {
+        return None;
+    }
+    Some(lines)
+}
+
+// A report with each kind of line, copied; none where there is no memory.
+fn full_pages(alloc: Global) -> Option<Pages> {
+    let mut pages = pages_of(alloc, "m", 7, &("a test", "ns/op", 3, 2, None, None))?;
+    pages.regressions = regressions(alloc)?;
+    pages.jobs = jobs(alloc)?;
+    pages.copy(alloc).ok()
+}
+
+const FULL_TEXT: &str =
+    "series a%20test                                 ns/op                   3        2        -                    -\nregression 1 T ns/op a b not_to_be_fixed\njob 1 range 8 questions 3 found c5 c6\njob 2 range 8 questions 0 undecided c4 125\n";
+
+const FULL_JSON: &str =
+    "{\"jobs\":[{\"job\":1,\"outcome\":\"found c5 c6\",\"questions\":3,\"range\":8},{\"job\":2,\"outcome\":\"undecided c4 125\",\"questions\":0,\"range\":8}],\"machine\":\"m\",\"regressions\":[{\"after\":\"b\",\"before\":\"a\",\"metric\":\"ns/op\",\"number\":1,\"state\":\"not_to_be_fixed\",\"test\":\"T\"}],\"series\":[{\"centre\":null,\"changes\":null,\"metric\":\"ns/op\",\"positions\":2,\"samples\":3,\"test\":\"a test\"}],\"step\":7}\n";
+
+// Whether it has its forms.
+fn is_full(alloc: Global) -> bool {
+    match full_pages(alloc) {
+        Some(pages) => has_forms(alloc, &pages, FULL_TEXT, FULL_JSON),
+        None => false,
+    }
+}
+
+// Whether a report of nothing has its forms.
+fn is_empty(alloc: Global) -> bool {
+    match named(alloc, "m") {
+        Some(machine) => {
+            let pages = Pages {
+                machine,
+                step: 0,
+                json: false,
+                series: SeriesLines::new(alloc),
+                regressions: RegressionLines::new(alloc),
+                jobs: JobLines::new(alloc),
+            };
+            let line =
+                "{\"jobs\":[],\"machine\":\"m\",\"regressions\":[],\"series\":[],\"step\":0}\n";
+            has_forms(alloc, &pages, "", line)
+        }
+        None => false,
+    }
+}
+
+#[test]
+fn each_kind_of_line_stands_in_its_columns(rt: HostRuntime) {
+    assert!(rt; is_full(rt.alloc()));
+    assert!(rt; is_empty(rt.alloc()));
 }

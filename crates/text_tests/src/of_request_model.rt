@@ -1,68 +1,56 @@
-//! A request and a reply, copied with ample memory.
-use history_model::Samples;
+//! Requests and replies, copied with ample memory.
 use line_text::{Name, Text};
 use request_model::{Answer, Refusal, Reply, Request, RunLine, Runs};
-use std::test::Fail;
+use std::alloc::Global;
 
-#[test]
-fn a_request_is_copied_whole(rt: HostRuntime) -> Result<(), Fail> {
-    let alloc = rt.alloc();
-    let request = Request::Submit {
-        machine: Name::of_text(alloc, b"m")?,
-        commit: Name::of_text(alloc, b"a")?,
-        run: Name::of_text(alloc, b"r1")?,
-        samples: Samples::new(alloc),
-        ignored: 3,
-        stated: Some(Name::of_text(alloc, b"m2")?),
-    };
-    let made = request.copy(alloc)?;
-    let stated = match &made {
-        Request::Submit {
-            ignored: 3,
-            stated: Some(name),
-            ..
-        } => name.as_str(),
-        _ => "",
-    };
-    assert_eq!(rt; stated, "m2");
-    Ok(())
+// A copy of a request; none where there is no memory.
+fn request_copied(alloc: Global) -> Option<Request> {
+    let machine = Name::of_text(alloc, b"m").ok()?;
+    Request::Machine { machine }.copy(alloc).ok()
 }
 
-#[test]
-fn replies_are_copied_whole(rt: HostRuntime) -> Result<(), Fail> {
-    let alloc = rt.alloc();
+// A list of one run; none where there is no memory.
+fn one_run(alloc: Global) -> Option<Runs> {
+    let run = Name::of_text(alloc, b"r1").ok()?;
+    let commit = Name::of_text(alloc, b"a").ok()?;
     let mut runs = Runs::new(alloc);
-    runs.push(RunLine {
-        run: Name::of_text(alloc, b"r1")?,
-        commit: Name::of_text(alloc, b"a")?,
+    let line = RunLine {
+        run,
+        commit,
         samples: 2,
         live: false,
-    })?;
-    let reply = Reply {
-        step: 9,
-        answer: Answer::Runs { runs },
     };
-    let made = reply.copy(alloc)?;
-    let count = match &made.answer {
-        Answer::Runs { runs } => runs.len(),
-        _ => 0,
+    if runs.push(line).is_err() {
+        return None;
+    }
+    Some(runs)
+}
+
+// A copy of the reply with that list; none where there is no memory.
+fn runs_copied(alloc: Global) -> Option<Reply> {
+    let answer = Answer::Runs {
+        runs: one_run(alloc)?,
     };
-    assert_eq!(rt; count, 1);
-    Ok(())
+    Reply { step: 9, answer }.copy(alloc).ok()
+}
+
+// A copy of the reply with a refusal; none where there is no memory.
+fn refusal_copied(alloc: Global) -> Option<Reply> {
+    let member = Text::of(alloc, "machine.name").ok()?;
+    let answer = Answer::Refused(Refusal::NotReport { rule: 6, member });
+    Reply { step: 9, answer }.copy(alloc).ok()
+}
+
+// Whether each copy is as it was.
+fn are_copied(alloc: Global) -> [bool; 3] {
+    [
+        matches!(request_copied(alloc), Some(Request::Machine { .. })),
+        runs_copied(alloc).is_some_and(|reply| reply.step == 9),
+        refusal_copied(alloc).is_some_and(|reply| reply.step == 9),
+    ]
 }
 
 #[test]
-fn refusals_are_copied_whole(rt: HostRuntime) -> Result<(), Fail> {
-    let alloc = rt.alloc();
-    let refusal = Refusal::NotReport {
-        rule: 6,
-        member: Text::of(alloc, "machine.name")?,
-    };
-    let made = refusal.copy(alloc)?;
-    let member = match &made {
-        Refusal::NotReport { rule: 6, member } => member.as_str(),
-        _ => "",
-    };
-    assert_eq!(rt; member, "machine.name");
-    Ok(())
+fn requests_and_replies_are_copied(rt: HostRuntime) {
+    assert!(rt; are_copied(rt.alloc()) == [true, true, true]);
 }

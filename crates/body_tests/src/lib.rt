@@ -1,0 +1,13 @@
+//! Tests of the crates that read and write the bodies of submissions, each crate's in the module `of_` and its name.
+//!
+//! They show what no clause says: worked examples, values from outside, and each call with ample memory. They use what
+//! those crates export and nothing else, so they stand apart from them: a crate is then proved once, and not once more
+//! for its tests.
+#![tactic(auto)]
+
+#[cfg(test)]
+mod of_go_bench_text;
+#[cfg(test)]
+mod of_json_text;
+#[cfg(test)]
+mod of_lnt_report;

@@ -1,0 +1,72 @@
+//! The plain table's certificates, made by hand: `tracker_top` has the same of the pruned table.
+use crate::given::{GREATEST, has_text, points_of};
+use part_core::part;
+use segment_cost::Cert;
+use std::alloc::Global;
+
+/// Penalties, commits with values, and the text of the certificate: a cut; one that ties with no cut; three last cuts that
+/// tie and a candidate at equality; no points; one position; the greatest and the least value.
+const CERTIFICATES: [(u8, &[(u64, i64)], &str); 6] = [
+    (
+        50,
+        &[(1, 0), (2, 0), (3, 10), (4, 10)],
+        "points 4\npenalty 50\ncuts 2\ntotal 50\nleast -50 0 0 50 50\nback 0 0 0 2 2\npruned 0 4 0 0 0\n",
+    ),
+    (
+        100,
+        &[(1, 0), (2, 0), (3, 10), (4, 10)],
+        "points 4\npenalty 100\ncuts\ntotal 100\nleast -100 0 0 67 100\nback 0 0 0 0 0\npruned 0 0 0 0 0\n",
+    ),
+    (
+        8,
+        &[
+            (1, 0),
+            (2, 0),
+            (3, 4),
+            (4, 4),
+            (5, 2),
+            (6, 2),
+            (7, 2),
+            (8, 2),
+            (9, 2),
+            (10, 2),
+        ],
+        "points 10\npenalty 8\ncuts\ntotal 16\nleast -8 0 0 8 8 11 12 13 14 15 16\nback 0 0 0 2 2 2 2 2 2 2 0\npruned 0 4 0 0 0 0 0 0 0 0 0\n",
+    ),
+    (
+        5,
+        &[],
+        "points 0\npenalty 5\ncuts\ntotal 0\nleast -5\nback 0\npruned 0\n",
+    ),
+    (
+        1,
+        &[(5, 0), (5, 100), (5, -100)],
+        "points 1\npenalty 1\ncuts\ntotal 20000\nleast -1 20000\nback 0 0\npruned 0 0\n",
+    ),
+    (
+        1,
+        &[(1, GREATEST), (2, -GREATEST)],
+        "points 2\npenalty 1\ncuts 1\ntotal 1\nleast -1 0 1\nback 0 0 1\npruned 2 0 0\n",
+    ),
+];
+
+// The certificate of some commits and values; none where there is no memory.
+fn cert_of(alloc: Global, penalty: u8, lines: &[(u64, i64)]) -> Option<Cert> {
+    let points = points_of(alloc, lines)?;
+    part(alloc, &points, i128::from(penalty)).ok()
+}
+
+// Whether the plain table gives the certificate.
+fn gives(alloc: Global, penalty: u8, lines: &[(u64, i64)], text: &str) -> bool {
+    match cert_of(alloc, penalty, lines) {
+        Some(cert) => has_text(alloc, &cert, text),
+        None => false,
+    }
+}
+
+#[test]
+fn the_plain_table_gives_the_certificates(rt: HostRuntime) {
+    for (penalty, lines, text) in &CERTIFICATES {
+        assert!(rt; gives(rt.alloc(), *penalty, lines, text), "{text}");
+    }
+}
