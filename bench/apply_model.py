@@ -8,6 +8,7 @@ import unicodedata
 from fractions import Fraction
 
 WHITE = set("\t\n\x0b\x0c\r \x85\xa0\u1680\u2028\u2029\u202f\u205f\u3000") | {chr(c) for c in range(0x2000, 0x200B)}
+PENALTIES = {b"B/op": 25, b"allocs/op": 25, b"code_size": 25, b"execution_time": 10**16, b"compile_time": 10**16}
 DECIMALS = {b"ns/op": 4, b"MB/s": 4, b"B/op": 0, b"allocs/op": 0, b"execution_time": 9, b"compile_time": 9, b"code_size": 0}
 
 
@@ -362,14 +363,75 @@ def read_lnt(body):
     return member(machine, b"name")[1], commit[1], samples, ignored
 
 
+# ---- segmentations
+
+
+def centre_by(count, total):
+    """The smallest of the whole numbers about which the squares of so many values of that sum add up to least."""
+    mean, rest = divmod(total, count)
+    return mean if 2 * rest <= count else mean + 1
+
+
+def centre_of(values):
+    return centre_by(len(values), sum(values))
+
+
+class Segmentation:
+    """The best cut list of some positions, each a list of values, with its tables, by trying all last cuts."""
+
+    def __init__(self, points, penalty):
+        self.points, self.penalty = points, penalty
+        before = [(0, 0, 0)]
+        for values in points:
+            count, total, squares = before[-1]
+            before.append((count + len(values), total + sum(values), squares + sum(value * value for value in values)))
+        costs = {}
+        for t in range(len(points) + 1):
+            for s in range(t):
+                count, total, squares = (after - earlier for after, earlier in zip(before[t], before[s]))
+                centre = centre_by(count, total)
+                costs[s, t] = squares - 2 * centre * total + count * centre * centre
+        self.least, self.back = [-penalty], [0]
+        for t in range(1, len(points) + 1):
+            totals = [self.least[s] + costs[s, t] + penalty for s in range(t)]
+            self.least.append(min(totals))
+            self.back.append(totals.index(min(totals)))
+        dear = lambda s, t: self.least[s] + costs[s, t] > self.least[t]
+        ends = range(len(points) + 1)
+        self.pruned = [next((t for t in ends if s < t and dear(s, t)), 0) for s in ends]
+        self.cuts, at = [], self.back[-1]
+        while at:
+            self.cuts.insert(0, at)
+            at = self.back[at]
+        self.total = self.least[-1] if points else 0
+
+    def levels(self):
+        """The centres of the segments."""
+        ends = [0] + self.cuts + [len(self.points)]
+        return [centre_of(sum(self.points[s:t], [])) for s, t in zip(ends, ends[1:]) if s < t]
+
+    def lines(self):
+        numbers = lambda word, items: b" ".join([word] + [b"%d" % item for item in items])
+        return [b"points %d" % len(self.points), b"penalty %d" % self.penalty, numbers(b"cuts", self.cuts), b"total %d" % self.total,
+                numbers(b"least", self.least), numbers(b"back", self.back), numbers(b"pruned", self.pruned)]
+
+
+def put_fixed(value, metric):
+    decimals = DECIMALS.get(metric, 4)
+    digits = b"%0*d" % (decimals + 1, abs(value))
+    sign = b"-" if value < 0 else b""
+    return sign + (digits[:-decimals] + b"." + digits[-decimals:] if decimals else digits)
+
+
 # ---- machines
 
 
 class Machine:
     def __init__(self):
-        self.step, self.samples = 0, 0
+        self.step, self.samples, self.cuts = 0, 0, 0
         self.commits, self.names = {}, {}  # number: (name, step), name: number
-        self.runs, self.series = {}, {}  # run: its facts, series: how many live values by commit
+        self.runs, self.series = {}, {}  # run: its facts, series: its live (step, value) by commit
+        self.penalties, self.published = {}, {}  # metric: penalty, series: (version, commits, segmentation)
 
     def add(self):
         self.step += 1
@@ -403,13 +465,13 @@ class Machine:
         self.expect_room(len(self.runs) < 65536, b"runs")
         self.expect_room(self.samples + len(samples) <= 524288, b"samples")
         self.expect_room(len(self.series.keys() | count.keys()) <= 16384, b"series")
-        self.expect_room(all(sum(live[s].values()) + n <= 65536 for s, n in count.items()), b"series_samples")
-        self.expect_room(all(len({c for c, n in live[s].items() if n} | {number}) <= 16384 for s in count), b"positions")
+        self.expect_room(all(sum(map(len, live[s].values())) + n <= 65536 for s, n in count.items()), b"series_samples")
+        self.expect_room(all(len({c for c, there in live[s].items() if there} | {number}) <= 16384 for s in count), b"positions")
         self.samples += len(samples)
-        for series, n in count.items():
-            by_commit = self.series.setdefault(series, {})
-            by_commit[number] = by_commit.get(number, 0) + n
-        self.runs[run] = {"commit": number, "name": commit, "samples": samples, "step": self.add(), "gone": None}
+        step = self.add()
+        for test, metric, value in samples:
+            self.series.setdefault((test, metric), {}).setdefault(number, []).append((step, value))
+        self.runs[run] = {"commit": number, "name": commit, "samples": samples, "step": step, "gone": None}
         return b"accepted %s samples %d ignored %d" % (spelled(run), len(samples), ignored)
 
     def retract(self, run):
@@ -421,13 +483,62 @@ class Machine:
         self.expect_room(self.step < 1048576, b"steps")
         there["gone"] = self.add()
         for test, metric, _ in there["samples"]:
-            self.series[test, metric][there["commit"]] -= 1
+            live = self.series[test, metric]
+            live[there["commit"]] = [sample for sample in live[there["commit"]] if sample[0] != there["step"]]
         return b"retracted " + spelled(run)
 
     def tune(self, metric, penalty):
         self.expect_room(self.step < 1048576, b"steps")
         self.add()
+        self.penalties[metric] = penalty
         return b"tuned %s %d" % (spelled(metric), penalty)
+
+    def positions(self, test, metric):
+        """The commits and the values of a known series, by rising commit."""
+        if (test, metric) not in self.series:
+            raise Refused(b"E13 UnknownSeries")
+        live = sorted((commit, there) for commit, there in self.series[test, metric].items() if there)
+        return [commit for commit, _ in live], [[value for _, value in there] for _, there in live]
+
+    def calibrate(self, test, metric, factor):
+        points = self.positions(test, metric)[1]
+        if len(points) < 3:
+            raise Refused(b"E23 TooFewPoints %d" % len(points))
+        centres = [centre_of(values) for values in points]
+        apart = sorted(abs(after - before) for before, after in zip(centres, centres[1:]))
+        return self.tune(metric, factor * max(1, apart[(len(points) - 2) // 2] ** 2))
+
+    def segment(self, test, metric):
+        commits, points = self.positions(test, metric)
+        self.expect_room(self.step < 1048576, b"steps")
+        found = Segmentation(points, self.penalties.get(metric, PENALTIES.get(metric, 2500000000)))
+        self.expect_room(self.cuts + len(found.cuts) <= 16777216, b"cuts")
+        self.cuts += len(found.cuts)
+        version = self.step
+        self.published[test, metric] = version, commits, found
+        self.add()
+        told = version, 0, len(points), len(found.cuts), len(points), found.total
+        return b"segmented version %d base %d points %d cuts %d redone %d total %d" % told
+
+    def last(self, test, metric):
+        self.positions(test, metric)
+        if (test, metric) not in self.published:
+            raise Refused(b"E14 NothingPublished")
+        return self.published[test, metric]
+
+    def changes(self, test, metric):
+        version, commits, found = self.last(test, metric)
+        lines = [b"changes version %d lines %d" % (version, len(found.cuts))]
+        levels = found.levels()
+        for cut, left, right in zip(found.cuts, levels, levels[1:]):
+            worse = right < left if metric == b"MB/s" else left < right
+            names = [spelled(self.commits[commit][0]) for commit in commits[cut - 1:cut + 1]]
+            lines.append(b" ".join(names + [put_fixed(left, metric), put_fixed(right, metric), b"regression" if worse else b"improvement"]))
+        return b"\n".join(lines)
+
+    def verify(self, test, metric):
+        version, _, found = self.last(test, metric)
+        return b"\n".join([b"verified version %d lines 7" % version] + found.lines())
 
     def list_runs(self):
         lines = [b"runs lines %d" % len(self.runs)]
@@ -452,8 +563,13 @@ FORMS = {
     (b"submit", b"lnt"): (5, [2, 3], 4, number_of),
     (b"retract",): (3, [1, 2], None, None),
     (b"tune",): (4, [1, 2], 3, amount_of),
+    (b"calibrate",): (5, [1, 2, 3], 4, number_of),
+    (b"segment",): (4, [1, 2, 3], None, None),
+    (b"changes",): (4, [1, 2, 3], None, None),
+    (b"verify",): (4, [1, 2, 3], None, None),
     (b"runs",): (2, [1], None, None),
 }
+WITH_METRIC = {b"tune", b"calibrate", b"segment", b"changes", b"verify"}
 
 
 def form_of(words):
@@ -473,9 +589,9 @@ def answer(machines, first, names, number, body):
         if first[0] == b"submit" and number > 8388608:
             raise Refused(b"E26 BodyTooLong")
         names = [name_of(word) for word in names]
-        if None in names or first == (b"tune",) and len(names[1]) > 64:
+        if None in names or first[0] in WITH_METRIC and len(names[-1]) > 64:
             raise Refused(b"E02 BadName")
-        if first == (b"tune",) and number > 10**36:
+        if first == (b"tune",) and number > 10**36 or first == (b"calibrate",) and not 1 <= number <= 1000:
             raise Refused(b"E22 BadPenalty")
         given = {(b"submit", b"go"): read_go, (b"submit", b"lnt"): read_lnt}.get(first, lambda _: ())(body)
         if first == (b"machine",):
@@ -499,6 +615,10 @@ def answer(machines, first, names, number, body):
             text = machine.retract(names[1])
         elif first == (b"tune",):
             text = machine.tune(names[1], number)
+        elif first == (b"calibrate",):
+            text = machine.calibrate(names[1], names[2], number)
+        elif first[0] in WITH_METRIC:
+            text = {b"segment": machine.segment, b"changes": machine.changes, b"verify": machine.verify}[first[0]](*names[1:])
         else:
             text = machine.list_runs()
         return machine.step, text
