@@ -3,10 +3,10 @@ use Rattle.std.proofs.Common.{◌≡◌, ℕ, ℤ, false, List, [], ◌∷◌, m
 use Rattle.serde_json.specs.Data.{Data}
 use Rattle.serde_json.specs.View.{items_of}
 use Rattle.serde_json.specs.Written.{has_float, items_have_float}
-use Rattle.report_pages.specs.declared.items.SeriesLine.{SeriesLine}
-use Rattle.report_pages.specs.declared.items.RegressionLine.{RegressionLine}
-use Rattle.report_pages.specs.declared.items.JobLine.{JobLine}
-use Rattle.report_pages.specs.declared.pages.Pages.{Pages}
+use Rattle.report_model.specs.declared.items.SeriesLine.{SeriesLine}
+use Rattle.report_model.specs.declared.items.RegressionLine.{RegressionLine}
+use Rattle.report_model.specs.declared.items.JobLine.{JobLine}
+use Rattle.report_model.specs.declared.pages.Pages.{Pages}
 use Rattle.report_pages.specs.Json.{count_or_null, centre_or_null, series_data, regression_data, job_data, pages_data}
 
 items_without : {X : Type 0} (f : X → Data) → ((x : X) → has_float (f x) ≡ false) → (xs : List X) → items_have_float (items_of (map f xs)) ≡ false

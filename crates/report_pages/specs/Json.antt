@@ -4,11 +4,11 @@ use Rattle.serde_json.specs.Data.{Data, null, number, unsigned, string, array, o
 use Rattle.serde_json.specs.View.{items_of}
 use Rattle.serde_json.specs.Written.{compact_text}
 use Rattle.regression_state.specs.Moves.{word}
-use Rattle.report_pages.specs.declared.items.SeriesLine.{SeriesLine}
-use Rattle.report_pages.specs.declared.items.RegressionLine.{RegressionLine}
-use Rattle.report_pages.specs.declared.items.JobLine.{JobLine}
-use Rattle.report_pages.specs.declared.pages.Pages.{Pages}
-use Rattle.report_pages.specs.Outcomes.{outcome_text}
+use Rattle.report_model.specs.declared.items.SeriesLine.{SeriesLine}
+use Rattle.report_model.specs.declared.items.RegressionLine.{RegressionLine}
+use Rattle.report_model.specs.declared.items.JobLine.{JobLine}
+use Rattle.report_model.specs.declared.pages.Pages.{Pages}
+use Rattle.report_model.specs.Outcomes.{outcome_text}
 use Rattle.report_pages.specs.Text.{value_text}
 
 abbrev pub count_data : ℕ → Data

@@ -4,12 +4,12 @@ use Rattle.line_text.specs.Names.{spelling}
 use Rattle.fixed_value.specs.Fixed.{fixed_text}
 use Rattle.metric_table.specs.Table.{row_of}
 use Rattle.regression_state.specs.Moves.{word}
-use Rattle.report_pages.specs.declared.items.SeriesLine.{SeriesLine}
-use Rattle.report_pages.specs.declared.items.RegressionLine.{RegressionLine}
-use Rattle.report_pages.specs.declared.items.JobLine.{JobLine}
-use Rattle.report_pages.specs.declared.pages.Pages.{Pages}
+use Rattle.report_model.specs.declared.items.SeriesLine.{SeriesLine}
+use Rattle.report_model.specs.declared.items.RegressionLine.{RegressionLine}
+use Rattle.report_model.specs.declared.items.JobLine.{JobLine}
+use Rattle.report_model.specs.declared.pages.Pages.{Pages}
 use Rattle.report_pages.specs.Alignment.{left_aligned, right_aligned}
-use Rattle.report_pages.specs.Outcomes.{outcome_text}
+use Rattle.report_model.specs.Outcomes.{outcome_text}
 
 -- a count in decimal, or `-` where there is none
 abbrev pub count_text : Option ℕ → List ℕ

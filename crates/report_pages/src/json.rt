@@ -3,16 +3,13 @@ ghost use Rattle.std.specs.Prelude.{◌≡◌, ◌++◌, map, string_bytes, IfOk
 ghost use Rattle.serde_json.specs.Data.{Data, array, string};
 ghost use Rattle.serde_json.specs.View.{view, items_of};
 ghost use Rattle.serde_json.specs.Written.{compact_text};
-ghost use Rattle.report_pages.specs.Outcomes.{outcome_text};
+ghost use Rattle.report_model.specs.Outcomes.{outcome_text};
 ghost use Rattle.report_pages.specs.Json.{count_or_null, centre_or_null, series_of, series_data, regression_data, job_data, pages_of, pages_data, pages_json};
 
 use crate::NoMemory;
-use crate::items::{JobLine, RegressionLine, SeriesLine};
-use crate::outcome_text::put_told;
-use crate::pages::Pages;
 use crate::text::{put_bytes, put_value};
-use crate::told::Told;
 use line_text::Name;
+use report_model::{JobLine, Pages, RegressionLine, SeriesLine, Told, put_told};
 use serde_json::{Value, json};
 use std::alloc::{AllocError, Global};
 

@@ -6,13 +6,11 @@ ghost use Rattle.report_pages.specs.Alignment.{spaces, left_aligned, right_align
 ghost use Rattle.report_pages.specs.Text.{count_text, value_text, centre_text, series_text, regression_text, job_text, pages_text};
 
 use crate::NoMemory;
-use crate::items::{JobLine, RegressionLine, SeriesLine};
-use crate::outcome_text::put_told;
-use crate::pages::Pages;
 use fixed_value::put_fixed;
 use line_text::{Name, put_name, put_u64};
 use metric_table::decimals;
 use regression_state::State;
+use report_model::{JobLine, Pages, RegressionLine, SeriesLine, put_told};
 use std::alloc::Global;
 
 // Appends bytes.

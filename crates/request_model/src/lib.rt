@@ -4,7 +4,8 @@
 //! Contracts see names as their bytes and lists as lists, so definitions speak of these very types. A form or a refusal
 //! more is a variant more, and concerns neither the readers of bodies nor what is said of histories, which stand below.
 //!
-//! Stands on `line_text` for names and lists, on `sample_model` for samples, on `segment_cost` for certificates and on
+//! Stands on `line_text` for names and lists, on `sample_model` for samples, on `segment_cost` for certificates, on
+//! `regression_state` and `report_model` for what is said of regressions, bisections and reports, and on
 //! `metric_table` for limits.
 #![tactic(auto)]
 

@@ -5,6 +5,8 @@ use crate::changes::{NamedChanges, copy_changes};
 use crate::runs::{Runs, copy_runs};
 use line_text::{Name, Text};
 use metric_table::Limit;
+use regression_state::State;
+use report_model::{Pages, Told};
 use segment_cost::Cert;
 use std::alloc::{AllocError, Global};
 
@@ -82,16 +84,37 @@ pub enum Refusal {
     UnknownSeries,
     /// No segmentation of the series was published.
     NothingPublished,
+    /// The last publication has only so many changes, and none of that number.
+    NoSuchChange(u64),
+    /// No regression has that number.
+    UnknownRegression,
+    /// A regression in that state can't move to the other.
+    IllegalMove {
+        /// The state that it is in.
+        from: State,
+        /// The state that was asked for.
+        to: State,
+    },
+    /// No job has that number.
+    UnknownJob,
+    /// The job is open and asks this other commit.
+    NotAsked(Name),
+    /// The number of the good commit isn't below that of the bad one.
+    BadRange,
     /// A limit would be passed.
     Full(Limit),
     /// The penalty, or the factor that it is made by, is out of range.
     BadPenalty,
     /// The series has so few positions that no noise can be told.
     TooFewPoints(u64),
+    /// The job is closed, and stands so.
+    JobClosed(Told),
     /// The body is longer than a body may be.
     BodyTooLong,
     /// The byte of the body at this place opens a level too many.
     TooDeep(u64),
+    /// The job is open, and asks this commit.
+    JobOpen(Name),
 }
 
 impl Refusal {
@@ -134,6 +157,19 @@ impl Refusal {
             }
             Refusal::UnknownSeries => Ok(Refusal::UnknownSeries),
             Refusal::NothingPublished => Ok(Refusal::NothingPublished),
+            Refusal::NoSuchChange(count) => {
+                let count = *count;
+                Ok(Refusal::NoSuchChange(count))
+            }
+            Refusal::UnknownRegression => Ok(Refusal::UnknownRegression),
+            Refusal::IllegalMove { from, to } => {
+                let from = *from;
+                let to = *to;
+                Ok(Refusal::IllegalMove { from, to })
+            }
+            Refusal::UnknownJob => Ok(Refusal::UnknownJob),
+            Refusal::NotAsked(asked) => Ok(Refusal::NotAsked(asked.copy(alloc)?)),
+            Refusal::BadRange => Ok(Refusal::BadRange),
             Refusal::Full(at) => {
                 let at = *at;
                 Ok(Refusal::Full(at))
@@ -143,11 +179,13 @@ impl Refusal {
                 let at = *at;
                 Ok(Refusal::TooFewPoints(at))
             }
+            Refusal::JobClosed(told) => Ok(Refusal::JobClosed(told.copy(alloc)?)),
             Refusal::BodyTooLong => Ok(Refusal::BodyTooLong),
             Refusal::TooDeep(at) => {
                 let at = *at;
                 Ok(Refusal::TooDeep(at))
             }
+            Refusal::JobOpen(asked) => Ok(Refusal::JobOpen(asked.copy(alloc)?)),
         }
     }
 }
@@ -224,10 +262,40 @@ pub enum Answer {
         /// The cuts, with the tables that show them to be the best.
         cert: Cert,
     },
+    /// The change was raised.
+    Raised {
+        /// The regression's number.
+        regression: u64,
+    },
+    /// The regression moved.
+    Moved {
+        /// The regression's number.
+        regression: u64,
+        /// The state that it was in.
+        from: State,
+        /// The state that it is in.
+        to: State,
+    },
+    /// Where a job stands.
+    Job {
+        /// The job's number.
+        job: u64,
+        /// One less than the number of its commits.
+        range: u64,
+        /// How many answers were good or bad.
+        questions: u64,
+        /// What it asks, or how it ended.
+        outcome: Told,
+    },
     /// The runs of the machine.
     Runs {
         /// All of them, in order of acceptance.
         runs: Runs,
+    },
+    /// The report on the machine.
+    Report {
+        /// What it says.
+        pages: Pages,
     },
     /// The request was refused.
     Refused(Refusal),
@@ -309,9 +377,43 @@ impl Answer {
                 let cert = cert.copy(alloc)?;
                 Ok(Answer::Verified { version, cert })
             }
+            Answer::Raised { regression } => {
+                let regression = *regression;
+                Ok(Answer::Raised { regression })
+            }
+            Answer::Moved {
+                regression,
+                from,
+                to,
+            } => Ok(Answer::Moved {
+                regression: *regression,
+                from: *from,
+                to: *to,
+            }),
+            Answer::Job {
+                job,
+                range,
+                questions,
+                outcome,
+            } => {
+                let job = *job;
+                let range = *range;
+                let questions = *questions;
+                let outcome = outcome.copy(alloc)?;
+                Ok(Answer::Job {
+                    job,
+                    range,
+                    questions,
+                    outcome,
+                })
+            }
             Answer::Runs { runs } => {
                 let runs = copy_runs(alloc, runs)?;
                 Ok(Answer::Runs { runs })
+            }
+            Answer::Report { pages } => {
+                let pages = pages.copy(alloc)?;
+                Ok(Answer::Report { pages })
             }
             Answer::Refused(refusal) => Ok(Answer::Refused(refusal.copy(alloc)?)),
         }

@@ -2,6 +2,7 @@
 ghost use Rattle.std.specs.Prelude.{◌≡◌, IfOk};
 
 use line_text::Name;
+use regression_state::State;
 use sample_model::Samples;
 use std::alloc::{AllocError, Global};
 
@@ -91,10 +92,71 @@ pub enum Request {
         /// Its metric.
         metric: Name,
     },
+    /// Raises a change of a series' last publication as a regression.
+    Regress {
+        /// The machine.
+        machine: Name,
+        /// The test of the series.
+        test: Name,
+        /// Its metric.
+        metric: Name,
+        /// Which change, from 1.
+        change: u64,
+    },
+    /// Moves a regression to a state.
+    SetState {
+        /// The machine.
+        machine: Name,
+        /// The regression's number, from 1.
+        regression: u64,
+        /// The state.
+        state: State,
+    },
+    /// Begins a bisection of the commits from a good one to a bad one.
+    Bisect {
+        /// The machine.
+        machine: Name,
+        /// The commit that is stated good.
+        lo: Name,
+        /// The commit that is stated bad.
+        hi: Name,
+    },
+    /// Says with which status the test of a commit ended.
+    Answer {
+        /// The machine.
+        machine: Name,
+        /// The job's number, from 1.
+        job: u64,
+        /// The commit.
+        commit: Name,
+        /// The status: 0 is good, 125 and all from 128 on say nothing, all others are bad.
+        status: u8,
+    },
+    /// Begins a bisection of the commits that a closed job had left.
+    Resume {
+        /// The machine.
+        machine: Name,
+        /// The job's number, from 1.
+        job: u64,
+    },
+    /// Tells where a job stands.
+    Job {
+        /// The machine.
+        machine: Name,
+        /// The job's number, from 1.
+        job: u64,
+    },
     /// Lists the runs of a machine.
     Runs {
         /// The machine.
         machine: Name,
+    },
+    /// Reports on a machine.
+    Report {
+        /// The machine.
+        machine: Name,
+        /// Whether as JSON.
+        json: bool,
     },
 }
 
@@ -223,9 +285,78 @@ impl Request {
                     metric,
                 })
             }
+            Request::Regress {
+                machine,
+                test,
+                metric,
+                change,
+            } => {
+                let machine = machine.copy(alloc)?;
+                let test = test.copy(alloc)?;
+                let metric = metric.copy(alloc)?;
+                let change = *change;
+                Ok(Request::Regress {
+                    machine,
+                    test,
+                    metric,
+                    change,
+                })
+            }
+            Request::SetState {
+                machine,
+                regression,
+                state,
+            } => {
+                let machine = machine.copy(alloc)?;
+                let regression = *regression;
+                let state = *state;
+                Ok(Request::SetState {
+                    machine,
+                    regression,
+                    state,
+                })
+            }
+            Request::Bisect { machine, lo, hi } => {
+                let machine = machine.copy(alloc)?;
+                let lo = lo.copy(alloc)?;
+                let hi = hi.copy(alloc)?;
+                Ok(Request::Bisect { machine, lo, hi })
+            }
+            Request::Answer {
+                machine,
+                job,
+                commit,
+                status,
+            } => {
+                let machine = machine.copy(alloc)?;
+                let job = *job;
+                let commit = commit.copy(alloc)?;
+                let status = *status;
+                Ok(Request::Answer {
+                    machine,
+                    job,
+                    commit,
+                    status,
+                })
+            }
+            Request::Resume { machine, job } => {
+                let machine = machine.copy(alloc)?;
+                let job = *job;
+                Ok(Request::Resume { machine, job })
+            }
+            Request::Job { machine, job } => {
+                let machine = machine.copy(alloc)?;
+                let job = *job;
+                Ok(Request::Job { machine, job })
+            }
             Request::Runs { machine } => {
                 let machine = machine.copy(alloc)?;
                 Ok(Request::Runs { machine })
+            }
+            Request::Report { machine, json } => {
+                let machine = machine.copy(alloc)?;
+                let json = *json;
+                Ok(Request::Report { machine, json })
             }
         }
     }

@@ -1,9 +1,8 @@
 //! Where a bisection stands, as text.
 ghost use Rattle.std.specs.Prelude.{◌≡◌, ◌++◌, OnOk, OnErr};
-ghost use Rattle.report_pages.specs.Outcomes.{outcome_text};
+ghost use Rattle.report_model.specs.Outcomes.{outcome_text};
 
 use crate::NoMemory;
-use crate::text::put_bytes;
 use crate::told::Told;
 use line_text::{put_name, put_u64};
 use std::alloc::Global;
@@ -18,6 +17,14 @@ pub fn put_told(alloc: Global, out: &mut Vec<u8>, told: &Told) -> Result<(), NoM
     let mut text = Vec::new(alloc);
     append_told(alloc, &mut text, told)?;
     out.extend_from_slice(&text)?;
+    Ok(())
+}
+
+// Appends bytes.
+fn put_bytes(out: &mut Vec<u8>, bytes: &[u8]) -> Result<(), NoMemory>
+    ensures { OnOk result (out.new.items ≡ out.old.items ++ bytes.now) }
+{
+    out.extend_from_slice(bytes)?;
     Ok(())
 }
 

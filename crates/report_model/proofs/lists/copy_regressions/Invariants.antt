@@ -1,5 +1,5 @@
 use Rattle.std.proofs.Common.{◌≡◌, take}
-use Rattle.report_pages.proofs.lists.copy_regressions.Given as goal
+use Rattle.report_model.proofs.lists.copy_regressions.Given as goal
 
 -- the lines so far
 abbrev pub invariant-loop-line : goal.invariant-loop-line
