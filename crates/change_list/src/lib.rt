@@ -6,9 +6,11 @@
 #![tactic(auto)]
 
 mod change;
+mod last;
 mod made;
 
 pub use change::Change;
+pub use last::last_centre;
 pub use made::changes;
 
 /// A list of changes.

@@ -35,7 +35,7 @@ pub fn changes(alloc: Global, done: &Done) -> Result<ChangeItems, NoMemory>
 }
 
 // Each cut stands between the places beside it, and the centres there differ. Does nothing.
-fn cuts_law(done: &Done)
+pub(crate) fn cuts_law(done: &Done)
     ensures { (i : ℕ) → i < length done.now.cert.cuts
         → IsBetween done.now.points (place_before done.now.cert.cuts i) (slice_index done.now.cert.cuts i)
         (place_behind done.now.cert.cuts (length done.now.points) i) }
@@ -44,9 +44,9 @@ fn cuts_law(done: &Done)
     let _ = &done.cert;
 }
 
-// The place before cut i.
-fn low_of(cuts: &[u64], i: usize) -> usize
-    requires { i < length cuts.now }
+// The place before cut i, or behind the last one.
+pub(crate) fn low_of(cuts: &[u64], i: usize) -> usize
+    requires { i ≤ length cuts.now }
     ensures { result ≡ place_before cuts.now i }
 {
     if i == 0 { 0 } else { cuts[i - 1] as usize }
@@ -64,6 +64,20 @@ fn high_of(cuts: &[u64], n: usize, i: usize) -> usize
     }
 }
 
+// The centre of a segment.
+pub(crate) fn centre_at(points: &Points, square: &Square, low: usize, high: usize) -> i64
+    requires stands { square.now.positions ≡ values_by_position points.now }
+    requires rising { low < high }
+    requires placed { high ≤ length points.now }
+    ensures { IsCentre (segment points.now low high) result }
+{
+    points.limits();
+    segment_law();
+    values_law();
+    centre_law();
+    square.centre(low, high)
+}
+
 // The change at a cut with the places beside it.
 fn change_at(
     points: &Points,
@@ -77,12 +91,8 @@ fn change_at(
     requires between { IsBetween points.now low cut high }
     ensures { IsChange points.now larger low cut high result }
 {
-    points.limits();
-    segment_law();
-    values_law();
-    centre_law();
-    let left = square.centre(low, cut);
-    let right = square.centre(cut, high);
+    let left = centre_at(points, square, low, cut);
+    let right = centre_at(points, square, cut, high);
     Change {
         before: points.commit(cut - 1),
         after: points.commit(cut),

@@ -24,6 +24,7 @@ use Rattle.history_model.proofs.Accepts.{positions-more, positions-accept}
 use Rattle.history_model.proofs.Counts.{all-more}
 use Rattle.segment_model.proofs.Inserted.{values-brought, size-new}
 use Rattle.history_model.proofs.Chosen.{chosen-push, chosen-skip}
+use Rattle.history_model.proofs.Standings.{jobs-stay}
 use Rattle.history_model.proofs.Commit.{has-inserted}
 use Rattle.segment_model.proofs.Insertions.{positions-push}
 use Rattle.history_model.proofs.Listed.{known-grow}
@@ -194,7 +195,7 @@ module _ (h : List Entry) (run : Run) (keeps : KeepsLimits h) (are : AreSamples 
   limits-accept limit.Commits = rw (chosen-skip declaration h (entry.Accept run) refl) (keeps limit.Commits)
   limits-accept limit.Machines = keeps limit.Machines
   limits-accept limit.Cuts = rw (chosen-skip publication h (entry.Accept run) refl) (keeps limit.Cuts)
-  limits-accept limit.Jobs = keeps limit.Jobs
+  limits-accept limit.Jobs = rw (jobs-stay h (entry.Accept run) refl (λ n. refl)) (keeps limit.Jobs)
   limits-accept limit.Runs = runs-kept.0
   limits-accept limit.RunSamples =
       rw (chosen-push acceptance h (entry.Accept run)) (sizes (acceptances h) (record { step = length h + 1; run = run }) (most limit.RunSamples) (keeps limit.RunSamples) are.few)

@@ -1,6 +1,7 @@
 -- A history with one entry more is legal, and with one commit more keeps its limits.
 use Rattle.std.proofs.Common.{ℕ, ◌+◌, ◌≤◌, List, [], ◌∷◌, ◌++◌, length, refl, sym, subst}
 use Rattle.history_model.proofs.Chosen.{chosen-push, chosen-skip}
+use Rattle.history_model.proofs.Standings.{jobs-stay}
 use Rattle.std.proofs.lemmas.List.{append-nil, append_assoc, length-append}
 use Rattle.history_model.specs.declared.entries.Entry.{Entry}
 use Rattle.history_model.specs.declared.entries.Entry.TheVariants as entry
@@ -39,7 +40,7 @@ module _ (h : List Entry) (number : ℕ) (name : List ℕ) where
   limits-commit keeps steps commits limit.Commits = rw (chosen-push declaration h (entry.Commit number name), length-append) commits
   limits-commit keeps steps commits limit.Machines = keeps limit.Machines
   limits-commit keeps steps commits limit.Cuts = rw (chosen-skip publication h (entry.Commit number name) refl) (keeps limit.Cuts)
-  limits-commit keeps steps commits limit.Jobs = keeps limit.Jobs
+  limits-commit keeps steps commits limit.Jobs = rw (jobs-stay h (entry.Commit number name) refl (λ n. refl)) (keeps limit.Jobs)
   limits-commit keeps steps commits limit.Runs = rw (chosen-skip acceptance h (entry.Commit number name) refl) (keeps limit.Runs)
   limits-commit keeps steps commits limit.RunSamples = rw (chosen-skip acceptance h (entry.Commit number name) refl) (keeps limit.RunSamples)
   limits-commit keeps steps commits limit.Samples = rw (chosen-skip acceptance h (entry.Commit number name) refl) (keeps limit.Samples)

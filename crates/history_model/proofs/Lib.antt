@@ -1,6 +1,8 @@
 pub mod Lists
 pub mod Chosen
 pub mod Commit
+mod Standings
+mod Others
 mod Growth
 mod Limits
 mod Removals
@@ -18,3 +20,13 @@ mod Fits
 mod Named
 mod Publishing
 mod Standing
+mod Regressions
+mod Jobs
+mod Between
+mod Changes
+mod Finished
+mod RaisedEnds
+pub mod Members
+mod Turns
+mod Ends
+mod Naming

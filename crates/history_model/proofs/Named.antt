@@ -20,7 +20,7 @@ Named h a = IsSome (name_of a.run.commit h)
 Claim : List Entry → Type 0
 Claim h = All (Named h) (acceptances h)
 
-still-named : (h : List Entry) (e : Entry) (n : ℕ) → IsSome (name_of n h) → IsSome (name_of n (h ++ e ∷ []))
+pub still-named : (h : List Entry) (e : Entry) (n : ℕ) → IsSome (name_of n h) → IsSome (name_of n (h ++ e ∷ []))
 still-named h e n some =
     let more : List Declaration = option_to_list (declaration (length h + 1) e) in
     let is : find (has_number n) (declarations (h ++ e ∷ [])) ≡ option_or (find (has_number n) (declarations h)) (find (has_number n) more) =
@@ -45,6 +45,8 @@ grown h (entry.Commit number name) allowed claim = skipped h (entry.Commit numbe
 grown h (entry.Retract run) allowed claim = skipped h (entry.Retract run) refl claim
 grown h (entry.Tune metric penalty) allowed claim = skipped h (entry.Tune metric penalty) refl claim
 grown h (entry.Publish p) allowed claim = skipped h (entry.Publish p) refl claim
+grown h (entry.Regression event) allowed claim = skipped h (entry.Regression event) refl claim
+grown h (entry.Job event) allowed claim = skipped h (entry.Job event) refl claim
 grown h (entry.Accept run) allowed claim =
     let all : All (Named (h ++ entry.Accept run ∷ [])) (acceptances h) =
     All-weaker (Named h) (Named (h ++ entry.Accept run ∷ [])) (λ a some. still-named h (entry.Accept run) a.run.commit some) (acceptances h) claim in

@@ -2,7 +2,6 @@
 use Rattle.std.proofs.Common.{◌≡◌, ℕ, ◌+◌, ◌≤◌, List, [], ◌∷◌, ◌++◌, length, refl, ap, ◌∙◌, arith, Option}
 use Rattle.std.specs.Prelude.{option_to_list, Some, None}
 use Rattle.std.specs.List.{last_or, sum_by}
-use Rattle.std.proofs.lemmas.List.{length-append}
 use Rattle.std.proofs.lemmas.List.Sums.{sum_by-append}
 use Rattle.metric_table.specs.Limits.{most}
 use Rattle.metric_table.specs.declared.limits.Limit.TheVariants as limit
@@ -10,10 +9,11 @@ use Rattle.history_model.specs.declared.entries.Entry.{Entry}
 use Rattle.history_model.specs.declared.entries.Entry.TheVariants as entry
 use Rattle.history_model.specs.declared.publication.Publication.{Publication}
 use Rattle.history_model.specs.Allowed.{KeepsLimits}
-use Rattle.history_model.specs.Commits.{declaration}
 use Rattle.history_model.specs.Publications.{publication, publications, publication_of, publications_of, last_publication, cuts_in, cut_count}
-use Rattle.history_model.specs.Runs.{Series, acceptance, retraction}
+use Rattle.history_model.specs.Runs.{Series}
 use Rattle.history_model.proofs.Chosen.{chosen-push, chosen-skip}
+use Rattle.history_model.proofs.Others.{limits-other}
+use Rattle.history_model.proofs.Standings.{jobs-stay}
 use Rattle.history_model.proofs.Tunings.{last-push}
 
 abbrev size : Publication → ℕ
@@ -31,23 +31,16 @@ cuts-grow h e =
     of_entry (entry.Retract run) = refl
     of_entry (entry.Tune metric penalty) = refl
     of_entry (entry.Publish p) = omega arith
+    of_entry (entry.Regression event) = refl
+    of_entry (entry.Job event) = refl
 
 module _ (h : List Entry) (p : Publication) where
   abbrev e : Entry
   e = entry.Publish p
 
   pub limits-publish : KeepsLimits h → length h + 1 ≤ most limit.Steps → cut_count h + length p.cuts ≤ most limit.Cuts → KeepsLimits (h ++ e ∷ [])
-  limits-publish keeps steps cuts limit.Steps = rw length-append steps
-  limits-publish keeps steps cuts limit.Commits = rw (chosen-skip declaration h e refl) (keeps limit.Commits)
-  limits-publish keeps steps cuts limit.Machines = keeps limit.Machines
-  limits-publish keeps steps cuts limit.Cuts = rw (cuts-grow h e) cuts
-  limits-publish keeps steps cuts limit.Jobs = keeps limit.Jobs
-  limits-publish keeps steps cuts limit.Runs = rw (chosen-skip acceptance h e refl) (keeps limit.Runs)
-  limits-publish keeps steps cuts limit.RunSamples = rw (chosen-skip acceptance h e refl) (keeps limit.RunSamples)
-  limits-publish keeps steps cuts limit.Samples = rw (chosen-skip acceptance h e refl) (keeps limit.Samples)
-  limits-publish keeps steps cuts limit.Series = rw (chosen-skip acceptance h e refl) (keeps limit.Series)
-  limits-publish keeps steps cuts limit.SeriesSamples = rw (chosen-skip acceptance h e refl, chosen-skip retraction h e refl) (keeps limit.SeriesSamples)
-  limits-publish keeps steps cuts limit.Positions = rw (chosen-skip acceptance h e refl, chosen-skip retraction h e refl) (keeps limit.Positions)
+  limits-publish keeps steps cuts =
+      limits-other h e refl refl refl keeps steps (rw (cuts-grow h e) cuts) (rw (jobs-stay h e refl (λ n. refl)) (keeps limit.Jobs))
 
 -- ---- what is published last of a series
 pub published-last : (h : List Entry) (e : Entry) (s : Series) (p : Publication) → publication_of s (length h + 1) e ≡ Some p

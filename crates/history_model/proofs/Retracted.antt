@@ -43,6 +43,8 @@ grown h e allowed claim run none =
     of_entry (entry.Accept other) allowed unknown = refl
     of_entry (entry.Tune metric penalty) allowed unknown = refl
     of_entry (entry.Publish p) allowed unknown = refl
+    of_entry (entry.Regression event) allowed unknown = refl
+    of_entry (entry.Job event) allowed unknown = refl
     of_entry (entry.Retract other) allowed unknown = elim (cases_Bool (bytes_eq other run)) [
       | inl hit ↦ absurd (known (accepted other h) allowed.0.0 (ap (λ (r : List ℕ). accepted r h) (same-bytes other run hit) ∙ unknown))
       | inr miss ↦ ap (λ b. cond b (Some (record { step = length h + 1; run = other })) None) miss

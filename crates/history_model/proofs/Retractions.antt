@@ -10,6 +10,7 @@ use Rattle.history_model.specs.Commits.{declaration}
 use Rattle.history_model.specs.Publications.{publication}
 use Rattle.history_model.specs.Runs.{Retraction, acceptance, acceptances, retraction, retractions, known_series}
 use Rattle.history_model.proofs.Chosen.{chosen-push, chosen-skip}
+use Rattle.history_model.proofs.Standings.{jobs-stay}
 use Rattle.history_model.proofs.Fewer.{greatest-fewer, brought-fewer, positions-fewer}
 
 -- a retraction leaves what is counted but steps, and fewer live samples and positions
@@ -18,7 +19,7 @@ limits-retract h run keeps steps limit.Steps = rw length-append steps
 limits-retract h run keeps steps limit.Commits = rw (chosen-skip declaration h (entry.Retract run) refl) (keeps limit.Commits)
 limits-retract h run keeps steps limit.Machines = keeps limit.Machines
 limits-retract h run keeps steps limit.Cuts = rw (chosen-skip publication h (entry.Retract run) refl) (keeps limit.Cuts)
-limits-retract h run keeps steps limit.Jobs = keeps limit.Jobs
+limits-retract h run keeps steps limit.Jobs = rw (jobs-stay h (entry.Retract run) refl (λ n. refl)) (keeps limit.Jobs)
 limits-retract h run keeps steps limit.Runs = rw (chosen-skip acceptance h (entry.Retract run) refl) (keeps limit.Runs)
 limits-retract h run keeps steps limit.RunSamples = rw (chosen-skip acceptance h (entry.Retract run) refl) (keeps limit.RunSamples)
 limits-retract h run keeps steps limit.Samples = rw (chosen-skip acceptance h (entry.Retract run) refl) (keeps limit.Samples)

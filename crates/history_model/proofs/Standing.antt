@@ -65,6 +65,8 @@ publications-stand h legal = legal-each AllStand (All-nil (Stands [])) grown h l
     grown h (entry.Accept run) allowed all = skipped h (entry.Accept run) refl all
     grown h (entry.Retract run) allowed all = skipped h (entry.Retract run) refl all
     grown h (entry.Tune metric penalty) allowed all = skipped h (entry.Tune metric penalty) refl all
+    grown h (entry.Regression event) allowed all = skipped h (entry.Regression event) refl all
+    grown h (entry.Job event) allowed all = skipped h (entry.Job event) refl all
     grown h (entry.Publish p) allowed all =
         let e : Entry = entry.Publish p in
         let P : List Publication → Type 0 = λ ps. All (Stands (h ++ e ∷ [])) ps in
@@ -115,6 +117,8 @@ module _ (s : Series) where
       grown h (entry.Accept run) allowed last = skips h (entry.Accept run) refl last
       grown h (entry.Retract run) allowed last = skips h (entry.Retract run) refl last
       grown h (entry.Tune metric penalty) allowed last = skips h (entry.Tune metric penalty) refl last
+      grown h (entry.Regression event) allowed last = skips h (entry.Regression event) refl last
+      grown h (entry.Job event) allowed last = skips h (entry.Job event) refl last
       grown h (entry.Publish p) allowed last = publishes h p allowed.0.0 last
 
 pub last-stands : (h : List Entry) (s : Series) (p : Publication) → Legal h → last_publication s h ≡ Some p → (published p ≡ s) × Stands h p

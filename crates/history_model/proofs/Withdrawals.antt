@@ -48,6 +48,8 @@ once-grown h (entry.Commit number name) allowed once = let P : List Acceptance �
 once-grown h (entry.Retract name) allowed once = let P : List Acceptance → Type 0 = λ rs. NamedOnce rs in subst P (sym (chosen-skip acceptance h (entry.Retract name) refl)) once
 once-grown h (entry.Tune metric penalty) allowed once = let P : List Acceptance → Type 0 = λ rs. NamedOnce rs in subst P (sym (chosen-skip acceptance h (entry.Tune metric penalty) refl)) once
 once-grown h (entry.Publish p) allowed once = let P : List Acceptance → Type 0 = λ rs. NamedOnce rs in subst P (sym (chosen-skip acceptance h (entry.Publish p) refl)) once
+once-grown h (entry.Regression event) allowed once = let P : List Acceptance → Type 0 = λ rs. NamedOnce rs in subst P (sym (chosen-skip acceptance h (entry.Regression event) refl)) once
+once-grown h (entry.Job event) allowed once = let P : List Acceptance → Type 0 = λ rs. NamedOnce rs in subst P (sym (chosen-skip acceptance h (entry.Job event) refl)) once
 once-grown h (entry.Accept run) allowed once =
     let P : List Acceptance → Type 0 = λ rs. NamedOnce rs in
     subst P (sym (chosen-push acceptance h (entry.Accept run))) (once-push (acceptances h) (record { step = length h + 1; run = run }) once allowed.0.0)
@@ -67,6 +69,8 @@ steps-of k (entry.Commit number name ∷ h) = steps-lower (k + 1) k (chosen_from
 steps-of k (entry.Retract name ∷ h) = steps-lower (k + 1) k (chosen_from (k + 1) acceptance h) (omega arith) (steps-of (k + 1) h)
 steps-of k (entry.Tune metric penalty ∷ h) = steps-lower (k + 1) k (chosen_from (k + 1) acceptance h) (omega arith) (steps-of (k + 1) h)
 steps-of k (entry.Publish p ∷ h) = steps-lower (k + 1) k (chosen_from (k + 1) acceptance h) (omega arith) (steps-of (k + 1) h)
+steps-of k (entry.Regression event ∷ h) = steps-lower (k + 1) k (chosen_from (k + 1) acceptance h) (omega arith) (steps-of (k + 1) h)
+steps-of k (entry.Job event ∷ h) = steps-lower (k + 1) k (chosen_from (k + 1) acceptance h) (omega arith) (steps-of (k + 1) h)
 steps-of k (entry.Accept run ∷ h) = (omega arith, steps-lower (k + 1) (suc k) (chosen_from (k + 1) acceptance h) (omega arith) (steps-of (k + 1) h))
 
 found-above : (run : List ℕ) (low : ℕ) (runs : List Acceptance) (a : Acceptance) → StepsFrom low runs → find (is_run run) runs ≡ Some a → low ≤ a.step

@@ -2,16 +2,18 @@
 use Rattle.std.specs.Prelude.{◌≡◌, ℕ, ◌≤◌, nat_lt, if◌then◌else◌, max, List, [], ◌∷◌, ◌++◌, map, length, Option, Some, None, IsSome}
 use Rattle.metric_table.specs.Limits.{most}
 use Rattle.metric_table.specs.declared.limits.Limit.{Limit}
-use Rattle.metric_table.specs.declared.limits.Limit.TheVariants.{Commits, Runs, RunSamples, Samples, Series as KnownSeries, SeriesSamples, Positions, Steps, Cuts}
+use Rattle.metric_table.specs.declared.limits.Limit.TheVariants.{Commits, Runs, RunSamples, Samples, Series as KnownSeries, SeriesSamples, Positions, Steps, Cuts, Jobs}
 use Rattle.sample_model.specs.Samples.{AreSamples}
 use Rattle.history_model.specs.declared.entries.Acceptance.{Acceptance}
 use Rattle.history_model.specs.declared.entries.Entry.{Entry}
-use Rattle.history_model.specs.declared.entries.Entry.TheVariants.{Commit, Accept, Retract, Tune, Publish}
+use Rattle.history_model.specs.declared.entries.Entry.TheVariants.{Commit, Accept, Retract, Tune, Publish, Regression, Job}
 use Rattle.history_model.specs.Commits.{declarations, number_of, name_of}
 use Rattle.history_model.specs.Runs.{Series, acceptances, accepted, retracted, live_runs, known_series, sample_count}
 use Rattle.history_model.specs.Positions.{brought, positions}
 use Rattle.metric_table.specs.Table.{IsPenalty}
 use Rattle.history_model.specs.Publications.{cut_count, MayPublish}
+use Rattle.history_model.specs.Regressions.{MayBecome}
+use Rattle.history_model.specs.Jobs.{jobs, open_count, MayHappen}
 
 -- the greatest of some numbers, or 0
 abbrev pub greatest_of : List ℕ → ℕ
@@ -29,6 +31,7 @@ count_of KnownSeries h = length (known_series h)
 count_of SeriesSamples h = greatest_of (map (λ (s : Series). length (brought s (live_runs h))) (known_series h))
 count_of Positions h = greatest_of (map (λ (s : Series). length (positions h s)) (known_series h))
 count_of Cuts h = cut_count h
+count_of Jobs h = open_count (jobs h)
 count_of other h = 0
 
 -- the history has no more of anything than there may be
@@ -51,6 +54,8 @@ MayFollow h (Accept run) = (accepted run.run h ≡ None) × IsSome (name_of run.
 MayFollow h (Retract run) = IsSome (accepted run h) × (retracted run h ≡ None)
 MayFollow h (Tune metric penalty) = (length metric ≤ 64) × IsPenalty penalty
 MayFollow h (Publish p) = MayPublish h p
+MayFollow h (Regression event) = MayBecome h event
+MayFollow h (Job event) = MayHappen h event
 
 -- the entry may follow, and the limits are kept with it
 abbrev pub Allowed : List Entry → Entry → Type 0

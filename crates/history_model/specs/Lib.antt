@@ -1,8 +1,12 @@
 pub mod Entries
 pub mod Commits
 pub mod Runs
+pub mod SeriesOrder
 pub mod Positions
 pub mod Penalties
 pub mod Publications
+pub mod Regressions
+pub mod Jobs
 pub mod Allowed
 pub mod Laws
+pub mod Followed

@@ -2,6 +2,7 @@
 ghost use Rattle.std.specs.Prelude.{◌≡◌, IfOk};
 
 use crate::NoMemory;
+use crate::events::{JobEvent, RegressionEvent};
 use crate::publication::Publication;
 use crate::run::Run;
 use line_text::Name;
@@ -33,6 +34,10 @@ pub enum Entry {
     Tune { metric: Name, penalty: i128 },
     /// A segmentation of a series was published.
     Publish { publication: Publication },
+    /// A regression was raised, or moved to another state.
+    Regression { event: RegressionEvent },
+    /// A bisection was begun, answered or given up.
+    Job { event: JobEvent },
 }
 
 impl Entry {
@@ -62,6 +67,14 @@ impl Entry {
             Entry::Publish { publication } => {
                 let publication = publication.copy(alloc)?;
                 Ok(Entry::Publish { publication })
+            }
+            Entry::Regression { event } => {
+                let event = event.copy(alloc)?;
+                Ok(Entry::Regression { event })
+            }
+            Entry::Job { event } => {
+                let event = *event;
+                Ok(Entry::Job { event })
             }
         }
     }

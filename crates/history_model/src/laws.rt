@@ -36,6 +36,28 @@ ghost use Rattle.history_model.specs.Laws.{
   KnownStays,
 };
 ghost use Rattle.history_model.specs.Penalties.{PenaltyIsSet, PenaltyStays};
+ghost use Rattle.history_model.specs.Followed.{
+  RegressionsGrow,
+  StateIsMoved,
+  StateStays,
+  NewIsDetected,
+  LimitsAfterRegression,
+  CutsAreBetweenDeclared,
+  RegressionsAreNamed,
+  JobsStay,
+  JobIsBegun,
+  JobGoesOn,
+  BeginOpensOne,
+  LimitsAfterJob,
+  LimitsAfterTurn,
+  EndsAreDeclared,
+  JobsAreNamed,
+  NumbersRise,
+  NumbersAreTwo,
+  JobsFinishWell,
+};
+
+use bisect_core::{bound_law, ends_law, found_law};
 
 /// What is read from a history grows by what is read from the entry that is added, and a legal history stays legal.
 pub fn growth_law()
@@ -113,3 +135,43 @@ pub fn publication_law()
     ensures versions { VersionsStay }
     ensures known { KnownStays }
 {}
+
+/// Which regressions there are, and the state of each: the one to which it moved last.
+pub fn regressions_law()
+    ensures raised { RegressionsGrow }
+    ensures moved { StateIsMoved }
+    ensures stays { StateStays }
+    ensures new { NewIsDetected }
+    ensures limits { LimitsAfterRegression }
+    ensures cuts { CutsAreBetweenDeclared }
+    ensures named { RegressionsAreNamed }
+{}
+
+/// Which jobs there are, where each stands and how many are open, and that the ends of each are declared.
+pub fn jobs_law()
+    ensures stay { JobsStay }
+    ensures begun { JobIsBegun }
+    ensures opens { BeginOpensOne }
+    ensures go_on { JobGoesOn }
+    ensures limits { LimitsAfterJob }
+    ensures turn { LimitsAfterTurn }
+    ensures ends { EndsAreDeclared }
+    ensures named { JobsAreNamed }
+{
+    bound_law();
+}
+
+/// The commits of a job rise, and are two at least.
+pub fn between_law()
+    ensures rise { NumbersRise }
+    ensures two { NumbersAreTwo }
+{}
+
+/// A bisection that found something found two neighbours, one good and one bad, within its bound of questions.
+pub fn finished_law()
+    ensures { JobsFinishWell }
+{
+    bound_law();
+    ends_law();
+    found_law();
+}

@@ -1,12 +1,12 @@
 //! The index of commits: look-ups, declarations, and the numbers in a range.
 ghost use Rattle.std.specs.Prelude.{◌≡◌, ◌≢◌, ◌++◌, ◌∷◌, [], OnOk, OnErr, IfOk, length, find, option_copied, option_map, bytes_eq, ◌<◌, None};
 ghost use Rattle.indexmap.specs.IndexMap.{spare, get_by};
-ghost use Rattle.history_model.specs.Commits.{has_number, has_name, number_in, name_in};
+ghost use Rattle.history_model.specs.Commits.{has_number, has_name, number_in, name_in, numbers_between};
 ghost use Rattle.std.specs.Prelude.{filter, ◌≤◌};
 ghost use Rattle.std.specs.Ordering.{nat_cmp};
 ghost use Rattle.std.specs.BTreeMap.{keys, IsOrdered};
 ghost use Rattle.order_index.specs.Judged.{judged, AreApart};
-ghost use Rattle.order_index.specs.Between.{AreBetween, is_between};
+ghost use Rattle.order_index.specs.Between.{is_between};
 
 use crate::NoMemory;
 use crate::declared::Declared;
@@ -102,7 +102,7 @@ impl OrderIndex {
 
     /// The declared numbers from `lo` to `hi` in rising order. Linear in their count, but for a search of logarithmic time.
     pub fn between(&self, alloc: Global, lo: u64, hi: u64) -> Result<Numbers, NoMemory>
-        ensures { IfOk result (λ made. AreBetween self.now lo hi made) }
+        ensures { IfOk result (λ made. made ≡ numbers_between lo hi self.now) }
     {
         if hi < lo {
             return Ok(Numbers::new(alloc));

@@ -8,12 +8,14 @@
 #![tactic(auto)]
 
 mod demand;
+mod known;
 mod laws;
 mod metrics;
 mod series;
 mod tracked;
 
 pub use demand::Demand;
+pub use known::{SeriesName, SeriesNames};
 pub use laws::undo_law;
 pub use series::SeriesIndex;
 pub use std::alloc::AllocError as NoMemory;

@@ -14,7 +14,7 @@ use std::marker::Model;
 #[derive(Drop)]
 pub struct MetricIndex {
     alloc: Global,
-    entries: BTreeMap<Name, Tracked>,
+    pub(crate) entries: BTreeMap<Name, Tracked>,
 }
 
 impl Model for MetricIndex {

@@ -20,7 +20,7 @@ use std::marker::Model;
 #[derive(Drop)]
 pub struct SeriesIndex {
     pub(crate) alloc: Global,
-    tests: BTreeMap<Name, MetricIndex>,
+    pub(crate) tests: BTreeMap<Name, MetricIndex>,
 }
 
 impl Model for SeriesIndex {

@@ -1,5 +1,5 @@
 -- A request comes to one outcome.
-use Rattle.std.proofs.Common.{◌≡◌, ℕ, suc, ℤ, pos, ◌*◌, ◌<◌, Bool, true, false, List, [], ◌∷◌, map, length, get_or, refl, sym, ap, subst, ◌∙◌, Option, Some, None, arith}
+use Rattle.std.proofs.Common.{◌≡◌, ℕ, ℤ, pos, ◌*◌, ◌<◌, Bool, true, false, List, map, length, get_or, refl, sym, ap, subst, ◌∙◌, Option, Some, None, arith}
 use Rattle.std.specs.Prelude.{max, nat_lt, slice_index, IsTrue, ◌↔◌}
 use Rattle.segment_model.specs.Segments.{Position, segment}
 use Rattle.segment_model.specs.Cuts.{place_before, place_behind}
@@ -19,10 +19,14 @@ use Rattle.history_model.specs.Runs.{Series, is_known}
 use Rattle.request_model.specs.declared.requests.Request.{Request}
 use Rattle.request_model.specs.declared.requests.Request.TheVariants as request
 use Rattle.request_model.specs.declared.replies.Answer.TheVariants as answer
+use Rattle.track_model.specs.Following.{raise}
 use Rattle.track_model.specs.Forms as forms
 use Rattle.track_model.specs.Outcomes.{Outcome, tells}
 use Rattle.track_model.specs.Publishing.{OfKnown, OfPublished, OfFactor, OfMany, publication, publish, segmented, IsPublished, named, TellsChanges, TellsCertificate, is_factor, IsCalibrated}
 use Rattle.track_model.specs.Tracks.{ComesTo}
+use Rattle.report_model.specs.declared.pages.Pages.{Pages}
+use Rattle.track_model.proofs.Orders.{same-items}
+use Rattle.track_model.proofs.Reports.{one-report}
 
 -- what comes to one outcome
 abbrev IsOne : (Outcome → Type 0) → Type 0
@@ -67,14 +71,6 @@ one-change unique points larger low cut high x y p q =
     (same-test x.worse y.worse (IsWorse larger x.left x.right) (IsWorse larger y.left y.right) p.worse q.worse
     (λ w. subst (λ (z : ℤ). IsWorse larger y.left z) right (subst (λ (z : ℤ). IsWorse larger z x.right) left w))
     (λ w. subst (λ (z : ℤ). IsWorse larger x.left z) (sym right) (subst (λ (z : ℤ). IsWorse larger z y.right) (sym left) w)))
-
-same-items : {A : Type 0} (xs ys : List A) → length xs ≡ length ys → ((i : ℕ) (d : A) → i < length xs → get_or xs i d ≡ get_or ys i d) → xs ≡ ys
-same-items [] [] size each = refl
-same-items [] (y ∷ ys) size each = absurd (let no : 0 ≡ length (y ∷ ys) = size in omega (arith, no))
-same-items (x ∷ xs) [] size each = absurd (let no : length (x ∷ xs) ≡ 0 = size in omega (arith, no))
-same-items (x ∷ xs) (y ∷ ys) size each =
-    let rest = same-items xs ys (omega (arith, size)) (λ i d lt. each (suc i) d (omega (arith, lt))) in
-    ap (λ z. z ∷ xs) (each 0 x (omega arith)) ∙ ap (λ zs. y ∷ zs) rest
 
 one-list : CentreIsUnique → (points : List Position) (metric cuts : List ℕ) (xs ys : List Change) → AreChanges points metric cuts xs → AreChanges points metric cuts ys → xs ≡ ys
 one-list unique points metric cuts xs ys p q =
@@ -126,4 +122,15 @@ module _ (unique : CentreIsUnique) (certificate : OneCertificate) (noise : OneNo
   one-outcome (request.Verify machine test metric) one other p q =
       let s : Series = record { test = test; metric = metric } in
       one-known (OfPublished (last_publication s h) (TellsCertificate h s)) (one-published (TellsCertificate h s) (one-verified s) (last_publication s h)) (is_known s h) one other p q
+  one-outcome (request.Regress machine test metric change) one other p q =
+      let s : Series = record { test = test; metric = metric } in
+      let Comes : Publication → Outcome → Type 0 = λ x raised. raised ≡ raise h s change x in
+      one-known (OfPublished (last_publication s h) Comes) (one-published Comes (λ x one other p q. p ∙ sym q) (last_publication s h)) (is_known s h) one other p q
+  one-outcome (request.SetState machine number state) one other p q = p ∙ sym q
+  one-outcome (request.Bisect machine lo hi) one other p q = p ∙ sym q
+  one-outcome (request.Answer machine number commit status) one other p q = p ∙ sym q
+  one-outcome (request.Resume machine number) one other p q = p ∙ sym q
+  one-outcome (request.Job machine number) one other p q = p ∙ sym q
   one-outcome (request.Runs machine) one other p q = p ∙ sym q
+  one-outcome (request.Report machine json) one other p q =
+      p.2 ∙ ap (λ (pages : Pages). tells (answer.Report pages)) (one-report unique h machine json p.0 q.0 p.1 q.1) ∙ sym q.2

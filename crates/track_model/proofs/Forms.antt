@@ -16,6 +16,7 @@ use Rattle.track_model.specs.Forms as forms
 use Rattle.track_model.specs.Laws.{CommitFits}
 use Rattle.track_model.specs.Outcomes.{refuses}
 use Rattle.track_model.proofs.Rows.{first-none, option_map-none}
+use Rattle.track_model.proofs.Steps.{steps-full, step-added}
 
 free-pair : (commits : List Declaration) (number : ℕ) (name : List ℕ) → forms.commit_refusal commits number name ≡ None
     → (find (has_number number) commits ≡ None) × (find (has_name name) commits ≡ None)
@@ -65,36 +66,16 @@ module _ (passed : FirstPassed) (kept : FirstKept) where
 
   -- ---- retract
   module _ (h : List Entry) (run : List ℕ) (free : forms.retract_refusal h run ≡ None) where
-    abbrev r : Entry
-    r = entry.Retract run
-
-    more : length (h ++ r ∷ []) ≡ length h + 1
-    more = length-append h (r ∷ [])
-
     pub retract-steps-full : most limit.Steps ≤ length h → forms.retract h run ≡ refuses (refusal.Full limit.Steps)
-    retract-steps-full full =
-        let row = passed limit.Steps [] h r (omega (arith, more, full)) in
-        rw (free, row) refl
+    retract-steps-full full = rw free (steps-full passed kept h (entry.Retract run) (answer.Retracted run) full)
 
-    pub retract-added : length h < most limit.Steps → forms.retract h run ≡ record { answer = answer.Retracted run; adds = Some r }
-    retract-added room =
-        let row = kept limit.Steps [] h r (omega (arith, more, room)) in
-        rw (free, row) refl
+    pub retract-added : length h < most limit.Steps → forms.retract h run ≡ record { answer = answer.Retracted run; adds = Some (entry.Retract run) }
+    retract-added room = rw free (step-added passed kept h (entry.Retract run) (answer.Retracted run) room)
 
   -- ---- tune
   module _ (h : List Entry) (metric : List ℕ) (penalty : ℤ) (free : forms.tune_refusal metric penalty ≡ None) where
-    abbrev t : Entry
-    t = entry.Tune metric penalty
-
-    one_more : length (h ++ t ∷ []) ≡ length h + 1
-    one_more = length-append h (t ∷ [])
-
     pub tune-steps-full : most limit.Steps ≤ length h → forms.tune h metric penalty ≡ refuses (refusal.Full limit.Steps)
-    tune-steps-full full =
-        let row = passed limit.Steps [] h t (omega (arith, one_more, full)) in
-        rw (free, row) refl
+    tune-steps-full full = rw free (steps-full passed kept h (entry.Tune metric penalty) (answer.Tuned metric penalty) full)
 
-    pub tune-added : length h < most limit.Steps → forms.tune h metric penalty ≡ record { answer = answer.Tuned metric penalty; adds = Some t }
-    tune-added room =
-        let row = kept limit.Steps [] h t (omega (arith, one_more, room)) in
-        rw (free, row) refl
+    pub tune-added : length h < most limit.Steps → forms.tune h metric penalty ≡ record { answer = answer.Tuned metric penalty; adds = Some (entry.Tune metric penalty) }
+    tune-added room = rw free (step-added passed kept h (entry.Tune metric penalty) (answer.Tuned metric penalty) room)

@@ -1,5 +1,9 @@
 pub mod Rows
+mod Steps
 mod Forms
 mod Tunings
+mod Regressions
 mod Examples
+mod Orders
+mod Reports
 mod Determined

@@ -1,19 +1,13 @@
 -- A penalty of which nothing is refused is in range, and its metric is short enough.
-use Rattle.std.proofs.Common.{◌≡◌, ℕ, ℤ, pos, negsuc, ◌≤◌, ◌^◌, Bool, true, false, not, List, length, refl, arith, nat_lt}
+use Rattle.std.proofs.Common.{◌≡◌, ℕ, ℤ, pos, negsuc, ◌≤◌, ◌^◌, true, false, not, List, length, refl, arith, nat_lt}
 use Rattle.std.specs.Prelude.{None}
-use Rattle.std.proofs.lemmas.Bool.{leb-true, le-leb, le-ltb, ltb-false}
+use Rattle.std.proofs.lemmas.Bool.{not-false, leb-true, le-leb, le-ltb, ltb-false}
 use Rattle.std.proofs.lemmas.Int.{ints}
 use Rattle.metric_table.specs.Table.{IsPenalty}
-use Rattle.request_model.specs.declared.replies.Refusal.{Refusal}
 use Rattle.request_model.specs.declared.replies.Refusal.TheVariants as refusal
 use Rattle.track_model.specs.Forms as forms
 use Rattle.track_model.specs.Outcomes.{refusal_if}
-use Rattle.track_model.proofs.Rows.{first-none}
-
--- nothing is refused where the test fails
-passes : (test : Bool) (r : Refusal) → refusal_if test r ≡ None → test ≡ false
-passes true r none = absurd (cc)
-passes false r none = refl
+use Rattle.track_model.proofs.Rows.{first-none, passes}
 
 in-range : (z : ℤ) → forms.is_penalty z ≡ true → IsPenalty z
 in-range (pos n) is = let le = leb-true n (10 ^ 36) is in (omega (arith, ints), omega (arith, ints, le))
@@ -22,10 +16,6 @@ in-range (negsuc n) is = absurd (let never : false ≡ true = is in cc)
 range-is : (z : ℤ) → IsPenalty z → forms.is_penalty z ≡ true
 range-is (pos n) is = le-leb n (10 ^ 36) (omega (arith, ints, is.1))
 range-is (negsuc n) is = absurd (omega (arith, ints, is.0))
-
-not-false : (b : Bool) → not b ≡ false → b ≡ true
-not-false true is = refl
-not-false false is = absurd (let never : true ≡ false = is in cc)
 
 pub free-follows : (metric : List ℕ) (z : ℤ) → forms.tune_refusal metric z ≡ None → (length metric ≤ 64) × IsPenalty z
 free-follows metric z free =

@@ -1,23 +1,28 @@
 -- What holds of the forms on every history: where each comes to a limit, what it adds where none is passed, and that a
 -- request comes to one outcome.
-use Rattle.std.specs.Prelude.{◌≡◌, ◌≤◌, ◌<◌, ◌↔◌, ◌+◌, ℕ, ℤ, List, length, IsSome, Some, None}
+use Rattle.std.specs.Prelude.{◌≡◌, ◌≤◌, ◌<◌, ◌↔◌, ◌+◌, ℕ, ℤ, true, List, [], ◌∷◌, ◌++◌, length, IsSome, Some, None}
 use Rattle.metric_table.specs.Limits.{most}
 use Rattle.metric_table.specs.declared.limits.Limit.TheVariants as limit
 use Rattle.history_model.specs.declared.entries.Entry.{Entry}
 use Rattle.history_model.specs.declared.entries.Entry.TheVariants as entry
-use Rattle.history_model.specs.Allowed.{Allowed, KeepsLimits, MayFollow}
-use Rattle.history_model.specs.Commits.{declarations}
-use Rattle.history_model.specs.Runs.{accepted, retracted}
+use Rattle.history_model.specs.declared.events.JobEvent.TheVariants as job_event
+use Rattle.history_model.specs.declared.events.RegressionEvent.TheVariants as event
+use Rattle.regression_state.specs.declared.states.State.{State}
+use Rattle.history_model.specs.Allowed.{Allowed, KeepsLimits, Legal, MayFollow}
+use Rattle.history_model.specs.Commits.{declarations, name_of}
+use Rattle.history_model.specs.Jobs.{jobs, asked, open_count}
+use Rattle.history_model.specs.Runs.{Series, accepted, is_known, retracted}
 use Rattle.request_model.specs.declared.replies.Answer.TheVariants as answer
 use Rattle.request_model.specs.declared.replies.Refusal.TheVariants as refusal
+use Rattle.track_model.specs.Following as following
 use Rattle.track_model.specs.Forms as forms
-use Rattle.track_model.specs.Outcomes.{Outcome, refuses}
+use Rattle.track_model.specs.Outcomes.{Outcome, refuses, adds_within}
 use Rattle.track_model.specs.Publishing.{publish}
 use Rattle.track_model.specs.Tracks.{ComesTo}
 use Rattle.request_model.specs.declared.requests.Request.{Request}
 use Rattle.request_model.specs.declared.replies.Answer.{Answer}
 use Rattle.history_model.specs.declared.publication.Publication.{Publication}
-use Rattle.history_model.specs.Publications.{cut_count, MayPublish}
+use Rattle.history_model.specs.Publications.{cut_count, last_publication, MayPublish}
 
 -- ---- commit
 
@@ -111,6 +116,72 @@ PublishIsAdded =
 -- and may follow a history that keeps its limits and in which it stands
 abbrev pub PublishIsAllowed : Type 0
 PublishIsAllowed = (h : List Entry) (p : Publication) → KeepsLimits h → MayPublish h p → PublicationFits h p → Allowed h (entry.Publish p)
+
+-- ---- forms that add within steps alone
+
+-- what is added is refused where there are as many steps as there may be
+abbrev pub StepsAreFull : Type 0
+StepsAreFull = (h : List Entry) (e : Entry) (told : Answer) → most limit.Steps ≤ length h → adds_within (limit.Steps ∷ []) h e told ≡ refuses (refusal.Full limit.Steps)
+
+-- else it is added
+abbrev pub StepIsAdded : Type 0
+StepIsAdded = (h : List Entry) (e : Entry) (told : Answer) → length h < most limit.Steps → adds_within (limit.Steps ∷ []) h e told ≡ record { answer = told; adds = Some e }
+
+-- ---- regressions
+
+-- a regression that is there, in a state from which it may move
+abbrev pub MoveIsAllowed : Type 0
+MoveIsAllowed =
+    (h : List Entry) (number : ℕ) (state : State) → KeepsLimits h → following.move_refusal h number state ≡ None → length h < most limit.Steps
+    → Allowed h (entry.Regression (event.Move number state))
+
+-- a change that the last publication of a known series has stands between declared commits
+abbrev pub RaiseIsAllowed : Type 0
+RaiseIsAllowed =
+    (h : List Entry) (s : Series) (p : Publication) (change : ℕ) → Legal h → KeepsLimits h → is_known s h ≡ true → last_publication s h ≡ Some p
+    → following.raise_refusal p change ≡ None → length h < most limit.Steps
+    → Allowed h (entry.Regression (event.Raise (following.change_of h s p change)))
+
+-- ---- jobs
+
+-- a job is refused where more would be open than may be
+abbrev pub JobsAreFull : Type 0
+JobsAreFull =
+    (h : List Entry) (lo hi : ℕ) → most limit.Jobs < open_count (jobs (h ++ entry.Job (job_event.Begin lo hi) ∷ []))
+    → following.begin h lo hi ≡ refuses (refusal.Full limit.Jobs)
+
+-- else where there are as many steps as there may be
+abbrev pub BeginStepsAreFull : Type 0
+BeginStepsAreFull =
+    (h : List Entry) (lo hi : ℕ) → open_count (jobs (h ++ entry.Job (job_event.Begin lo hi) ∷ [])) ≤ most limit.Jobs → most limit.Steps ≤ length h
+    → following.begin h lo hi ≡ refuses (refusal.Full limit.Steps)
+
+-- else it is begun
+abbrev pub BeginIsAdded : Type 0
+BeginIsAdded =
+    (h : List Entry) (lo hi : ℕ) → open_count (jobs (h ++ entry.Job (job_event.Begin lo hi) ∷ [])) ≤ most limit.Jobs → length h < most limit.Steps
+    → following.begin h lo hi ≡ record {
+      answer = following.job_answer (h ++ entry.Job (job_event.Begin lo hi) ∷ []) (length (jobs h) + 1);
+      adds = Some (entry.Job (job_event.Begin lo hi));
+    }
+
+-- and may follow a history that keeps its limits and declares both ends, in their order
+abbrev pub BeginIsAllowed : Type 0
+BeginIsAllowed =
+    (h : List Entry) (lo hi : ℕ) → KeepsLimits h → IsSome (name_of lo h) → IsSome (name_of hi h) → lo < hi → length h < most limit.Steps
+    → open_count (jobs (h ++ entry.Job (job_event.Begin lo hi) ∷ [])) ≤ most limit.Jobs → Allowed h (entry.Job (job_event.Begin lo hi))
+
+-- the place that a job asks may be said to have been tested
+abbrev pub SayIsAllowed : Type 0
+SayIsAllowed =
+    (h : List Entry) (number place status : ℕ) → KeepsLimits h → asked number h ≡ Some place → length h < most limit.Steps
+    → Allowed h (entry.Job (job_event.Answer number place status))
+
+-- and may be given up
+abbrev pub GiveUpIsAllowed : Type 0
+GiveUpIsAllowed =
+    (h : List Entry) (number place : ℕ) → KeepsLimits h → asked number h ≡ Some place → length h < most limit.Steps
+    → Allowed h (entry.Job (job_event.GiveUp number place))
 
 -- ---- all forms
 

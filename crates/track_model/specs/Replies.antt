@@ -17,7 +17,14 @@ machine_of (request.Calibrate machine test metric factor) = machine
 machine_of (request.Segment machine test metric) = machine
 machine_of (request.Changes machine test metric) = machine
 machine_of (request.Verify machine test metric) = machine
+machine_of (request.Regress machine test metric change) = machine
+machine_of (request.SetState machine number state) = machine
+machine_of (request.Bisect machine lo hi) = machine
+machine_of (request.Answer machine number commit status) = machine
+machine_of (request.Resume machine number) = machine
+machine_of (request.Job machine number) = machine
 machine_of (request.Runs machine) = machine
+machine_of (request.Report machine json) = machine
 
 -- an outcome on a history as a reply, which counts the entry that is added
 abbrev pub reply_of : List Entry → Outcome → Reply

@@ -5,9 +5,11 @@ use Rattle.history_model.specs.declared.entries.Entry.{Entry}
 use Rattle.history_model.specs.declared.entries.Placed.{Placed}
 use Rattle.request_model.specs.declared.replies.Reply.{Reply}
 use Rattle.history_model.specs.Entries.{entries_of}
+use Rattle.track_model.specs.Following as following
 use Rattle.track_model.specs.Forms as forms
 use Rattle.track_model.specs.Outcomes.{Outcome, tells}
 use Rattle.track_model.specs.Publishing.{CalibrateComesTo, SegmentComesTo, ChangesComeTo, VerifyComesTo}
+use Rattle.track_model.specs.Reports.{ReportComesTo}
 use Rattle.request_model.specs.declared.requests.Request.{Request}
 use Rattle.request_model.specs.declared.requests.Request.TheVariants as request
 use Rattle.request_model.specs.declared.replies.Answer.TheVariants as answer
@@ -52,7 +54,14 @@ ComesTo h (request.Calibrate machine test metric factor) o = CalibrateComesTo h 
 ComesTo h (request.Segment machine test metric) o = SegmentComesTo h (series test metric) o
 ComesTo h (request.Changes machine test metric) o = ChangesComeTo h (series test metric) o
 ComesTo h (request.Verify machine test metric) o = VerifyComesTo h (series test metric) o
+ComesTo h (request.Regress machine test metric change) o = following.RegressComesTo h (series test metric) change o
+ComesTo h (request.SetState machine number state) o = o ≡ following.set_state h number state
+ComesTo h (request.Bisect machine lo hi) o = o ≡ following.bisect h lo hi
+ComesTo h (request.Answer machine number commit status) o = o ≡ following.answer_job h number commit status
+ComesTo h (request.Resume machine number) o = o ≡ following.resume h number
+ComesTo h (request.Job machine number) o = o ≡ following.job h number
 ComesTo h (request.Runs machine) o = o ≡ forms.runs h
+ComesTo h (request.Report machine json) o = ReportComesTo h machine json o
 
 -- the request is about a machine that is declared, and its state alone answers it
 abbrev pub IsAsked : Request → Type 0

@@ -14,10 +14,22 @@ ghost use Rattle.track_model.specs.Laws.{
   PublishCutsAreFull,
   PublishIsAdded,
   PublishIsAllowed,
+  StepsAreFull,
+  StepIsAdded,
+  MoveIsAllowed,
+  RaiseIsAllowed,
+  JobsAreFull,
+  BeginStepsAreFull,
+  BeginIsAdded,
+  BeginIsAllowed,
+  SayIsAllowed,
+  GiveUpIsAllowed,
   OneOutcome,
 };
 
-use history_model::{growth_law, limits_law, publication_law, within_law};
+use history_model::{
+    growth_law, jobs_law, limits_law, publication_law, regressions_law, within_law,
+};
 use segment_cost::one_certificate_law;
 use segment_model::centre_law;
 use series_noise::noise_law;
@@ -63,6 +75,42 @@ pub fn publish_law()
     limits_law();
     within_law();
     publication_law();
+}
+
+/// Where an entry that is limited by steps alone comes to the limit, and that it is added elsewhere.
+pub fn steps_law()
+    ensures full { StepsAreFull }
+    ensures added { StepIsAdded }
+{
+    within_law();
+}
+
+/// A regression may move where nothing is refused of the move, and a change of the last publication may be raised.
+pub fn follow_law()
+    ensures moves { MoveIsAllowed }
+    ensures raises { RaiseIsAllowed }
+{
+    publication_law();
+    regressions_law();
+}
+
+/// Where a job that is begun comes to a limit, that it is begun elsewhere, and that it may follow there.
+pub fn begin_law()
+    ensures jobs_full { JobsAreFull }
+    ensures steps_full { BeginStepsAreFull }
+    ensures added { BeginIsAdded }
+    ensures allowed { BeginIsAllowed }
+{
+    within_law();
+    jobs_law();
+}
+
+/// What may be said of the place that a job asks: the status of its test, or that it is given up.
+pub fn say_law()
+    ensures tested { SayIsAllowed }
+    ensures given_up { GiveUpIsAllowed }
+{
+    jobs_law();
 }
 
 /// A request comes to one outcome on a history.

@@ -1,0 +1,45 @@
+-- In a legal history both commits of each regression are declared.
+use Rattle.std.proofs.Common.{◌≡◌, ◌+◌, List, [], ◌∷◌, ◌++◌, length, All, refl, sym, subst}
+use Rattle.std.specs.Prelude.{None, IsSome}
+use Rattle.std.proofs.lemmas.List.Elements.{All-nil, All-push, All-weaker}
+use Rattle.history_model.specs.declared.entries.Entry.{Entry}
+use Rattle.history_model.specs.declared.entries.Entry.TheVariants as entry
+use Rattle.history_model.specs.declared.events.Raised.{Raised}
+use Rattle.history_model.specs.declared.events.RegressionEvent.TheVariants as event
+use Rattle.history_model.specs.Allowed.{Allowed, Legal}
+use Rattle.history_model.specs.Commits.{name_of}
+use Rattle.history_model.specs.Regressions.{raised, regressions}
+use Rattle.history_model.proofs.Chosen.{chosen-push, chosen-skip}
+use Rattle.history_model.proofs.Growth.{legal-each}
+use Rattle.history_model.proofs.Named.{still-named}
+
+abbrev Ends : List Entry → Raised → Type 0
+Ends h r = IsSome (name_of r.before h) × IsSome (name_of r.after h)
+
+Claim : List Entry → Type 0
+Claim h = All (Ends h) (regressions h)
+
+still-ends : (h : List Entry) (e : Entry) → All (Ends h) (regressions h) → All (Ends (h ++ e ∷ [])) (regressions h)
+still-ends h e all = All-weaker (Ends h) (Ends (h ++ e ∷ [])) (λ r both. (still-named h e r.before both.0, still-named h e r.after both.1)) (regressions h) all
+
+skipped : (h : List Entry) (e : Entry) → raised (length h + 1) e ≡ None → Claim h → Claim (h ++ e ∷ [])
+unfolding Claim
+skipped h e none claim = subst (λ (rs : List Raised). All (Ends (h ++ e ∷ [])) rs) (sym (chosen-skip raised h e none)) (still-ends h e claim)
+
+grown : (h : List Entry) (e : Entry) → Allowed h e → Claim h → Claim (h ++ e ∷ [])
+unfolding Claim
+grown h (entry.Commit number name) allowed claim = skipped h (entry.Commit number name) refl claim
+grown h (entry.Accept run) allowed claim = skipped h (entry.Accept run) refl claim
+grown h (entry.Retract run) allowed claim = skipped h (entry.Retract run) refl claim
+grown h (entry.Tune metric penalty) allowed claim = skipped h (entry.Tune metric penalty) refl claim
+grown h (entry.Publish p) allowed claim = skipped h (entry.Publish p) refl claim
+grown h (entry.Job said) allowed claim = skipped h (entry.Job said) refl claim
+grown h (entry.Regression (event.Move number state)) allowed claim = skipped h (entry.Regression (event.Move number state)) refl claim
+grown h (entry.Regression (event.Raise r)) allowed claim =
+    let e : Entry = entry.Regression (event.Raise r) in
+    subst (λ (rs : List Raised). All (Ends (h ++ e ∷ [])) rs) (sym (chosen-push raised h e))
+    (All-push (Ends (h ++ e ∷ [])) (regressions h) r (still-ends h e claim) (still-named h e r.before allowed.0.1, still-named h e r.after allowed.0.2))
+
+pub regressions-named : (h : List Entry) → Legal h → All (λ (r : Raised). IsSome (name_of r.before h) × IsSome (name_of r.after h)) (regressions h)
+unfolding Claim
+regressions-named h legal = legal-each Claim (All-nil (Ends [])) grown h legal

@@ -1,0 +1,161 @@
+-- The known series of an index, listed in order.
+use Rattle.std.proofs.Common.{◌≡◌, ◌⊎◌, inl, inr, ℕ, Bool, true, false, true≢false, cond, List, [], ◌∷◌, Ordering, Less, nat_cmp, refl, sym, ap, subst, ◌∙◌, Option, Some}
+use Rattle.std.specs.Prelude.{Contains, is_some, unwrap_or}
+use Rattle.std.specs.Ordering.{is_eq, ordering_then, ordering_reverse}
+use Rattle.std.specs.Cmp.Lexicographic.{slice_cmp}
+use Rattle.std.specs.List.{AllByRecursion}
+use Rattle.std.specs.List.Sorted.{IsStrictlySortedBy}
+use Rattle.std.specs.Map.{keys_of, lookup}
+use Rattle.std.proofs.lemmas.Bool.{cases_Bool}
+use Rattle.std.proofs.lemmas.Cmp.{nat_list_cmp_total, tied_itself}
+use Rattle.std.proofs.lemmas.List.Elements.{Contains-append_left, Contains-append_right, Contains-append_cases}
+use Rattle.std.proofs.lemmas.Map.Keys.{sorted_tail}
+use Rattle.history_model.specs.Runs.{Series}
+use Rattle.history_model.specs.SeriesOrder.{series_cmp}
+use Rattle.history_model.proofs.Members.{here, behind, either, none-in-nil, later, sorted-nil, sorted-cons, sorted-append}
+use Rattle.series_index.specs.declared.tracked.Tracked.{Tracked}
+use Rattle.series_index.specs.Known.{AreKnown}
+use Rattle.series_index.specs.Listed.{put_if, known_of, all_known}
+use Rattle.series_index.specs.Seen.{is_same, seen, seen_of, unseen}
+use Rattle.series_index.proofs.Written.{same-name}
+
+abbrev Metrics : Type 0
+Metrics = List (List ℕ × Tracked)
+
+abbrev Tests : Type 0
+Tests = List (List ℕ × Metrics)
+
+abbrev name_cmp : List ℕ → List ℕ → Ordering
+name_cmp one other = slice_cmp nat_cmp one other
+
+-- the metrics of a test are in order
+abbrev pub HasSorted : List ℕ × Metrics → Type 0
+HasSorted t = IsStrictlySortedBy (slice_cmp nat_cmp) (keys_of t.1)
+
+-- ---- one more series, where it is known
+in-put : (b : Bool) (x s : Series) (xs : List Series) → Contains (put_if b x xs) s → ((b ≡ true) × (x ≡ s)) ⊎ Contains xs s
+in-put true x s xs has = elim (either s x xs has) [ inl same ↦ inl (refl, same) | inr later ↦ inr later ]
+in-put false x s xs has = inr has
+
+put-here : (b : Bool) (x : Series) (xs : List Series) → b ≡ true → Contains (put_if b x xs) x
+put-here true x xs known = here x xs
+put-here false x xs known = absurd (true≢false (sym known))
+
+put-behind : (b : Bool) (x s : Series) (xs : List Series) → Contains xs s → Contains (put_if b x xs) s
+put-behind true x s xs has = behind s x xs has
+put-behind false x s xs has = has
+
+put-sorted : (b : Bool) (x : Series) (xs : List Series) → ((s : Series) → Contains xs s → series_cmp x s ≡ Less) → IsStrictlySortedBy series_cmp xs → IsStrictlySortedBy series_cmp (put_if b x xs)
+put-sorted true x xs below up = sorted-cons series_cmp x xs below up
+put-sorted false x xs below up = up
+
+-- ---- those of one test
+test-of : (test : List ℕ) (es : Metrics) (s : Series) → Contains (known_of test es) s → s.test ≡ test
+test-of test [] s has = absurd (none-in-nil s has)
+test-of test (e ∷ es) s has = elim (in-put (is_some e.1.since) (record { test = test; metric = e.0 }) s (known_of test es) has) [
+  | inl this ↦ ap (λ (x : Series). x.test) (sym this.1)
+  | inr more ↦ test-of test es s more
+]
+
+metric-in : (test : List ℕ) (es : Metrics) (s : Series) → Contains (known_of test es) s → Contains (keys_of es) s.metric
+metric-in test [] s has = absurd (none-in-nil s has)
+metric-in test (e ∷ es) s has = elim (in-put (is_some e.1.since) (record { test = test; metric = e.0 }) s (known_of test es) has) [
+  | inl this ↦ subst (λ (m : List ℕ). Contains (e.0 ∷ keys_of es) m) (ap (λ (x : Series). x.metric) this.1) (here e.0 (keys_of es))
+  | inr more ↦ behind s.metric e.0 (keys_of es) (metric-in test es s more)
+]
+
+one-sorted : (test : List ℕ) (es : Metrics) → IsStrictlySortedBy (slice_cmp nat_cmp) (keys_of es) → IsStrictlySortedBy series_cmp (known_of test es)
+one-sorted test [] up = sorted-nil series_cmp
+one-sorted test (e ∷ es) up =
+    put-sorted (is_some e.1.since) (record { test = test; metric = e.0 }) (known_of test es)
+    (λ s has.
+    ap (λ o. ordering_then o (slice_cmp nat_cmp e.0 s.metric)) (ap (λ (t : List ℕ). slice_cmp nat_cmp test t) (test-of test es s has) ∙ tied_itself nat_list_cmp_total test)
+    ∙ later (slice_cmp nat_cmp) e.0 (keys_of es) s.metric up (metric-in test es s has))
+    (one-sorted test es (sorted_tail (slice_cmp nat_cmp) e.0 (keys_of es) up))
+
+-- ---- which name a look-up finds
+same-itself : (name other : List ℕ) → name ≡ other → is_same name other ≡ true
+same-itself name other same = ap (λ (n : List ℕ). is_same n other) same ∙ ap is_eq (tied_itself nat_list_cmp_total other)
+
+not-below : (name other : List ℕ) → slice_cmp nat_cmp other name ≡ Less → is_same name other ≡ false
+not-below name other below = ap is_eq (nat_list_cmp_total.antisymm name other ∙ ap ordering_reverse below)
+
+abbrev since_of : List ℕ → Metrics → Bool
+since_of metric es = is_some (seen_of metric es).since
+
+into-one : (test : List ℕ) (es : Metrics) (metric : List ℕ) → since_of metric es ≡ true → Contains (known_of test es) (record { test = test; metric = metric })
+into-one test [] metric known = absurd (true≢false (sym known))
+into-one test (e ∷ es) metric known =
+    let rest : Option Tracked = lookup (λ (m : List ℕ). is_same metric m) es in
+    elim (cases_Bool (is_same metric e.0)) [
+      | inl hit ↦
+          let this : is_some e.1.since ≡ true = sym (ap (λ b. is_some (unwrap_or (cond b (Some e.1) rest) unseen).since) hit) ∙ known in
+          subst (λ (m : List ℕ). Contains (known_of test (e ∷ es)) (record { test = test; metric = m })) (sym (same-name metric e.0 hit))
+          (put-here (is_some e.1.since) (record { test = test; metric = e.0 }) (known_of test es) this)
+      | inr miss ↦
+          put-behind (is_some e.1.since) (record { test = test; metric = e.0 }) (record { test = test; metric = metric }) (known_of test es)
+          (into-one test es metric (sym (ap (λ b. is_some (unwrap_or (cond b (Some e.1) rest) unseen).since) miss) ∙ known))
+    ]
+
+from-one : (test : List ℕ) (es : Metrics) (s : Series) → IsStrictlySortedBy (slice_cmp nat_cmp) (keys_of es) → Contains (known_of test es) s → since_of s.metric es ≡ true
+from-one test [] s up has = absurd (none-in-nil s has)
+from-one test (e ∷ es) s up has =
+    let rest : Option Tracked = lookup (λ (m : List ℕ). is_same s.metric m) es in
+    elim (in-put (is_some e.1.since) (record { test = test; metric = e.0 }) s (known_of test es) has) [
+      | inl this ↦
+          ap (λ b. is_some (unwrap_or (cond b (Some e.1) rest) unseen).since) (same-itself s.metric e.0 (ap (λ (x : Series). x.metric) (sym this.1))) ∙ this.0
+      | inr more ↦
+          ap (λ b. is_some (unwrap_or (cond b (Some e.1) rest) unseen).since)
+          (not-below s.metric e.0 (later (slice_cmp nat_cmp) e.0 (keys_of es) s.metric up (metric-in test es s more)))
+          ∙ from-one test es s (sorted_tail (slice_cmp nat_cmp) e.0 (keys_of es) up) more
+    ]
+
+-- ---- those of all tests
+test-in : (ts : Tests) (s : Series) → Contains (all_known ts) s → Contains (keys_of ts) s.test
+test-in [] s has = absurd (none-in-nil s has)
+test-in (t ∷ ts) s has = elim (Contains-append_cases (known_of t.0 t.1) (all_known ts) s has) [
+  | inl near ↦ subst (λ (n : List ℕ). Contains (t.0 ∷ keys_of ts) n) (sym (test-of t.0 t.1 s near)) (here t.0 (keys_of ts))
+  | inr far ↦ behind s.test t.0 (keys_of ts) (test-in ts s far)
+]
+
+all-sorted : (ts : Tests) → IsStrictlySortedBy (slice_cmp nat_cmp) (keys_of ts) → AllByRecursion HasSorted ts → IsStrictlySortedBy series_cmp (all_known ts)
+all-sorted [] up each = sorted-nil series_cmp
+all-sorted (t ∷ ts) up each =
+    sorted-append series_cmp (known_of t.0 t.1) (all_known ts) (one-sorted t.0 t.1 each.0)
+    (all-sorted ts (sorted_tail (slice_cmp nat_cmp) t.0 (keys_of ts) up) each.1)
+    (λ x y near far.
+    ap (λ o. ordering_then o (slice_cmp nat_cmp x.metric y.metric))
+    (ap (λ (n : List ℕ). slice_cmp nat_cmp n y.test) (test-of t.0 t.1 x near) ∙ later (slice_cmp nat_cmp) t.0 (keys_of ts) y.test up (test-in ts y far)))
+
+into-all : (ts : Tests) (s : Series) → is_some (seen s ts).since ≡ true → Contains (all_known ts) s
+into-all [] s known = absurd (true≢false (sym known))
+into-all (t ∷ ts) s known =
+    let rest : Option Metrics = lookup (λ (n : List ℕ). is_same s.test n) ts in
+    elim (cases_Bool (is_same s.test t.0)) [
+      | inl hit ↦
+          let this = into-one t.0 t.1 s.metric (sym (ap (λ b. since_of s.metric (unwrap_or (cond b (Some t.1) rest) [])) hit) ∙ known) in
+          Contains-append_left (known_of t.0 t.1) (all_known ts) s
+          (subst (λ (n : List ℕ). Contains (known_of t.0 t.1) (record { test = n; metric = s.metric })) (sym (same-name s.test t.0 hit)) this)
+      | inr miss ↦
+          Contains-append_right (known_of t.0 t.1) (all_known ts) s
+          (into-all ts s (sym (ap (λ b. since_of s.metric (unwrap_or (cond b (Some t.1) rest) [])) miss) ∙ known))
+    ]
+
+from-all : (ts : Tests) (s : Series) → IsStrictlySortedBy (slice_cmp nat_cmp) (keys_of ts) → AllByRecursion HasSorted ts → Contains (all_known ts) s → is_some (seen s ts).since ≡ true
+from-all [] s up each has = absurd (none-in-nil s has)
+from-all (t ∷ ts) s up each has =
+    let rest : Option Metrics = lookup (λ (n : List ℕ). is_same s.test n) ts in
+    elim (Contains-append_cases (known_of t.0 t.1) (all_known ts) s has) [
+      | inl near ↦
+          ap (λ b. since_of s.metric (unwrap_or (cond b (Some t.1) rest) [])) (same-itself s.test t.0 (test-of t.0 t.1 s near)) ∙ from-one t.0 t.1 s each.0 near
+      | inr far ↦
+          ap (λ b. since_of s.metric (unwrap_or (cond b (Some t.1) rest) []))
+          (not-below s.test t.0 (later (slice_cmp nat_cmp) t.0 (keys_of ts) s.test up (test-in ts s far)))
+          ∙ from-all ts s (sorted_tail (slice_cmp nat_cmp) t.0 (keys_of ts) up) each.1 far
+    ]
+
+pub listed : (ts : Tests) → IsStrictlySortedBy (slice_cmp nat_cmp) (keys_of ts) → AllByRecursion HasSorted ts → AreKnown ts (all_known ts)
+listed ts up each = record {
+  just = λ s. (into-all ts s, from-all ts s up each);
+  ordered = all-sorted ts up each;
+}

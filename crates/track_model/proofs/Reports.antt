@@ -1,0 +1,85 @@
+-- The pages of a machine are determined.
+use Rattle.std.proofs.Common.{◌≡◌, ℕ, ℤ, Bool, List, [], ◌∷◌, map, length, refl, sym, ap, subst, ◌∙◌, Option, Some, None, arith}
+use Rattle.std.specs.Prelude.{All}
+use Rattle.std.specs.Cmp.{IsTotalOrder}
+use Rattle.std.proofs.lemmas.Cmp.{nat_list_cmp_total, on_total, then_total}
+use Rattle.std.proofs.lemmas.List.Elements.{All-head, All-tail}
+use Rattle.segment_model.specs.Segments.{Position, segment, values_of}
+use Rattle.segment_model.specs.Laws.{CentreIsUnique}
+use Rattle.report_model.specs.declared.items.SeriesLine.{SeriesLine}
+use Rattle.report_model.specs.declared.items.RegressionLine.{RegressionLine}
+use Rattle.report_model.specs.declared.items.JobLine.{JobLine}
+use Rattle.report_model.specs.declared.pages.Pages.{Pages}
+use Rattle.history_model.specs.declared.entries.Entry.{Entry}
+use Rattle.history_model.specs.declared.publication.Publication.{Publication}
+use Rattle.history_model.specs.Positions.{positions}
+use Rattle.history_model.specs.Publications.{last_publication, spoken_of}
+use Rattle.history_model.specs.Runs.{Series}
+use Rattle.history_model.specs.SeriesOrder.{series_cmp}
+use Rattle.segment_model.specs.Cuts.{place_before}
+use Rattle.change_list.specs.Last.{IsLastCentre}
+use Rattle.track_model.specs.Reports.{IsOfLast, IsSeriesLine, AreSeriesLines, IsReport, series_in}
+use Rattle.track_model.proofs.Orders.{same-members}
+
+one-centre : CentreIsUnique → (points : List Position) (cuts : List ℕ) (a b : Option ℤ) → IsLastCentre points cuts a → IsLastCentre points cuts b → a ≡ b
+one-centre unique points cuts None None p q = refl
+one-centre unique points cuts None (Some b) p q = absurd (q.0 p)
+one-centre unique points cuts (Some a) None p q = absurd (p.0 q)
+one-centre unique points cuts (Some a) (Some b) p q = ap Some (unique (segment points (place_before cuts (length cuts)) (length points)) a b p.1 q.1)
+
+one-last : CentreIsUnique → (h : List Entry) (s : Series) (last : Option Publication) (m n : Option ℕ) (a b : Option ℤ) → IsOfLast h s last m a → IsOfLast h s last n b
+    → (m ≡ n) × (a ≡ b)
+one-last unique h s None m n a b p q = (p.0 ∙ sym q.0, p.1 ∙ sym q.1)
+one-last unique h s (Some x) m n a b p q = (p.0 ∙ sym q.0, one-centre unique (positions (spoken_of h x) s) x.cuts a b p.1 q.1)
+
+same-line : (x y : SeriesLine) → series_in x ≡ series_in y → x.samples ≡ y.samples → x.positions ≡ y.positions → x.changes ≡ y.changes → x.centre ≡ y.centre → x ≡ y
+same-line x y series samples at changes centre =
+    ap (λ (s : Series). let l : SeriesLine = record { test = s.test; metric = s.metric; samples = x.samples; positions = x.positions; changes = x.changes; centre = x.centre } in l) series
+    ∙ ap (λ (n : ℕ). let l : SeriesLine = record { test = y.test; metric = y.metric; samples = n; positions = x.positions; changes = x.changes; centre = x.centre } in l) samples
+    ∙ ap (λ (n : ℕ). let l : SeriesLine = record { test = y.test; metric = y.metric; samples = y.samples; positions = n; changes = x.changes; centre = x.centre } in l) at
+    ∙ ap (λ (n : Option ℕ). let l : SeriesLine = record { test = y.test; metric = y.metric; samples = y.samples; positions = y.positions; changes = n; centre = x.centre } in l) changes
+    ∙ ap (λ (n : Option ℤ). let l : SeriesLine = record { test = y.test; metric = y.metric; samples = y.samples; positions = y.positions; changes = y.changes; centre = n } in l) centre
+
+one-line : CentreIsUnique → (h : List Entry) (x y : SeriesLine) → series_in x ≡ series_in y → IsSeriesLine h x → IsSeriesLine h y → x ≡ y
+one-line unique h x y same p q =
+    let last = one-last unique h (series_in y) (last_publication (series_in y) h) x.changes y.changes x.centre y.centre
+    (subst (λ (s : Series). IsOfLast h s (last_publication s h) x.changes x.centre) same p.last) q.last in
+    same-line x y same
+    (p.samples ∙ ap (λ (s : Series). length (values_of (positions h s))) same ∙ sym q.samples)
+    (p.positions ∙ ap (λ (s : Series). length (positions h s)) same ∙ sym q.positions) last.0 last.1
+
+abbrev head-of : Series → List Series → Series
+head-of d [] = d
+head-of d (s ∷ more) = s
+
+abbrev tail-of : List Series → List Series
+tail-of [] = []
+tail-of (s ∷ more) = more
+
+-- lines of one list of series
+same-lines : CentreIsUnique → (h : List Entry) (xs ys : List SeriesLine) → map series_in xs ≡ map series_in ys → All (IsSeriesLine h) xs → All (IsSeriesLine h) ys → xs ≡ ys
+same-lines unique h [] [] same p q = refl
+same-lines unique h [] (y ∷ ys) same p q = absurd (let no : 0 ≡ length (map series_in (y ∷ ys)) = ap length same in omega (arith, no))
+same-lines unique h (x ∷ xs) [] same p q = absurd (let no : length (map series_in (x ∷ xs)) ≡ 0 = ap length same in omega (arith, no))
+same-lines unique h (x ∷ xs) (y ∷ ys) same p q =
+    let first = one-line unique h x y (ap (head-of (series_in x)) same) (All-head (IsSeriesLine h) x xs p) (All-head (IsSeriesLine h) y ys q) in
+    let rest = same-lines unique h xs ys (ap tail-of same) (All-tail (IsSeriesLine h) x xs p) (All-tail (IsSeriesLine h) y ys q) in
+    ap (λ (l : SeriesLine). l ∷ xs) first ∙ ap (λ (more : List SeriesLine). y ∷ more) rest
+
+series-order : IsTotalOrder series_cmp
+series-order = then_total (on_total (λ (s : Series). s.test) nat_list_cmp_total) (on_total (λ (s : Series). s.metric) nat_list_cmp_total)
+
+one-series : CentreIsUnique → (h : List Entry) (xs ys : List SeriesLine) → AreSeriesLines h xs → AreSeriesLines h ys → xs ≡ ys
+one-series unique h xs ys p q =
+    same-lines unique h xs ys
+    (same-members series-order (map series_in xs) (map series_in ys) p.ordered q.ordered (λ s has. (q.known s).0 ((p.known s).1 has)) (λ s has. (p.known s).0 ((q.known s).1 has)))
+    p.each q.each
+
+pub one-report : CentreIsUnique → (h : List Entry) (machine : List ℕ) (json : Bool) (x y : Pages) → IsReport h machine json x → IsReport h machine json y → x ≡ y
+one-report unique h machine json x y p q =
+    ap (λ (m : List ℕ). let r : Pages = record { machine = m; step = x.step; json = x.json; series = x.series; regressions = x.regressions; jobs = x.jobs } in r) (p.of_machine ∙ sym q.of_machine)
+    ∙ ap (λ (n : ℕ). let r : Pages = record { machine = y.machine; step = n; json = x.json; series = x.series; regressions = x.regressions; jobs = x.jobs } in r) (p.at_step ∙ sym q.at_step)
+    ∙ ap (λ (b : Bool). let r : Pages = record { machine = y.machine; step = y.step; json = b; series = x.series; regressions = x.regressions; jobs = x.jobs } in r) (p.form ∙ sym q.form)
+    ∙ ap (λ (l : List SeriesLine). let r : Pages = record { machine = y.machine; step = y.step; json = y.json; series = l; regressions = x.regressions; jobs = x.jobs } in r) (one-series unique h x.series y.series p.of_series q.of_series)
+    ∙ ap (λ (l : List RegressionLine). let r : Pages = record { machine = y.machine; step = y.step; json = y.json; series = y.series; regressions = l; jobs = x.jobs } in r) (p.of_regressions ∙ sym q.of_regressions)
+    ∙ ap (λ (l : List JobLine). let r : Pages = record { machine = y.machine; step = y.step; json = y.json; series = y.series; regressions = y.regressions; jobs = l } in r) (p.of_jobs ∙ sym q.of_jobs)
