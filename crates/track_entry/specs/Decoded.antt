@@ -4,7 +4,12 @@ use Rattle.std.specs.Str.Parse.{digits_value}
 use Rattle.percent_encoding.specs.Percent.{percent_decode}
 use Rattle.sample_model.specs.Samples.{Measurement}
 use Rattle.history_model.specs.declared.entries.Entry.{Entry}
-use Rattle.history_model.specs.declared.entries.Entry.TheVariants.{Commit, Accept, Retract, Tune, Publish}
+use Rattle.history_model.specs.declared.entries.Entry.TheVariants.{Commit, Accept, Retract, Tune, Publish, Regression, Job}
+use Rattle.history_model.specs.declared.events.RegressionEvent.TheVariants as regression
+use Rattle.history_model.specs.declared.events.JobEvent.TheVariants as job
+use Rattle.regression_state.specs.Moves.{word}
+use Rattle.regression_state.specs.declared.states.State.{State}
+use Rattle.regression_state.specs.declared.states.State.TheVariants.{Detected, Staged, Active, NotToBeFixed, Ignored, Verify, Fixed}
 use Rattle.track_entry.specs.declared.fault.EntryFault.{EntryFault}
 use Rattle.track_entry.specs.declared.fault.EntryFault.TheVariants.{NotEntry, NoMemory}
 
@@ -53,6 +58,44 @@ publish_of (test ∷ metric ∷ version ∷ base ∷ total ∷ count ∷ cuts) =
     }))
 publish_of words = None
 
+abbrev pub raise_of : List (List ℕ) → Option Entry
+raise_of (test ∷ metric ∷ before ∷ after ∷ []) =
+    Some (Regression (regression.Raise (record {
+      test = percent_decode test;
+      metric = percent_decode metric;
+      before = digits_value 10 before;
+      after = digits_value 10 after;
+    })))
+raise_of words = None
+
+-- the state of a word
+abbrev pub said_state : List ℕ → State
+said_state w =
+    if bytes_eq w (word Detected) then Detected
+    else (if bytes_eq w (word Staged) then Staged
+    else (if bytes_eq w (word Active) then Active
+    else (if bytes_eq w (word NotToBeFixed) then NotToBeFixed
+    else (if bytes_eq w (word Ignored) then Ignored
+    else (if bytes_eq w (word Verify) then Verify
+    else Fixed)))))
+
+abbrev pub move_of : List (List ℕ) → Option Entry
+move_of (number ∷ state ∷ []) = Some (Regression (regression.Move (digits_value 10 number) (said_state state)))
+move_of words = None
+
+abbrev pub begin_of : List (List ℕ) → Option Entry
+begin_of (lo ∷ hi ∷ []) = Some (Job (job.Begin (digits_value 10 lo) (digits_value 10 hi)))
+begin_of words = None
+
+abbrev pub answer_of : List (List ℕ) → Option Entry
+answer_of (number ∷ place ∷ status ∷ []) =
+    Some (Job (job.Answer (digits_value 10 number) (digits_value 10 place) (digits_value 10 status)))
+answer_of words = None
+
+abbrev pub give_up_of : List (List ℕ) → Option Entry
+give_up_of (number ∷ place ∷ []) = Some (Job (job.GiveUp (digits_value 10 number) (digits_value 10 place)))
+give_up_of words = None
+
 -- the entry of words behind the word of its kind
 abbrev pub said_by : List ℕ → List (List ℕ) → Option Entry
 said_by kind words =
@@ -61,7 +104,12 @@ said_by kind words =
     else (if bytes_eq kind (codes "retract") then retract_of words
     else (if bytes_eq kind (codes "tune") then tune_of words
     else (if bytes_eq kind (codes "publish") then publish_of words
-    else None))))
+    else (if bytes_eq kind (codes "raise") then raise_of words
+    else (if bytes_eq kind (codes "move") then move_of words
+    else (if bytes_eq kind (codes "begin") then begin_of words
+    else (if bytes_eq kind (codes "answer") then answer_of words
+    else (if bytes_eq kind (codes "giveup") then give_up_of words
+    else None)))))))))
 
 abbrev pub decoded : List (List ℕ) → Option Entry
 decoded [] = None

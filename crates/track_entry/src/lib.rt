@@ -4,7 +4,9 @@
 //! between its words, canonical names and numbers.
 #![tactic(auto)]
 
+mod events;
 mod fault;
+mod kind;
 mod put;
 mod read;
 mod words;

@@ -1,11 +1,12 @@
 //! The text of an entry, written.
 ghost use Rattle.std.specs.Prelude.{◌≡◌, ◌++◌, [], OnOk, OnErr, flat_map, map, decimal, length};
 ghost use Rattle.std.specs.Fmt.{signed_decimal};
+ghost use Rattle.history_model.specs.declared.entries.Entry.TheVariants as entry;
 ghost use Rattle.line_text.specs.Names.{spelling};
 ghost use Rattle.track_entry.specs.Texts.{next, sample_words, entry_text};
 
 use crate::NoMemory;
-use history_model::{Entry, Publication, Run};
+use history_model::{Entry, JobEvent, Publication, RegressionEvent, Run};
 use line_text::{Name, put_i128, put_name, put_u64};
 use sample_model::Sample;
 use std::alloc::Global;
@@ -46,6 +47,53 @@ fn put_kind(alloc: Global, out: &mut Vec<u8>, entry: &Entry) -> Result<(), NoMem
         Entry::Publish { publication } => {
             out.extend_from_slice(b"publish")?;
             put_publication(alloc, out, publication)
+        }
+        Entry::Regression { event } => put_regression(alloc, out, event),
+        Entry::Job { event } => put_job(alloc, out, event),
+    }
+}
+
+fn put_regression(alloc: Global, out: &mut Vec<u8>, event: &RegressionEvent) -> Result<(), NoMemory>
+    ensures { OnOk result
+        (out.new.items ≡ out.old.items ++ entry_text (entry.Regression event.now)) }
+{
+    match event {
+        RegressionEvent::Raise { raised } => {
+            out.extend_from_slice(b"raise")?;
+            put_word(alloc, out, &raised.test)?;
+            put_word(alloc, out, &raised.metric)?;
+            put_number(alloc, out, raised.before)?;
+            put_number(alloc, out, raised.after)
+        }
+        RegressionEvent::Move { regression, state } => {
+            out.extend_from_slice(b"move")?;
+            put_number(alloc, out, *regression)?;
+            out.push(b' ')?;
+            out.extend_from_slice(state.word().as_bytes())?;
+            Ok(())
+        }
+    }
+}
+
+fn put_job(alloc: Global, out: &mut Vec<u8>, event: &JobEvent) -> Result<(), NoMemory>
+    ensures { OnOk result (out.new.items ≡ out.old.items ++ entry_text (entry.Job event.now)) }
+{
+    match event {
+        JobEvent::Begin { lo, hi } => {
+            out.extend_from_slice(b"begin")?;
+            put_number(alloc, out, *lo)?;
+            put_number(alloc, out, *hi)
+        }
+        JobEvent::Answer { job, place, status } => {
+            out.extend_from_slice(b"answer")?;
+            put_number(alloc, out, *job)?;
+            put_number(alloc, out, *place)?;
+            put_number(alloc, out, u64::from(*status))
+        }
+        JobEvent::GiveUp { job, place } => {
+            out.extend_from_slice(b"giveup")?;
+            put_number(alloc, out, *job)?;
+            put_number(alloc, out, *place)
         }
     }
 }

@@ -3,13 +3,16 @@ ghost use Rattle.std.specs.Prelude.{◌≡◌, ◌≢◌, ℕ, ◌≤◌, List, 
 ghost use Rattle.line_text.specs.Lines.{words_of};
 ghost use Rattle.sample_model.specs.Samples.{Measurement, AreSamples};
 ghost use Rattle.history_model.specs.declared.entries.Entry.{Entry as AnEntry};
+ghost use Rattle.history_model.specs.declared.entries.Entry.TheVariants as entry;
 ghost use Rattle.track_entry.specs.Texts.{sample_words, entry_words, IsEntry, IsPublication, SpellsEntry, IsOneEntry};
 ghost use Rattle.track_entry.specs.Decoded.{Reads, commit_of, accept_of, retract_of, tune_of, publish_of};
 
+use crate::events::{read_answer, read_begin, read_give_up, read_move, read_raise};
 use crate::fault::EntryFault;
+use crate::kind::{Kind, read_kind};
 use crate::put::put_entry;
 use crate::words::{METRIC_LIMIT, end_at, name_at, number_at, sample_at, series_at, signed_at};
-use history_model::{Entry, Publication, Run};
+use history_model::{Entry, JobEvent, Publication, RegressionEvent, Run};
 use line_text::{Numbers, names_law, next_word, words_law};
 use metric_table::Limit;
 use sample_model::Samples;
@@ -46,23 +49,21 @@ fn read_words(alloc: Global, text: &[u8]) -> Result<Entry, EntryFault>
     let Some((from, to)) = next_word(text, 0) else {
         return Err(EntryFault::NotEntry);
     };
-    let kind = &text[from..to];
-    if kind == b"commit".as_slice() {
-        return read_commit(alloc, text, to);
+    let Some(kind) = read_kind(&text[from..to]) else {
+        return Err(EntryFault::NotEntry);
+    };
+    match kind {
+        Kind::Commit => read_commit(alloc, text, to),
+        Kind::Accept => read_accept(alloc, text, to),
+        Kind::Retract => read_retract(alloc, text, to),
+        Kind::Tune => read_tune(alloc, text, to),
+        Kind::Publish => read_publish(alloc, text, to),
+        Kind::Raise => read_raise(alloc, text, to),
+        Kind::Move => read_move(text, to),
+        Kind::Begin => read_begin(text, to),
+        Kind::Answer => read_answer(text, to),
+        Kind::GiveUp => read_give_up(text, to),
     }
-    if kind == b"accept".as_slice() {
-        return read_accept(alloc, text, to);
-    }
-    if kind == b"retract".as_slice() {
-        return read_retract(alloc, text, to);
-    }
-    if kind == b"tune".as_slice() {
-        return read_tune(alloc, text, to);
-    }
-    if kind == b"publish".as_slice() {
-        return read_publish(alloc, text, to);
-    }
-    Err(EntryFault::NotEntry)
 }
 
 fn read_commit(alloc: Global, text: &[u8], at: usize) -> Result<Entry, EntryFault>
@@ -205,6 +206,51 @@ fn is_entry(entry: &Entry) -> bool
             metric.as_str().len() <= METRIC_LIMIT
         }
         Entry::Publish { publication } => is_publication(publication),
+        Entry::Regression { event } => is_regression(event),
+        Entry::Job { event } => {
+            job_fits(event);
+            true
+        }
+    }
+}
+
+fn is_regression(event: &RegressionEvent) -> bool
+    ensures yes { IsTrue result → IsEntry (entry.Regression event.now) }
+    ensures no { IsFalse result → ¬ IsEntry (entry.Regression event.now) }
+{
+    match event {
+        RegressionEvent::Raise { raised } => {
+            let _before = raised.before;
+            let _after = raised.after;
+            raised.test.bytes_law();
+            raised.metric.bytes_law();
+            raised.metric.as_str().len() <= METRIC_LIMIT
+        }
+        RegressionEvent::Move { regression, .. } => {
+            let _regression = *regression;
+            true
+        }
+    }
+}
+
+// What the type of a job's event keeps.
+fn job_fits(event: &JobEvent)
+    ensures { IsEntry (entry.Job event.now) }
+{
+    match event {
+        JobEvent::Begin { lo, hi } => {
+            let _lo = *lo;
+            let _hi = *hi;
+        }
+        JobEvent::Answer { job, place, status } => {
+            let _job = *job;
+            let _place = *place;
+            let _status = *status;
+        }
+        JobEvent::GiveUp { job, place } => {
+            let _job = *job;
+            let _place = *place;
+        }
     }
 }
 

@@ -4,17 +4,23 @@ ghost use Rattle.std.specs.Fmt.{signed_decimal};
 ghost use Rattle.std.specs.Int.{w128};
 ghost use Rattle.line_text.specs.Lines.{words_of};
 ghost use Rattle.line_text.specs.Names.{IsName, spelling};
+ghost use Rattle.regression_state.specs.Moves.{word};
+ghost use Rattle.regression_state.specs.declared.states.State.{State as AState};
 ghost use Rattle.sample_model.specs.Samples.{Measurement, IsSample};
 ghost use Rattle.track_entry.specs.Texts.{sample_words};
 ghost use Rattle.track_entry.specs.Decoded.{Reads};
 
 use crate::fault::EntryFault;
-use line_text::{Name, names_law, next_word, read_i64, read_name, read_u64, read_u128};
+use line_text::{Name, names_law, next_word, read_i64, read_i128, read_name, read_u64};
+use regression_state::{State, read_state};
 use sample_model::Sample;
 use std::alloc::Global;
 
 // The greatest magnitude of a value.
 const VALUE_LIMIT: u64 = 10_000_000_000_000_000;
+
+// The greatest status of a test.
+const STATUS_LIMIT: u64 = 255;
 
 // The most bytes of a metric's name.
 pub const METRIC_LIMIT: usize = 64;
@@ -52,6 +58,38 @@ pub fn number_at(text: &[u8], at: usize) -> Result<(u64, usize), EntryFault>
     Ok((number, to))
 }
 
+// The status of the next word, and where the word ends.
+pub fn status_at(text: &[u8], at: usize) -> Result<(u8, usize), EntryFault>
+    requires { at ≤ length text.now }
+    ensures placed { IfOk result (λ read. (at < read.1) × (read.1 ≤ length text.now)) }
+    ensures reads { (status : ℕ) (more : List (List ℕ)) → status < 2 ^ 8
+        → words_of (drop at text.now) ≡ decimal status ∷ more
+        → Reads result (λ read. (read.0 ≡ status) × (words_of (drop read.1 text.now) ≡ more)) }
+{
+    let (number, to) = number_at(text, at)?;
+    if number > STATUS_LIMIT {
+        return Err(EntryFault::NotEntry);
+    }
+    Ok((number as u8, to))
+}
+
+// The state of the next word, and where the word ends.
+pub fn state_at(text: &[u8], at: usize) -> Result<(State, usize), EntryFault>
+    requires { at ≤ length text.now }
+    ensures placed { IfOk result (λ read. (at < read.1) × (read.1 ≤ length text.now)) }
+    ensures reads { (state : AState) (more : List (List ℕ))
+        → words_of (drop at text.now) ≡ word state ∷ more
+        → Reads result (λ read. (read.0 ≡ state) × (words_of (drop read.1 text.now) ≡ more)) }
+{
+    let Some((from, to)) = next_word(text, at) else {
+        return Err(EntryFault::NotEntry);
+    };
+    let Some(state) = read_state(&text[from..to]) else {
+        return Err(EntryFault::NotEntry);
+    };
+    Ok((state, to))
+}
+
 // The value of the next word, and where the word ends.
 pub fn value_at(text: &[u8], at: usize) -> Result<(i64, usize), EntryFault>
     requires { at ≤ length text.now }
@@ -84,30 +122,10 @@ pub fn signed_at(text: &[u8], at: usize) -> Result<(i128, usize), EntryFault>
     let Some((from, to)) = next_word(text, at) else {
         return Err(EntryFault::NotEntry);
     };
-    let Some(value) = signed(&text[from..to]) else {
+    let Some(value) = read_i128(&text[from..to]) else {
         return Err(EntryFault::NotEntry);
     };
     Ok((value, to))
-}
-
-// The signed number that a word spells, where it fits 128 bits.
-fn signed(word: &[u8]) -> Option<i128>
-    ensures { (z : ℤ) → FitsSigned w128 z → word.now ≡ signed_decimal z → result ≡ Some z }
-{
-    match word {
-        [b'-', digits @ ..] => negative(digits),
-        _ => i128::try_from(read_u128(word)?).ok(),
-    }
-}
-
-// The number that `-` and the digits spell.
-fn negative(digits: &[u8]) -> Option<i128>
-    ensures { (z : ℤ) → FitsSigned w128 z → 45 ∷ digits.now ≡ signed_decimal z → result ≡ Some z }
-{
-    let Some(magnitude) = read_u128(digits) else {
-        return None;
-    };
-    0i128.checked_sub_unsigned(magnitude)
 }
 
 // The test and the metric of the next two words, and where the second of them ends.

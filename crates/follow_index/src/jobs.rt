@@ -1,0 +1,112 @@
+//! The bisections of a machine.
+ghost use Rattle.std.specs.Prelude.{◌≡◌, ◌<◌, ◌^◌, ◌≤◌, ◌++◌, [], ◌∷◌, Some, length, OnOk, OnErr, option_copied};
+ghost use Rattle.std.specs.List.Sorted.{IsStrictlyIncreasing};
+ghost use Rattle.bisect_core.specs.Bisections.{bisection};
+ghost use Rattle.bisect_core.specs.Turns.{tested, given_up};
+ghost use Rattle.history_model.specs.Jobs.{job_in, open_count, place_asked};
+ghost use Rattle.follow_index.specs.Numbered.{GoesOn};
+
+use crate::NoMemory;
+use bisect_core::Job;
+use line_text::Numbers;
+use std::alloc::Global;
+use std::marker::Model;
+
+/// The bisections that were begun, numbered from 1, with the count of those that are open.
+#[derive(Drop)]
+pub struct JobIndex {
+    items: Vec<Job>,
+    running: u64,
+}
+
+impl Model for JobIndex {
+    ghost use Rattle.std.specs.Prelude.{◌≡◌, List};
+    ghost use Rattle.bisect_core.specs.Bisections.{Bisection};
+    ghost use Rattle.history_model.specs.Jobs.{open_count};
+
+    ghost Value = { List Bisection };
+
+    ghost view = { λ j. j.items.items };
+
+    ghost invariant = { λ j. j.running ≡ open_count j.items.items };
+}
+
+impl JobIndex {
+    /// No bisections. The value keeps its allocator.
+    pub fn new(alloc: Global) -> JobIndex
+        ensures { result ≡ [] }
+    {
+        JobIndex {
+            items: Vec::new(alloc),
+            running: 0,
+        }
+    }
+
+    /// How many there are. Takes no memory.
+    pub fn len(&self) -> u64
+        ensures told { result ≡ length self.now }
+        ensures few { result < 2 ^ 63 }
+    {
+        self.items.len() as u64
+    }
+
+    /// How many of them are open. Constant time; takes no memory.
+    pub fn open(&self) -> u64
+        ensures { result ≡ open_count self.now }
+    {
+        self.running
+    }
+
+    /// The bisection of a number, from 1; none exactly outside 1 to the length. Constant time; takes no memory.
+    pub fn get(&self, number: u64) -> Option<&Job>
+        ensures { option_copied result ≡ job_in number self.now }
+    {
+        if number == 0 {
+            return None;
+        }
+        self.items.get((number - 1) as usize)
+    }
+
+    /// Begins a bisection of two commits at least; changes nothing where there is no memory. Constant time, but for growing.
+    pub fn begin(&mut self, commits: Numbers) -> Result<(), NoMemory>
+        requires rising { IsStrictlyIncreasing commits }
+        requires many { 2 ≤ length commits }
+        ensures ok { OnOk result (self.new ≡ self.old ++ bisection commits [] ∷ []) }
+        ensures err { OnErr result (self.new ≡ self.old) }
+    {
+        self.items.reserve(1)?;
+        let Ok(job) = Job::begin(commits) else {
+            unreachable!();
+        };
+        self.running += open_of(&job);
+        self.items.push_reserved(job);
+        Ok(())
+    }
+
+    /// Records the status of the test of the place that the bisection of a number asks. Constant time; takes no memory.
+    pub fn answer(&mut self, number: u64, place: u64, status: u8)
+        requires { place_asked (job_in number self.old) ≡ Some place }
+        ensures { GoesOn number (tested place status) self.old self.new }
+    {
+        let job = &mut self.items[(number - 1) as usize];
+        let _ = job.answer(place, status);
+        self.running = self.running - 1 + open_of(job);
+    }
+
+    /// Records that no test could be had of the place that the bisection of a number asks. Constant time; takes no memory.
+    pub fn give_up(&mut self, number: u64, place: u64)
+        requires { place_asked (job_in number self.old) ≡ Some place }
+        ensures { GoesOn number (given_up place) self.old self.new }
+    {
+        let job = &mut self.items[(number - 1) as usize];
+        let _ = job.give_up(place);
+        self.running = self.running - 1 + open_of(job);
+    }
+}
+
+// One where it is open, else none.
+fn open_of(job: &Job) -> u64
+    ensures { result ≡ open_count (job.now ∷ []) }
+{
+    if job.question().is_some() { 1 } else { 0 }
+}

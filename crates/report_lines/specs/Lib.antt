@@ -1,0 +1,2 @@
+pub mod SeriesLines
+pub mod NumberedLines
