@@ -1,11 +1,16 @@
 -- The text of a reply: lines of words.
-use Rattle.std.specs.Prelude.{ℕ, List, [], ◌∷◌, ◌++◌, length, map, decimal, codes, if◌then◌else◌}
+use Rattle.std.specs.Prelude.{ℕ, ◌+◌, List, [], ◌∷◌, ◌++◌, length, map, decimal, codes, if◌then◌else◌}
 use Rattle.std.specs.Fmt.{signed_decimal}
 use Rattle.std.specs.List.{flat_map}
 use Rattle.line_text.specs.Names.{spelling}
 use Rattle.metric_table.specs.Limits.{word}
 use Rattle.metric_value.specs.Values.{value_text}
 use Rattle.cost_certificate.specs.Text as certificate
+use Rattle.regression_state.specs.Moves as state
+use Rattle.report_model.specs.Outcomes.{outcome_text}
+use Rattle.report_model.specs.declared.pages.Pages.{Pages}
+use Rattle.report_pages.specs.Text.{pages_text}
+use Rattle.report_pages.specs.Json.{pages_json}
 use Rattle.request_model.specs.Lines.{line_of}
 use Rattle.request_model.specs.declared.changes.NamedChange.{NamedChange}
 use Rattle.request_model.specs.declared.replies.Answer.{Answer}
@@ -42,11 +47,19 @@ refusal_words refusal.UnknownRun = codes "E11" ∷ codes "UnknownRun" ∷ []
 refusal_words (refusal.AlreadyRetracted step) = codes "E12" ∷ codes "AlreadyRetracted" ∷ at step ∷ []
 refusal_words refusal.UnknownSeries = codes "E13" ∷ codes "UnknownSeries" ∷ []
 refusal_words refusal.NothingPublished = codes "E14" ∷ codes "NothingPublished" ∷ []
+refusal_words (refusal.NoSuchChange count) = codes "E15" ∷ codes "NoSuchChange" ∷ decimal count ∷ []
+refusal_words refusal.UnknownRegression = codes "E16" ∷ codes "UnknownRegression" ∷ []
+refusal_words (refusal.IllegalMove before after) = codes "E17" ∷ codes "IllegalMove" ∷ state.word before ∷ state.word after ∷ []
+refusal_words refusal.UnknownJob = codes "E18" ∷ codes "UnknownJob" ∷ []
+refusal_words (refusal.NotAsked commit) = codes "E19" ∷ codes "NotAsked" ∷ spelling commit ∷ []
+refusal_words refusal.BadRange = codes "E20" ∷ codes "BadRange" ∷ []
 refusal_words (refusal.Full limit) = codes "E21" ∷ codes "Full" ∷ word limit ∷ []
 refusal_words refusal.BadPenalty = codes "E22" ∷ codes "BadPenalty" ∷ []
 refusal_words (refusal.TooFewPoints points) = codes "E23" ∷ codes "TooFewPoints" ∷ decimal points ∷ []
+refusal_words (refusal.JobClosed outcome) = codes "E25" ∷ codes "JobClosed" ∷ outcome_text outcome ∷ []
 refusal_words refusal.BodyTooLong = codes "E26" ∷ codes "BodyTooLong" ∷ []
 refusal_words (refusal.TooDeep offset) = codes "E28" ∷ codes "TooDeep" ∷ decimal offset ∷ []
+refusal_words (refusal.JobOpen commit) = codes "E29" ∷ codes "JobOpen" ∷ spelling commit ∷ []
 
 -- a run, as it is listed
 abbrev pub run_words : RunLine → List (List ℕ)
@@ -66,7 +79,15 @@ version_words kind version = kind ∷ codes "version" ∷ decimal version ∷ []
 abbrev pub listed_words : List ℕ → ℕ → ℕ → List (List ℕ)
 listed_words kind version lines = version_words kind version ++ codes "lines" ∷ decimal lines ∷ []
 
--- the words of an answer on the reply's first line
+-- how many lines a report has: one of JSON, else one for each series, each regression and each bisection
+abbrev pub lines_in : Pages → ℕ
+lines_in pages = if pages.json then 1 else length pages.series + length pages.regressions + length pages.jobs
+
+-- the lines of a report
+abbrev pub report_text : Pages → List ℕ
+report_text pages = if pages.json then pages_json pages else pages_text pages
+
+-- the words of an answer on the reply's first line; where a bisection stands is told in words of its own
 abbrev pub answer_words : Answer → List (List ℕ)
 answer_words (answer.Machine machine) = codes "machine" ∷ spelling machine ∷ []
 answer_words (answer.Commit number name) = codes "commit" ∷ decimal number ∷ spelling name ∷ []
@@ -79,7 +100,12 @@ answer_words (answer.Segmented version base points cuts redone total) =
     ++ codes "base" ∷ decimal base ∷ codes "points" ∷ decimal points ∷ codes "cuts" ∷ decimal cuts ∷ codes "redone" ∷ decimal redone ∷ codes "total" ∷ signed_decimal total ∷ []
 answer_words (answer.Changes version metric items) = listed_words (codes "changes") version (length items)
 answer_words (answer.Verified version cert) = listed_words (codes "verified") version 7
+answer_words (answer.Raised regression) = codes "regression" ∷ decimal regression ∷ codes "detected" ∷ []
+answer_words (answer.Moved regression before after) = codes "regression" ∷ decimal regression ∷ state.word before ∷ state.word after ∷ []
+answer_words (answer.Job job range questions outcome) =
+    codes "job" ∷ decimal job ∷ codes "range" ∷ decimal range ∷ codes "questions" ∷ decimal questions ∷ outcome_text outcome ∷ []
 answer_words (answer.Runs lines) = codes "runs" ∷ codes "lines" ∷ decimal (length lines) ∷ []
+answer_words (answer.Report pages) = codes "report" ∷ codes "lines" ∷ decimal (lines_in pages) ∷ []
 answer_words (answer.Refused reason) = refusal_words reason
 
 -- the text of the lines behind it
@@ -87,6 +113,7 @@ abbrev pub text_behind : Answer → List ℕ
 text_behind (answer.Changes version metric items) = flat_map line_of (map (change_words metric) items)
 text_behind (answer.Verified version cert) = certificate.text_of cert
 text_behind (answer.Runs lines) = flat_map line_of (map run_words lines)
+text_behind (answer.Report pages) = report_text pages
 text_behind _ = []
 
 -- the text of a reply

@@ -1,15 +1,18 @@
 //! The words of an answer, and the lines of a list.
-ghost use Rattle.std.specs.Prelude.{◌≡◌, ◌++◌, ◌∷◌, [], OnOk, codes, decimal};
+ghost use Rattle.std.specs.Prelude.{◌≡◌, ◌+◌, ◌<◌, ◌^◌, ◌++◌, ◌∷◌, [], length, OnOk, codes, decimal};
 ghost use Rattle.std.specs.Fmt.{signed_decimal};
 ghost use Rattle.line_text.specs.Names.{spelling};
 ghost use Rattle.request_model.specs.Lines.{spaced, line_of};
-ghost use Rattle.reply_text.specs.Replies.{answer_words, change_words, listed_words, run_words, version_words};
+ghost use Rattle.reply_text.specs.Replies.{answer_words, change_words, lines_in, listed_words, run_words, version_words};
 ghost use Rattle.request_model.specs.declared.replies.Answer.TheVariants as answer;
 
 use crate::NoMemory;
 use crate::refusal::put_refusal;
-use crate::words::{put_amount, put_number, put_spelled, put_step, put_word, put_worth};
+use crate::words::{
+    put_amount, put_move, put_number, put_outcome, put_spelled, put_step, put_word, put_worth,
+};
 use line_text::{Name, put_name};
+use report_model::Pages;
 use request_model::{Answer, NamedChange, RunLine};
 use std::alloc::Global;
 
@@ -54,9 +57,34 @@ pub(crate) fn put_answer(alloc: Global, out: &mut Vec<u8>, answer: &Answer) -> R
             put_listed(alloc, out, "changes", *version, items.len() as u64)
         }
         Answer::Verified { version, .. } => put_listed(alloc, out, "verified", *version, 7),
+        Answer::Raised { regression } => {
+            put_counted(alloc, out, "regression", *regression)?;
+            put_word(out, "detected")
+        }
+        Answer::Moved {
+            regression,
+            from,
+            to,
+        } => {
+            put_counted(alloc, out, "regression", *regression)?;
+            put_move(out, *from, *to)
+        }
+        Answer::Job {
+            job,
+            range,
+            questions,
+            outcome,
+        } => {
+            put_job(alloc, out, *job, *range, *questions)?;
+            put_outcome(alloc, out, outcome)
+        }
         Answer::Runs { runs } => {
             put_word(out, "runs")?;
             put_counted(alloc, out, "lines", runs.len() as u64)
+        }
+        Answer::Report { pages } => {
+            put_word(out, "report")?;
+            put_line_count(alloc, out, pages)
         }
         Answer::Refused(refusal) => put_refusal(alloc, out, refusal),
     }
@@ -127,6 +155,43 @@ fn put_effort(alloc: Global, out: &mut Vec<u8>, redone: u64, total: i128) -> Res
     put_counted(alloc, out, "redone", redone)?;
     put_word(out, "total")?;
     put_amount(alloc, out, total)
+}
+
+// Appends a job, the range of its commits, and how many questions were answered.
+fn put_job(
+    alloc: Global,
+    out: &mut Vec<u8>,
+    job: u64,
+    range: u64,
+    questions: u64,
+) -> Result<(), NoMemory>
+    ensures { OnOk result (out.new.items ≡ out.old.items ++ spaced (codes "job" ∷ decimal job
+        ∷ codes "range" ∷ decimal range ∷ codes "questions" ∷ decimal questions ∷ [])) }
+{
+    put_counted(alloc, out, "job", job)?;
+    put_counted(alloc, out, "range", range)?;
+    put_counted(alloc, out, "questions", questions)
+}
+
+// Appends how many lines a report has.
+fn put_line_count(alloc: Global, out: &mut Vec<u8>, pages: &Pages) -> Result<(), NoMemory>
+    ensures { OnOk result (out.new.items ≡ out.old.items
+        ++ spaced (codes "lines" ∷ decimal (lines_in pages.now) ∷ [])) }
+{
+    if pages.json {
+        return put_counted(alloc, out, "lines", 1);
+    }
+    put_word(out, "lines")?;
+    put_amount(alloc, out, line_count(pages) as i128)
+}
+
+// How many series, regressions and bisections a report tells of.
+fn line_count(pages: &Pages) -> u128
+    ensures same { result
+        ≡ length pages.now.series + length pages.now.regressions + length pages.now.jobs }
+    ensures few { result < 2 ^ 66 }
+{
+    pages.series.len() as u128 + pages.regressions.len() as u128 + pages.jobs.len() as u128
 }
 
 // Appends the words of a run that was accepted.

@@ -1,11 +1,12 @@
 //! The words of a refusal.
 ghost use Rattle.std.specs.Prelude.{◌≡◌, ◌∷◌, ◌++◌, [], OnOk, decimal};
+ghost use Rattle.line_text.specs.Names.{spelling};
 ghost use Rattle.request_model.specs.Lines.{spaced};
 ghost use Rattle.reply_text.specs.Replies.{at, place_words, refusal_words};
 ghost use Rattle.request_model.specs.declared.replies.Refusal.TheVariants as refusal;
 
 use crate::NoMemory;
-use crate::words::{put_number, put_spelled, put_step, put_text, put_word};
+use crate::words::{put_move, put_number, put_outcome, put_spelled, put_step, put_text, put_word};
 use line_text::Name;
 use request_model::{RangePlace, Refusal};
 use std::alloc::Global;
@@ -42,14 +43,28 @@ pub(crate) fn put_refusal(
         ),
         Refusal::UnknownSeries => put_kind(out, "E13", "UnknownSeries"),
         Refusal::NothingPublished => put_kind(out, "E14", "NothingPublished"),
+        Refusal::NoSuchChange(count) => put_numbered(alloc, out, "E15", "NoSuchChange", *count),
+        Refusal::UnknownRegression => put_kind(out, "E16", "UnknownRegression"),
+        Refusal::IllegalMove { from, to } => {
+            put_kind(out, "E17", "IllegalMove")?;
+            put_move(out, *from, *to)
+        }
+        Refusal::UnknownJob => put_kind(out, "E18", "UnknownJob"),
+        Refusal::NotAsked(commit) => put_of_commit(alloc, out, "E19", "NotAsked", commit),
+        Refusal::BadRange => put_kind(out, "E20", "BadRange"),
         Refusal::Full(limit) => {
             put_kind(out, "E21", "Full")?;
             put_word(out, limit.word())
         }
         Refusal::BadPenalty => put_kind(out, "E22", "BadPenalty"),
         Refusal::TooFewPoints(points) => put_numbered(alloc, out, "E23", "TooFewPoints", *points),
+        Refusal::JobClosed(outcome) => {
+            put_kind(out, "E25", "JobClosed")?;
+            put_outcome(alloc, out, outcome)
+        }
         Refusal::BodyTooLong => put_kind(out, "E26", "BodyTooLong"),
         Refusal::TooDeep(offset) => put_numbered(alloc, out, "E28", "TooDeep", *offset),
+        Refusal::JobOpen(commit) => put_of_commit(alloc, out, "E29", "JobOpen", commit),
     }
 }
 
@@ -90,6 +105,21 @@ fn put_stepped(
 {
     put_kind(out, number, word)?;
     put_step(alloc, out, step)
+}
+
+// Appends a kind of refusal, and a commit.
+fn put_of_commit(
+    alloc: Global,
+    out: &mut Vec<u8>,
+    number: &str,
+    word: &str,
+    commit: &Name,
+) -> Result<(), NoMemory>
+    ensures { OnOk result (out.new.items ≡ out.old.items
+        ++ spaced (number.now ∷ word.now ∷ spelling commit.now ∷ [])) }
+{
+    put_kind(out, number, word)?;
+    put_spelled(alloc, out, commit)
 }
 
 // Appends the refusal of a commit that is taken, with the pair that takes it.

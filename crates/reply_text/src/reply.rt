@@ -2,17 +2,19 @@
 ghost use Rattle.std.specs.Prelude.{◌≡◌, ◌++◌, ◌∷◌, [], map, OnOk, OnErr, IfOk};
 ghost use Rattle.std.specs.List.{flat_map};
 ghost use Rattle.request_model.specs.Lines.{line_of};
-ghost use Rattle.reply_text.specs.Replies.{text_behind, change_words, run_words, text_of};
+ghost use Rattle.reply_text.specs.Replies.{text_behind, change_words, report_text, run_words, text_of};
 
 use crate::NoMemory;
 use crate::answer::{put_answer, put_change, put_run};
 use crate::words::put_at;
 use cost_certificate::put_cert;
+use report_model::Pages;
+use report_pages::{put_json, put_text};
 use request_model::{Answer, NamedChange, Reply, RunLine};
 use std::alloc::Global;
 
 /// Appends the text of a reply: a line with `@`, the number of entries, and the words of the answer, and behind it the
-/// lines of a list or of a certificate. The forms are those of docs/FORMATS.md.
+/// lines of a list, of a certificate or of a report. The forms are those of docs/FORMATS.md.
 ///
 /// Linear in the text, which it takes memory for; changes nothing where there is no memory.
 pub fn put_reply(alloc: Global, out: &mut Vec<u8>, reply: &Reply) -> Result<(), NoMemory>
@@ -49,6 +51,7 @@ fn put_lines(alloc: Global, out: &mut Vec<u8>, answer: &Answer) -> Result<(), No
         ),
         Answer::Verified { cert, .. } => put_cert(alloc, out, cert),
         Answer::Runs { runs } => put_runs(alloc, out, runs.as_slice()),
+        Answer::Report { pages } => put_pages(alloc, out, pages),
         _ => Ok(()),
     }
 }
@@ -67,6 +70,16 @@ fn put_changes(
         put_change(alloc, out, metric, change)?;
     }
     Ok(())
+}
+
+// Appends the lines of a report.
+fn put_pages(alloc: Global, out: &mut Vec<u8>, pages: &Pages) -> Result<(), NoMemory>
+    ensures { OnOk result (out.new.items ≡ out.old.items ++ report_text pages.now) }
+{
+    if pages.json {
+        return put_json(alloc, out, pages);
+    }
+    put_text(alloc, out, pages)
 }
 
 // Appends the lines of runs.

@@ -1,13 +1,18 @@
 //! Words of a line, each behind a space.
-ghost use Rattle.std.specs.Prelude.{◌≡◌, ◌∷◌, ◌++◌, OnOk, decimal};
+ghost use Rattle.std.specs.Prelude.{◌≡◌, ◌∷◌, ◌++◌, [], OnOk, decimal};
 ghost use Rattle.std.specs.Fmt.{signed_decimal};
 ghost use Rattle.line_text.specs.Names.{spelling};
 ghost use Rattle.metric_value.specs.Values.{value_text};
+ghost use Rattle.request_model.specs.Lines.{spaced};
+ghost use Rattle.regression_state.specs.Moves as state;
+ghost use Rattle.report_model.specs.Outcomes.{outcome_text};
 ghost use Rattle.reply_text.specs.Replies.{at};
 
 use crate::NoMemory;
 use line_text::{Name, put_escaped, put_i128, put_name, put_u64};
 use metric_value::put_value;
+use regression_state::State;
+use report_model::{Told, put_told};
 use std::alloc::Global;
 
 // Appends a space and a word.
@@ -83,4 +88,22 @@ pub(crate) fn put_step(alloc: Global, out: &mut Vec<u8>, step: u64) -> Result<()
 {
     out.push(b' ')?;
     put_at(alloc, out, step)
+}
+
+// Appends the words of two states, each behind a space.
+pub(crate) fn put_move(out: &mut Vec<u8>, before: State, after: State) -> Result<(), NoMemory>
+    ensures { OnOk result (out.new.items ≡ out.old.items
+        ++ spaced (state.word before ∷ state.word after ∷ [])) }
+{
+    put_word(out, before.word())?;
+    put_word(out, after.word())
+}
+
+// Appends a space, and where a bisection stands.
+pub(crate) fn put_outcome(alloc: Global, out: &mut Vec<u8>, told: &Told) -> Result<(), NoMemory>
+    ensures { OnOk result (out.new.items ≡ out.old.items ++ spaced (outcome_text told.now ∷ [])) }
+{
+    out.push(b' ')?;
+    put_told(alloc, out, told)?;
+    Ok(())
 }

@@ -1,4 +1,4 @@
-pub mod SeriesWords
+pub mod FormWords
 pub mod HeadLines
 mod Digits
 pub mod Stops

@@ -16,7 +16,7 @@ use Rattle.request_model.specs.declared.requests.Request.{Request}
 use Rattle.request_model.specs.declared.replies.RangePlace.TheVariants as place
 use Rattle.request_model.specs.declared.replies.Refusal.{Refusal}
 use Rattle.request_model.specs.declared.replies.Refusal.TheVariants as refusal
-use Rattle.request_text.specs.Forms.{Form, machine, commit, submit_go, submit_lnt, retract, tune, calibrate, of_series, runs}
+use Rattle.request_text.specs.Forms.{Form, machine, commit, submit_go, submit_lnt, retract, tune, calibrate, of_series, regress, set_state, bisect, answer, of_job, runs, report}
 use Rattle.request_text.specs.Bodies.{Item, GivesGo, RefusesGo, AsksGo, fault_of, AsksLnt, AsksNamed}
 use Rattle.request_text.specs.Items.{AsksForm, long, unnamed, wide, named, Asks, formless, formed}
 use Rattle.request_text.proofs.OneForm.{one_form}
@@ -50,6 +50,14 @@ told_by body refusal.UnknownRun told = absurd told
 told_by body (refusal.AlreadyRetracted step) told = absurd told
 told_by body refusal.UnknownSeries told = absurd told
 told_by body refusal.NothingPublished told = absurd told
+told_by body (refusal.NoSuchChange count) told = absurd told
+told_by body refusal.UnknownRegression told = absurd told
+told_by body (refusal.IllegalMove before after) told = absurd told
+told_by body refusal.UnknownJob told = absurd told
+told_by body (refusal.NotAsked asked) told = absurd told
+told_by body refusal.BadRange told = absurd told
+told_by body (refusal.JobClosed outcome) told = absurd told
+told_by body (refusal.JobOpen asked) told = absurd told
 told_by body refusal.BadPenalty told = absurd told
 told_by body (refusal.TooFewPoints points) told = absurd told
 told_by body refusal.BodyTooLong told = absurd told
@@ -138,6 +146,14 @@ tells_fault body refusal.UnknownRun due = absurd due.2
 tells_fault body (refusal.AlreadyRetracted step) due = absurd due.2
 tells_fault body refusal.UnknownSeries due = absurd due.2
 tells_fault body refusal.NothingPublished due = absurd due.2
+tells_fault body (refusal.NoSuchChange count) due = absurd due.2
+tells_fault body refusal.UnknownRegression due = absurd due.2
+tells_fault body (refusal.IllegalMove before after) due = absurd due.2
+tells_fault body refusal.UnknownJob due = absurd due.2
+tells_fault body (refusal.NotAsked asked) due = absurd due.2
+tells_fault body refusal.BadRange due = absurd due.2
+tells_fault body (refusal.JobClosed outcome) due = absurd due.2
+tells_fault body (refusal.JobOpen asked) due = absurd due.2
 tells_fault body refusal.BadPenalty due = absurd due.2
 tells_fault body (refusal.TooFewPoints points) due = absurd due.2
 tells_fault body refusal.BodyTooLong due = absurd due.2
@@ -176,7 +192,13 @@ one_named go lnt (retract m r) body item other a b = a ∙ sym b
 one_named go lnt (tune m metric penalty) body item other a b = a ∙ sym b
 one_named go lnt (calibrate m test metric factor) body item other a b = a ∙ sym b
 one_named go lnt (of_series asked m test metric) body item other a b = a ∙ sym b
+one_named go lnt (regress m test metric change) body item other a b = a ∙ sym b
+one_named go lnt (set_state m regression state) body item other a b = a ∙ sym b
+one_named go lnt (bisect m lo hi) body item other a b = a ∙ sym b
+one_named go lnt (answer m job c status) body item other a b = a ∙ sym b
+one_named go lnt (of_job asked m job) body item other a b = a ∙ sym b
 one_named go lnt (runs m) body item other a b = a ∙ sym b
+one_named go lnt (report m json) body item other a b = a ∙ sym b
 
 one_asked : OneReading → OneAnswer → (form : Form) (body : List ℕ) (item other : Item) → AsksForm form body item → AsksForm form body other → item ≡ other
 one_asked go lnt form body item other (long a b) (long d e) = b ∙ sym e

@@ -16,7 +16,9 @@ use Rattle.request_model.specs.declared.requests.Request.TheVariants as request
 use Rattle.request_model.specs.declared.replies.RangePlace.TheVariants as place
 use Rattle.request_model.specs.declared.replies.Refusal.{Refusal}
 use Rattle.request_model.specs.declared.replies.Refusal.TheVariants as refusal
-use Rattle.request_text.specs.Forms.{Form, machine, commit, submit_go, submit_lnt, retract, tune, calibrate, of_series, runs, name_of}
+use Rattle.request_text.specs.Forms.{Form, machine, commit, submit_go, submit_lnt, retract, tune, calibrate, of_series, regress, set_state, bisect, answer, of_job, runs, report, name_of}
+use Rattle.request_text.specs.declared.verb.JobVerb.{JobVerb}
+use Rattle.request_text.specs.declared.verb.JobVerb.TheVariants.{Resume, Job}
 use Rattle.request_text.specs.declared.verb.SeriesVerb.{SeriesVerb}
 use Rattle.request_text.specs.declared.verb.SeriesVerb.TheVariants.{Segment, Changes, Verify}
 
@@ -77,6 +79,11 @@ series_request Segment m test metric = request.Segment m test metric
 series_request Changes m test metric = request.Changes m test metric
 series_request Verify m test metric = request.Verify m test metric
 
+-- what is asked of a bisection
+abbrev pub job_request : JobVerb → (m : List ℕ) (job : ℕ) → Request
+job_request Resume m job = request.Resume m job
+job_request Job m job = request.Job m job
+
 abbrev pub AsksNamed : Form → List ℕ → Item → Type 0
 AsksNamed (machine m) body item = item ≡ Ok (request.Machine (name_of m))
 AsksNamed (commit m number name) body item = item ≡ Ok (request.Commit (name_of m) number (name_of name))
@@ -88,4 +95,10 @@ AsksNamed (retract m r) body item = item ≡ Ok (request.Retract (name_of m) (na
 AsksNamed (tune m metric penalty) body item = item ≡ Ok (request.Tune (name_of m) (name_of metric) (pos (digits_value 10 penalty)))
 AsksNamed (calibrate m test metric factor) body item = item ≡ Ok (request.Calibrate (name_of m) (name_of test) (name_of metric) factor)
 AsksNamed (of_series asked m test metric) body item = item ≡ Ok (series_request asked (name_of m) (name_of test) (name_of metric))
+AsksNamed (regress m test metric change) body item = item ≡ Ok (request.Regress (name_of m) (name_of test) (name_of metric) change)
+AsksNamed (set_state m regression state) body item = item ≡ Ok (request.SetState (name_of m) regression state)
+AsksNamed (bisect m lo hi) body item = item ≡ Ok (request.Bisect (name_of m) (name_of lo) (name_of hi))
+AsksNamed (answer m job c status) body item = item ≡ Ok (request.Answer (name_of m) job (name_of c) status)
+AsksNamed (of_job asked m job) body item = item ≡ Ok (job_request asked (name_of m) job)
 AsksNamed (runs m) body item = item ≡ Ok (request.Runs (name_of m))
+AsksNamed (report m json) body item = item ≡ Ok (request.Report (name_of m) json)

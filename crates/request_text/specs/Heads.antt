@@ -3,6 +3,10 @@ use Rattle.std.specs.Prelude.{◌≡◌, ℕ, ◌≤◌, List, ◌∷◌, length
 use Rattle.line_text.specs.Lines.{words_of}
 use Rattle.request_text.specs.declared.head.Head.{Head}
 use Rattle.request_text.specs.declared.head.Head.TheVariants.{Refused, Asked, Go, Lnt}
+use Rattle.request_text.specs.declared.head.LineFault.{LineFault}
+use Rattle.request_text.specs.declared.head.LineFault.TheVariants.{BadRequest, BadName, BadPenalty, BodyTooLong}
+use Rattle.request_model.specs.declared.replies.Refusal.{Refusal}
+use Rattle.request_model.specs.declared.replies.Refusal.TheVariants as refusal
 use Rattle.request_text.specs.Forms.{SpellsName, name_of}
 use Rattle.request_text.specs.Bodies.{Item, of_go, AsksGo, of_lnt, AsksLnt}
 use Rattle.request_text.specs.Items.{Asks, Counts, body_limit}
@@ -12,9 +16,16 @@ pub record IsHeadOf (line : List ℕ) (count : ℕ) (OfBody : List ℕ → Item 
   pub counted : Counts line count
   pub asks : (body : List ℕ) (item : Item) → OfBody body item → Asks line body item
 
+-- the refusal that a fault of a line is
+abbrev pub line_refusal : LineFault → Refusal
+line_refusal BadRequest = refusal.BadRequest
+line_refusal BadName = refusal.BadName
+line_refusal BadPenalty = refusal.BadPenalty
+line_refusal BodyTooLong = refusal.BodyTooLong
+
 -- what the line asks as soon as its body is there
 abbrev pub IsHead : List ℕ → Head → Type 0
-IsHead line (Refused refusal count) = IsHeadOf line count (λ body item. item ≡ Err refusal)
+IsHead line (Refused fault count) = IsHeadOf line count (λ body item. item ≡ Err (line_refusal fault))
 IsHead line (Asked q) = IsHeadOf line 0 (λ body item. item ≡ Ok q)
 IsHead line (Go m c r len) =
     (len ≤ body_limit) × IsHeadOf line len (λ body item. AsksGo body (of_go m c r) item)

@@ -1,10 +1,14 @@
 -- Private: no public contract cites this. What each part of a call that reads the next request comes to.
-use Rattle.std.specs.Prelude.{◌≡◌, ℕ, List, Option}
+use Rattle.std.specs.Prelude.{◌≡◌, ℕ, ◌+◌, List, [], ◌∷◌, Option, drop, slice_range}
 use Rattle.track_outside.specs.declared.source.Source.{Ghosts}
 use Rattle.request_text.specs.declared.asked.Asked.{Asked}
+use Rattle.request_text.specs.declared.head.Head.{Head}
 use Rattle.request_text.specs.declared.stop.ReadStop.{ReadStop}
 use Rattle.request_text.specs.Unread.{Unread}
-use Rattle.request_text.specs.Next.{ReadsNext, TellsEnd, Gave, GaveFewFrom}
+use Rattle.request_text.specs.Bodies.{Item}
+use Rattle.request_text.specs.Items.{Asks}
+use Rattle.request_text.specs.Heads.{IsHead}
+use Rattle.request_text.specs.Next.{ReadsNext, TellsEnd, Gave, GaveFewFrom, items_of}
 use Rattle.request_text.specs.Reading.{StopsFrom}
 
 -- this came next
@@ -22,3 +26,14 @@ TakesFrom g old new from to asked = TakesNext old new (g.left from) (g.left to) 
 pub record Fails {S : Type 0} (g : Ghosts S) (old : Unread) (from to : S) (stop : ReadStop) : Type 0 where
   pub why : StopsFrom g old from to stop
   pub few : GaveFewFrom g old from to
+
+-- a line of this head and its body were used, and what is answered is the one item that they ask
+pub record AsksKept (head : Head) (old new : Unread) (first last : ℕ) (asked : Asked) : Type 0 where
+  pub item : Item
+  pub items : items_of asked ≡ item ∷ []
+  pub tells : (behind : Unread) → TellsEnd behind asked
+  pub asks : (line : List ℕ) → IsHead line head → Asks line (slice_range old.kept first last) item
+  pub kept : new.kept ≡ drop last old.kept
+  pub before : new.before ≡ old.before + last
+  pub ended : new.ended ≡ old.ended
+  pub stopped : new.stopped ≡ old.stopped

@@ -15,7 +15,8 @@ use Rattle.request_model.specs.Factors.{IsFactor}
 use Rattle.request_model.specs.Lines.{line_of}
 use Rattle.request_model.specs.declared.requests.Request.{Request}
 use Rattle.request_model.specs.declared.requests.Request.TheVariants as request
-use Rattle.request_text.specs.Forms.{Form, machine, commit, submit_go, submit_lnt, retract, tune, calibrate, of_series, runs, words_in}
+use Rattle.request_text.specs.Forms.{Form, machine, commit, submit_go, submit_lnt, retract, tune, calibrate, of_series, regress, set_state, bisect, answer, of_job, runs, report, words_in}
+use Rattle.request_text.specs.declared.verb.JobVerb.TheVariants.{Resume, Job}
 use Rattle.request_text.specs.declared.verb.SeriesVerb.TheVariants.{Segment, Changes, Verify}
 use Rattle.request_text.specs.Items.{body_limit}
 use Rattle.request_text.specs.Scripts.{ArePieces}
@@ -36,7 +37,14 @@ form_of (request.Calibrate m test metric factor) len = calibrate (spelling m) (s
 form_of (request.Segment m test metric) len = of_series Segment (spelling m) (spelling test) (spelling metric)
 form_of (request.Changes m test metric) len = of_series Changes (spelling m) (spelling test) (spelling metric)
 form_of (request.Verify m test metric) len = of_series Verify (spelling m) (spelling test) (spelling metric)
+form_of (request.Regress m test metric change) len = regress (spelling m) (spelling test) (spelling metric) change
+form_of (request.SetState m regression state) len = set_state (spelling m) regression state
+form_of (request.Bisect m lo hi) len = bisect (spelling m) (spelling lo) (spelling hi)
+form_of (request.Answer m job c status) len = answer (spelling m) job (spelling c) status
+form_of (request.Resume m job) len = of_job Resume (spelling m) job
+form_of (request.Job m job) len = of_job Job (spelling m) job
 form_of (request.Runs m) len = runs (spelling m)
+form_of (request.Report m json) len = report (spelling m) json
 
 -- a text of the samples: an LNT run where a machine is stated, else Go benchmark text
 abbrev pub IsBodyOf : List ℕ → List Measurement → Option (List ℕ) → List ℕ → Type 0
@@ -82,6 +90,7 @@ MayBeRead (request.Calibrate m test metric factor) = (length metric ≤ 64) × I
 MayBeRead (request.Segment m test metric) = length metric ≤ 64
 MayBeRead (request.Changes m test metric) = length metric ≤ 64
 MayBeRead (request.Verify m test metric) = length metric ≤ 64
+MayBeRead (request.Regress m test metric change) = length metric ≤ 64
 MayBeRead q = Unit {0}
 
 -- what is written of a request; where it may be read and its body is within the limit, it is read as the request
@@ -89,7 +98,7 @@ pub record WrittenIsReadBack (q : Request) (bytes : List ℕ) : Type 0 where
   pub written : IsWritten q bytes
   pub back : MayBeRead q → length written.body ≤ body_limit → ArePieces bytes (Ok q ∷ [])
 
--- its names are names, its number fits 64 bits, and its samples are no more than a run may have
+-- its names are names, its numbers fit 64 bits, a status 8 bits, and its samples are no more than a run may have
 abbrev pub IsSound : Request → Type 0
 IsSound (request.Machine m) = IsName m
 IsSound (request.Commit m number name) = IsName m × (number < 2 ^ 64) × IsName name
@@ -101,7 +110,14 @@ IsSound (request.Calibrate m test metric factor) = IsName m × IsName test × Is
 IsSound (request.Segment m test metric) = IsName m × IsName test × IsName metric
 IsSound (request.Changes m test metric) = IsName m × IsName test × IsName metric
 IsSound (request.Verify m test metric) = IsName m × IsName test × IsName metric
+IsSound (request.Regress m test metric change) = IsName m × IsName test × IsName metric × (change < 2 ^ 64)
+IsSound (request.SetState m regression state) = IsName m × (regression < 2 ^ 64)
+IsSound (request.Bisect m lo hi) = IsName m × IsName lo × IsName hi
+IsSound (request.Answer m job c status) = IsName m × (job < 2 ^ 64) × IsName c × (status < 2 ^ 8)
+IsSound (request.Resume m job) = IsName m × (job < 2 ^ 64)
+IsSound (request.Job m job) = IsName m × (job < 2 ^ 64)
 IsSound (request.Runs m) = IsName m
+IsSound (request.Report m json) = IsName m
 
 -- the bytes are read as the samples, with none ignored
 abbrev pub IsReadAs : List ℕ → List Measurement → Option (List ℕ) → List ℕ → Type 0

@@ -1,7 +1,7 @@
 //! A body that is kept, read behind its line.
-ghost use Rattle.std.specs.Prelude.{◌≡◌, ◌≤◌, ◌<◌, ◌+◌, ◌^◌, false, IfOk, IfErr};
+ghost use Rattle.std.specs.Prelude.{◌≡◌, ◌≤◌, ◌<◌, ◌+◌, ◌^◌, false, length, IfOk, IfErr};
 ghost use Rattle.request_text.specs.Begun.{BeginsWithHead};
-ghost use Rattle.request_text.specs.Parts.{TakesFrom, Fails};
+ghost use Rattle.request_text.specs.Parts.{AsksKept, TakesFrom, Fails};
 
 use crate::asked::Asked;
 use crate::head::{Head, item_of};
@@ -33,6 +33,22 @@ pub(crate) fn read_short<S: Source>(
     if !need(alloc, lines, source, total)? {
         return Err(ReadStop::CutOff(at));
     }
+    ask_kept(alloc, lines, head, ended, total)
+}
+
+// Uses up a line and its body, which are kept, and answers what they ask together.
+fn ask_kept(
+    alloc: Global,
+    lines: &mut Lines,
+    head: Head,
+    ended: usize,
+    total: usize,
+) -> Result<Asked, ReadStop>
+    requires order { ended ≤ total }
+    requires kept { total ≤ length lines.old.kept }
+    ensures ok { IfOk result (AsksKept head lines.old lines.new ended total) }
+    ensures err { IfErr result (λ stop. stop ≡ ReadStop.NoMemory) }
+{
     let item = item_of(alloc, head, &lines.kept()[ended..total])?;
     lines.use_up(total);
     Ok(asked_of(item))

@@ -3,12 +3,15 @@ ghost use Rattle.std.specs.Prelude.{◌≡◌, ◌≢◌, ℕ, ◌^◌, ◌<◌,
 ghost use Rattle.line_text.specs.Numbers.{IsNumber};
 ghost use Rattle.request_text.specs.Forms.{series_word};
 ghost use Rattle.request_text.specs.Bodies.{series_request};
-ghost use Rattle.request_text.specs.Heads.{IsHead, IsHeadBehind};
+ghost use Rattle.request_text.specs.Heads.{IsHead, IsHeadBehind, line_refusal};
 ghost use Rattle.request_text.specs.Items.{Asks, Counts};
 
 use crate::NoMemory;
 use crate::amounts::{is_factor, is_number, penalty_of};
 use crate::body::{go_asked, lnt_asked};
+use crate::found_head::{
+    answer_head, bisect_head, job_head, regress_head, report_head, state_head,
+};
 use crate::names::{metric_named, named, series_named, three_named, two_named};
 use crate::verb::{SeriesVerb, Verb, read_verb};
 use crate::words::Words;
@@ -19,11 +22,20 @@ use std::alloc::Global;
 /// The most bytes of a body.
 pub(crate) const BODY_LIMIT: u64 = 8_388_608;
 
+// Why a request line is refused before its body is read. It owns nothing, so that a head is cheap to hold and to drop.
+#[derive(Clone, Copy)]
+pub(crate) enum LineFault {
+    BadRequest,
+    BadName,
+    BadPenalty,
+    BodyTooLong,
+}
+
 // What a request line asks before its body is read.
 #[derive(Drop)]
 pub(crate) enum Head {
     // This is refused, whatever the bytes of its body, which are so many.
-    Refused(Refusal, u64),
+    Refused(LineFault, u64),
     // This is asked; it has no body.
     Asked(Request),
     // A run is handed in as Go benchmark text of so many bytes: machine, commit, run.
@@ -51,7 +63,13 @@ pub(crate) fn read_head(alloc: Global, line: &[u8]) -> Result<Head, NoMemory>
         Verb::Tune => tune_head(alloc, words),
         Verb::Calibrate => calibrate_head(alloc, words),
         Verb::Series(asked) => series_head(alloc, words, asked),
+        Verb::Regress => regress_head(alloc, words),
+        Verb::State => state_head(alloc, words),
+        Verb::Bisect => bisect_head(alloc, words),
+        Verb::Answer => answer_head(alloc, words),
+        Verb::Job(asked) => job_head(alloc, words, asked),
         Verb::Runs => runs_head(alloc, words),
+        Verb::Report => report_head(alloc, words),
     }
 }
 
@@ -64,10 +82,22 @@ pub(crate) fn item_of(
     ensures { IfOk result (λ item. (line : List ℕ) → IsHead line head → Asks line body.now item) }
 {
     match head {
-        Head::Refused(refusal, _) => Ok(Err(refusal)),
+        Head::Refused(fault, _) => Ok(Err(line_refusal(fault))),
         Head::Asked(request) => Ok(Ok(request)),
         Head::Go(machine, commit, run, _) => go_asked(alloc, machine, commit, run, body),
         Head::Lnt(machine, run, _) => lnt_asked(alloc, machine, run, body),
+    }
+}
+
+// The refusal that a fault of a line is.
+fn line_refusal(fault: LineFault) -> Refusal
+    ensures { result ≡ line_refusal fault }
+{
+    match fault {
+        LineFault::BadRequest => Refusal::BadRequest,
+        LineFault::BadName => Refusal::BadName,
+        LineFault::BadPenalty => Refusal::BadPenalty,
+        LineFault::BodyTooLong => Refusal::BodyTooLong,
     }
 }
 
@@ -84,17 +114,17 @@ pub(crate) fn body_count(head: &Head) -> u64
 }
 
 // The refusal of a line of no form.
-fn formless() -> Head
-    ensures { result ≡ Head.Refused Refusal.BadRequest 0 }
+pub(crate) fn formless() -> Head
+    ensures { result ≡ Head.Refused LineFault.BadRequest 0 }
 {
-    Head::Refused(Refusal::BadRequest, 0)
+    Head::Refused(LineFault::BadRequest, 0)
 }
 
 // The refusal of a line with a word that must be a name and is none.
-fn unnamed(count: u64) -> Head
-    ensures { result ≡ Head.Refused Refusal.BadName count }
+pub(crate) fn unnamed(count: u64) -> Head
+    ensures { result ≡ Head.Refused LineFault.BadName count }
 {
-    Head::Refused(Refusal::BadName, count)
+    Head::Refused(LineFault::BadName, count)
 }
 
 // `machine M`.
@@ -147,7 +177,7 @@ fn tune_head(alloc: Global, words: Words) -> Result<Head, NoMemory>
         return Ok(unnamed(0));
     };
     let Some(penalty) = penalty_of(p) else {
-        return Ok(Head::Refused(Refusal::BadPenalty, 0));
+        return Ok(Head::Refused(LineFault::BadPenalty, 0));
     };
     Ok(Head::Asked(Request::Tune {
         machine,
@@ -180,7 +210,7 @@ fn calibrate_head(alloc: Global, words: Words) -> Result<Head, NoMemory>
         return Ok(unnamed(0));
     };
     if !is_factor(factor) {
-        return Ok(Head::Refused(Refusal::BadPenalty, 0));
+        return Ok(Head::Refused(LineFault::BadPenalty, 0));
     }
     Ok(Head::Asked(Request::Calibrate {
         machine,
@@ -280,7 +310,7 @@ fn go_head(alloc: Global, words: Words) -> Result<Head, NoMemory>
         return Ok(formless());
     };
     if len > BODY_LIMIT {
-        return Ok(Head::Refused(Refusal::BodyTooLong, len));
+        return Ok(Head::Refused(LineFault::BodyTooLong, len));
     }
     let Some((machine, commit, run)) = three_named(alloc, m, c, r)? else {
         return Ok(unnamed(len));
@@ -289,7 +319,9 @@ fn go_head(alloc: Global, words: Words) -> Result<Head, NoMemory>
 }
 
 // Three words, and a number behind them.
-fn three_and_number<'a>(mut words: Words<'a>) -> Option<(&'a [u8], &'a [u8], &'a [u8], u64)>
+pub(crate) fn three_and_number<'a>(
+    mut words: Words<'a>,
+) -> Option<(&'a [u8], &'a [u8], &'a [u8], u64)>
     ensures some { IfSome result
         (λ parts. words.entry ≡ parts.0.now ∷ parts.1.now ∷ parts.2.now ∷ decimal parts.3 ∷ []) }
     ensures none { IfNone result ((first second third : List ℕ) (n : ℕ)
@@ -310,7 +342,7 @@ fn lnt_head(alloc: Global, words: Words) -> Result<Head, NoMemory>
         return Ok(formless());
     };
     if len > BODY_LIMIT {
-        return Ok(Head::Refused(Refusal::BodyTooLong, len));
+        return Ok(Head::Refused(LineFault::BodyTooLong, len));
     }
     let Some((machine, run)) = two_named(alloc, m, r)? else {
         return Ok(unnamed(len));

@@ -6,14 +6,15 @@
 //! reads the next request of a source in pieces, with the exact cause of each stop; [`put_request`] writes one, whose text is
 //! read back.
 //!
-//! Stands on `request_model` for requests, on `line_text` for words, names and numbers, on `go_bench_text` and `lnt_report`
-//! for bodies, and on `track_outside` for sources.
+//! Stands on `request_model` for requests, on `regression_state` for the states' words, on `line_text` for words, names and
+//! numbers, on `go_bench_text` and `lnt_report` for bodies, and on `track_outside` for sources.
 #![tactic(auto)]
 
 mod amounts;
 mod asked;
 mod body;
 mod body_read;
+mod found_head;
 mod head;
 mod last;
 mod laws;
@@ -23,11 +24,13 @@ mod names;
 mod need;
 mod pass;
 mod read;
+mod sound;
 mod stop;
 mod verb;
 mod whole;
 mod words;
 mod write;
+mod write_line;
 
 pub use asked::Asked;
 pub use laws::{pieces_law, reading_law};

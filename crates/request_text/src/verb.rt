@@ -1,7 +1,7 @@
 //! The first words of request lines.
 ghost use Rattle.std.specs.Prelude.{◌≡◌, ◌≢◌, IfSome, IfNone};
-ghost use Rattle.request_text.specs.Forms.{series_word};
-ghost use Rattle.request_text.specs.Verbs.{word_of};
+ghost use Rattle.request_text.specs.Forms.{job_word, series_word};
+ghost use Rattle.request_text.specs.Verbs.{IsNoLaterVerb, word_of};
 
 // What is asked of a series by its names alone: a machine, a test and a metric.
 #[derive(Clone, Copy)]
@@ -9,6 +9,13 @@ pub(crate) enum SeriesVerb {
     Segment,
     Changes,
     Verify,
+}
+
+// What is asked of a bisection by its number alone.
+#[derive(Clone, Copy)]
+pub(crate) enum JobVerb {
+    Resume,
+    Job,
 }
 
 // The first word of a request line.
@@ -21,7 +28,13 @@ pub(crate) enum Verb {
     Tune,
     Calibrate,
     Series(SeriesVerb),
+    Regress,
+    State,
+    Bisect,
+    Answer,
+    Job(JobVerb),
     Runs,
+    Report,
 }
 
 // The verb that a word is.
@@ -43,8 +56,44 @@ pub(crate) fn read_verb(word: &[u8]) -> Option<Verb>
         Some(Verb::Calibrate)
     } else if word == b"runs".as_slice() {
         Some(Verb::Runs)
+    } else if word == b"report".as_slice() {
+        Some(Verb::Report)
     } else {
-        Some(Verb::Series(read_series_verb(word)?))
+        read_later_verb(word)
+    }
+}
+
+// The verb that a word is, of those that ask what is made of a series.
+fn read_later_verb(word: &[u8]) -> Option<Verb>
+    ensures some { IfSome result (λ verb. word.now ≡ word_of verb) }
+    ensures none { IfNone result (IsNoLaterVerb word.now) }
+{
+    if word == b"regress".as_slice() {
+        Some(Verb::Regress)
+    } else if word == b"state".as_slice() {
+        Some(Verb::State)
+    } else if word == b"bisect".as_slice() {
+        Some(Verb::Bisect)
+    } else if word == b"answer".as_slice() {
+        Some(Verb::Answer)
+    } else if let Some(asked) = read_series_verb(word) {
+        Some(Verb::Series(asked))
+    } else {
+        Some(Verb::Job(read_job_verb(word)?))
+    }
+}
+
+// What a word asks of a bisection.
+fn read_job_verb(word: &[u8]) -> Option<JobVerb>
+    ensures some { IfSome result (λ verb. word.now ≡ job_word verb) }
+    ensures none { IfNone result ((verb : JobVerb) → word.now ≢ job_word verb) }
+{
+    if word == b"resume".as_slice() {
+        Some(JobVerb::Resume)
+    } else if word == b"job".as_slice() {
+        Some(JobVerb::Job)
+    } else {
+        None
     }
 }
 

@@ -5,6 +5,9 @@ ghost use Rattle.line_text.specs.Lines.{words_of};
 use line_text::{next_word, read_u64};
 use std::marker::Model;
 
+// The greatest status.
+const STATUS_LIMIT: u64 = 255;
+
 // The words of a line that are left. Contracts see the list.
 #[derive(Drop)]
 pub(crate) struct Words<'a> {
@@ -86,5 +89,17 @@ impl<'a> Words<'a> {
         ensures none { IfNone result ((n : ℕ) → n < 2 ^ 64 → self.old ≢ decimal n ∷ []) }
     {
         read_u64(self.one()?)
+    }
+
+    // The status that is left.
+    pub(crate) fn status(&mut self) -> Option<u8>
+        ensures some { IfSome result (λ n. self.old ≡ decimal n ∷ []) }
+        ensures none { IfNone result ((n : ℕ) → n < 2 ^ 8 → self.old ≢ decimal n ∷ []) }
+    {
+        let status = self.number()?;
+        if status > STATUS_LIMIT {
+            return None;
+        }
+        Some(status as u8)
     }
 }

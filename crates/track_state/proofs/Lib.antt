@@ -1,3 +1,6 @@
+mod Followed
+mod Allowances
+mod Raising
 mod Steps
 mod Marks
 mod Publishing
@@ -9,5 +12,7 @@ mod Ready
 mod Series
 mod Verdicts
 mod Submits
+mod Bisecting
 mod Listing
 mod Replaying
+mod Reporting

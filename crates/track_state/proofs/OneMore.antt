@@ -23,6 +23,10 @@ use Rattle.history_model.specs.Runs.{same_series}
 use Rattle.publication_index.specs.Kept.{series_of}
 use Rattle.track_state.specs.Publications.{entry_of}
 use Rattle.track_state.specs.Made.{Segmentations, IsMadeFrom}
+use Rattle.history_model.specs.Followed.{RegressionsGrow, StateStays, JobsStay}
+use Rattle.track_state.specs.declared.following.Following.{Following}
+use Rattle.track_state.specs.Following.{AreFollowed}
+use Rattle.track_state.proofs.Followed.{quiet}
 use Rattle.track_state.specs.State.{IsTracked, IsKept, StandsFor}
 use Rattle.track_state.proofs.Publishing.{penalty-after, fits-after, just-kept}
 use Rattle.track_state.proofs.Series.{tracked-after, no-more}
@@ -34,6 +38,8 @@ stored_runs-push : OnlyAcceptedAreRetracted → (h : List Entry) (e : Entry) →
 stored_runs-push only h (entry.Commit number name) legal may = rw (chosen-skip acceptance h (entry.Commit number name) refl, chosen-skip retraction h (entry.Commit number name) refl) refl
 stored_runs-push only h (entry.Tune metric penalty) legal may = rw (chosen-skip acceptance h (entry.Tune metric penalty) refl, chosen-skip retraction h (entry.Tune metric penalty) refl) refl
 stored_runs-push only h (entry.Publish p) legal may = rw (chosen-skip acceptance h (entry.Publish p) refl, chosen-skip retraction h (entry.Publish p) refl) refl
+stored_runs-push only h (entry.Regression event) legal may = rw (chosen-skip acceptance h (entry.Regression event) refl, chosen-skip retraction h (entry.Regression event) refl) refl
+stored_runs-push only h (entry.Job event) legal may = rw (chosen-skip acceptance h (entry.Job event) refl, chosen-skip retraction h (entry.Job event) refl) refl
 stored_runs-push only h (entry.Retract run) legal may =
     rw (chosen-skip acceptance h (entry.Retract run) refl, chosen-push retraction h (entry.Retract run)) (sym (all-marked (retractions h) (length h + 1) run may.1 (acceptances h)))
 stored_runs-push only h (entry.Accept run) legal may =
@@ -43,15 +49,15 @@ stored_runs-push only h (entry.Accept run) legal may =
     ∙ ap (λ (o : Option Retraction). stored_runs h ++ record { step = length h + 1; run = run; retracted = option_map (λ (r : Retraction). r.step) o } ∷ []) never)
 
 module _ (grows : LegalGrows) (accept : PositionsAfterAccept) (retract : PositionsAfterRetract) (untouched : PositionsUntouched) (only : OnlyAcceptedAreRetracted) (set : PenaltyIsSet) (stay : PenaltyStays) where
-  pub follows : (h : List Entry) (e : Entry) (commits : List Declaration) (runs : List Stored) (series series' : Kept) (known more : ℕ) (penalties penalties' : Penalties) (published published' : Segmentations) (cuts cuts' : ℕ)
-      → StandsFor h commits runs series known penalties published cuts → Allowed h e
+  pub follows : (h : List Entry) (e : Entry) (commits : List Declaration) (runs : List Stored) (series series' : Kept) (known more : ℕ) (penalties penalties' : Penalties) (published published' : Segmentations) (cuts cuts' : ℕ) (f f' : Following)
+      → StandsFor h commits runs series known penalties published cuts f → Allowed h e
       → length (known_series (h ++ e ∷ [])) ≡ length (known_series h) + more
       → ((s : Series) → seen s series' ≡ seen_after (length h + 1) e runs s (seen s series))
       → ((metric : List ℕ) → given metric penalties' ≡ given_after e metric (given metric penalties))
       → ((s : Series) → IsKept (h ++ e ∷ []) (last_publication s (h ++ e ∷ [])) (kept s published'))
-      → cuts' ≡ cut_count (h ++ e ∷ [])
-      → StandsFor (h ++ e ∷ []) (commits ++ option_to_list (declaration (length h + 1) e)) (runs_after (length h + 1) e runs) series' (known + more) penalties' published' cuts'
-  follows h e commits runs series series' known more penalties penalties' published published' cuts cuts' stands allowed grown followed given_are kept_are counted = record {
+      → cuts' ≡ cut_count (h ++ e ∷ []) → AreFollowed (h ++ e ∷ []) f'
+      → StandsFor (h ++ e ∷ []) (commits ++ option_to_list (declaration (length h + 1) e)) (runs_after (length h + 1) e runs) series' (known + more) penalties' published' cuts' f'
+  follows h e commits runs series series' known more penalties penalties' published published' cuts cuts' f f' stands allowed grown followed given_are kept_are counted after = record {
     legal = grows h e stands.legal allowed;
     limits = allowed.1;
     commits_are = ap (λ ds. ds ++ option_to_list (declaration (length h + 1) e)) stands.commits_are ∙ sym (chosen-push declaration h e);
@@ -66,28 +72,30 @@ module _ (grows : LegalGrows) (accept : PositionsAfterAccept) (retract : Positio
     penalties_fit = λ metric. subst IsPenalty (sym (penalty-after set stay h e metric)) (fits-after h e metric allowed.0 (stands.penalties_fit metric));
     published_are = kept_are;
     cuts_are = counted;
+    followed_are = after;
   }
 
   -- the indexes after a publication
-  pub publishes : PublicationIsLast → PublicationStays → VersionsStay → CutsGrow → (h : List Entry) (done : Done) (commits : List Declaration) (runs : List Stored) (series : Kept) (known : ℕ) (penalties : Penalties) (published published' : Segmentations) (cuts : ℕ)
-      → StandsFor h commits runs series known penalties published cuts → Allowed h (entry_of done) → IsMadeFrom h done
+  pub publishes : PublicationIsLast → PublicationStays → VersionsStay → CutsGrow → RegressionsGrow → StateStays → JobsStay → (h : List Entry) (done : Done) (commits : List Declaration) (runs : List Stored) (series : Kept) (known : ℕ) (penalties : Penalties) (published published' : Segmentations) (cuts : ℕ) (f : Following)
+      → StandsFor h commits runs series known penalties published cuts f → Allowed h (entry_of done) → IsMadeFrom h done
       → ((s : Series) → kept s published' ≡ cond (same_series (series_of done) s) (Some done) (kept s published))
-      → StandsFor (h ++ entry_of done ∷ []) commits runs series known penalties published' (cuts + length done.cert.cuts)
-  publishes last publications_stay versions grow h done commits runs series known penalties published published' cuts stands allowed made written =
+      → StandsFor (h ++ entry_of done ∷ []) commits runs series known penalties published' (cuts + length done.cert.cuts) f
+  publishes last publications_stay versions grow grown still stay h done commits runs series known penalties published published' cuts f stands allowed made written =
       let e : Entry = entry_of done in
-      let all = follows h e commits runs series series known 0 penalties penalties published published' cuts (cuts + length done.cert.cuts) stands allowed (no-more h e refl) (λ s. refl) (λ metric. refl)
+      let all = follows h e commits runs series series known 0 penalties penalties published published' cuts (cuts + length done.cert.cuts) f f stands allowed (no-more h e refl) (λ s. refl) (λ metric. refl)
       (just-kept last publications_stay versions h done published published' made stands.published_are written)
-      (ap (λ n. n + length done.cert.cuts) stands.cuts_are ∙ sym (grow h e)) in
+      (ap (λ n. n + length done.cert.cuts) stands.cuts_are ∙ sym (grow h e))
+      (quiet grown still stay h e f f refl (λ n. refl) tt stands.followed_are refl) in
       let none : known + 0 ≡ known = omega arith in
-      subst (λ (n : ℕ). StandsFor (h ++ e ∷ []) commits runs series n penalties published' (cuts + length done.cert.cuts)) none
-      (subst (λ (ds : List Declaration). StandsFor (h ++ e ∷ []) ds runs series (known + 0) penalties published' (cuts + length done.cert.cuts)) (append-nil commits) all)
+      subst (λ (n : ℕ). StandsFor (h ++ e ∷ []) commits runs series n penalties published' (cuts + length done.cert.cuts) f) none
+      (subst (λ (ds : List Declaration). StandsFor (h ++ e ∷ []) ds runs series (known + 0) penalties published' (cuts + length done.cert.cuts) f) (append-nil commits) all)
 
 -- the indexes as they are, where what is seen of the series, the penalties and the publications stays
-pub stays : (h : List Entry) (commits : List Declaration) (runs : List Stored) (series series' : Kept) (known : ℕ) (penalties penalties' : Penalties) (published published' : Segmentations) (cuts : ℕ)
-    → StandsFor h commits runs series known penalties published cuts
+pub stays : (h : List Entry) (commits : List Declaration) (runs : List Stored) (series series' : Kept) (known : ℕ) (penalties penalties' : Penalties) (published published' : Segmentations) (cuts : ℕ) (f f' : Following)
+    → StandsFor h commits runs series known penalties published cuts f
     → ((s : Series) → seen s series' ≡ seen s series) → ((metric : List ℕ) → given metric penalties' ≡ given metric penalties)
-    → ((s : Series) → kept s published' ≡ kept s published) → StandsFor h commits runs series' known penalties' published' cuts
-stays h commits runs series series' known penalties penalties' published published' cuts stands same given_same kept_same = record {
+    → ((s : Series) → kept s published' ≡ kept s published) → f' ≡ f → StandsFor h commits runs series' known penalties' published' cuts f'
+stays h commits runs series series' known penalties penalties' published published' cuts f f' stands same given_same kept_same same_followed = record {
   legal = stands.legal;
   limits = stands.limits;
   commits_are = stands.commits_are;
@@ -98,4 +106,5 @@ stays h commits runs series series' known penalties penalties' published publish
   penalties_fit = stands.penalties_fit;
   published_are = λ s. let P : Option Done → Type 0 = λ o. IsKept h (last_publication s h) o in subst P (sym (kept_same s)) (stands.published_are s);
   cuts_are = stands.cuts_are;
+  followed_are = subst (λ (x : Following). AreFollowed h x) (sym same_followed) stands.followed_are;
 }

@@ -28,6 +28,8 @@ penalty-after set stay h (entry.Commit number name) metric = stay h (entry.Commi
 penalty-after set stay h (entry.Accept run) metric = stay h (entry.Accept run) metric refl
 penalty-after set stay h (entry.Retract run) metric = stay h (entry.Retract run) metric refl
 penalty-after set stay h (entry.Publish p) metric = stay h (entry.Publish p) metric refl
+penalty-after set stay h (entry.Regression event) metric = stay h (entry.Regression event) metric refl
+penalty-after set stay h (entry.Job event) metric = stay h (entry.Job event) metric refl
 penalty-after set stay h (entry.Tune other penalty) metric = elim (cases_Bool (bytes_eq other metric)) [
   | inl hit ↦
       set h (entry.Tune other penalty) metric penalty (ap (λ b. cond b (Some penalty) None) hit)
@@ -42,6 +44,8 @@ fits-after h (entry.Commit number name) metric may fits = fits
 fits-after h (entry.Accept run) metric may fits = fits
 fits-after h (entry.Retract run) metric may fits = fits
 fits-after h (entry.Publish p) metric may fits = fits
+fits-after h (entry.Regression event) metric may fits = fits
+fits-after h (entry.Job event) metric may fits = fits
 fits-after h (entry.Tune other penalty) metric may fits = by (bytes_eq other metric)
   where
     by : (b : Bool) → IsPenalty (cond b penalty (penalty_of metric h))
@@ -75,6 +79,8 @@ plain-none s step (entry.Accept run) plain = refl
 plain-none s step (entry.Retract run) plain = refl
 plain-none s step (entry.Tune other penalty) plain = refl
 plain-none s step (entry.Publish p) plain = absurd plain
+plain-none s step (entry.Regression event) plain = refl
+plain-none s step (entry.Job event) plain = refl
 
 plain-cuts : (e : Entry) → IsPlain e → cuts_in e ≡ 0
 plain-cuts (entry.Commit number name) plain = refl
@@ -82,6 +88,8 @@ plain-cuts (entry.Accept run) plain = refl
 plain-cuts (entry.Retract run) plain = refl
 plain-cuts (entry.Tune other penalty) plain = refl
 plain-cuts (entry.Publish p) plain = absurd plain
+plain-cuts (entry.Regression event) plain = refl
+plain-cuts (entry.Job event) plain = refl
 
 pub plain-kept : PublicationStays → VersionsStay → (h : List Entry) (e : Entry) (published : Segmentations) → IsPlain e → ((s : Series) → IsKept h (last_publication s h) (kept s published))
     → (s : Series) → IsKept (h ++ e ∷ []) (last_publication s (h ++ e ∷ [])) (kept s published)

@@ -24,6 +24,10 @@ use Rattle.sample_store.specs.Runs.{names, samples_in}
 use Rattle.sample_store.specs.declared.answers.Accepted.TheVariants as taken
 use Rattle.sample_store.specs.declared.store.Stored.{Stored}
 use Rattle.track_state.specs.Indexes.{stored, stored_runs, IsReady}
+use Rattle.history_model.specs.Followed.{NumbersAreTwo}
+use Rattle.track_state.specs.declared.following.Following.{Following}
+use Rattle.track_state.specs.Following.{AreFollowed}
+use Rattle.track_state.proofs.Followed.{followable}
 use Rattle.track_state.proofs.Marks.{look-up}
 
 pair-new : (commits : List Declaration) (number : ℕ) (name : List ℕ) → find (has_number number) commits ≡ None → find (has_name name) commits ≡ None → length commits < most limit.Commits → pair.judged commits number name ≡ declared.New
@@ -49,8 +53,8 @@ some-of : {A : Type 0} (o : Option A) → IsSome o → (x : A) × (o ≡ Some x)
 some-of None some = absurd (let no : false ≡ true = some in cc)
 some-of (Some x) some = (x, refl)
 
-pub ready : (h : List Entry) (e : Entry) → Allowed h e → IsReady (declarations h) (stored_runs h) e
-ready h (entry.Commit number name) allowed =
+pub ready : NumbersAreTwo → (h : List Entry) (f : Following) (e : Entry) → AreFollowed h f → Allowed h e → IsReady (declarations h) (stored_runs h) f e
+ready two h f (entry.Commit number name) are allowed =
     let number_of : Declaration → ℕ = λ (d : Declaration). d.number in
     let name_of : Declaration → List ℕ = λ (d : Declaration). d.name in
     let few : length (declarations (h ++ entry.Commit number name ∷ [])) ≤ most limit.Commits = allowed.1 limit.Commits in
@@ -59,7 +63,7 @@ ready h (entry.Commit number name) allowed =
     (option_map-none name_of (find (has_number number) (declarations h)) allowed.0.0)
     (option_map-none number_of (find (has_name name) (declarations h)) allowed.0.1)
     (omega (arith, few, more, length-append (declarations h) (record { step = length h + 1; number = number; name = name } ∷ [])))
-ready h (entry.Accept new) allowed =
+ready two h f (entry.Accept new) are allowed =
     let a : Acceptance = record { step = length h + 1; run = new } in
     let runs_few : length (acceptances (h ++ entry.Accept new ∷ [])) ≤ most limit.Runs = allowed.1 limit.Runs in
     let samples_few : sample_count (acceptances (h ++ entry.Accept new ∷ [])) ≤ most limit.Samples = allowed.1 limit.Samples in
@@ -70,9 +74,11 @@ ready h (entry.Accept new) allowed =
     (look-up h new.run ∙ ap (option_map (stored (retractions h))) allowed.0.0)
     (omega (arith, runs_few, sizes, length-append (acceptances h) (a ∷ []), length-map (acceptances h) (stored (retractions h))))
     (omega (arith, samples_few, counts, samples-stored (retractions h) (acceptances h), sum_by_push (λ (b : Acceptance). length b.run.samples) (acceptances h) a))
-ready h (entry.Tune metric penalty) allowed = tt
-ready h (entry.Publish p) allowed = tt
-ready h (entry.Retract name) allowed =
+ready two h f (entry.Tune metric penalty) are allowed = tt
+ready two h f (entry.Publish p) are allowed = tt
+ready two h f (entry.Regression event) are allowed = followable two h f (entry.Regression event) are allowed
+ready two h f (entry.Job event) are allowed = followable two h f (entry.Job event) are allowed
+ready two h f (entry.Retract name) are allowed =
     let known = some-of (accepted name h) allowed.0.0 in
     let a : Acceptance = known.0 in
     let name_is : a.run.run ≡ name = same-bytes a.run.run name (find-passes (is_run name) (acceptances h) a known.1) in

@@ -84,6 +84,8 @@ module _ (fresh : PositionsAreFresh) (past : StepsArePast) (room : SeriesHaveRoo
   takes-in h (entry.Retract name) series legal allowed are = tt
   takes-in h (entry.Tune metric penalty) series legal allowed are = tt
   takes-in h (entry.Publish p) series legal allowed are = tt
+  takes-in h (entry.Regression event) series legal allowed are = tt
+  takes-in h (entry.Job event) series legal allowed are = tt
   takes-in h (entry.Accept run) series legal allowed are =
       let live : retracted run.run h ≡ None = only h run.run legal allowed.0.0 in
       record {
@@ -125,6 +127,16 @@ module _ (accept : PositionsAfterAccept) (retract : PositionsAfterRetract) (unto
     points = rw (chosen-skip acceptance h (entry.Publish p) refl, chosen-skip retraction h (entry.Publish p) refl) is.points;
     since = rw length-append (later (length h) t.since is.since);
     known = rw (chosen-skip acceptance h (entry.Publish p) refl) is.known;
+  }
+  tracked-after h (entry.Regression event) s t legal allowed is = record {
+    points = rw (chosen-skip acceptance h (entry.Regression event) refl, chosen-skip retraction h (entry.Regression event) refl) is.points;
+    since = rw length-append (later (length h) t.since is.since);
+    known = rw (chosen-skip acceptance h (entry.Regression event) refl) is.known;
+  }
+  tracked-after h (entry.Job event) s t legal allowed is = record {
+    points = rw (chosen-skip acceptance h (entry.Job event) refl, chosen-skip retraction h (entry.Job event) refl) is.points;
+    since = rw length-append (later (length h) t.since is.since);
+    known = rw (chosen-skip acceptance h (entry.Job event) refl) is.known;
   }
   tracked-after h (entry.Accept run) s t legal allowed is =
       let a : Acceptance = record { step = length h + 1; run = run } in

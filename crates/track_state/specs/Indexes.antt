@@ -19,6 +19,8 @@ use Rattle.publication_index.specs.Given.{given}
 use Rattle.series_index.specs.Seen.{seen, without, undone}
 use Rattle.series_index.specs.Taken.{of_series, with_samples, HasRoomFor}
 use Rattle.series_index.specs.declared.tracked.Tracked.{Tracked}
+use Rattle.track_state.specs.declared.following.Following.{Following}
+use Rattle.track_state.specs.Following.{IsFollowable}
 
 -- an accepted run, with the step of its retraction
 abbrev pub stored : List Retraction → Acceptance → Stored
@@ -34,14 +36,18 @@ runs_after step (entry.Accept run) runs = runs ++ record { step = step; run = ru
 runs_after step (entry.Retract run) runs = map (marked step run) runs
 runs_after step (entry.Tune metric penalty) runs = runs
 runs_after step (entry.Publish p) runs = runs
+runs_after step (entry.Regression event) runs = runs
+runs_after step (entry.Job event) runs = runs
 
--- the indexes of commits and runs take the entry in
-abbrev pub IsReady : List Declaration → List Stored → Entry → Type 0
-IsReady commits runs (entry.Commit number name) = pair.judged commits number name ≡ declared.New
-IsReady commits runs (entry.Accept new) = run.judged runs new ≡ accepted.New
-IsReady commits runs (entry.Retract name) = run.retraction runs name ≡ retracted.Done
-IsReady commits runs (entry.Tune metric penalty) = Unit {0}
-IsReady commits runs (entry.Publish p) = Unit {0}
+-- the indexes of commits and runs, and what is followed, take the entry in
+abbrev pub IsReady : List Declaration → List Stored → Following → Entry → Type 0
+IsReady commits runs f (entry.Commit number name) = pair.judged commits number name ≡ declared.New
+IsReady commits runs f (entry.Accept new) = run.judged runs new ≡ accepted.New
+IsReady commits runs f (entry.Retract name) = run.retraction runs name ≡ retracted.Done
+IsReady commits runs f (entry.Tune metric penalty) = Unit {0}
+IsReady commits runs f (entry.Publish p) = Unit {0}
+IsReady commits runs f (entry.Regression event) = IsFollowable commits f (entry.Regression event)
+IsReady commits runs f (entry.Job event) = IsFollowable commits f (entry.Job event)
 
 -- ---- series
 
@@ -65,6 +71,8 @@ seen_after step (entry.Accept run) runs s t = with_samples run.commit step (of_s
 seen_after step (entry.Retract run) runs s t = given_back (found_run run runs) s t
 seen_after step (entry.Tune metric penalty) runs s t = t
 seen_after step (entry.Publish p) runs s t = t
+seen_after step (entry.Regression event) runs s t = t
+seen_after step (entry.Job event) runs s t = t
 
 -- the series have room for a run's samples, and know nothing of its step
 pub record HasRoomForAll (series : Kept) (commit step : ℕ) (samples : List Measurement) : Type 0 where
@@ -78,6 +86,8 @@ TakesIn series step (entry.Accept run) = HasRoomForAll series run.commit step ru
 TakesIn series step (entry.Retract run) = Unit {0}
 TakesIn series step (entry.Tune metric penalty) = Unit {0}
 TakesIn series step (entry.Publish p) = Unit {0}
+TakesIn series step (entry.Regression event) = Unit {0}
+TakesIn series step (entry.Job event) = Unit {0}
 
 -- ---- penalties
 
@@ -92,8 +102,9 @@ given_after e metric z = z
 
 -- ---- what is seen of the indexes is the same
 
-pub record AreSame (commits commits' : List Declaration) (runs runs' : List Stored) (series series' : Kept) (penalties penalties' : Penalties) : Type 0 where
+pub record AreSame (commits commits' : List Declaration) (runs runs' : List Stored) (series series' : Kept) (penalties penalties' : Penalties) (f f' : Following) : Type 0 where
   pub same_commits : commits' ≡ commits
   pub same_runs : runs' ≡ runs
   pub same_series : (s : Series) → seen s series' ≡ seen s series
   pub same_penalties : (metric : List ℕ) → given metric penalties' ≡ given metric penalties
+  pub same_followed : f' ≡ f

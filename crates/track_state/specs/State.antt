@@ -17,6 +17,8 @@ use Rattle.metric_table.specs.Table.{IsPenalty}
 use Rattle.segment_cost.specs.declared.done.Done.{Done}
 use Rattle.publication_index.specs.Given.{given}
 use Rattle.publication_index.specs.Kept.{kept}
+use Rattle.track_state.specs.declared.following.Following.{Following}
+use Rattle.track_state.specs.Following.{AreFollowed}
 use Rattle.track_state.specs.Indexes.{Kept, Penalties, stored_runs}
 use Rattle.track_state.specs.Made.{Segmentations, publication_from, IsMadeFrom}
 
@@ -44,7 +46,7 @@ IsKept h None (Some done) = ⊥
 IsKept h (Some p) None = ⊥
 
 -- the history is legal, and each index is what follows from it
-pub record StandsFor (h : List Entry) (commits : List Declaration) (runs : List Stored) (series : Kept) (known : ℕ) (penalties : Penalties) (published : Segmentations) (cuts : ℕ) : Type 0 where
+pub record StandsFor (h : List Entry) (commits : List Declaration) (runs : List Stored) (series : Kept) (known : ℕ) (penalties : Penalties) (published : Segmentations) (cuts : ℕ) (following : Following) : Type 0 where
   pub legal : Legal h
   pub limits : KeepsLimits h
   pub commits_are : commits ≡ declarations h
@@ -55,3 +57,4 @@ pub record StandsFor (h : List Entry) (commits : List Declaration) (runs : List 
   pub penalties_fit : (metric : List ℕ) → IsPenalty (penalty_of metric h)
   pub published_are : (s : Series) → IsKept h (last_publication s h) (kept s published)
   pub cuts_are : cuts ≡ cut_count h
+  pub followed_are : AreFollowed h following

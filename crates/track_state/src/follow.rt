@@ -8,9 +8,11 @@ ghost use Rattle.sample_store.specs.Judged as judge;
 ghost use Rattle.sample_store.specs.declared.answers.Accepted.TheVariants as accepted;
 ghost use Rattle.series_index.specs.Seen.{seen};
 ghost use Rattle.series_index.specs.Taken.{of_series, with_samples};
+ghost use Rattle.track_state.specs.Following.{IsFollowed};
 ghost use Rattle.track_state.specs.Indexes.{IsReady, TakesIn, runs_after, given_back, found_run, seen_after, given_after, AreSame};
 
 use crate::NoMemory;
+use crate::following::{Following, follow_job, follow_regression};
 use history_model::{Entry, Run};
 use line_text::Name;
 use order_index::OrderIndex;
@@ -26,10 +28,11 @@ pub fn follow(
     runs: &mut SampleStore,
     series: &mut SeriesIndex,
     penalties: &mut PenaltyIndex,
+    following: &mut Following,
     step: u64,
     entry: &Entry,
 ) -> Result<(), NoMemory>
-    requires indexes { IsReady commits.old runs.old entry.now }
+    requires indexes { IsReady commits.old runs.old following.old entry.now }
     requires series { TakesIn series.old step entry.now }
     ensures commits { OnOk result
         (commits.new ≡ commits.old ++ option_to_list (declaration step entry.now)) }
@@ -38,8 +41,10 @@ pub fn follow(
         ≡ seen_after step entry.now runs.old s (seen s series.old)) }
     ensures penalties { OnOk result ((metric : List ℕ) → given metric penalties.new
         ≡ given_after entry.now metric (given metric penalties.old)) }
+    ensures following { OnOk result
+        (IsFollowed commits.old entry.now following.old following.new) }
     ensures same { OnErr result (AreSame commits.old commits.new runs.old runs.new
-        series.old series.new penalties.old penalties.new) }
+        series.old series.new penalties.old penalties.new following.old following.new) }
 {
     match entry {
         Entry::Commit { number, name } => {
@@ -63,6 +68,14 @@ pub fn follow(
             Ok(())
         }
         Entry::Publish { .. } => Ok(()),
+        Entry::Regression { event } => {
+            follow_regression(alloc, &mut following.regressions, event)?;
+            Ok(())
+        }
+        Entry::Job { event } => {
+            follow_job(alloc, commits, &mut following.jobs, event)?;
+            Ok(())
+        }
     }
 }
 

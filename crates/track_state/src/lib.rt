@@ -9,9 +9,14 @@
 
 mod calibrate;
 mod changes;
+mod events;
 mod follow;
+mod following;
+mod jobs;
 mod publish;
+mod regressions;
 mod replay;
+mod report;
 mod runs;
 mod segment;
 mod snapshot;

@@ -14,8 +14,8 @@ ghost use Rattle.track_state.specs.Publications.{IsAdded, IsPublished, entry_of,
 use crate::NoMemory;
 use crate::state::TrackState;
 use history_model::{
-    Author, Entry, Placed, Publication, growth_law, limits_law, penalty_law, positions_law,
-    publication_law, retraction_law, within_law,
+    Author, Entry, Placed, Publication, growth_law, jobs_law, limits_law, penalty_law,
+    positions_law, publication_law, regressions_law, retraction_law, within_law,
 };
 use metric_table::Limit;
 use segment_cost::Done;
@@ -76,6 +76,8 @@ impl TrackState {
         retraction_law();
         penalty_law();
         publication_law();
+        regressions_law();
+        jobs_law();
         self.history.reserve(1)?;
         let step = self.history.len() as u64 + 1;
         let cuts = done.cert.cuts.len() as u64;

@@ -23,7 +23,7 @@ impl TrackState {
         self.runs.of_name(run).is_some()
     }
 
-    fn is_declared(&self, number: u64) -> bool
+    pub(crate) fn is_declared(&self, number: u64) -> bool
         ensures { result ≡ is_some (name_of number (entries_of self.now.history)) }
     {
         self.commits.name_of(number).is_some()
@@ -101,6 +101,8 @@ impl TrackState {
                 Ok(None)
             }
             Entry::Publish { .. } => unreachable!(),
+            Entry::Regression { event } => Ok(self.regression_allowance(event)),
+            Entry::Job { event } => self.job_allowance(event),
         }
     }
 

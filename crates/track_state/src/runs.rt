@@ -94,6 +94,47 @@ impl TrackState {
                 metric,
             } => self.verify(author, test, metric),
             Request::Runs { machine: _ } => self.runs(),
+            Request::Regress {
+                machine: _,
+                test,
+                metric,
+                change,
+            } => {
+                let change = *change;
+                self.regress(author, test, metric, change)
+            }
+            Request::SetState {
+                machine: _,
+                regression,
+                state,
+            } => {
+                let regression = *regression;
+                let state = *state;
+                self.set_state(author, regression, state)
+            }
+            Request::Bisect { machine: _, lo, hi } => self.bisect(author, lo, hi),
+            Request::Answer {
+                machine: _,
+                job,
+                commit,
+                status,
+            } => {
+                let number = *job;
+                let status = *status;
+                self.answer_job(author, number, commit, status)
+            }
+            Request::Resume { machine: _, job } => {
+                let number = *job;
+                self.resume(author, number)
+            }
+            Request::Job { machine: _, job } => {
+                let number = *job;
+                self.job(number)
+            }
+            Request::Report { machine: _, json } => {
+                let json = *json;
+                self.report(author, json)
+            }
         }
     }
 }

@@ -12,9 +12,10 @@ ghost use Rattle.track_state.specs.Made.{IsPlain};
 
 use crate::NoMemory;
 use crate::follow::follow;
+use crate::following::Following;
 use history_model::{
-    Author, Declaration, Entry, Placed, growth_law, limits_law, penalty_law, positions_law,
-    publication_law, retraction_law,
+    Author, Declaration, Entry, Placed, between_law, growth_law, jobs_law, limits_law, penalty_law,
+    positions_law, publication_law, regressions_law, retraction_law,
 };
 use line_text::Name;
 use metric_table::Limit;
@@ -41,6 +42,7 @@ pub struct TrackState {
     pub(crate) penalties: PenaltyIndex,
     pub(crate) published: PublicationIndex,
     pub(crate) cuts: u64,
+    pub(crate) following: Following,
 }
 
 impl Model for TrackState {
@@ -54,7 +56,7 @@ impl Model for TrackState {
 
     ghost invariant = { λ s.
         StandsFor (entries_of s.history.items) s.commits s.runs s.series s.known
-        s.penalties s.published s.cuts };
+        s.penalties s.published s.cuts s.following };
 }
 
 impl TrackState {
@@ -74,6 +76,7 @@ impl TrackState {
             penalties: PenaltyIndex::new(alloc),
             published: PublicationIndex::new(alloc),
             cuts: 0,
+            following: Following::new(alloc),
         }
     }
 
@@ -135,6 +138,9 @@ impl TrackState {
         limits_law();
         penalty_law();
         publication_law();
+        regressions_law();
+        jobs_law();
+        between_law();
         self.history.reserve(1)?;
         let step = self.history.len() as u64 + 1;
         follow(
@@ -143,6 +149,7 @@ impl TrackState {
             &mut self.runs,
             &mut self.series,
             &mut self.penalties,
+            &mut self.following,
             step,
             &entry,
         )?;

@@ -1,17 +1,13 @@
-use Rattle.std.proofs.Common.{◌≡◌, ℕ, ℤ, List, [], ◌∷◌, ◌++◌, codes, decimal, FitsSigned, sym, ap, ◌∙◌, append_assoc, rules}
+use Rattle.std.proofs.Common.{ℕ, List, [], ◌∷◌, ◌++◌, codes, decimal, FitsSigned, rules}
 use Rattle.std.specs.Fmt.{signed_decimal}
 use Rattle.std.specs.Int.{w128}
-use Rattle.std.proofs.lemmas.Grind.{flat_map-append}
 use Rattle.std.proofs.lemmas.Int.{to_z-of_z}
 use Rattle.std.proofs.lemmas.Result.{MatchResult-weaker}
-use Rattle.request_model.specs.Lines.{spaced}
+use Rattle.regression_state.specs.Moves.{word}
+use Rattle.report_model.specs.Outcomes.{outcome_text}
 use Rattle.reply_text.specs.Replies.{version_words}
+use Rattle.reply_text.proofs.WordsBehind.{more_words}
 use Rattle.reply_text.proofs.answer.put_answer.Goals as goal
-
--- words behind words
-more_words : (old one new : List ℕ) (a b : List (List ℕ)) → one ≡ old ++ spaced a → new ≡ one ++ spaced b → new ≡ old ++ spaced (a ++ b)
-more_words old one new a b first last =
-    last ∙ ap (λ (text : List ℕ). text ++ spaced b) first ∙ append_assoc old (spaced a) (spaced b) ∙ ap (λ (text : List ℕ). old ++ text) (sym (flat_map-append (λ (w : List ℕ). 32 ∷ w) a b))
 
 pub returns-in_ok-put_sizes-in-Segmented : goal.returns-in_ok-put_sizes-in-Segmented
 returns-in_ok-put_sizes-in-Segmented c =
@@ -22,3 +18,15 @@ returns-in_ok-put_sizes-in-Segmented c =
     let both = more_words _ _ _ head sizes c.in_ok-put_version-in-Segmented.ensures c.in_ok-put_sizes-in-Segmented.ensures in
     rw c.in-Segmented.is (MatchResult-weaker c.put_effort.result (rw (to_z-of_z w128 c.in-Segmented.total fits) at c.put_effort.ensures)
     (λ done told. more_words _ _ _ (head ++ sizes) effort both told) (λ fault told. told))
+
+pub returns-in_ok-put_counted-in-Moved : goal.returns-in_ok-put_counted-in-Moved
+returns-in_ok-put_counted-in-Moved c =
+    rw c.in-Moved.is (MatchResult-weaker c.put_move.result c.put_move.ensures
+    (λ done told. more_words _ _ _ (codes "regression" ∷ decimal c.in-Moved.regression ∷ []) (word c.in-Moved.from ∷ word c.in-Moved.to ∷ []) c.in_ok-put_counted-in-Moved.ensures told)
+    (λ fault told. told))
+
+pub returns-in_ok-put_job-in-Job : goal.returns-in_ok-put_job-in-Job
+returns-in_ok-put_job-in-Job c =
+    let job : List (List ℕ) = codes "job" ∷ decimal c.in-Job.job ∷ codes "range" ∷ decimal c.in-Job.range ∷ codes "questions" ∷ decimal c.in-Job.questions ∷ [] in
+    rw c.in-Job.is (MatchResult-weaker c.put_outcome.result c.put_outcome.ensures
+    (λ done told. more_words _ _ _ job (outcome_text c.in-Job.outcome ∷ []) c.in_ok-put_job-in-Job.ensures told) (λ fault told. told))

@@ -1,7 +1,5 @@
-use Rattle.std.proofs.Common.{rules, ◌≡◌, ◌+◌, ℕ, true, false, slice_range, refl}
-use Rattle.std.proofs.lemmas.Result.{err_from_is_err_and}
-use Rattle.request_text.specs.Bodies.{Item}
-use Rattle.request_text.specs.Items.{Asks}
+use Rattle.std.proofs.Common.{rules, ◌≡◌, ◌+◌, ℕ, true, false, refl}
+use Rattle.std.proofs.lemmas.Result.{err_from_is_err_and, MatchResult-weaker}
 use Rattle.request_text.proofs.Stops.{few_kept}
 use Rattle.request_text.proofs.WholePieces.{needs_body, stops_inside, next_piece}
 use Rattle.request_text.proofs.body_read.read_short.Goals as goal
@@ -23,10 +21,10 @@ returns-then-not-branch-clause-stops g c =
       few = few_kept _ _ _ _ _ gathers.gains;
     })
 
-pub returns-in_err-item-clause-stops : goal.returns-in_err-item-clause-stops
-returns-in_err-item-clause-stops g c =
-    let p = err_from_is_err_and c.from_residual-in_err-item.result c.from_residual-in_err-item.ensures.1 in
-    rw (p.1, p.2) (record { why = tt; few = few_kept _ _ _ _ _ c.in_ok-need.ensures.ok.gains })
+pub returns-clause-stops : goal.returns-clause-stops
+returns-clause-stops g c =
+    MatchResult-weaker c.ask_kept.result c.ask_kept.ensures.err (λ asked told. told)
+    (λ stop told. rw told (record { why = tt; few = few_kept _ _ _ _ _ c.in_ok-need.ensures.ok.gains }))
 
 pub returns-clause-next : goal.returns-clause-next
 returns-clause-next g c =
@@ -34,9 +32,9 @@ returns-clause-next g c =
     let total : ℕ = c.args.ended + c.args.count in
     let enough : c.in_ok-need.field-0 ≡ true = search rules in
     let gathers = rw enough at c.in_ok-need.ensures.ok in
-    let item : Item = c.in_ok-item.item in
-    let asks : Asks begins.line (slice_range c.need.new.lines.kept c.args.ended total) item =
-    rw c.kept.ensures.same at (c.in_ok-item.ensures begins.line begins.reads) in
-    next_piece c.args.lines.now c.need.new.lines c.use_up.new.self _ _ c.args.ended total c.args.count begins.line item c.asked_of.result
-    begins.has begins.asked begins.counted refl gathers asks c.requires.goes_on c.use_up.ensures.kept c.use_up.ensures.before
-    c.use_up.ensures.ended c.use_up.ensures.stopped c.asked_of.ensures.item (c.asked_of.ensures.tells c.use_up.new.self)
+    MatchResult-weaker c.ask_kept.result c.ask_kept.ensures.ok
+    (λ asked told.
+    next_piece c.args.lines.now c.need.new.lines c.ask_kept.new.lines _ _ c.args.ended total c.args.count begins.line told.item asked
+    begins.has begins.asked begins.counted refl gathers (told.asks begins.line begins.reads) c.requires.goes_on told.kept told.before
+    told.ended told.stopped told.items (told.tells c.ask_kept.new.lines))
+    (λ stop told. told)

@@ -5,7 +5,10 @@ use Rattle.std.proofs.lemmas.List.{length-map}
 use Rattle.history_model.specs.declared.entries.Entry.{Entry}
 use Rattle.history_model.specs.declared.entries.Placed.{Placed}
 use Rattle.history_model.specs.Allowed.{Allowed}
-use Rattle.history_model.specs.Commits.{declaration}
+use Rattle.history_model.specs.declared.entries.Declaration.{Declaration}
+use Rattle.history_model.specs.Commits.{declaration, declarations}
+use Rattle.track_state.specs.Following.{IsFollowed}
+use Rattle.track_state.proofs.Followed.{followed-after}
 use Rattle.history_model.specs.Entries.{entries_of}
 use Rattle.track_model.specs.Tracks.{Track}
 use Rattle.history_model.proofs.Chosen.{entries-push}
@@ -25,7 +28,8 @@ follow-requires-clause-indexes c =
     let h : List Entry = entries_of c.self.inside.history.items in
     let h_is : entries_of c.args.self.now.history ≡ h = ap (λ (t : Track). entries_of t.history) (sym c.self.view_is) in
     let allowed : Allowed h e = let P : List Entry → Type 0 = λ before. Allowed before e in subst P h_is c.requires.allowed in
-    rw (c.self.invariant.commits_are, c.self.invariant.runs_are) (ready h e allowed)
+    rw (c.self.invariant.commits_are, c.self.invariant.runs_are)
+    (ready c.between_law.ensures.two h c.self.inside.following e c.self.invariant.followed_are allowed)
 
 pub follow-requires-clause-series : goal.follow-requires-clause-series
 follow-requires-clause-series c =
@@ -55,14 +59,18 @@ invariant_of-self-2 c =
     rw (← step_is) c.in_ok-follow.ensures.series in
     let grown : length (known_series (h ++ e ∷ [])) ≡ length (known_series h) + c.args.more = rw h_is at c.requires.more in
     let given_are : (metric : List ℕ) → given metric c.follow.new.penalties ≡ given_after e metric (given metric c.self.inside.penalties) = c.in_ok-follow.ensures.penalties in
+    let followed : IsFollowed (declarations h) e c.self.inside.following c.follow.new.following =
+    subst (λ (ds : List Declaration). IsFollowed ds e c.self.inside.following c.follow.new.following) c.self.invariant.commits_are c.in_ok-follow.ensures.following in
     rw (entries_are, commits_are, runs_are)
     (follows c.growth_law.ensures.legal c.positions_law.ensures.accept c.positions_law.ensures.retract c.positions_law.ensures.untouched c.retraction_law.ensures
     c.penalty_law.ensures.set c.penalty_law.ensures.stays
     h e c.self.inside.commits c.self.inside.runs c.self.inside.series c.follow.new.series c.self.inside.known c.args.more
-    c.self.inside.penalties c.follow.new.penalties c.self.inside.published c.self.inside.published c.self.inside.cuts c.self.inside.cuts
+    c.self.inside.penalties c.follow.new.penalties c.self.inside.published c.self.inside.published c.self.inside.cuts c.self.inside.cuts c.self.inside.following c.follow.new.following
     c.self.invariant allowed grown series_are given_are
     (plain-kept c.publication_law.ensures.stays c.publication_law.ensures.versions h e c.self.inside.published c.requires.plain c.self.invariant.published_are)
-    (plain-counted c.publication_law.ensures.cuts h e c.self.inside.cuts c.requires.plain c.self.invariant.cuts_are))
+    (plain-counted c.publication_law.ensures.cuts h e c.self.inside.cuts c.requires.plain c.self.invariant.cuts_are)
+    (followed-after c.regressions_law.ensures.raised c.regressions_law.ensures.moved c.regressions_law.ensures.stays c.regressions_law.ensures.new c.jobs_law.ensures.stay c.jobs_law.ensures.begun c.jobs_law.ensures.go_on
+    h e c.self.inside.following c.follow.new.following c.self.invariant.legal c.self.invariant.followed_are followed))
 
 pub overflow_add-self : goal.overflow_add-self
 overflow_add-self c =

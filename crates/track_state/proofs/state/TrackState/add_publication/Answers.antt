@@ -17,8 +17,8 @@ use Rattle.track_state.proofs.state.TrackState.add_publication.Goals as goal
 pub invariant_of-self-in_err-insert : goal.invariant_of-self-in_err-insert
 invariant_of-self-in_err-insert c =
     let x = c.self.inside in
-    rw c.in_ok-reserve.ensures.items (stays (entries_of x.history.items) x.commits x.runs x.series x.series x.known x.penalties x.penalties x.published c.insert.new.self x.cuts
-    c.self.invariant (λ s. refl) (λ metric. refl) c.in_err-insert.ensures.err)
+    rw c.in_ok-reserve.ensures.items (stays (entries_of x.history.items) x.commits x.runs x.series x.series x.known x.penalties x.penalties x.published c.insert.new.self x.cuts x.following x.following
+    c.self.invariant (λ s. refl) (λ metric. refl) c.in_err-insert.ensures.err refl)
 
 pub overflow_add-self : goal.overflow_add-self
 overflow_add-self c =
@@ -44,5 +44,6 @@ invariant_of-self-2 c =
     let all = publishes c.growth_law.ensures.legal c.positions_law.ensures.accept c.positions_law.ensures.retract c.positions_law.ensures.untouched c.retraction_law.ensures
     c.penalty_law.ensures.set c.penalty_law.ensures.stays
     c.publication_law.ensures.last c.publication_law.ensures.stays c.publication_law.ensures.versions c.publication_law.ensures.cuts
-    h c.args.done x.commits x.runs x.series x.known x.penalties x.published c.insert.new.self x.cuts c.self.invariant allowed made c.in_ok-insert.ensures.ok in
+    c.regressions_law.ensures.raised c.regressions_law.ensures.stays c.jobs_law.ensures.stay
+    h c.args.done x.commits x.runs x.series x.known x.penalties x.published c.insert.new.self x.cuts x.following c.self.invariant allowed made c.in_ok-insert.ensures.ok in
     rw (entries_are, c.len-cuts.ensures) all

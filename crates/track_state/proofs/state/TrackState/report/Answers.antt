@@ -1,0 +1,33 @@
+use Rattle.std.proofs.Common.{◌≡◌, List, length, refl, sym, ◌∙◌}
+use Rattle.std.proofs.lemmas.List.{length-map}
+use Rattle.history_model.specs.declared.entries.Entry.{Entry}
+use Rattle.history_model.specs.declared.entries.Placed.{Placed}
+use Rattle.history_model.specs.Entries.{entries_of}
+use Rattle.report_model.specs.declared.pages.Pages.{Pages}
+use Rattle.request_model.specs.declared.replies.Answer.TheVariants as answer
+use Rattle.track_model.specs.Reports.{IsReport, ReportComesTo}
+use Rattle.track_state.proofs.Told.{tells-it}
+use Rattle.track_state.proofs.state.TrackState.report.Goals as goal
+
+pub returns : goal.returns
+returns c =
+    let h : List Entry = entries_of c.args.self.now.history in
+    let machine = c.args.self.now.machine in
+    let pages : Pages = record {
+      machine = c.in_ok-machine.machine;
+      step = c.len.result;
+      json = c.args.json;
+      series = c.in_ok-series.series;
+      regressions = c.in_ok-regressions.regressions;
+      jobs = c.in_ok-jobs.jobs;
+    } in
+    let steps : c.len.result ≡ length h = c.len.ensures ∙ sym (length-map c.args.self.now.history (λ (p : Placed). p.entry)) in
+    let is : IsReport h machine c.args.json pages = record {
+      of_machine = c.in_ok-machine.ensures ∙ c.machine.ensures;
+      at_step = steps;
+      form = refl;
+      of_series = c.in_ok-series.ensures;
+      of_regressions = c.in_ok-regressions.ensures;
+      of_jobs = c.in_ok-jobs.ensures;
+    } in
+    tells-it (ReportComesTo h machine c.args.json) c.args.self.now c.args.author (answer.Report pages) c.told.result (pages, is, refl) c.told.ensures
