@@ -1,5 +1,6 @@
 -- The output of items one after another, and what a sink took of it.
 use Rattle.std.proofs.Common.{◌≡◌, ℕ, ◌+◌, ◌≤◌, inl, Err, List, [], ◌∷◌, ◌++◌, length, take, Option, None, Some, refl, sym, ap, ◌∙◌, arith, append_assoc, append-nil, length-append}
+use Rattle.std.specs.Prelude.{option_to_list}
 use Rattle.std.specs.List.{flat_map}
 use Rattle.std.specs.Io.KnownBytes.{append_known}
 use Rattle.std.proofs.lemmas.Grind.{flat_map-append}
@@ -11,7 +12,7 @@ use Rattle.request_model.specs.declared.requests.Request.{Request}
 use Rattle.request_model.specs.declared.replies.Reply.{Reply}
 use Rattle.reply_text.specs.Replies.{text_of}
 use Rattle.request_text.specs.Bodies.{Item}
-use Rattle.script_session.specs.Outputs.{AreAnswers, IsOutput}
+use Rattle.script_session.specs.Outputs.{AnswersItem, AreAnswers, IsOutput}
 use Rattle.request_text.specs.declared.stop.ReadStop.{ReadStop}
 use Rattle.request_text.specs.declared.stop.ReadStop.TheVariants as read
 use Rattle.script_session.specs.declared.stop.Stop.{Stop}
@@ -21,7 +22,7 @@ use Rattle.script_session.specs.Stops.{stop_of}
 use Rattle.script_session.specs.Endings.{HasWritten, Stands}
 use Rattle.script_session.specs.Turns.{WritesPart, StopsWriting}
 
-module _ {S : Type 0} (does : S → Request → Reply → S → Type 0) where
+module _ {S : Type 0} (does : S → Request → Option Reply → S → Type 0) where
   pub answers_join : (before between after : S) (items more : List Item) (replies others : List Reply)
       → AreAnswers does before items replies between → AreAnswers does between more others after → AreAnswers does before (items ++ more) (replies ++ others) after
   answers_join before between after [] more replies others one two = rw (one.0, sym one.1) two
@@ -30,9 +31,12 @@ module _ {S : Type 0} (does : S → Request → Reply → S → Type 0) where
     one.1,
     one.2 ++ others,
     one.3,
-    ap (λ rs. rs ++ others) one.4,
+    ap (λ rs. rs ++ others) one.4 ∙ append_assoc (option_to_list one.0) one.2 others,
     answers_join one.1 between after items more one.2 others one.5 two,
   )
+
+  pub answers_one : (before : S) (item : Item) (told : Option Reply) (after : S) → AnswersItem does before item told after → AreAnswers does before (item ∷ []) (option_to_list told) after
+  answers_one before item told after answers = (told, after, [], answers, sym (append-nil (option_to_list told)), (refl, refl))
 
   pub output_none : (before : S) → IsOutput does before [] [] before
   output_none before = record { replies = []; answers = (refl, refl); told = refl }
@@ -97,7 +101,7 @@ module _ {O : Type 0} (g : Ghosts O) where
   }
 
   -- nothing was answered, for want of memory
-  pub stops_none : {S : Type 0} (old : O) (does : S → Request → Reply → S → Type 0) (before now : S) (items : List Item) → StopsWriting g old old does before items now NoMemory
+  pub stops_none : {S : Type 0} (old : O) (does : S → Request → Option Reply → S → Type 0) (before now : S) (items : List Item) → StopsWriting g old old does before items now NoMemory
   stops_none old does before now items = record {
     answered = [];
     these = inl refl;

@@ -12,6 +12,7 @@ use Rattle.request_text.specs.Bodies.{Item}
 use Rattle.history_model.specs.declared.entries.Author.{Author}
 use Rattle.history_model.specs.declared.entries.Entry.{Entry}
 use Rattle.history_model.specs.Entries.{entries_of}
+use Rattle.track_model.specs.Following as following
 use Rattle.track_model.specs.Forms as forms
 use Rattle.track_model.specs.Outcomes.{Outcome, tells, refuses}
 use Rattle.track_model.specs.Replies.{machine_of}
@@ -27,6 +28,11 @@ computed h (request.Commit machine number name) = forms.commit h number name
 computed h (request.Submit machine commit run samples ignored stated) = forms.submit h machine commit run samples ignored stated
 computed h (request.Retract machine run) = forms.retract h run
 computed h (request.Tune machine metric penalty) = forms.tune h metric penalty
+computed h (request.SetState machine number state) = following.set_state h number state
+computed h (request.Bisect machine lo hi) = following.bisect h lo hi
+computed h (request.Answer machine number commit status) = following.answer_job h number commit status
+computed h (request.Resume machine number) = following.resume h number
+computed h (request.Job machine number) = following.job h number
 computed h (request.Runs machine) = forms.runs h
 computed h q = refuses refusal.BadRequest
 
@@ -59,22 +65,29 @@ comes h (request.Calibrate machine test metric factor) is = absurd is
 comes h (request.Segment machine test metric) is = absurd is
 comes h (request.Changes machine test metric) is = absurd is
 comes h (request.Verify machine test metric) is = absurd is
+comes h (request.Regress machine test metric change) is = absurd is
+comes h (request.SetState machine number state) is = refl
+comes h (request.Bisect machine lo hi) is = refl
+comes h (request.Answer machine number commit status) is = refl
+comes h (request.Resume machine number) is = refl
+comes h (request.Job machine number) is = refl
 comes h (request.Runs machine) is = refl
+comes h (request.Report machine json) is = absurd is
 
 about_is : (found : Option Track) (author : Author) (tracks : List Track) (q : Request) → IsComputed q → AnswersAbout found author tracks q (about found author tracks q)
 about_is None author tracks q is = refl
 about_is (Some t) author tracks q is = (computed (entries_of t.history) q, comes (entries_of t.history) q is, refl)
 
 answered_is : (author : Author) (tracks : List Track) (item : Item) → AsksComputed item
-    → AnswersItem AnswersFor (state author tracks) item (answered author tracks item).reply (state author (answered author tracks item).tracks)
+    → AnswersItem AnswersFor (state author tracks) item (Some (answered author tracks item).reply) (state author (answered author tracks item).tracks)
 answered_is author tracks (Err reason) is = (refl, refl)
-answered_is author tracks (Ok q) is = (refl, about_is (find (is_track (machine_of q)) tracks) author tracks q is)
+answered_is author tracks (Ok q) is = ((answered author tracks (Ok q)).reply, (refl, about_is (find (is_track (machine_of q)) tracks) author tracks q is), refl)
 
 answers_are : (author : Author) (tracks : List Track) (items : List Item) → AllByRecursion AsksComputed items
     → AreAnswers AnswersFor (state author tracks) items (replies author tracks items) (state author (after author tracks items))
 answers_are author tracks [] are = (refl, refl)
 answers_are author tracks (item ∷ items) are = (
-  (answered author tracks item).reply,
+  Some (answered author tracks item).reply,
   state author (answered author tracks item).tracks,
   replies author (answered author tracks item).tracks items,
   answered_is author tracks item are.0,

@@ -16,8 +16,7 @@ use Rattle.request_text.specs.Bodies.{Item}
 use Rattle.history_model.specs.declared.entries.Author.TheVariants as author
 use Rattle.history_model.specs.declared.entries.Entry.TheVariants as entry
 use Rattle.track_model.specs.Tracks.{Track}
-use Rattle.script_session.specs.Rows.{new_rows}
-use Rattle.script_session.proofs.Computed.{answered, replies, after}
+use Rattle.script_session.proofs.Computed.{answered, replies}
 
 -- ---- a session in which identities come again: a duplicate, a clash, a retraction, and the duplicate of a retracted run
 m : List ℕ
@@ -112,20 +111,9 @@ a_machine_too_many : answered (author.Script 1) (machines 16) (Ok (request.Machi
 unfolding m said machines
 a_machine_too_many = refl
 
--- ---- the rows that a session adds, and those that a later one does
-stored : List Item
-stored = Ok (request.Machine m) ∷ Ok (request.Commit m 10 (codes "a")) ∷ Ok (request.Retract m (codes "r1")) ∷ Ok (request.Tune m (codes "B/op") (pos 50)) ∷ []
-
-rows_are_added : new_rows (after (author.Script 1) [] stored) ≡ codes "machine m1" ∷ codes "entry m1 commit 10 a" ∷ codes "entry m1 tune B/op 50" ∷ []
-unfolding stored m digits
-rows_are_added = refl
-
+-- ---- a machine that the store had
 kept : List Track
 kept = record { machine = m; kept = true; history = record { author = author.Kept; entry = entry.Commit 10 (codes "a") } ∷ [] } ∷ []
-
-rows_stay : new_rows (after (author.Script 1) kept (Ok (request.Commit m 10 (codes "a")) ∷ [])) ≡ []
-unfolding kept m
-rows_stay = refl
 
 it_was_there : replies (author.Script 1) kept (Ok (request.Commit m 10 (codes "a")) ∷ []) ≡ said 1 (answer.Duplicate 1) ∷ []
 unfolding kept m said

@@ -148,7 +148,14 @@ module _ (author : Author) where
   unknown_stays tracks (request.Segment machine test metric) none = stays_same tracks
   unknown_stays tracks (request.Changes machine test metric) none = stays_same tracks
   unknown_stays tracks (request.Verify machine test metric) none = stays_same tracks
+  unknown_stays tracks (request.Regress machine test metric change) none = stays_same tracks
+  unknown_stays tracks (request.SetState machine number state) none = stays_same tracks
+  unknown_stays tracks (request.Bisect machine lo hi) none = stays_same tracks
+  unknown_stays tracks (request.Answer machine number commit status) none = stays_same tracks
+  unknown_stays tracks (request.Resume machine number) none = stays_same tracks
+  unknown_stays tracks (request.Job machine number) none = stays_same tracks
   unknown_stays tracks (request.Runs machine) none = stays_same tracks
+  unknown_stays tracks (request.Report machine json) none = stays_same tracks
 
   about_stays : (found : Option Track) (tracks : List Track) (q : Request) (a : Answered) → find (is_track (machine_of q)) tracks ≡ found
       → AnswersAbout found author tracks q a → Stays author tracks a.tracks
@@ -158,10 +165,10 @@ module _ (author : Author) where
   answered_stays : (tracks : List Track) (q : Request) (a : Answered) → Answers author tracks q a → Stays author tracks a.tracks
   answered_stays tracks q a told = about_stays (find (is_track (machine_of q)) tracks) tracks q a refl told
 
-item_stays : (before : State) (item : Item) (reply : Reply) (after : State) → AnswersItem AnswersFor before item reply after → (after.author ≡ before.author) × Stays before.author before.tracks after.tracks
-item_stays before (Ok q) reply after told = (told.0, answered_stays before.author before.tracks q (record { reply = reply; tracks = after.tracks }) told.1)
-item_stays before (Err reason) reply after told =
-    (ap (λ (s : State). s.author) told.1, subst (λ (s : State). Stays before.author before.tracks s.tracks) (sym told.1) (stays_same before.author before.tracks))
+item_stays : (before : State) (item : Item) (told : Option Reply) (after : State) → AnswersItem AnswersFor before item told after → (after.author ≡ before.author) × Stays before.author before.tracks after.tracks
+item_stays before (Ok q) told after (reply, answers, is) = (answers.0, answered_stays before.author before.tracks q (record { reply = reply; tracks = after.tracks }) answers.1)
+item_stays before (Err reason) told after (is, same) =
+    (ap (λ (s : State). s.author) same, subst (λ (s : State). Stays before.author before.tracks s.tracks) (sym same) (stays_same before.author before.tracks))
 
 answers_stay : (before : State) (items : List Item) (replies : List Reply) (after : State) → AreAnswers AnswersFor before items replies after → Stays before.author before.tracks after.tracks
 answers_stay before [] replies after told = subst (λ (s : State). Stays before.author before.tracks s.tracks) (sym told.1) (stays_same before.author before.tracks)

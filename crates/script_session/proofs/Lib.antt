@@ -1,4 +1,3 @@
-mod Places
 mod Answering
 mod Reading
 mod Opening
@@ -7,3 +6,4 @@ mod Once
 mod Computed
 mod Examples
 mod Growing
+mod GoingOn

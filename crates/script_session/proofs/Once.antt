@@ -1,6 +1,6 @@
 -- Outputs are determined.
-use Rattle.std.proofs.Common.{◌≡◌, ℕ, ◌+◌, ◌-◌, inl, inr, true, false, List, [], ◌∷◌, ◌++◌, length, take, Option, None, Some, Ok, Err, refl, sym, ap, ap₂, subst, ◌∙◌, arith, append-nil}
-use Rattle.std.specs.Prelude.{find}
+use Rattle.std.proofs.Common.{◌≡◌, ℕ, ◌+◌, ◌-◌, inl, inr, true, false, List, [], ◌∷◌, ◌++◌, length, take, Option, None, Some, Ok, Err, refl, sym, ap, ap₂, subst, ◌∙◌, arith, append_assoc, append-nil}
+use Rattle.std.specs.Prelude.{find, Bool, if◌then◌else◌, option_to_list}
 use Rattle.std.specs.List.{flat_map}
 use Rattle.std.proofs.lemmas.Grind.{flat_map-append}
 use Rattle.std.proofs.Math.Seq.{take-append-add}
@@ -15,7 +15,7 @@ use Rattle.history_model.specs.Entries.{entries_of}
 use Rattle.track_model.specs.Laws.{OneOutcome}
 use Rattle.track_model.specs.Replies.{machine_of}
 use Rattle.track_model.specs.Tracks.{Track}
-use Rattle.script_session.specs.Sessions.{Answered, is_track, stepped, AnswersAbout, Answers, State, AnswersFor}
+use Rattle.script_session.specs.Sessions.{Answered, is_track, stepped, AnswersAbout, Answers, State, RepliesTo, AnswersFor, is_of_segmentations, AnswersSome}
 use Rattle.script_session.specs.Outputs.{AnswersItem, AreAnswers, IsOutput, AsksFirst}
 use Rattle.script_session.specs.Laws.{AnswersOnce, OutputsOnce, OneScript, ScriptsOnce, BeginsOutput}
 
@@ -31,10 +31,23 @@ answered_once outcome author tracks q a b one two = about_once outcome (find (is
 abbrev state : Author → List Track → State
 state author tracks = record { author = author; tracks = tracks }
 
-pub answers_once : OneOutcome → AnswersOnce AnswersFor
-answers_once outcome before q reply other after last one two =
+one_reply : OneOutcome → (before : State) (q : Request) (reply other : Reply) (after last : State) → RepliesTo before q reply after → RepliesTo before q other last → (reply ≡ other) × (after ≡ last)
+one_reply outcome before q reply other after last one two =
     let same = answered_once outcome before.author before.tracks q (record { reply = reply; tracks = after.tracks }) (record { reply = other; tracks = last.tracks }) one.1 two.1 in
     (ap (λ (a : Answered). a.reply) same, ap₂ state (one.0 ∙ sym two.0) (ap (λ (a : Answered). a.tracks) same))
+
+pub answers_once : OneOutcome → AnswersOnce AnswersFor
+answers_once outcome before q told other after last one two =
+    let same = one_reply outcome before q one.0 two.0 after last one.1 two.1 in
+    (one.2 ∙ ap Some same.0 ∙ sym two.2, same.1)
+
+abbrev told_if : Bool → Reply → Option Reply
+told_if tells reply = if tells then Some reply else None
+
+pub some_once : OneOutcome → AnswersOnce AnswersSome
+some_once outcome before q told other after last one two =
+    let same = one_reply outcome before q one.0 two.0 after last one.1 two.1 in
+    (one.2 ∙ ap (told_if (is_of_segmentations q)) same.0 ∙ sym two.2, same.1)
 
 -- ---- the items of a script
 pub script_once : OneReading → OneScript
@@ -44,10 +57,10 @@ script_once reading bytes items others ending ended (inl one) (inr two) = absurd
 script_once reading bytes items others ending ended (inr one) (inl two) = absurd (omega (arith, one.0, two.0))
 
 -- ---- over whatever answers a request once
-module _ {S : Type 0} (does : S → Request → Reply → S → Type 0) (once : AnswersOnce does) where
-  item_once : (before : S) (item : Item) (reply other : Reply) (after last : S) → AnswersItem does before item reply after → AnswersItem does before item other last → (reply ≡ other) × (after ≡ last)
-  item_once before (Ok q) reply other after last one two = once before q reply other after last one two
-  item_once before (Err reason) reply other after last one two = (one.0 ∙ sym two.0, one.1 ∙ sym two.1)
+module _ {S : Type 0} (does : S → Request → Option Reply → S → Type 0) (once : AnswersOnce does) where
+  item_once : (before : S) (item : Item) (told other : Option Reply) (after last : S) → AnswersItem does before item told after → AnswersItem does before item other last → (told ≡ other) × (after ≡ last)
+  item_once before (Ok q) told other after last one two = once before q told other after last one two
+  item_once before (Err reason) told other after last one two = (one.0 ∙ sym two.0, one.1 ∙ sym two.1)
 
   replies_once : (before : S) (items : List Item) (replies others : List Reply) (after last : S)
       → AreAnswers does before items replies after → AreAnswers does before items others last → (replies ≡ others) × (after ≡ last)
@@ -55,7 +68,7 @@ module _ {S : Type 0} (does : S → Request → Reply → S → Type 0) (once : 
   replies_once before (item ∷ items) replies others after last one two =
       let same = item_once before item one.0 two.0 one.1 two.1 one.3 two.3 in
       let behind = replies_once one.1 items one.2 two.2 after last one.5 (subst (λ s. AreAnswers does s items two.2 last) (sym same.1) two.5) in
-      (one.4 ∙ ap₂ (λ r rs. r ∷ rs) same.0 behind.0 ∙ sym two.4, behind.1)
+      (one.4 ∙ ap₂ (λ t rs. option_to_list t ++ rs) same.0 behind.0 ∙ sym two.4, behind.1)
 
   pub outputs_once : OutputsOnce does
   outputs_once before items text other after last one two =
@@ -73,8 +86,13 @@ module _ {S : Type 0} (does : S → Request → Reply → S → Type 0) (once : 
       → (first : List Reply) × (rest : List Reply) × (between : S) × AreAnswers does before items first between × (replies ≡ first ++ rest)
   replies_parted before [] more replies after told = ([], replies, before, (refl, refl), refl)
   replies_parted before (item ∷ items) more replies after told =
-      let parted = replies_parted told.1 items more told.2 after told.5 in
-      (told.0 ∷ parted.0, parted.1, parted.2, (told.0, told.1, parted.0, told.3, refl, parted.3), told.4 ∙ ap (λ rs. told.0 ∷ rs) parted.4)
+      let parted = replies_parted told.1 items more told.2 after told.5 in (
+        option_to_list told.0 ++ parted.0,
+        parted.1,
+        parted.2,
+        (told.0, told.1, parted.0, told.3, refl, parted.3),
+        told.4 ∙ ap (λ rs. option_to_list told.0 ++ rs) parted.4 ∙ sym (append_assoc (option_to_list told.0) parted.0 parted.1),
+      )
 
   begins_items : (before : S) (items more : List Item) (text whole : List ℕ) (after last : S) → IsOutput does before items text after → IsOutput does before (items ++ more) whole last
       → (rest : List ℕ) × (whole ≡ text ++ rest)

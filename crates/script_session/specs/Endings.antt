@@ -42,7 +42,7 @@ abbrev pub Stands : {S : Type 0} → S → S → Result (Unit {0}) Stop → Type
 Stands after now (Err NoMemory) = Unit {0}
 Stands after now result = now ≡ after
 
-pub record HasAnswered {S : Type 0} (does : S → Request → Reply → S → Type 0) (before now : S) (items : List Item) (text : List ℕ) (result : Result (Unit {0}) Stop) : Type 0 where
+pub record HasAnswered {S : Type 0} (does : S → Request → Option Reply → S → Type 0) (before now : S) (items : List Item) (text : List ℕ) (result : Result (Unit {0}) Stop) : Type 0 where
   pub after : S
   pub output : IsOutput does before items text after
   pub stands : Stands after now result

@@ -1,5 +1,5 @@
 -- What a session leaves of the tracks that it began with.
-use Rattle.std.specs.Prelude.{◌≡◌, ℕ, ◌≤◌, false, List, [], ◌∷◌, ◌++◌, map, length, bytes_eq}
+use Rattle.std.specs.Prelude.{◌≡◌, ℕ, ◌≤◌, true, false, List, [], ◌∷◌, ◌++◌, length}
 use Rattle.std.specs.List.{AllByRecursion}
 use Rattle.metric_table.specs.Limits.{most}
 use Rattle.metric_table.specs.declared.limits.Limit.TheVariants.{Machines}
@@ -7,6 +7,10 @@ use Rattle.request_text.specs.Bodies.{Item}
 use Rattle.history_model.specs.declared.entries.Author.{Author}
 use Rattle.history_model.specs.declared.entries.Placed.{Placed}
 use Rattle.track_model.specs.Tracks.{Track}
+use Rattle.kept_machines.specs.Growth.{GoOn}
+use Rattle.kept_machines.specs.Kept.{AreKept}
+use Rattle.kept_machines.specs.Rows.{is_of_session}
+pub use Rattle.kept_machines.specs.Machines.{IsOther, AreDifferent, names_of}
 use Rattle.script_session.specs.Sessions.{State, AnswersFor}
 use Rattle.script_session.specs.Outputs.{IsOutput}
 
@@ -31,16 +35,6 @@ Grows author [] new = AllByRecursion (IsNew author) new
 Grows author (t ∷ old) [] = ⊥
 Grows author (t ∷ old) (u ∷ new) = Continues author t u × Grows author old new
 
-abbrev pub IsOther : List ℕ → List ℕ → Type 0
-IsOther name other = bytes_eq other name ≡ false
-
-abbrev pub AreDifferent : List (List ℕ) → Type 0
-AreDifferent [] = Unit {0}
-AreDifferent (name ∷ names) = AllByRecursion (IsOther name) names × AreDifferent names
-
-abbrev pub names_of : List Track → List (List ℕ)
-names_of tracks = map (λ (t : Track). t.machine) tracks
-
 -- the tracks grow, and stay of different machines, and few
 pub record Stays (author : Author) (old new : List Track) : Type 0 where
   pub grows : Grows author old new
@@ -50,3 +44,8 @@ pub record Stays (author : Author) (old new : List Track) : Type 0 where
 -- so does every output leave them
 abbrev pub SessionsStay : Type 0
 SessionsStay = (before after : State) (items : List Item) (text : List ℕ) → IsOutput AnswersFor before items text after → Stays before.author before.tracks after.tracks
+
+-- kept machines that grow by entries of one of this session go on from what they were
+abbrev pub SessionsGoOn : Type 0
+SessionsGoOn =
+    (author : Author) (old new : List Track) → is_of_session author ≡ true → AreKept old → Grows author old new → GoOn old new

@@ -10,8 +10,8 @@ use Rattle.script_session.specs.Outputs.{IsOutput, Out, AsksFirst}
 use Rattle.script_session.specs.Endings.{GaveOpen}
 
 -- a request has one answer
-abbrev pub AnswersOnce : {S : Type 0} → (S → Request → Reply → S → Type 0) → Type 0
-AnswersOnce {S = S} does = (before : S) (q : Request) (reply other : Reply) (after last : S) → does before q reply after → does before q other last → (reply ≡ other) × (after ≡ last)
+abbrev pub AnswersOnce : {S : Type 0} → (S → Request → Option Reply → S → Type 0) → Type 0
+AnswersOnce {S = S} does = (before : S) (q : Request) (told other : Option Reply) (after last : S) → does before q told after → does before q other last → (told ≡ other) × (after ≡ last)
 
 -- a request whose outcome is a function of the history; of the others it is a relation
 abbrev pub IsComputed : Request → Type 0
@@ -19,6 +19,8 @@ IsComputed (request.Calibrate machine test metric factor) = ⊥
 IsComputed (request.Segment machine test metric) = ⊥
 IsComputed (request.Changes machine test metric) = ⊥
 IsComputed (request.Verify machine test metric) = ⊥
+IsComputed (request.Regress machine test metric change) = ⊥
+IsComputed (request.Report machine json) = ⊥
 IsComputed q = Unit {0}
 
 -- an item that is such a request, or was refused when it was read
@@ -27,11 +29,11 @@ AsksComputed (Ok q) = IsComputed q
 AsksComputed (Err reason) = Unit {0}
 
 -- items that ask nothing else have an output
-abbrev pub OutputsExist : {S : Type 0} → (S → Request → Reply → S → Type 0) → Type 0
+abbrev pub OutputsExist : {S : Type 0} → (S → Request → Option Reply → S → Type 0) → Type 0
 OutputsExist {S = S} does = (before : S) (items : List Item) → AllByRecursion AsksComputed items → (text : List ℕ) × (after : S) × IsOutput does before items text after
 
 -- items have one output
-abbrev pub OutputsOnce : {S : Type 0} → (S → Request → Reply → S → Type 0) → Type 0
+abbrev pub OutputsOnce : {S : Type 0} → (S → Request → Option Reply → S → Type 0) → Type 0
 OutputsOnce {S = S} does = (before : S) (items : List Item) (text other : List ℕ) (after last : S)
     → IsOutput does before items text after → IsOutput does before items other last → (text ≡ other) × (after ≡ last)
 
@@ -41,12 +43,12 @@ OneScript = (bytes : List ℕ) (items others : List Item) (ending ended : Ending
     → (items ≡ others) × (ending ≡ ended)
 
 -- a script has one output and one ending
-abbrev pub ScriptsOnce : {S : Type 0} → (S → Request → Reply → S → Type 0) → Type 0
+abbrev pub ScriptsOnce : {S : Type 0} → (S → Request → Option Reply → S → Type 0) → Type 0
 ScriptsOnce {S = S} does = (before : S) (bytes text other : List ℕ) (after last : S) (ending ended : Ending)
     → Out does before bytes text after ending → Out does before bytes other last ended → (text ≡ other) × (after ≡ last) × (ending ≡ ended)
 
 -- the text that answers the first items of a script begins its output
-abbrev pub BeginsOutput : {S : Type 0} → (S → Request → Reply → S → Type 0) → Type 0
+abbrev pub BeginsOutput : {S : Type 0} → (S → Request → Option Reply → S → Type 0) → Type 0
 BeginsOutput {S = S} does = (before : S) (bytes : List ℕ) (items : List Item) (text : List ℕ) (after : S) (whole : List ℕ) (last : S) (ending : Ending)
     → AsksFirst bytes items → IsOutput does before items text after → Out does before bytes whole last ending → (more : List ℕ) × (whole ≡ text ++ more)
 

@@ -1,9 +1,7 @@
 pub mod Sessions
 pub mod Outputs
 pub mod Endings
-pub mod Places
 pub mod Stops
 pub mod Turns
 pub mod Laws
-pub mod Rows
 pub mod Growth

@@ -1,5 +1,5 @@
 -- What one request of a script makes of the machines of a session: its reply, and their histories after it.
-use Rattle.std.specs.Prelude.{◌≡◌, ℕ, Bool, false, nat_le, if◌then◌else◌, List, [], ◌∷◌, ◌++◌, length, find, bytes_eq, Option, Some, None}
+use Rattle.std.specs.Prelude.{◌≡◌, ℕ, Bool, true, false, nat_le, if◌then◌else◌, List, [], ◌∷◌, ◌++◌, length, find, Option, Some, None}
 use Rattle.metric_table.specs.Limits.{most}
 use Rattle.metric_table.specs.declared.limits.Limit.TheVariants.{Machines}
 use Rattle.request_model.specs.declared.requests.Request.{Request}
@@ -13,19 +13,12 @@ use Rattle.history_model.specs.Entries.{entries_of}
 use Rattle.track_model.specs.Outcomes.{Outcome, tells, refuses}
 use Rattle.track_model.specs.Replies.{machine_of, reply_of, apart}
 use Rattle.track_model.specs.Tracks.{Track, with_outcome, ComesTo}
+pub use Rattle.kept_machines.specs.Machines.{is_track, changed}
 
 -- a reply, and the tracks after it, in order of declaration
 pub record Answered : Type 0 where
   pub reply : Reply
   pub tracks : List Track
-
-abbrev pub is_track : List ℕ → Track → Bool
-is_track machine t = bytes_eq t.machine machine
-
--- the tracks, with the first of a machine changed
-abbrev pub changed : List ℕ → (Track → Track) → List Track → List Track
-changed machine change [] = []
-changed machine change (t ∷ tracks) = if is_track machine t then change t ∷ tracks else t ∷ changed machine change tracks
 
 -- an answer that names no history
 abbrev pub untouched : List Track → Outcome → Answered
@@ -68,5 +61,22 @@ pub record State : Type 0 where
   pub author : Author
   pub tracks : List Track
 
-abbrev pub AnswersFor : State → Request → Reply → State → Type 0
-AnswersFor before q reply after = (after.author ≡ before.author) × Answers before.author before.tracks q (record { reply = reply; tracks = after.tracks })
+-- a request is answered by this reply, under the session's author
+abbrev pub RepliesTo : State → Request → Reply → State → Type 0
+RepliesTo before q reply after = (after.author ≡ before.author) × Answers before.author before.tracks q (record { reply = reply; tracks = after.tracks })
+
+-- so it is by a session that tells each reply
+abbrev pub AnswersFor : State → Request → Option Reply → State → Type 0
+AnswersFor before q told after = (reply : Reply) × RepliesTo before q reply after × (told ≡ Some reply)
+
+-- ---- a session that tells the replies about segmentations alone
+
+-- the request is for the segmentation of a series, or for its changes
+abbrev pub is_of_segmentations : Request → Bool
+is_of_segmentations (request.Segment machine test metric) = true
+is_of_segmentations (request.Changes machine test metric) = true
+is_of_segmentations q = false
+
+-- a request is answered as ever, and the reply is told exactly where the request is such a one
+abbrev pub AnswersSome : State → Request → Option Reply → State → Type 0
+AnswersSome before q told after = (reply : Reply) × RepliesTo before q reply after × (told ≡ (if is_of_segmentations q then Some reply else None))

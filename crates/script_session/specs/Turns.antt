@@ -1,5 +1,5 @@
 -- Private: no public contract cites this. What one turn of a session writes, and what a session has done between turns.
-use Rattle.std.specs.Prelude.{◌≡◌, ℕ, ◌+◌, ◌≤◌, ◌⊎◌, false, List, [], ◌++◌, length, IfSome, Err}
+use Rattle.std.specs.Prelude.{◌≡◌, ℕ, ◌+◌, ◌≤◌, ◌⊎◌, false, List, [], ◌++◌, length, Option, IfSome, Err}
 use Rattle.std.specs.Io.KnownBytes.{prepend_known}
 use Rattle.track_outside.specs.Calls.{Took, FailedIn, TookPart}
 use Rattle.track_outside.specs.declared.source.Source as source
@@ -16,7 +16,7 @@ use Rattle.script_session.specs.Outputs.{IsOutput}
 use Rattle.script_session.specs.Endings.{Stands}
 
 -- the sink took all of the text that answers these items
-pub record Writes {O S : Type 0} (g : sink.Ghosts O) (old new : O) (does : S → Request → Reply → S → Type 0) (before : S) (items : List Item) (after : S) : Type 0 where
+pub record Writes {O S : Type 0} (g : sink.Ghosts O) (old new : O) (does : S → Request → Option Reply → S → Type 0) (before : S) (items : List Item) (after : S) : Type 0 where
   pub text : List ℕ
   pub output : IsOutput does before items text after
   pub took : Took g old new text
@@ -28,7 +28,7 @@ WritesPart g old new text NoMemory = TookPart g old new text
 WritesPart g old new text stop = ⊥
 
 -- these items or none were answered, and the text was not written whole
-pub record StopsWriting {O S : Type 0} (g : sink.Ghosts O) (old new : O) (does : S → Request → Reply → S → Type 0) (before : S) (items : List Item) (now : S) (stop : Stop) : Type 0 where
+pub record StopsWriting {O S : Type 0} (g : sink.Ghosts O) (old new : O) (does : S → Request → Option Reply → S → Type 0) (before : S) (items : List Item) (now : S) (stop : Stop) : Type 0 where
   pub answered : List Item
   pub these : (answered ≡ []) ⊎ (answered ≡ items)
   pub text : List ℕ
@@ -47,7 +47,7 @@ pub record HasTaken {I : Type 0} (g : source.Ghosts I) (first now : I) (lines : 
   pub counts : g.faults first ≤ g.faults now
 
 -- between two turns: items were read, and all of them are answered
-pub record Goes {I O S : Type 0} (g : source.Ghosts I) (h : sink.Ghosts O) (first now : I) (old new : O) (does : S → Request → Reply → S → Type 0) (before after : S) (lines : Unread) : Type 0 where
+pub record Goes {I O S : Type 0} (g : source.Ghosts I) (h : sink.Ghosts O) (first now : I) (old new : O) (does : S → Request → Option Reply → S → Type 0) (before after : S) (lines : Unread) : Type 0 where
   pub items : List Item
   pub taken : HasTaken g first now lines items
   pub wrote : Writes h old new does before items after

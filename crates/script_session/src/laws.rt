@@ -1,6 +1,6 @@
 //! Laws of the definitions, as public functions that do nothing: their contracts are what they are for.
-ghost use Rattle.script_session.specs.Sessions.{AnswersFor};
-ghost use Rattle.script_session.specs.Growth.{SessionsStay};
+ghost use Rattle.script_session.specs.Sessions.{AnswersFor, AnswersSome};
+ghost use Rattle.script_session.specs.Growth.{SessionsStay, SessionsGoOn};
 ghost use Rattle.script_session.specs.Laws.{
   AnswersOnce,
   OutputsExist,
@@ -29,8 +29,24 @@ pub fn output_law()
     reading_law();
 }
 
+/// Where the replies about segmentations alone are told, a request still has one answer and a script one output, and what
+/// is told of its first requests begins that output.
+pub fn trial_law()
+    ensures answer { AnswersOnce AnswersSome }
+    ensures script { ScriptsOnce AnswersSome }
+    ensures begins { BeginsOutput AnswersSome }
+{
+    outcome_law();
+    reading_law();
+}
+
 /// A session leaves the machines that it began with in their order, each with entries of its own author more, and new ones
 /// behind them; they stay different and few.
 pub fn machines_law()
     ensures { SessionsStay }
+{}
+
+/// Kept machines go on from what they were, where a session leaves them: new entries come behind, and new machines last.
+pub fn goes_on_law()
+    ensures { SessionsGoOn }
 {}

@@ -1,8 +1,8 @@
 //! What a script is answered: a fold of its requests over whatever answers a request, the text of the replies, and why
 //! it ends.
 //!
-//! A [`Desk`] answers requests one by one; a [`Session`] is the desk of one thread, with the machines that its scripts
-//! declare. [`answer_script`] reads the requests of an input one after another, has each answered, and writes the
+//! A [`Desk`] answers requests one by one, and tells the replies; a [`Session`] is the desk of one thread, with the
+//! machines that its scripts declare, and a [`Trial`] is one that tells what it replies about segmentations alone. [`answer_script`] reads the requests of an input one after another, has each answered, and writes the
 //! replies. Proved of it, over any desk: some items of the script were read and answered, and the output took their
 //! text: all of the script's at its end, all of the requests before the stop where the script is cut off, is too long or
 //! can't be read, and a first part where writing fails or memory is wanting; each stop has its exact cause in the bytes.
@@ -10,12 +10,12 @@
 //! output; [`machines_law`] what a session leaves of the machines that it began with.
 //!
 //! `specs/Sessions.antt` says what one request makes of the machines, `specs/Outputs.antt` what the output of a script
-//! is, `specs/Endings.antt` how its answering ends, `specs/Rows.antt` which rows a session adds to a store,
-//! `specs/Growth.antt` and `specs/Laws.antt` the laws. What stands between two requests (`specs/Turns.antt`) and where a
-//! machine stands (`specs/Places.antt`) no public contract cites.
+//! is, `specs/Endings.antt` how its answering ends, `specs/Growth.antt` and `specs/Laws.antt` the laws. What stands between two
+//! requests (`specs/Turns.antt`) no public contract cites.
 //!
 //! Stands on `request_text` and `reply_text` for the texts of requests and replies, on `track_state` and `track_model`
-//! for a machine's answers, on `track_entry` for the rows, and on `track_outside` for sources and sinks.
+//! for a machine's answers, on `kept_machines`, which finds a machine among others, and on `track_outside` for sources
+//! and sinks.
 #![tactic(auto)]
 
 mod desk;
@@ -24,10 +24,12 @@ mod machines;
 mod script;
 mod session;
 mod stop;
+mod trial;
 
 pub use desk::Desk;
-pub use laws::{machines_law, output_law};
+pub use laws::{goes_on_law, machines_law, output_law, trial_law};
 pub use script::answer_script;
 pub use session::Session;
 pub use std::alloc::AllocError as NoMemory;
 pub use stop::Stop;
+pub use trial::Trial;

@@ -1,12 +1,11 @@
 //! Requests, answered on the machine that each is about.
-ghost use Rattle.std.specs.Prelude.{◌≡◌, ◌<◌, IfOk, IfSome, IfNone, OnErr, find, length, None};
+ghost use Rattle.std.specs.Prelude.{◌≡◌, IfOk, OnErr};
 ghost use Rattle.track_model.specs.Replies as replies;
-ghost use Rattle.track_model.specs.Tracks.{Track};
-ghost use Rattle.script_session.specs.Sessions.{is_track, added, unknown, Answers};
-ghost use Rattle.script_session.specs.Places.{IsFirstAt};
+ghost use Rattle.script_session.specs.Sessions.{added, unknown, Answers};
 
 use crate::NoMemory;
 use history_model::Author;
+use kept_machines::place_of;
 use line_text::Name;
 use metric_table::Limit;
 use request_model::{Answer, Refusal, Reply, Request};
@@ -69,21 +68,6 @@ fn add_machine(
     Ok(apart(answer))
 }
 
-// The place of a machine's track; none exactly where it isn't declared.
-fn place_of(machines: &[TrackState], machine: &Name) -> Option<usize>
-    ensures some { IfSome result (λ i. (t : Track) × IsFirstAt machine.now machines.now i t) }
-    ensures none { IfNone result (find (is_track machine.now) machines.now ≡ None) }
-{
-    let mut i = 0;
-    while i < machines.len() {
-        if machines[i].machine() == machine {
-            return Some(i);
-        }
-        i += 1;
-    }
-    None
-}
-
 // The machine that a request is about.
 fn machine_of(request: &Request) -> &Name
     ensures { result.now ≡ replies.machine_of request.now }
@@ -98,7 +82,14 @@ fn machine_of(request: &Request) -> &Name
         Request::Segment { machine, .. } => machine,
         Request::Changes { machine, .. } => machine,
         Request::Verify { machine, .. } => machine,
+        Request::Regress { machine, .. } => machine,
+        Request::SetState { machine, .. } => machine,
+        Request::Bisect { machine, .. } => machine,
+        Request::Answer { machine, .. } => machine,
+        Request::Resume { machine, .. } => machine,
+        Request::Job { machine, .. } => machine,
         Request::Runs { machine } => machine,
+        Request::Report { machine, .. } => machine,
     }
 }
 

@@ -48,7 +48,7 @@ pub fn answer_script<D: Desk, I: Source, O: Sink>(
     }
 }
 
-// Answers what was read, and writes the reply, if there is one.
+// Answers what was read, and writes the reply, if one is told.
 fn answer_next<D: Desk, O: Sink>(
     alloc: Global,
     desk: &mut D,
@@ -66,13 +66,14 @@ fn answer_next<D: Desk, O: Sink>(
     put(alloc, &reply, out)
 }
 
-// The reply to what was read, if there is one.
+// The reply to what was read, if one is told.
+#[tactic(auto, using(crate::proofs::Answering::answers_one))]
 fn reply_to<D: Desk>(desk: &mut D, asked: Asked) -> Result<Option<Reply>, NoMemory>
     ensures ok { IfOk result (λ told.
         AreAnswers D.answers desk.old (items_of asked) (option_to_list told) desk.new) }
 {
     match asked {
-        Asked::Request(request) => Ok(Some(desk.answer(&request)?)),
+        Asked::Request(request) => Ok(desk.answer(&request)?),
         Asked::Refused(reason) => Ok(Some(apart(Answer::Refused(reason)))),
         Asked::End => Ok(None),
     }

@@ -1,6 +1,6 @@
 //! The machines of one thread.
-ghost use Rattle.std.specs.Prelude.{◌≡◌, All};
-ghost use Rattle.script_session.specs.Sessions.{HasLegalHistory};
+ghost use Rattle.std.specs.Prelude.{◌≡◌, All, IfOk};
+ghost use Rattle.script_session.specs.Sessions.{HasLegalHistory, RepliesTo};
 
 use crate::NoMemory;
 use crate::desk::Desk;
@@ -40,6 +40,13 @@ impl Session {
         }
     }
 
+    // Answers a request.
+    pub(crate) fn reply_to(&mut self, request: &Request) -> Result<Reply, NoMemory>
+        ensures { IfOk result (λ reply. RepliesTo self.old request.now reply self.new) }
+    {
+        answer_request(self.alloc, self.author, &mut self.machines, request)
+    }
+
     /// Says what the machines keep: each has a legal history. Changes nothing: its contract is what it is for.
     pub fn histories_law(&self)
         ensures { All HasLegalHistory self.now.tracks }
@@ -62,7 +69,8 @@ impl Desk for Session {
 
     ghost answers = { AnswersFor };
 
-    fn answer(&mut self, request: &Request) -> Result<Reply, NoMemory> {
-        answer_request(self.alloc, self.author, &mut self.machines, request)
+    fn answer(&mut self, request: &Request) -> Result<Option<Reply>, NoMemory> {
+        let reply = self.reply_to(request)?;
+        Ok(Some(reply))
     }
 }

@@ -1,7 +1,7 @@
--- Private: no public contract cites this. Where a machine stands among the tracks.
+-- Where a machine stands among the tracks.
 use Rattle.std.specs.Prelude.{◌≡◌, ℕ, zero, suc, false, List, [], ◌∷◌, find, Some, slice_get, set}
 use Rattle.track_model.specs.Tracks.{Track}
-use Rattle.script_session.specs.Sessions.{is_track, changed}
+use Rattle.kept_machines.specs.Machines.{is_track, changed}
 
 -- the first track of the machine stands at this place
 pub record IsFirstAt (machine : List ℕ) (tracks : List Track) (i : ℕ) (t : Track) : Type 0 where

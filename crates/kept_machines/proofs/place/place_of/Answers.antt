@@ -3,9 +3,9 @@ use Rattle.std.specs.Prelude.{slice_get, bytes_eq}
 use Rattle.std.proofs.lemmas.Option.{slice_get-get_or}
 use Rattle.std.proofs.lemmas.Slice.Eq.{bytes_eq-Decides}
 use Rattle.track_model.specs.Tracks.{Track}
-use Rattle.script_session.specs.Sessions.{is_track}
-use Rattle.script_session.proofs.Places.{found_at, changed_at, none_before, none_found}
-use Rattle.script_session.proofs.machines.place_of.Goals as goal
+use Rattle.kept_machines.specs.Machines.{is_track}
+use Rattle.kept_machines.proofs.Placing.{found_at, changed_at, none_before, none_found}
+use Rattle.kept_machines.proofs.place.place_of.Goals as goal
 
 pub loop-i-init : goal.loop-i-init
 loop-i-init c = (omega arith, tt)

@@ -1,0 +1,10 @@
+mod Placing
+mod Machines
+mod Once
+mod ComesBack
+mod Replayed
+mod NewRows
+mod Choices
+mod Followed
+mod Unpublished
+mod Examples

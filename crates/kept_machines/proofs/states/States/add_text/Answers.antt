@@ -1,0 +1,27 @@
+use Rattle.std.proofs.Common.{◌≡◌, true, sym, ◌∙◌}
+use Rattle.kept_machines.specs.Kept.{is_kept}
+use Rattle.kept_machines.specs.Places.{IsFirstAt}
+use Rattle.kept_machines.proofs.Replayed.{first_is, replayed_kept, replayed_adds, replayed_refuses}
+use Rattle.kept_machines.proofs.states.States.add_text.Goals as goal
+
+-- the machine at the place is the one that the entry is replayed on
+here : (c : goal.After-self-1) → IsFirstAt c.args.machine.now c.self.inside.machines.items c.in-Some.place c.index_mut.result.now
+here c = first_is c.args.machine.now c.deref.result.now c.self.inside.machines.items c.in-Some.place c.index_mut.result.now c.deref.ensures.value c.in-Some.ensures.some c.index_mut.ensures.value
+
+plain : (c : goal.After-self-1) → is_kept c.in-Ok.entry ≡ true
+plain c = sym c.is_kept.ensures ∙ c.if-not-is_kept.false
+
+pub invariant_of-self : goal.invariant_of-self
+invariant_of-self c =
+    replayed_kept c.args.machine.now c.self.inside.machines.items c.in-Some.place c.index_mut.result.now c.replay.new.self c.in-Ok.entry (here c) (plain c)
+    c.replay.result c.replay.ensures.replayed c.replay.ensures.same c.self.invariant
+
+pub returns-clause-added : goal.returns-clause-added
+returns-clause-added c =
+    replayed_adds c.args.machine.now c.self.inside.machines.items c.in-Some.place c.index_mut.result.now c.replay.new.self c.in-Ok.entry (here c) (plain c)
+    c.args.self.now (sym c.self.view_is) c.args.text.now c.in-Ok.ensures.spelt c.replay.result c.replay.ensures.replayed
+
+pub returns-clause-refused : goal.returns-clause-refused
+returns-clause-refused c =
+    replayed_refuses c.args.machine.now c.self.inside.machines.items c.in-Some.place c.index_mut.result.now c.replay.new.self c.in-Ok.entry (here c) (plain c)
+    c.args.self.now (sym c.self.view_is) c.args.text.now c.in-Ok.ensures.spelt c.entries_law.ensures c.replay.result c.replay.ensures.replayed

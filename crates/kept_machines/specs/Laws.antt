@@ -1,0 +1,23 @@
+-- What holds of the rows of machines.
+use Rattle.std.specs.Prelude.{ℕ, List, ◌++◌, map, filter}
+use Rattle.history_model.specs.declared.entries.Entry.{Entry}
+use Rattle.history_model.specs.Allowed.{Legal}
+use Rattle.track_model.specs.Tracks.{Track}
+use Rattle.kept_machines.specs.Growth.{WentOn}
+use Rattle.kept_machines.specs.Kept.{is_kept, kept_of, AreKept}
+use Rattle.kept_machines.specs.Loading.{LeadTo}
+use Rattle.kept_machines.specs.Rows.{new_rows}
+
+-- what was kept comes back: rows that led to some machines, and the new rows of machines that went on from those, lead to
+-- each of the latter as it is kept
+abbrev pub KeptComesBack : Type 0
+KeptComesBack =
+    (rows : List (List ℕ)) (old new : List Track) → LeadTo rows old → WentOn old new → LeadTo (rows ++ new_rows new) (map kept_of new)
+
+-- what rows lead to is as a store keeps it
+abbrev pub LoadedAreKept : Type 0
+LoadedAreKept = (rows : List (List ℕ)) (tracks : List Track) → LeadTo rows tracks → AreKept tracks
+
+-- a history without its publications is legal where the history is
+abbrev pub KeptIsLegal : Type 0
+KeptIsLegal = (h : List Entry) → Legal h → Legal (filter is_kept h)

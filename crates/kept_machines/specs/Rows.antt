@@ -1,0 +1,34 @@
+-- The rows that a session adds to a store: machine by machine, in order of declaration.
+use Rattle.std.specs.Prelude.{ℕ, Bool, true, false, ◌&&◌, if◌then◌else◌, List, [], ◌∷◌, ◌++◌, map, filter}
+use Rattle.std.specs.List.{flat_map}
+use Rattle.history_model.specs.declared.entries.Author.{Author}
+use Rattle.history_model.specs.declared.entries.Author.TheVariants as author
+use Rattle.history_model.specs.declared.entries.Placed.{Placed}
+use Rattle.keep_rows.specs.Rows.{machine_row, entry_row, row_text}
+use Rattle.track_entry.specs.Texts.{entry_text}
+use Rattle.track_model.specs.Tracks.{Track}
+use Rattle.kept_machines.specs.Kept.{is_kept}
+
+-- anyone but the store made it
+abbrev pub is_of_session : Author → Bool
+is_of_session author.Kept = false
+is_of_session other = true
+
+-- an entry of this session that is kept
+abbrev pub is_new : Placed → Bool
+is_new p = is_of_session p.author && is_kept p.entry
+
+-- the row of an entry
+abbrev pub row_of : List ℕ → Placed → List ℕ
+row_of machine p = row_text (entry_row machine (entry_text p.entry))
+
+-- the machine's own row where the store had it not
+abbrev pub head_rows : Track → List (List ℕ)
+head_rows t = if t.kept then [] else row_text (machine_row t.machine) ∷ []
+
+-- that row, and one for each new entry
+abbrev pub track_rows : Track → List (List ℕ)
+track_rows t = head_rows t ++ map (row_of t.machine) (filter is_new t.history)
+
+abbrev pub new_rows : List Track → List (List ℕ)
+new_rows tracks = flat_map track_rows tracks

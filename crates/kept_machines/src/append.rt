@@ -1,0 +1,132 @@
+//! The new rows of machines, added to a keeper.
+ghost use Rattle.std.specs.Prelude.{◌≡◌, ◌≤◌, [], ◌∷◌, ◌++◌, map, filter, OnOk, OnErr};
+ghost use Rattle.track_outside.specs.Counts.{Rose};
+ghost use Rattle.track_outside.specs.Kept.{bytes_of, with_more};
+ghost use Rattle.keep_rows.specs.declared.append.AppendFault.TheVariants as fault;
+ghost use Rattle.kept_machines.specs.Rows.{is_new, is_of_session, row_of, head_rows, track_rows, new_rows};
+
+use crate::NoMemory;
+use crate::states::is_kept;
+use history_model::{Author, Placed};
+use keep_rows::{AppendFault, Recorded, append_each, put_entry_row, put_machine_row};
+use line_text::Name;
+use std::alloc::Global;
+use std::marker::Model;
+use track_entry::put_entry;
+use track_outside::Keeper;
+use track_state::TrackState;
+
+/// Adds the new rows of the machines by one call of the keeper, also where there are none; or adds none.
+///
+/// Linear in the entries of the machines, and in the bytes of the rows.
+pub fn append_all<K: Keeper>(
+    alloc: Global,
+    keeper: &mut K,
+    machines: &[TrackState],
+) -> Result<(), AppendFault>
+    ensures all { OnOk result
+        (K.kept keeper.new ≡ with_more (K.kept keeper.old) (new_rows machines.now)) }
+    ensures none { OnErr result (K.kept keeper.new ≡ K.kept keeper.old) }
+    ensures named { K.started keeper.new ≡ K.started keeper.old }
+    ensures counts { K.faults keeper.old ≤ K.faults keeper.new }
+    ensures rose { result ≡ Err fault.KeepFault → Rose (K.faults keeper.old) (K.faults keeper.new) }
+{
+    append_each(alloc, keeper, &[Machines { machines }])
+}
+
+// The machines whose new rows are added together.
+#[derive(Drop)]
+struct Machines<'a> {
+    machines: &'a [TrackState],
+}
+
+impl<'a> Model for Machines<'a> {
+    ghost use Rattle.std.specs.Prelude.{List};
+    ghost use Rattle.track_model.specs.Tracks.{Track};
+
+    ghost Value = { List Track };
+
+    ghost view = { λ m. m.machines.now };
+}
+
+impl<'a> Recorded for Machines<'a> {
+    ghost use Rattle.kept_machines.specs.Rows.{new_rows};
+
+    ghost new_rows = { new_rows };
+
+    fn put_rows(&self, alloc: Global, out: &mut Vec<Vec<u8>>) -> Result<(), NoMemory> {
+        put_each(alloc, out, self.machines)
+    }
+}
+
+// The new rows of each machine, in order.
+fn put_each(alloc: Global, out: &mut Vec<Vec<u8>>, machines: &[TrackState]) -> Result<(), NoMemory>
+    ensures { OnOk result
+        (bytes_of out.new.items ≡ bytes_of out.old.items ++ new_rows machines.now) }
+{
+    for machine in machines {
+        put_machine(alloc, out, machine)?;
+    }
+    Ok(())
+}
+
+// The new rows of a machine.
+fn put_machine(alloc: Global, out: &mut Vec<Vec<u8>>, machine: &TrackState) -> Result<(), NoMemory>
+    ensures { OnOk result
+        (bytes_of out.new.items ≡ bytes_of out.old.items ++ track_rows machine.now) }
+{
+    put_head(alloc, out, machine)?;
+    put_entries(alloc, out, machine)
+}
+
+// The machine's own row, where the store had it not.
+fn put_head(alloc: Global, out: &mut Vec<Vec<u8>>, machine: &TrackState) -> Result<(), NoMemory>
+    ensures { OnOk result
+        (bytes_of out.new.items ≡ bytes_of out.old.items ++ head_rows machine.now) }
+{
+    if !machine.was_kept() {
+        out.push(put_machine_row(alloc, machine.machine())?)?;
+    }
+    Ok(())
+}
+
+// The rows of its new entries.
+fn put_entries(alloc: Global, out: &mut Vec<Vec<u8>>, machine: &TrackState) -> Result<(), NoMemory>
+    ensures { OnOk result
+        (bytes_of out.new.items ≡ bytes_of out.old.items
+        ++ map (row_of machine.now.machine) (filter is_new machine.now.history)) }
+{
+    for k in 0..machine.len() {
+        match machine.entry(k + 1) {
+            Some(placed) => put_placed(alloc, out, machine.machine(), placed)?,
+            None => unreachable!(),
+        }
+    }
+    Ok(())
+}
+
+// The row of an entry, if it is new.
+fn put_placed(
+    alloc: Global,
+    out: &mut Vec<Vec<u8>>,
+    machine: &Name,
+    placed: &Placed,
+) -> Result<(), NoMemory>
+    ensures { OnOk result
+        (bytes_of out.new.items ≡ bytes_of out.old.items
+        ++ map (row_of machine.now) (filter is_new (placed.now ∷ []))) }
+{
+    if is_of_session(&placed.author) && is_kept(&placed.entry) {
+        let mut text = Vec::new(alloc);
+        put_entry(alloc, &mut text, &placed.entry)?;
+        out.push(put_entry_row(alloc, machine, &text)?)?;
+    }
+    Ok(())
+}
+
+// Whether anyone but the store made an entry.
+fn is_of_session(author: &Author) -> bool
+    ensures { result ≡ is_of_session author.now }
+{
+    !matches!(author, Author::Kept)
+}

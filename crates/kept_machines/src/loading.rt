@@ -1,0 +1,37 @@
+//! Machines that are loaded from a keeper.
+ghost use Rattle.std.specs.Prelude.{◌≡◌, ◌≢◌, ℕ, ◌≤◌, [], ◌∷◌, IfOk, IfSome};
+ghost use Rattle.track_outside.specs.Counts.{Rose};
+ghost use Rattle.track_outside.specs.Kept.{with_more};
+ghost use Rattle.keep_rows.specs.declared.load.LoadFault.TheVariants as fault;
+ghost use Rattle.kept_machines.specs.Kept.{AreKept};
+ghost use Rattle.kept_machines.specs.Loading.{LeadTo, IsFirstBad};
+
+use crate::states::States;
+use keep_rows::{LoadFault, load_into};
+use std::alloc::Global;
+use track_outside::Keeper;
+use track_state::TrackState;
+
+/// Starts the keeper under a name, and gives the machines that its rows lead to, each row read once. The rows stay.
+///
+/// Linear in the bytes of the rows, beside what adding the entries to their states takes.
+pub fn load<K: Keeper>(
+    alloc: Global,
+    keeper: &mut K,
+    name: &str,
+) -> Result<Vec<TrackState>, LoadFault>
+    ensures loaded { IfOk result (λ machines. IfSome (K.kept keeper.old) (λ rows.
+        LeadTo rows machines.items)) }
+    ensures kept { IfOk result (λ machines. AreKept machines.items) }
+    ensures bad { (k : ℕ) → result ≡ Err (fault.BadRow k) →
+        IfSome (K.kept keeper.old) (λ rows. IsFirstBad rows k) }
+    ensures rows { K.kept keeper.new ≡ K.kept keeper.old }
+    ensures named { result ≢ Err fault.NoMemory →
+        K.started keeper.new ≡ with_more (K.started keeper.old) (name.now ∷ []) }
+    ensures counts { K.faults keeper.old ≤ K.faults keeper.new }
+    ensures rose { result ≡ Err fault.KeepFault → Rose (K.faults keeper.old) (K.faults keeper.new) }
+{
+    let mut states = States::new(alloc);
+    load_into(alloc, keeper, name, &mut states)?;
+    Ok(states.into_machines())
+}
