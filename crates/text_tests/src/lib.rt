@@ -16,6 +16,8 @@ mod of_metric_value;
 #[cfg(test)]
 mod of_regression_state;
 #[cfg(test)]
+mod of_reply_text;
+#[cfg(test)]
 mod of_report_pages;
 #[cfg(test)]
 mod of_request_model;

@@ -1,10 +1,10 @@
 //! Both forms of a report, as the documents print them.
 use line_text::Name;
 use regression_state::State;
-use report_pages::{
+use report_model::{
     JobLine, JobLines, Pages, RegressionLine, RegressionLines, SeriesLine, SeriesLines, Told,
-    put_json, put_text,
 };
+use report_pages::{put_json, put_text};
 use std::alloc::Global;
 
 fn named(alloc: Global, text: &str) -> Option<Name> {

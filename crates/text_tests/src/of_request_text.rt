@@ -1,11 +1,11 @@
 //! Requests as they are written.
-use request_model::Request;
+use request_model::{Refusal, Request};
 use request_text::{Asked, Lines, put_request, read_request};
 use std::alloc::Global;
 use track_outside::MemSource;
 
 // Scripts, and how their first request is written.
-const WRITTEN: [(&[u8], &str); 5] = [
+const WRITTEN: [(&[u8], &str); 13] = [
     (
         b"submit  go m%31 a,%2cb r1 20\nBenchmarkX 1 0 B/op\n",
         "submit go m1 a%2C%2Cb r1 25\npkg:\nBenchmarkX 1 0 B/op\n",
@@ -17,6 +17,17 @@ const WRITTEN: [(&[u8], &str); 5] = [
         b"tune  m B%2fop 1000000000000000000000000000000000000",
         "tune m B/op 1000000000000000000000000000000000000\n",
     ),
+    (b"regress m T%31 ns/op 2", "regress m T1 ns/op 2\n"),
+    (b"state m 1  not_to_be_fixed", "state m 1 not_to_be_fixed\n"),
+    (b"bisect m c0 c,10", "bisect m c0 c%2C10\n"),
+    (b"answer m 1 c5 255", "answer m 1 c5 255\n"),
+    (b"resume m 1", "resume m 1\n"),
+    (
+        b"job m 18446744073709551615",
+        "job m 18446744073709551615\n",
+    ),
+    (b"report m text", "report m text\n"),
+    (b"report m json", "report m json\n"),
 ];
 
 // The first request of a script; none where there is none.
@@ -37,6 +48,35 @@ fn is_written(alloc: Global, script: &[u8], wanted: &str) -> bool {
             put_request(alloc, &mut out, &request).is_ok() && out.as_slice() == wanted.as_bytes()
         }
         None => false,
+    }
+}
+
+// Lines of no form.
+const FORMLESS: [&[u8]; 4] = [
+    b"answer m 1 c5 256",
+    b"state m 1 Fixed",
+    b"report m JSON",
+    b"resume m 18446744073709551616",
+];
+
+// Whether a line is refused as one of no form.
+fn is_formless(alloc: Global, script: &[u8]) -> bool {
+    let Ok(mut source) = MemSource::new(alloc, script, &[]) else {
+        return false;
+    };
+    let Ok(mut lines) = Lines::new(alloc) else {
+        return false;
+    };
+    matches!(
+        read_request(alloc, &mut lines, &mut source),
+        Ok(Asked::Refused(Refusal::BadRequest))
+    )
+}
+
+#[test]
+fn other_words_are_no_form(rt: HostRuntime) {
+    for line in &FORMLESS {
+        assert!(rt; is_formless(rt.alloc(), line));
     }
 }
 

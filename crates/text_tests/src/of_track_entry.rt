@@ -18,7 +18,7 @@ fn is_spelling(alloc: Global, text: &[u8]) -> bool {
 }
 
 // Spellings of entries.
-const ENTRIES: [&str; 12] = [
+const ENTRIES: [&str; 20] = [
     "commit 10 a",
     "commit 18446744073709551615 %20%25%2C",
     "accept r1 10 1 X B/op 0",
@@ -31,10 +31,18 @@ const ENTRIES: [&str; 12] = [
     "publish X B/op 8 0 0 0",
     "publish a%20b x 12 5 340282 3 1 2 3",
     "publish BenchmarkX ns/op 18446744073709551615 18446744073709551615 -170141183460469231731687303715884105728 2 0 18446744073709551615",
+    "raise X B/op 1 2",
+    "raise a%20b x 0 18446744073709551615",
+    "move 1 staged",
+    "move 18446744073709551615 not_to_be_fixed",
+    "begin 10 20",
+    "answer 1 3 255",
+    "answer 7 18446744073709551615 0",
+    "giveup 1 3",
 ];
 
 // Texts that spell none.
-const NO_ENTRIES: [&str; 37] = [
+const NO_ENTRIES: [&str; 51] = [
     "",
     "commit",
     "commit 02 c",
@@ -72,6 +80,20 @@ const NO_ENTRIES: [&str; 37] = [
     "publish X B/op 8 0 0 1 18446744073709551616",
     "publish X B/op 8 0 170141183460469231731687303715884105728 0",
     "publish X aaaaaaaaaaaaaaaaaaaaaaaaaaaaaaaaaaaaaaaaaaaaaaaaaaaaaaaaaaaaaaaaa 8 0 0 0",
+    "raise X B/op 1",
+    "raise X B/op 01 2",
+    "raise X aaaaaaaaaaaaaaaaaaaaaaaaaaaaaaaaaaaaaaaaaaaaaaaaaaaaaaaaaaaaaaaaa 1 2",
+    "raise X B/op 1 2 3",
+    "move 1 Staged",
+    "move staged 1",
+    "move 1 staged active",
+    "begin 10",
+    "begin 10 18446744073709551616",
+    "answer 1 3 256",
+    "answer 1 3",
+    "answer 1 3 00",
+    "giveup 1 3 0",
+    "give_up 1 3",
 ];
 
 // Whether the text is refused.

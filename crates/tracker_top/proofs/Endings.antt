@@ -14,12 +14,12 @@ use Rattle.cut_lines.specs.declared.stop.Stop.{Stop}
 use Rattle.cut_lines.specs.declared.stop.Stop.TheVariants as stop
 use Rattle.cut_lines.specs.Stops.{BytesShow, StopsFor}
 use Rattle.tracker_top.specs.declared.command.Command.{Command}
-use Rattle.tracker_top.specs.declared.command.Command.TheVariants.{Cut, Apply, Gen}
+use Rattle.tracker_top.specs.declared.command.Command.TheVariants.{Cut, Apply, Gen, Trial}
 use Rattle.tracker_top.specs.declared.status.Status.{Status}
 use Rattle.tracker_top.specs.declared.status.Status.TheVariants.{Done, BadWords, ReadFault, WriteFault, CutOff, NoMemory, InputTooLong, BadLine, Full}
 use Rattle.tracker_top.specs.Commands.{IsSpelled}
 use Rattle.tracker_top.specs.Statuses.{status_of, script_status, ended, CutShows, ScriptShows, Shows, IsDue, OneStatusIsDue}
-use Rattle.tracker_top.specs.Endings.{HasCause, EndsInput, EndsOutput, IsOfOutput, Ends}
+use Rattle.tracker_top.specs.Endings.{HasCause, EndsInput, EndsOutput, IsOfOutput, HasAsked, Ends}
 use Rattle.tracker_top.specs.Answers.{IsCertificateText}
 use Rattle.series_gen.specs.Script.{script as script_of}
 
@@ -117,7 +117,20 @@ module _ {I O : Type 0} (g : source.Ghosts I) (h : sink.Ghosts O) (words : List 
   gen_comes number spelled (BadLine k) cause output = absurd cause
   gen_comes number spelled (Full k) cause output = absurd cause
 
+  trial_comes : (number : ℕ) → IsSpelled words (Trial number) → (items : List Item) (text : List ℕ) (result : Result (Unit {0}) ScriptStop)
+      → HasAsked (script_of number) items result → HasWritten h before after text result → WhatIsDueComes (script_status result)
+  trial_comes number spelled items text (Ok done) read wrote = shown (Trial number) spelled (g.left old) Done _ _ (if_some (g.left old) (λ bytes. (items, end, read, refl)))
+  trial_comes number spelled items text (Err script.ReadFault) read wrote = absurd read
+  trial_comes number spelled items text (Err script.WriteFault) read wrote = if_some (g.left old) (λ bytes status due. inr (inr (inr wrote.rose)))
+  trial_comes number spelled items text (Err (script.CutOff offset)) read wrote =
+      shown (Trial number) spelled (g.left old) (CutOff 0 offset) _ _ (if_some (g.left old) (λ bytes. (items, cut_off offset, read, refl)))
+  trial_comes number spelled items text (Err script.InputTooLong) read wrote =
+      shown (Trial number) spelled (g.left old) (InputTooLong 0) _ _ (if_some (g.left old) (λ bytes. (items, unfinished, read, refl)))
+  trial_comes number spelled items text (Err script.NoMemory) read wrote = if_some (g.left old) (λ bytes status due. inr (inl refl))
+
   pub comes : (command : Command) (result : Status) → IsSpelled words command → Ends g h command old new before after result → WhatIsDueComes result
   comes (Cut penalty) result spelled ends = cut_comes penalty (IsCertificateText penalty (g.left old)) spelled result ends.input.cause ends.output
   comes Apply result spelled ends = subst WhatIsDueComes (sym ends.told) (apply_comes spelled ends.items ends.text ends.result ends.read ends.wrote)
   comes (Gen number) result spelled ends = gen_comes number spelled result ends.cause ends.output
+  comes (Trial number) result spelled ends =
+      subst WhatIsDueComes (sym ends.run.told) (trial_comes number spelled ends.run.items ends.run.text ends.run.result ends.run.read ends.run.wrote)

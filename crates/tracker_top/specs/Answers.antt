@@ -1,4 +1,4 @@
--- Which text answers `cut`, what `apply` begins with, and what its machines publish.
+-- Which text answers `cut`, what `apply` begins with, and what its machines publish and bisect.
 use Rattle.std.specs.Prelude.{◌≡◌, ℕ, List, [], All, Option, pos}
 use Rattle.segment_model.specs.Segments.{Position}
 use Rattle.segment_cost.specs.declared.cert.Cert.{Cert}
@@ -7,6 +7,7 @@ use Rattle.cut_lines.specs.Reading.{ArePointsOfInput}
 use Rattle.cost_certificate.specs.Text.{text_of}
 use Rattle.history_model.specs.declared.entries.Author.TheVariants as author
 use Rattle.history_model.specs.Entries.{entries_of}
+use Rattle.history_model.specs.Followed.{AllFinishWell}
 use Rattle.history_model.specs.Publications.{publications, Stands}
 use Rattle.track_model.specs.Tracks.{Track}
 use Rattle.script_session.specs.Sessions.{State}
@@ -32,3 +33,11 @@ PublishesWell t = All (Stands (entries_of t.history)) (publications (entries_of 
 
 abbrev pub AllPublishWell : State → Type 0
 AllPublishWell state = All PublishesWell state.tracks
+
+-- each finished bisection of a machine names neighbouring commits, the lower one stated or answered good and the higher one
+-- bad, within its bound of questions
+abbrev pub BisectsWell : Track → Type 0
+BisectsWell t = AllFinishWell (entries_of t.history)
+
+abbrev pub AllBisectWell : State → Type 0
+AllBisectWell state = All BisectsWell state.tracks

@@ -1,7 +1,7 @@
 -- Which words are a command.
 use Rattle.std.specs.Prelude.{◌≡◌, ℕ, ◌^◌, ◌<◌, ◌≤◌, List, [], ◌∷◌, map, codes, decimal, String, string_bytes}
 use Rattle.tracker_top.specs.declared.command.Command.{Command}
-use Rattle.tracker_top.specs.declared.command.Command.TheVariants.{Cut, Apply, Gen}
+use Rattle.tracker_top.specs.declared.command.Command.TheVariants.{Cut, Apply, Gen, Trial}
 
 -- the bytes of the words
 abbrev pub texts : {A : Type 0} → List (String A) → List (List ℕ)
@@ -12,16 +12,17 @@ pub record IsCutCommand (words : List (List ℕ)) (penalty : ℕ) : Type 0 where
   pub spelled : words ≡ codes "cut" ∷ decimal penalty ∷ []
   pub small : penalty ≤ 10 ^ 36
 
--- `gen` and a number of 64 bits
-pub record IsGenCommand (words : List (List ℕ)) (number : ℕ) : Type 0 where
-  pub spelled : words ≡ codes "gen" ∷ decimal number ∷ []
+-- the command's name and a number of 64 bits
+pub record IsNumbered (name : List ℕ) (words : List (List ℕ)) (number : ℕ) : Type 0 where
+  pub spelled : words ≡ name ∷ decimal number ∷ []
   pub small : number < 2 ^ 64
 
 -- the words are this command
 abbrev pub IsSpelled : List (List ℕ) → Command → Type 0
 IsSpelled words (Cut penalty) = IsCutCommand words penalty
 IsSpelled words Apply = words ≡ codes "apply" ∷ []
-IsSpelled words (Gen number) = IsGenCommand words number
+IsSpelled words (Gen number) = IsNumbered (codes "gen") words number
+IsSpelled words (Trial number) = IsNumbered (codes "trial") words number
 
 -- the words are no command
 abbrev pub AreNoCommand : List (List ℕ) → Type 0
@@ -32,3 +33,4 @@ abbrev pub IsInRange : Command → Type 0
 IsInRange (Cut penalty) = penalty ≤ 10 ^ 36
 IsInRange Apply = Unit {0}
 IsInRange (Gen number) = number < 2 ^ 64
+IsInRange (Trial number) = number < 2 ^ 64

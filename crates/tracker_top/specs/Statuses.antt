@@ -5,13 +5,14 @@ use Rattle.request_text.specs.Bodies.{Item}
 use Rattle.request_text.specs.Scripts.{Ending, end, cut_off, unfinished, IsScript}
 use Rattle.script_session.specs.declared.stop.Stop.{Stop as ScriptStop}
 use Rattle.script_session.specs.declared.stop.Stop.TheVariants as script
+use Rattle.series_gen.specs.Script.{script as script_of}
 use Rattle.cut_lines.specs.declared.stop.Refusal.TheVariants as refusal
 use Rattle.cut_lines.specs.declared.stop.Stop.{Stop}
 use Rattle.cut_lines.specs.declared.stop.Stop.TheVariants as stop
 use Rattle.cut_lines.specs.Reading.{ArePointsOf}
 use Rattle.cut_lines.specs.Stops.{BytesShow}
 use Rattle.tracker_top.specs.declared.command.Command.{Command}
-use Rattle.tracker_top.specs.declared.command.Command.TheVariants.{Cut, Apply, Gen}
+use Rattle.tracker_top.specs.declared.command.Command.TheVariants.{Cut, Apply, Gen, Trial}
 use Rattle.tracker_top.specs.declared.status.Status.{Status}
 use Rattle.tracker_top.specs.declared.status.Status.TheVariants.{Done, BadWords, ReadFault, WriteFault, CutOff, NoMemory, InputTooLong, BadLine, Full}
 use Rattle.tracker_top.specs.Commands.{IsSpelled, AreNoCommand}
@@ -49,15 +50,17 @@ ended end = Done
 ended (cut_off offset) = CutOff 0 offset
 ended unfinished = InputTooLong 0
 
--- the bytes show this status of `apply`: they are a script that ends so
+-- the bytes of a script show this status: they are a script that ends so
 abbrev pub ScriptShows : List ℕ → Status → Type 0
 ScriptShows bytes status = (items : List Item) × (ending : Ending) × IsScript bytes items ending × (status ≡ ended ending)
 
--- the input's bytes show this status of the command; they never show a fault or want of memory
+-- the input's bytes show this status of the command, or those of the script that a number gives; they never show a fault
+-- or want of memory
 abbrev pub Shows : Command → List ℕ → Status → Type 0
 Shows (Cut penalty) bytes status = CutShows bytes status
 Shows Apply bytes status = ScriptShows bytes status
 Shows (Gen number) bytes status = status ≡ Done
+Shows (Trial number) bytes status = ScriptShows (script_of number) status
 
 -- the words and the bytes show this status: the words are no command, or one of which the bytes show it
 abbrev pub IsDue : List (List ℕ) → List ℕ → Status → Type 0

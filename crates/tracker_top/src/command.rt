@@ -1,6 +1,6 @@
 //! The commands, and the words that spell them.
 ghost use Rattle.std.specs.Prelude.{◌≡◌, ◌≢◌, ℕ, [], ◌∷◌, codes, IfSome, IfNone, IsTrue};
-ghost use Rattle.tracker_top.specs.Commands.{texts, IsCutCommand, IsGenCommand, IsSpelled, AreNoCommand};
+ghost use Rattle.tracker_top.specs.Commands.{texts, IsCutCommand, IsNumbered, IsSpelled, AreNoCommand};
 
 use line_text::{read_u64, read_u128};
 
@@ -16,6 +16,8 @@ pub enum Command {
     Apply,
     /// Writes the script of this number.
     Gen(u64),
+    /// Answers the script of this number, and writes the replies about segmentations.
+    Trial(u64),
 }
 
 /// The command that the words are.
@@ -26,8 +28,11 @@ pub fn command_of(words: &[String]) -> Option<Command>
     if are_apply(words) {
         return Some(Command::Apply);
     }
-    if let Some(number) = number_of(words) {
+    if let Some(number) = number_of("gen", words) {
         return Some(Command::Gen(number));
+    }
+    if let Some(number) = number_of("trial", words) {
+        return Some(Command::Trial(number));
     }
     match penalty_of(words) {
         Some(penalty) => Some(Command::Cut(penalty)),
@@ -46,15 +51,15 @@ fn are_apply(words: &[String]) -> bool
     command.as_str() == "apply"
 }
 
-// The number, where the words are `gen` and one of 64 bits.
-fn number_of(words: &[String]) -> Option<u64>
-    ensures some { IfSome result (IsGenCommand (texts words.now)) }
-    ensures none { IfNone result ((number : ℕ) → ¬ IsGenCommand (texts words.now) number) }
+// The number, where the words are this command's name and one of 64 bits.
+fn number_of(name: &str, words: &[String]) -> Option<u64>
+    ensures some { IfSome result (IsNumbered name.now (texts words.now)) }
+    ensures none { IfNone result ((number : ℕ) → ¬ IsNumbered name.now (texts words.now) number) }
 {
     let [command, word] = words else {
         return None;
     };
-    if command.as_str() != "gen" {
+    if command.as_str() != name {
         return None;
     }
     let number = read_u64(word.as_bytes())?;

@@ -1,12 +1,12 @@
 //! The top call: it runs the command that the words are.
-ghost use Rattle.std.specs.Prelude.{◌≡◌, ◌≢◌, ◌^◌, ◌≤◌, ◌⊎◌, IfOk, IfSome};
+ghost use Rattle.std.specs.Prelude.{◌≡◌, ◌≢◌, ℕ, ◌^◌, ◌≤◌, ◌⊎◌, List, Some, IfOk, IfSome};
 ghost use Rattle.track_outside.specs.Counts.{Rose};
 ghost use Rattle.tracker_top.specs.declared.command.Command.{Command};
 ghost use Rattle.tracker_top.specs.declared.command.Command.TheVariants.{Cut, Apply};
 ghost use Rattle.tracker_top.specs.Commands.{texts, IsSpelled, IsInRange, AreNoCommand};
 ghost use Rattle.tracker_top.specs.Statuses.{IsDue, OneStatusIsDue};
-ghost use Rattle.tracker_top.specs.Answers.{IsCertificateText, IsTextOf};
-ghost use Rattle.tracker_top.specs.Endings.{EndsInput, EndsOutput, IsOfOutput, Ends, IsTold};
+ghost use Rattle.tracker_top.specs.Answers.{IsCertificateText, IsTextOf, AllBisectWell};
+ghost use Rattle.tracker_top.specs.Endings.{EndsInput, EndsOutput, IsOfOutput, RunsScript, Ends, IsTold};
 ghost use Rattle.series_gen.specs.Script.{script as script_of};
 
 use crate::command::{Command, command_of};
@@ -14,13 +14,13 @@ use crate::printing::put_status;
 use crate::status::Status;
 use cost_certificate::put_cert;
 use cut_lines::{one_stop_law, read_points};
-use history_model::{Author, publication_law};
+use history_model::{Author, finished_law, publication_law};
 use pelt_core::segmentation;
-use script_session::{Session, answer_script, output_law};
+use script_session::{Session, Trial, answer_script, output_law};
 use segment_cost::Points;
 use series_gen::put_script;
 use std::alloc::Global;
-use track_outside::{NoMemory, Sink, Source, put_all};
+use track_outside::{NoMemory, Sink, Source, SureSource, put_all};
 
 /// No words and bytes of an input have two statuses, but for those that the outside or the memory give. Does nothing:
 /// its contract is what it is for.
@@ -36,7 +36,8 @@ pub fn one_status_law()
 /// `cut PENALTY`, with a number of at most 10^36, reads cut lines from the input, an order and a value each, and writes
 /// the certificate of the best segmentation of their points to `out`, in seven lines. `apply` reads the requests of a
 /// script from the input, answers one after another on the machines that it declares, and writes the replies to `out`.
-/// `gen NUMBER`, with a number of 64 bits, reads nothing and writes the script of the number to `out`.
+/// `gen NUMBER`, with a number of 64 bits, reads nothing and writes the script of the number to `out`; `trial NUMBER`
+/// answers that script and writes the replies about segmentations alone.
 /// The status' line goes to `err`; where that fails the status stands. At most 2^30 bytes of an input are read, and one
 /// more to see that there are no more. The texts are those of docs/FORMATS.md, the statuses those of docs/COMMANDS.md.
 ///
@@ -94,6 +95,7 @@ fn run_command<I: Source, O: Sink>(
         Command::Cut(penalty) => cut(alloc, penalty, input, out),
         Command::Apply => apply(alloc, input, out),
         Command::Gen(number) => generate(alloc, number, out),
+        Command::Trial(number) => run_trial(alloc, number, out),
     }
 }
 
@@ -136,10 +138,19 @@ fn apply<I: Source, O: Sink>(alloc: Global, input: &mut I, out: &mut O) -> Statu
     let answered = answer_script(alloc, &mut session, input, out);
     publication_law();
     session.histories_law();
+    finishes_law(&session);
     match answered {
         Ok(()) => Status::Done,
         Err(stop) => Status::from(stop),
     }
+}
+
+// What the machines of a session bisected finished well. Does nothing: its contract is what it is for.
+fn finishes_law(session: &Session)
+    ensures { AllBisectWell session.now }
+{
+    finished_law();
+    session.histories_law();
 }
 
 // Writes the script of a number.
@@ -155,4 +166,38 @@ fn generate<O: Sink>(alloc: Global, number: u64, out: &mut O) -> Status
         return Status::WriteFault;
     }
     Status::Done
+}
+
+// Answers the script of a number, and writes the replies about segmentations.
+fn run_trial<O: Sink>(alloc: Global, number: u64, out: &mut O) -> Status
+    ensures { RunsScript O.Sink (script_of number) out.old out.new result }
+{
+    let Ok(mut script) = script_source(alloc, number) else {
+        return Status::NoMemory;
+    };
+    try_script(alloc, &mut script, out)
+}
+
+// Answers a script whose source tells its bytes and never fails, and writes the replies about segmentations.
+fn try_script<I: Source, O: Sink>(alloc: Global, script: &mut I, out: &mut O) -> Status
+    ensures { (bytes : List ℕ) → I.left script.old ≡ Some bytes → I.faults script.new ≡ 0
+        → RunsScript O.Sink bytes out.old out.new result }
+{
+    let mut trial = Trial::new(Session::new(alloc, Author::Script(1), Vec::new(alloc)));
+    let answered = answer_script(alloc, &mut trial, script, out);
+    publication_law();
+    trial.histories_law();
+    match answered {
+        Ok(()) => Status::Done,
+        Err(stop) => Status::from(stop),
+    }
+}
+
+// A source of the script of a number.
+fn script_source(alloc: Global, number: u64) -> Result<SureSource, NoMemory>
+    ensures { IfOk result (λ source. source ≡ script_of number) }
+{
+    let mut text = Vec::new(alloc);
+    put_script(alloc, &mut text, number)?;
+    Ok(SureSource::new(alloc, &text)?)
 }

@@ -61,6 +61,12 @@ fn script_over(alloc: Global, limit: Limit) -> Result<Vec<u8>, AllocError> {
             }
             script.extend_from_slice(b"submit go m a r1 20\nBenchmarkX 1 0 B/op\n")?;
         }
+        Limit::Jobs => {
+            script.extend_from_slice(b"commit m 1 b\ncommit m 2 c\n")?;
+            for _ in 0..=256 {
+                script.extend_from_slice(b"bisect m a c\n")?;
+            }
+        }
         _ => {
             for k in 1..=16_385 {
                 put(alloc, &mut script, "commit m ", k, " c")?;
@@ -95,6 +101,7 @@ fn the_request_that_would_pass_a_limit_is_refused(rt: HostRuntime) -> Result<(),
         (Limit::Series, "@2 E21 Full series"),
         (Limit::SeriesSamples, "@2 E21 Full series_samples"),
         (Limit::Positions, "@32770 E21 Full positions"),
+        (Limit::Jobs, "@259 E21 Full jobs"),
     ] {
         let mut source = MemSource::new(alloc, &script_over(alloc, limit)?, &[])?;
         let mut out = MemSink::new(alloc, 10_000_000, &[])?;

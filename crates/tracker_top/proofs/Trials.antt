@@ -1,0 +1,89 @@
+-- How the answering of a script that is whole in memory ends.
+use Rattle.std.proofs.Common.{◌≡◌, ◌≢◌, ℕ, List, [], ◌++◌, Option, None, Some, Result, Ok, Err, IfSome, subst, sym, ap, arith, inl, refl, append-nil}
+use Rattle.std.specs.Io.KnownBytes.{append_known}
+use Rattle.std.proofs.lemmas.List.Elements.{All-nil}
+use Rattle.track_outside.specs.declared.source.Source as source
+use Rattle.track_outside.specs.declared.sink.Sink as sink
+use Rattle.request_text.specs.Bodies.{Item}
+use Rattle.script_session.specs.declared.stop.Stop.{Stop}
+use Rattle.script_session.specs.declared.stop.Stop.TheVariants as stop
+use Rattle.script_session.specs.Sessions.{State, AnswersSome}
+use Rattle.script_session.specs.Outputs.{AsksFirst, IsOutput}
+use Rattle.script_session.specs.Endings.{HasRead, HasAnswered, HasWritten}
+use Rattle.tracker_top.specs.declared.status.Status.TheVariants.{Done, NoMemory}
+use Rattle.tracker_top.specs.Answers.{new_state, PublishesWell, AllPublishWell}
+use Rattle.tracker_top.specs.Statuses.{script_status, script_status_of}
+use Rattle.tracker_top.specs.Endings.{HasAsked, RunsScript}
+
+not_done : (why : Stop) → script_status_of why ≢ Done
+not_done stop.ReadFault is = cc
+not_done stop.WriteFault is = cc
+not_done (stop.CutOff offset) is = cc
+not_done stop.InputTooLong is = cc
+not_done stop.NoMemory is = cc
+
+module _ {I O : Type 0} (g : source.Ghosts I) (h : sink.Ghosts O) (old new : I) (before after : O) (bytes : List ℕ) (tells : g.left old ≡ Some bytes) (sure : g.faults new ≡ 0) where
+  known : (P : List ℕ → Type 0) → IfSome (g.left old) P → P bytes
+  known P told = subst (λ left. IfSome left P) tells told
+
+  has_asked : (items : List Item) (result : Result (Unit {0}) Stop) → HasRead g old new items result → HasAsked bytes items result
+  has_asked items (Ok done) read = known _ read.0
+  has_asked items (Err stop.ReadFault) read = absurd (omega (arith, read.0, sure))
+  has_asked items (Err (stop.CutOff offset)) read = known _ read
+  has_asked items (Err stop.InputTooLong) read = known _ read
+  has_asked items (Err stop.WriteFault) read = known _ read
+  has_asked items (Err stop.NoMemory) read = known _ read
+
+  module _ (now : State) (published : AllPublishWell now) (items : List Item) (text : List ℕ) where
+    pub runs : (result : Result (Unit {0}) Stop) → HasRead g old new items result → HasAnswered AnswersSome new_state now items text result → HasWritten h before after text result
+        → RunsScript h bytes before after (script_status result)
+    runs (Ok done) read answered wrote =
+        let asked : HasAsked bytes items (Ok done) = has_asked items (Ok done) read in
+        record {
+          result = Ok done;
+          told = refl;
+          items = items;
+          text = text;
+          now = now;
+          read = asked;
+          answered = answered;
+          wrote = wrote;
+          published = published;
+          whole = λ is. (
+            text,
+            now,
+            record { items = items; script = asked; output = subst (λ s. IsOutput AnswersSome new_state items text s) (sym answered.stands) answered.output },
+            wrote,
+          );
+        }
+    runs (Err why) read answered wrote = record {
+      result = Err why;
+      told = refl;
+      items = items;
+      text = text;
+      now = now;
+      read = has_asked items (Err why) read;
+      answered = answered;
+      wrote = wrote;
+      published = published;
+      whole = λ is. absurd (not_done why is);
+    }
+
+same_known : (known : Option (List ℕ)) → known ≡ append_known known []
+same_known None = refl
+same_known (Some bytes) = ap Some (sym (append-nil bytes))
+
+-- nothing was read, for want of memory
+pub runs_none : {O : Type 0} (h : sink.Ghosts O) (before : O) (bytes : List ℕ) → RunsScript h bytes before before NoMemory
+runs_none h before bytes = record {
+  result = Err stop.NoMemory;
+  told = refl;
+  items = [];
+  text = [];
+  now = new_state;
+  read = inl ([], bytes, refl, omega arith, ([], (refl, refl)));
+  answered = record { after = new_state; output = record { replies = []; answers = (refl, refl); told = refl }; stands = tt };
+  wrote = record { part = (0, omega arith, same_known (h.taken before)); counts = omega arith };
+  published = All-nil PublishesWell;
+  whole = λ is. cc;
+}
