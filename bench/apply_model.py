@@ -1,7 +1,10 @@
 """A plain model of `lnttrack apply`, written apart from it by docs/FORMATS.md, to compare with (see `agree`).
 
-    bench/apply_model.py < SCRIPT        writes the replies, and ends with the status
+    bench/apply_model.py < SCRIPT              writes the replies, and ends with the status
+    bench/apply_model.py ROWS < SCRIPT         goes on from the rows of that file, one a line, and appends the new ones
 """
+import json
+import os
 import re
 import sys
 import unicodedata
@@ -9,6 +12,15 @@ from fractions import Fraction
 
 WHITE = set("\t\n\x0b\x0c\r \x85\xa0\u1680\u2028\u2029\u202f\u205f\u3000") | {chr(c) for c in range(0x2000, 0x200B)}
 PENALTIES = {b"B/op": 25, b"allocs/op": 25, b"code_size": 25, b"execution_time": 10**16, b"compile_time": 10**16}
+MOVES = {
+    b"detected": [b"staged", b"active", b"ignored"],
+    b"staged": [b"detected", b"active", b"not_to_be_fixed", b"ignored"],
+    b"active": [b"not_to_be_fixed", b"ignored", b"verify"],
+    b"not_to_be_fixed": [b"active"],
+    b"ignored": [b"detected", b"active"],
+    b"verify": [b"active", b"fixed"],
+    b"fixed": [b"active"],
+}
 DECIMALS = {b"ns/op": 4, b"MB/s": 4, b"B/op": 0, b"allocs/op": 0, b"execution_time": 9, b"compile_time": 9, b"code_size": 0}
 
 
@@ -423,19 +435,68 @@ def put_fixed(value, metric):
     return sign + (digits[:-decimals] + b"." + digits[-decimals:] if decimals else digits)
 
 
+# ---- bisections
+
+
+class Job:
+    """A bisection of some commits, by what was said of their places."""
+
+    def __init__(self, commits):
+        self.commits, self.turns = commits, []  # turns: (place, status, or None where no test could be had)
+
+    def ends(self):
+        good = [place for place, status in self.turns if status == 0]
+        bad = [place for place, status in self.turns if status is not None and status != 125 and 1 <= status < 128]
+        return max([0] + good), min([len(self.commits) - 1] + bad), len(good) + len(bad)
+
+    def stop(self):
+        """The turn that ended it, or None."""
+        return next((turn for turn in self.turns if turn[1] is None or turn[1] == 125 or turn[1] >= 128), None)
+
+    def asked(self):
+        """The place that is asked, or None."""
+        low, high, _ = self.ends()
+        return None if self.stop() or high == low + 1 else (low + high) // 2
+
+    def is_found(self):
+        return self.stop() is None and self.asked() is None
+
+    def told(self, name):
+        low, high, questions = self.ends()
+        head = b"range %d questions %d " % (len(self.commits) - 1, questions)
+        return head + self.outcome(name, low, high)
+
+    def outcome(self, name, low=None, high=None):
+        if low is None:
+            low, high, _ = self.ends()
+        at = lambda place: spelled(name(self.commits[place]))
+        stop = self.stop()
+        if stop:
+            return b"faulted " + at(stop[0]) if stop[1] is None else b"undecided %s %d" % (at(stop[0]), stop[1])
+        return b"found %s %s" % (at(low), at(high)) if self.is_found() else b"asks " + at(self.asked())
+
+
 # ---- machines
 
 
 class Machine:
-    def __init__(self):
+    def __init__(self, kept=False):
+        self.kept, self.new = kept, []  # whether a row names it, and the texts of its new entries
+        self.regressions, self.jobs = [], []  # test, metric, commits before and after, state; bisections
         self.step, self.samples, self.cuts = 0, 0, 0
         self.commits, self.names = {}, {}  # number: (name, step), name: number
         self.runs, self.series = {}, {}  # run: its facts, series: its live (step, value) by commit
         self.penalties, self.published = {}, {}  # metric: penalty, series: (version, commits, segmentation)
 
-    def add(self):
+    def add(self, text=None):
+        """Counts an entry; a publication has no text that is kept."""
+        if text is not None:
+            self.new.append(text)
         self.step += 1
         return self.step
+
+    def name(self, number):
+        return self.commits[number][0]
 
     def commit(self, number, name):
         if number in self.commits and self.commits[number][0] == name:
@@ -445,7 +506,7 @@ class Machine:
             raise Refused(b"E05 CommitTaken %d %s" % (taken, spelled(self.commits[taken][0])))
         self.expect_room(len(self.commits) < 65536, b"commits")
         self.expect_room(self.step < 1048576, b"steps")
-        self.commits[number], self.names[name] = (name, self.add()), number
+        self.commits[number], self.names[name] = (name, self.add(b"commit %d %s" % (number, spelled(name)))), number
         return b"commit %d %s" % (number, spelled(name))
 
     def submit(self, commit, run, samples, ignored):
@@ -468,7 +529,8 @@ class Machine:
         self.expect_room(all(sum(map(len, live[s].values())) + n <= 65536 for s, n in count.items()), b"series_samples")
         self.expect_room(all(len({c for c, there in live[s].items() if there} | {number}) <= 16384 for s in count), b"positions")
         self.samples += len(samples)
-        step = self.add()
+        words = b"".join(b" %s %s %d" % (spelled(test), spelled(metric), value) for test, metric, value in samples)
+        step = self.add(b"accept %s %d %d%s" % (spelled(run), number, len(samples), words))
         for test, metric, value in samples:
             self.series.setdefault((test, metric), {}).setdefault(number, []).append((step, value))
         self.runs[run] = {"commit": number, "name": commit, "samples": samples, "step": step, "gone": None}
@@ -481,7 +543,7 @@ class Machine:
         if there["gone"]:
             raise Refused(b"E12 AlreadyRetracted @%d" % there["gone"])
         self.expect_room(self.step < 1048576, b"steps")
-        there["gone"] = self.add()
+        there["gone"] = self.add(b"retract " + spelled(run))
         for test, metric, _ in there["samples"]:
             live = self.series[test, metric]
             live[there["commit"]] = [sample for sample in live[there["commit"]] if sample[0] != there["step"]]
@@ -489,7 +551,7 @@ class Machine:
 
     def tune(self, metric, penalty):
         self.expect_room(self.step < 1048576, b"steps")
-        self.add()
+        self.add(b"tune %s %d" % (spelled(metric), penalty))
         self.penalties[metric] = penalty
         return b"tuned %s %d" % (spelled(metric), penalty)
 
@@ -547,6 +609,152 @@ class Machine:
             lines.append(b"%s %s %d %s" % (spelled(run), spelled(there["name"]), len(there["samples"]), state))
         return b"\n".join(lines)
 
+    def regress(self, test, metric, change):
+        _, commits, found = self.last(test, metric)
+        if not 1 <= change <= len(found.cuts):
+            raise Refused(b"E15 NoSuchChange %d" % len(found.cuts))
+        cut = found.cuts[change - 1]
+        return self.raise_it(test, metric, commits[cut - 1], commits[cut])
+
+    def raise_it(self, test, metric, before, after):
+        self.expect_room(self.step < 1048576, b"steps")
+        self.add(b"raise %s %s %d %d" % (spelled(test), spelled(metric), before, after))
+        self.regressions.append([test, metric, before, after, b"detected"])
+        return b"regression %d detected" % len(self.regressions)
+
+    def set_state(self, number, state):
+        if not 1 <= number <= len(self.regressions):
+            raise Refused(b"E16 UnknownRegression")
+        regression = self.regressions[number - 1]
+        if state not in MOVES[regression[4]]:
+            raise Refused(b"E17 IllegalMove %s %s" % (regression[4], state))
+        self.expect_room(self.step < 1048576, b"steps")
+        self.add(b"move %d %s" % (number, state))
+        before, regression[4] = regression[4], state
+        return b"regression %d %s %s" % (number, before, state)
+
+    def begin(self, low, high):
+        job = Job(sorted(number for number in self.commits if low <= number <= high))
+        self.expect_room(sum(there.asked() is not None for there in self.jobs + [job]) <= 256, b"jobs")
+        self.expect_room(self.step < 1048576, b"steps")
+        self.add(b"begin %d %d" % (low, high))
+        self.jobs.append(job)
+        return self.tell_job(len(self.jobs))
+
+    def bisect(self, low, high):
+        if low not in self.names or high not in self.names:
+            raise Refused(b"E04 UnknownCommit")
+        if self.names[low] >= self.names[high]:
+            raise Refused(b"E20 BadRange")
+        return self.begin(self.names[low], self.names[high])
+
+    def job(self, number):
+        if not 1 <= number <= len(self.jobs):
+            raise Refused(b"E18 UnknownJob")
+        return self.jobs[number - 1]
+
+    def tell_job(self, number):
+        return b"job %d %s" % (number, self.job(number).told(self.name))
+
+    def answer_job(self, number, commit, status):
+        job = self.job(number)
+        if commit not in self.names:
+            raise Refused(b"E04 UnknownCommit")
+        if job.asked() is None:
+            raise Refused(b"E25 JobClosed " + job.outcome(self.name))
+        if self.names[commit] != job.commits[job.asked()]:
+            raise Refused(b"E19 NotAsked " + spelled(self.name(job.commits[job.asked()])))
+        return self.say(number, job.asked(), status)
+
+    def say(self, number, place, status):
+        self.expect_room(self.step < 1048576, b"steps")
+        self.add(b"giveup %d %d" % (number, place) if status is None else b"answer %d %d %d" % (number, place, status))
+        self.jobs[number - 1].turns.append((place, status))
+        return self.tell_job(number)
+
+    def resume(self, number):
+        job = self.job(number)
+        if job.asked() is not None:
+            raise Refused(b"E29 JobOpen " + spelled(self.name(job.commits[job.asked()])))
+        if job.is_found():
+            raise Refused(b"E25 JobClosed " + job.outcome(self.name))
+        low, high, _ = job.ends()
+        return self.begin(job.commits[low], job.commits[high])
+
+    def report_facts(self):
+        """What a report says of each series, in order: test, metric, samples, positions, changes, centre."""
+        for test, metric in sorted(self.series):
+            live = self.series[test, metric].values()
+            changes, centre = None, None
+            if (test, metric) in self.published:
+                found = self.published[test, metric][2]
+                changes = len(found.cuts)
+                centre = put_fixed(found.levels()[-1], metric) if found.points else None
+            yield test, metric, sum(map(len, live)), sum(bool(there) for there in live), changes, centre
+
+    def report(self, machine, form):
+        if form == b"text":
+            lines = []
+            for test, metric, samples, positions, changes, centre in self.report_facts():
+                words = b"%d" % samples, b"%d" % positions, b"-" if changes is None else b"%d" % changes
+                lines.append(b"series %s %s %s %s" % (spelled(test).ljust(40), spelled(metric).ljust(16),
+                                                     b" ".join(word.rjust(8) for word in words), (centre or b"-").rjust(20)))
+            for number, (test, metric, before, after, state) in enumerate(self.regressions, 1):
+                names = [spelled(name) for name in (test, metric, self.name(before), self.name(after))]
+                lines.append(b"regression %d %s %s" % (number, b" ".join(names), state))
+            lines += [self.tell_job(number) for number in range(1, len(self.jobs) + 1)]
+            return b"\n".join([b"report lines %d" % len(lines)] + lines)
+        text = lambda data: None if data is None else data.decode()
+        pages = {
+            "jobs": [{"job": number, "outcome": text(job.outcome(self.name)), "questions": job.ends()[2], "range": len(job.commits) - 1}
+                     for number, job in enumerate(self.jobs, 1)],
+            "machine": text(machine),
+            "regressions": [{"after": text(self.name(after)), "before": text(self.name(before)), "metric": text(metric), "number": number,
+                             "state": text(state), "test": text(test)}
+                            for number, (test, metric, before, after, state) in enumerate(self.regressions, 1)],
+            "series": [{"centre": text(centre), "changes": changes, "metric": text(metric), "positions": positions, "samples": samples,
+                        "test": text(test)} for test, metric, samples, positions, changes, centre in self.report_facts()],
+            "step": self.step,
+        }
+        return b"report lines 1\n" + json.dumps(pages, ensure_ascii=False, separators=(",", ":")).encode()
+
+    def replay(self, text):
+        """Adds a kept entry; False where the text is none, or it isn't allowed."""
+        before = self.step
+        try:
+            words = text.split(b" ")
+            numbers = [number_of(word) for word in words]
+            names = [name_of(word) for word in words]
+            kind, count = words[0], len(words)
+            if kind == b"commit" and count == 3:
+                self.commit(numbers[1], names[2])
+            elif kind == b"accept" and count >= 4 and numbers[2] in self.commits and count == 4 + 3 * numbers[3]:
+                samples = [(names[i], names[i + 1], int(words[i + 2])) for i in range(4, count, 3)]
+                if len(samples) > 65536 or any(len(metric) > 64 or abs(value) > 10**16 for _, metric, value in samples):
+                    return False
+                self.submit(self.name(numbers[2]), names[1], samples, 0)
+            elif kind == b"retract" and count == 2:
+                self.retract(names[1])
+            elif kind == b"tune" and count == 3 and len(names[1]) <= 64 and 0 <= int(words[2]) <= 10**36:
+                self.tune(names[1], int(words[2]))
+            elif kind == b"raise" and count == 5 and (names[1], names[2]) in self.series:
+                if not (numbers[3] in self.commits and numbers[4] in self.commits and numbers[3] < numbers[4]):
+                    return False
+                self.raise_it(names[1], names[2], numbers[3], numbers[4])
+            elif kind == b"move" and count == 3 and words[2] in MOVES:
+                self.set_state(numbers[1], words[2])
+            elif kind == b"begin" and count == 3 and numbers[1] in self.commits and numbers[2] in self.commits and numbers[1] < numbers[2]:
+                self.begin(numbers[1], numbers[2])
+            elif kind in (b"answer", b"giveup") and count == (4 if kind == b"answer" else 3):
+                status = status_of(words[3]) if kind == b"answer" else None
+                if self.job(numbers[1]).asked() != numbers[2] or numbers[2] is None or kind == b"answer" and status is None:
+                    return False
+                self.say(numbers[1], numbers[2], status)
+        except (Refused, TypeError, ValueError, KeyError):
+            return False
+        # Exactly one entry was added, and this is its spelling.
+        return self.step == before + 1 and self.new.pop() == text
+
     @staticmethod
     def expect_room(holds, limit):
         if not holds:
@@ -555,43 +763,63 @@ class Machine:
 
 # ---- scripts
 
-# By the first words of a form: how many words it has, which are names, and which is a number, of what kind.
+def status_of(word):
+    number = number_of(word)
+    return number if number is not None and number < 256 else None
+
+
+def state_of(word):
+    return word if word in MOVES else None
+
+
+def report_form_of(word):
+    return word if word in (b"text", b"json") else None
+
+
+# By the first words of a form: how many words it has, which are names, and which are something else, and what.
 FORMS = {
-    (b"machine",): (2, [1], None, None),
-    (b"commit",): (4, [1, 3], 2, number_of),
-    (b"submit", b"go"): (6, [2, 3, 4], 5, number_of),
-    (b"submit", b"lnt"): (5, [2, 3], 4, number_of),
-    (b"retract",): (3, [1, 2], None, None),
-    (b"tune",): (4, [1, 2], 3, amount_of),
-    (b"calibrate",): (5, [1, 2, 3], 4, number_of),
-    (b"segment",): (4, [1, 2, 3], None, None),
-    (b"changes",): (4, [1, 2, 3], None, None),
-    (b"verify",): (4, [1, 2, 3], None, None),
-    (b"runs",): (2, [1], None, None),
+    (b"machine",): (2, [1], []),
+    (b"commit",): (4, [1, 3], [(2, number_of)]),
+    (b"submit", b"go"): (6, [2, 3, 4], [(5, number_of)]),
+    (b"submit", b"lnt"): (5, [2, 3], [(4, number_of)]),
+    (b"retract",): (3, [1, 2], []),
+    (b"tune",): (4, [1, 2], [(3, amount_of)]),
+    (b"calibrate",): (5, [1, 2, 3], [(4, number_of)]),
+    (b"segment",): (4, [1, 2, 3], []),
+    (b"changes",): (4, [1, 2, 3], []),
+    (b"verify",): (4, [1, 2, 3], []),
+    (b"regress",): (5, [1, 2, 3], [(4, number_of)]),
+    (b"state",): (4, [1], [(2, number_of), (3, state_of)]),
+    (b"bisect",): (4, [1, 2, 3], []),
+    (b"answer",): (5, [1, 3], [(2, number_of), (4, status_of)]),
+    (b"resume",): (3, [1], [(2, number_of)]),
+    (b"job",): (3, [1], [(2, number_of)]),
+    (b"runs",): (2, [1], []),
+    (b"report",): (3, [1], [(2, report_form_of)]),
 }
-WITH_METRIC = {b"tune", b"calibrate", b"segment", b"changes", b"verify"}
+WITH_METRIC = {b"tune", b"calibrate", b"segment", b"changes", b"verify", b"regress"}
 
 
 def form_of(words):
-    """The first words, the names and the number of a request line, or None."""
-    for first, (count, names, number, read) in FORMS.items():
+    """The first words, the names and the other words, read, of a request line, or None."""
+    for first, (count, names, others) in FORMS.items():
         if tuple(words[:len(first)]) == first and len(words) == count:
-            value = None if number is None else read(words[number])
-            if number is None or value is not None:
-                return first, [words[i] for i in names], value
+            values = [read(words[i]) for i, read in others]
+            if None not in values:
+                return first, [words[i] for i in names], values
     return None
 
 
-def answer(machines, first, names, number, body):
+def answer(machines, first, names, values, body):
     """The step and the text of the reply to a request that has a form."""
     step = 0
     try:
-        if first[0] == b"submit" and number > 8388608:
+        if first[0] == b"submit" and values[0] > 8388608:
             raise Refused(b"E26 BodyTooLong")
         names = [name_of(word) for word in names]
         if None in names or first[0] in WITH_METRIC and len(names[-1]) > 64:
             raise Refused(b"E02 BadName")
-        if first == (b"tune",) and number > 10**36 or first == (b"calibrate",) and not 1 <= number <= 1000:
+        if first == (b"tune",) and values[0] > 10**36 or first == (b"calibrate",) and not 1 <= values[0] <= 1000:
             raise Refused(b"E22 BadPenalty")
         given = {(b"submit", b"go"): read_go, (b"submit", b"lnt"): read_lnt}.get(first, lambda _: ())(body)
         if first == (b"machine",):
@@ -603,32 +831,70 @@ def answer(machines, first, names, number, body):
         if machine is None:
             raise Refused(b"E03 UnknownMachine")
         step = machine.step
-        if first == (b"commit",):
-            text = machine.commit(number, names[1])
-        elif first == (b"submit", b"go"):
-            text = machine.submit(names[1], names[2], *given)
-        elif first == (b"submit", b"lnt"):
-            if given[0] != names[0]:
-                raise Refused(b"E08 NotReport 6 machine.name")
-            text = machine.submit(given[1], names[1], *given[2:])
-        elif first == (b"retract",):
-            text = machine.retract(names[1])
-        elif first == (b"tune",):
-            text = machine.tune(names[1], number)
-        elif first == (b"calibrate",):
-            text = machine.calibrate(names[1], names[2], number)
-        elif first[0] in WITH_METRIC:
-            text = {b"segment": machine.segment, b"changes": machine.changes, b"verify": machine.verify}[first[0]](*names[1:])
-        else:
-            text = machine.list_runs()
+        if first == (b"submit", b"lnt") and given[0] != names[0]:
+            raise Refused(b"E08 NotReport 6 machine.name")
+        text = {
+            b"commit": lambda: machine.commit(values[0], names[1]),
+            b"submit": lambda: machine.submit(names[1], names[2], *given) if first[1] == b"go" else machine.submit(given[1], names[1], *given[2:]),
+            b"retract": lambda: machine.retract(names[1]),
+            b"tune": lambda: machine.tune(names[1], values[0]),
+            b"calibrate": lambda: machine.calibrate(names[1], names[2], values[0]),
+            b"segment": lambda: machine.segment(*names[1:]),
+            b"changes": lambda: machine.changes(*names[1:]),
+            b"verify": lambda: machine.verify(*names[1:]),
+            b"regress": lambda: machine.regress(names[1], names[2], values[0]),
+            b"state": lambda: machine.set_state(*values),
+            b"bisect": lambda: machine.bisect(*names[1:]),
+            b"answer": lambda: machine.answer_job(values[0], names[1], values[1]),
+            b"resume": lambda: machine.resume(values[0]),
+            b"job": lambda: machine.tell_job(values[0]),
+            b"runs": lambda: machine.list_runs(),
+            b"report": lambda: machine.report(names[0], values[0]),
+        }[first[0]]()
         return machine.step, text
     except Refused as refusal:
         return step, refusal.args[0]
 
 
-def apply(script):
-    """The replies to a script, the status, and its line."""
-    replies, machines, at = [], {}, 0
+# ---- stores
+
+
+def load(rows):
+    """The machines that some rows make, and the number of the first row that makes nothing, or None."""
+    machines = {}
+    for number, row in enumerate(rows, 1):
+        kind, _, rest = row.partition(b" ")
+        word, space, text = rest.partition(b" ")
+        name = name_of(word)
+        if name is None or spelled(name) != word:
+            return machines, number
+        if kind == b"machine" and not space and name not in machines and len(machines) < 16:
+            machines[name] = Machine(kept=True)
+        elif not (kind == b"entry" and space and name in machines and machines[name].replay(text)):
+            return machines, number
+    return machines, None
+
+
+def new_rows(machines):
+    for name, machine in machines.items():
+        if not machine.kept:
+            yield b"machine " + spelled(name)
+        for text in machine.new:
+            yield b"entry %s %s" % (spelled(name), text)
+
+
+def apply(script, rows=()):
+    """The replies to a script, the status, and its line; and the rows that are new."""
+    machines, bad = load(rows)
+    if bad is not None:
+        return b"", 6, b"bad store: row %d\n" % bad, []
+    told, status, line = run(script, machines)
+    return told, status, line, [] if status else list(new_rows(machines))
+
+
+def run(script, machines):
+    """The replies to a script on some machines, the status, and its line."""
+    replies, at = [], 0
     while at < len(script):
         begin = at
         feed = script.find(b"\n", at)
@@ -644,7 +910,7 @@ def apply(script):
         if form is None:
             replies.append(b"@0 E01 BadRequest\n")
             continue
-        length = form[2] if form[0][0] == b"submit" else 0
+        length = form[2][0] if form[0][0] == b"submit" else 0
         if length > max(len(script) - at, 0):
             return cut_off
         replies.append(b"@%d %s\n" % answer(machines, *form, script[at:at + length]))
@@ -652,8 +918,19 @@ def apply(script):
     return b"".join(replies), 0, b""
 
 
-if __name__ == "__main__":
-    told, status, line = apply(sys.stdin.buffer.read())
+def main():
+    rows = []
+    if sys.argv[1:] and os.path.exists(sys.argv[1]):
+        with open(sys.argv[1], "rb") as file:
+            rows = file.read().split(b"\n")[:-1]
+    told, status, line, new = apply(sys.stdin.buffer.read(), rows)
+    if sys.argv[1:] and new:
+        with open(sys.argv[1], "ab") as file:
+            file.write(b"".join(row + b"\n" for row in new))
     sys.stdout.buffer.write(told)
     sys.stderr.buffer.write(line)
     sys.exit(status)
+
+
+if __name__ == "__main__":
+    main()
