@@ -1,4 +1,5 @@
-//! Tests of the crates that read and write the bodies of submissions, each crate's in the module `of_` and its name.
+//! Tests of the crates that read the bodies of submissions, and of those that write reports, each crate's in the module
+//! `of_` and its name.
 //!
 //! They show what no clause says: worked examples, values from outside, and each call with ample memory. They use what
 //! those crates export and nothing else, so they stand apart from them: a crate is then proved once, and not once more
@@ -11,3 +12,7 @@ mod of_go_bench_text;
 mod of_json_text;
 #[cfg(test)]
 mod of_lnt_report;
+#[cfg(test)]
+mod of_report_pages;
+#[cfg(test)]
+mod tree_text;

@@ -1,4 +1,5 @@
-//! Both forms of a report, as the documents print them.
+//! Both forms of a report, as the documents print them, and what a reader of JSON finds in the second.
+use crate::tree_text::is_answer;
 use line_text::Name;
 use regression_state::State;
 use report_model::{
@@ -53,18 +54,20 @@ fn pages_of(alloc: Global, machine: &str, step: u64, said: &Series) -> Option<Pa
     })
 }
 
-// Whether a report has these forms.
-fn has_forms(alloc: Global, pages: &Pages, text: &str, line: &str) -> bool {
+// Whether a report has these forms, and its JSON is read as this tree.
+fn has_forms(alloc: Global, pages: &Pages, text: &str, line: &str, tree: &str) -> bool {
     let mut out = Vec::new(alloc);
     if put_text(alloc, &mut out, pages).is_err() || out.as_slice() != text.as_bytes() {
         return false;
     }
     let mut json = Vec::new(alloc);
-    put_json(alloc, &mut json, pages).is_ok() && json.as_slice() == line.as_bytes()
+    put_json(alloc, &mut json, pages).is_ok()
+        && json.as_slice() == line.as_bytes()
+        && is_answer(alloc, &json, tree)
 }
 
-/// A machine and a step with one series, and both forms of the report.
-type Row<'a> = (&'a str, u64, Series<'a>, &'a str, &'a str);
+/// A machine and a step with one series, both forms of the report, and what is read of it.
+type Row<'a> = (&'a str, u64, Series<'a>, &'a str, &'a str, &'a str);
 
 /// A plain report; names that need escaping: quotes, a backslash, control characters, letters beyond ASCII, a percent sign
 /// and a comma.
@@ -75,6 +78,7 @@ const REPORTS: [Row; 2] = [
         ("X", "B/op", 4, 4, Some(1), Some(10)),
         "series X                                        B/op                    4        4        1                   10\n",
         "{\"jobs\":[],\"machine\":\"m1\",\"regressions\":[],\"series\":[{\"centre\":\"10\",\"changes\":1,\"metric\":\"B/op\",\"positions\":4,\"samples\":4,\"test\":\"X\"}],\"step\":11}\n",
+        "{jobs=[],machine=|m1|,regressions=[],series=[{centre=|10|,changes=#1,metric=|B/op|,positions=#4,samples=#4,test=|X|,},],step=#11,}",
     ),
     (
         "m\t",
@@ -82,14 +86,15 @@ const REPORTS: [Row; 2] = [
         ("a\"b\\c\n\u{1}é%,", "µs", 1, 1, Some(0), Some(-5000)),
         "series a\"b\\c%0A%01%C3%A9%25%2C                  %C2%B5s                 1        1        0              -0.5000\n",
         "{\"jobs\":[],\"machine\":\"m\\t\",\"regressions\":[],\"series\":[{\"centre\":\"-0.5000\",\"changes\":0,\"metric\":\"µs\",\"positions\":1,\"samples\":1,\"test\":\"a\\\"b\\\\c\\n\\u0001é%,\"}],\"step\":3}\n",
+        "{jobs=[],machine=|m\t|,regressions=[],series=[{centre=|-0.5000|,changes=#0,metric=|µs|,positions=#1,samples=#1,test=|a\"b\\c\n\u{1}é%,|,},],step=#3,}",
     ),
 ];
 
 // Whether the report of a row has its forms.
 fn is_printed(alloc: Global, row: &Row) -> bool {
-    let (machine, step, said, text, line) = row;
+    let (machine, step, said, text, line, tree) = row;
     match pages_of(alloc, machine, *step, said) {
-        Some(pages) => has_forms(alloc, &pages, text, line),
+        Some(pages) => has_forms(alloc, &pages, text, line, tree),
         None => false,
     }
 }
@@ -181,10 +186,13 @@ const FULL_TEXT: &str =
 const FULL_JSON: &str =
     "{\"jobs\":[{\"job\":1,\"outcome\":\"found c5 c6\",\"questions\":3,\"range\":8},{\"job\":2,\"outcome\":\"undecided c4 125\",\"questions\":0,\"range\":8}],\"machine\":\"m\",\"regressions\":[{\"after\":\"b\",\"before\":\"a\",\"metric\":\"ns/op\",\"number\":1,\"state\":\"not_to_be_fixed\",\"test\":\"T\"}],\"series\":[{\"centre\":null,\"changes\":null,\"metric\":\"ns/op\",\"positions\":2,\"samples\":3,\"test\":\"a test\"}],\"step\":7}\n";
 
+const FULL_TREE: &str =
+    "{jobs=[{job=#1,outcome=|found c5 c6|,questions=#3,range=#8,},{job=#2,outcome=|undecided c4 125|,questions=#0,range=#8,},],machine=|m|,regressions=[{after=|b|,before=|a|,metric=|ns/op|,number=#1,state=|not_to_be_fixed|,test=|T|,},],series=[{centre=null,changes=null,metric=|ns/op|,positions=#2,samples=#3,test=|a test|,},],step=#7,}";
+
 // Whether it has its forms.
 fn is_full(alloc: Global) -> bool {
     match full_pages(alloc) {
-        Some(pages) => has_forms(alloc, &pages, FULL_TEXT, FULL_JSON),
+        Some(pages) => has_forms(alloc, &pages, FULL_TEXT, FULL_JSON, FULL_TREE),
         None => false,
     }
 }
@@ -203,7 +211,8 @@ fn is_empty(alloc: Global) -> bool {
             };
             let line =
                 "{\"jobs\":[],\"machine\":\"m\",\"regressions\":[],\"series\":[],\"step\":0}\n";
-            has_forms(alloc, &pages, "", line)
+            let tree = "{jobs=[],machine=|m|,regressions=[],series=[],step=#0,}";
+            has_forms(alloc, &pages, "", line, tree)
         }
         None => false,
     }
