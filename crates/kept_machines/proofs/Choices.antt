@@ -12,7 +12,7 @@ use Rattle.history_model.specs.Entries.{chosen_from, chosen}
 use Rattle.kept_machines.specs.Kept.{is_kept}
 
 -- ---- lists that are the same but for what a function leaves out
-map_cons : {A B : Type 0} (f : A → B) (o : Option A) (xs : List A) → map f (cons_option o xs) ≡ cons_option (option_map f o) (map f xs)
+pub map_cons : {A B : Type 0} (f : A → B) (o : Option A) (xs : List A) → map f (cons_option o xs) ≡ cons_option (option_map f o) (map f xs)
 map_cons f None xs = refl
 map_cons f (Some x) xs = refl
 
@@ -91,7 +91,7 @@ unfolding pair_of
 declared_same s t (entry.Commit number name) = refl
 declared_same s t e = refl
 
-declared_none : (s : ℕ) (e : Entry) → is_kept e ≡ false → declaration s e ≡ None
+pub declared_none : (s : ℕ) (e : Entry) → is_kept e ≡ false → declaration s e ≡ None
 declared_none s (entry.Publish p) past = refl
 declared_none s e past = absurd cc
 

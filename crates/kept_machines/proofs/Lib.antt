@@ -4,7 +4,8 @@ mod Once
 mod ComesBack
 mod Replayed
 mod NewRows
-mod Choices
-mod Followed
-mod Unpublished
+pub mod Choices
+pub mod Followed
+pub mod Unpublished
 mod Examples
+mod Fitting

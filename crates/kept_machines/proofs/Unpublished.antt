@@ -29,7 +29,7 @@ use Rattle.kept_machines.proofs.Choices.{filter_map, filter_so, find_map, flat_m
 use Rattle.kept_machines.proofs.Followed.{same_regressions, same_state, same_jobs}
 
 -- ---- runs
-run_of : Acceptance → Run
+unfoldable pub run_of : Acceptance → Run
 run_of a = a.run
 
 name_taken : Retraction → List ℕ
@@ -40,7 +40,7 @@ unfolding run_of
 accepted_same s t (entry.Accept run) = refl
 accepted_same s t e = refl
 
-accepted_none : (s : ℕ) (e : Entry) → is_kept e ≡ false → acceptance s e ≡ None
+pub accepted_none : (s : ℕ) (e : Entry) → is_kept e ≡ false → acceptance s e ≡ None
 accepted_none s (entry.Publish p) past = refl
 accepted_none s e past = absurd cc
 
@@ -49,7 +49,7 @@ unfolding name_taken
 taken_same s t (entry.Retract run) = refl
 taken_same s t e = refl
 
-taken_none : (s : ℕ) (e : Entry) → is_kept e ≡ false → retraction s e ≡ None
+pub taken_none : (s : ℕ) (e : Entry) → is_kept e ≡ false → retraction s e ≡ None
 taken_none s (entry.Publish p) past = refl
 taken_none s e past = absurd cc
 
@@ -90,7 +90,7 @@ any_map f q (x ∷ xs) = ap (λ b. q (f x) || b) (any_map f q xs)
 brings : Series → Run → Bool
 brings s r = list_any (is_of s) r.samples
 
-known_so : (s : Series) (h : List Entry) → is_known s (filter is_kept h) ≡ is_known s h
+pub known_so : (s : Series) (h : List Entry) → is_known s (filter is_kept h) ≡ is_known s h
 unfolding run_of brings
 known_so s h = any_map run_of (brings s) (acceptances (filter is_kept h)) ∙ ap (list_any (brings s)) (same_runs h) ∙ sym (any_map run_of (brings s) (acceptances h))
 
@@ -136,7 +136,7 @@ none_published s (e ∷ h) = none_published (s + 1) h
 is_left : List (List ℕ) → Run → Bool
 is_left names r = is_none (find (λ (n : List ℕ). bytes_eq n r.run) names)
 
-is_none_map : {A B : Type 0} (f : A → B) (o : Option A) → is_none (option_map f o) ≡ is_none o
+pub is_none_map : {A B : Type 0} (f : A → B) (o : Option A) → is_none (option_map f o) ≡ is_none o
 is_none_map f None = refl
 is_none_map f (Some x) = refl
 
@@ -182,8 +182,14 @@ samples_of_run r = length r.samples
 series_of_run : Run → List Series
 series_of_run r = map (λ (x : Measurement). record { test = x.test; metric = x.metric }) r.samples
 
+-- publications add to the steps and to the cuts alone
+abbrev pub IsUnpublished : Limit → Type 0
+IsUnpublished limit.Steps = ⊥
+IsUnpublished limit.Cuts = ⊥
+IsUnpublished other = Unit {0}
+
 module _ (h : List Entry) where
-  same_live : map run_of (live_runs (filter is_kept h)) ≡ map run_of (live_runs h)
+  pub same_live : map run_of (live_runs (filter is_kept h)) ≡ map run_of (live_runs h)
   same_live =
       live_so (retractions (filter is_kept h)) (acceptances (filter is_kept h))
       ∙ ap₂ (λ (ns : List (List ℕ)) (rs : List Run). filter (is_left ns) rs) (same_taken h) (same_runs h)
@@ -198,43 +204,32 @@ module _ (h : List Entry) where
       ap (distinct same_series)
       (flat_map_map run_of series_of_run (acceptances (filter is_kept h)) ∙ ap (flat_map series_of_run) (same_runs h) ∙ sym (flat_map_map run_of series_of_run (acceptances h)))
 
-  count_same : (limit : Limit) → count_of limit (filter is_kept h) ≤ count_of limit h
+  -- of all that publications don't add to there is as much
+  pub count_equal : (limit : Limit) → IsUnpublished limit → count_of limit (filter is_kept h) ≡ count_of limit h
   unfolding run_of samples_of_run
-  count_same limit.Steps = shorter h
-  count_same limit.Commits =
-      let same : length (declarations (filter is_kept h)) ≡ length (declarations h) =
-      sym (length-map (declarations (filter is_kept h)) pair_of) ∙ ap length (same_pairs h) ∙ length-map (declarations h) pair_of in
-      omega (arith, same)
-  count_same limit.Runs =
-      let same : length (acceptances (filter is_kept h)) ≡ length (acceptances h) =
-      sym (length-map (acceptances (filter is_kept h)) run_of) ∙ ap length (same_runs h) ∙ length-map (acceptances h) run_of in
-      omega (arith, same)
-  count_same limit.RunSamples =
-      let same : count_of limit.RunSamples (filter is_kept h) ≡ count_of limit.RunSamples h =
-      ap greatest_of (map_map run_of samples_of_run (acceptances (filter is_kept h)) ∙ ap (map samples_of_run) (same_runs h) ∙ sym (map_map run_of samples_of_run (acceptances h))) in
-      omega (arith, same)
-  count_same limit.Samples =
-      let same : count_of limit.Samples (filter is_kept h) ≡ count_of limit.Samples h =
-      sum_map run_of samples_of_run (acceptances (filter is_kept h)) ∙ ap (sum_by samples_of_run) (same_runs h) ∙ sym (sum_map run_of samples_of_run (acceptances h)) in
-      omega (arith, same)
-  count_same limit.Series =
-      let same : length (known_series (filter is_kept h)) ≡ length (known_series h) = ap length same_known in
-      omega (arith, same)
-  count_same limit.SeriesSamples =
-      let same : count_of limit.SeriesSamples (filter is_kept h) ≡ count_of limit.SeriesSamples h =
+  count_equal limit.Steps is = absurd is
+  count_equal limit.Cuts is = absurd is
+  count_equal limit.Commits is =
+      sym (length-map (declarations (filter is_kept h)) pair_of) ∙ ap length (same_pairs h) ∙ length-map (declarations h) pair_of
+  count_equal limit.Runs is = sym (length-map (acceptances (filter is_kept h)) run_of) ∙ ap length (same_runs h) ∙ length-map (acceptances h) run_of
+  count_equal limit.RunSamples is =
+      ap greatest_of (map_map run_of samples_of_run (acceptances (filter is_kept h)) ∙ ap (map samples_of_run) (same_runs h) ∙ sym (map_map run_of samples_of_run (acceptances h)))
+  count_equal limit.Samples is =
+      sum_map run_of samples_of_run (acceptances (filter is_kept h)) ∙ ap (sum_by samples_of_run) (same_runs h) ∙ sym (sum_map run_of samples_of_run (acceptances h))
+  count_equal limit.Series is = ap length same_known
+  count_equal limit.SeriesSamples is =
       ap (λ ss. greatest_of (map (λ (s : Series). length (brought s (live_runs (filter is_kept h)))) ss)) same_known
-      ∙ ap greatest_of (map_so (λ s. length (brought s (live_runs (filter is_kept h)))) (λ s. length (brought s (live_runs h))) (λ s. sym (length-map (brought s (live_runs (filter is_kept h))) commit_of) ∙ ap length (same_commits s) ∙ length-map (brought s (live_runs h)) commit_of) (known_series h)) in
-      omega (arith, same)
-  count_same limit.Positions =
-      let same : count_of limit.Positions (filter is_kept h) ≡ count_of limit.Positions h =
+      ∙ ap greatest_of (map_so (λ s. length (brought s (live_runs (filter is_kept h)))) (λ s. length (brought s (live_runs h))) (λ s. sym (length-map (brought s (live_runs (filter is_kept h))) commit_of) ∙ ap length (same_commits s) ∙ length-map (brought s (live_runs h)) commit_of) (known_series h))
+  count_equal limit.Positions is =
       ap (λ ss. greatest_of (map (λ (s : Series). length (positions (filter is_kept h) s)) ss)) same_known
-      ∙ ap greatest_of (map_so (λ s. length (positions (filter is_kept h) s)) (λ s. length (positions h s)) (λ s. positions_length (brought s (live_runs (filter is_kept h))) ∙ ap (λ cs. length (rising cs)) (same_commits s) ∙ sym (positions_length (brought s (live_runs h)))) (known_series h)) in
-      omega (arith, same)
+      ∙ ap greatest_of (map_so (λ s. length (positions (filter is_kept h) s)) (λ s. length (positions h s)) (λ s. positions_length (brought s (live_runs (filter is_kept h))) ∙ ap (λ cs. length (rising cs)) (same_commits s) ∙ sym (positions_length (brought s (live_runs h)))) (known_series h))
+  count_equal limit.Jobs is = ap open_count (same_jobs h)
+  count_equal other is = refl
+
+  count_same : (limit : Limit) → count_of limit (filter is_kept h) ≤ count_of limit h
+  count_same limit.Steps = shorter h
   count_same limit.Cuts = rw (none_published 1 h) (omega arith)
-  count_same limit.Jobs =
-      let same : count_of limit.Jobs (filter is_kept h) ≡ count_of limit.Jobs h = ap open_count (same_jobs h) in
-      omega (arith, same)
-  count_same other = omega arith
+  count_same limit = omega (arith, count_equal limit tt)
 
 keeps_limits : (h : List Entry) → KeepsLimits h → KeepsLimits (filter is_kept h)
 keeps_limits h keeps limit = omega (arith, keeps limit, count_same h limit)

@@ -8,7 +8,7 @@ use Rattle.history_model.specs.declared.entries.Placed.{Placed}
 use Rattle.history_model.specs.Allowed.{Legal}
 use Rattle.history_model.specs.Entries.{entries_of}
 use Rattle.line_text.specs.Names.{IsName}
-use Rattle.track_entry.specs.Texts.{IsEntry}
+use Rattle.track_entry.specs.Texts.{HasShortMetric, IsEntry}
 use Rattle.track_model.specs.Tracks.{Track}
 use Rattle.kept_machines.specs.Machines.{AreDifferent, names_of}
 use Rattle.kept_machines.specs.Kept.{is_kept}
@@ -39,6 +39,10 @@ GoOn (t ∷ old) (u ∷ new) = GoesOn t u × GoOn old new
 -- the entries that are kept
 abbrev pub kept_entries : Track → List Entry
 kept_entries t = filter is_kept (entries_of t.history)
+
+-- the entry has a text, if the metric that it names is short
+abbrev pub HasTextIfShort : Placed → Type 0
+HasTextIfShort p = HasShortMetric p.entry → IsEntry p.entry
 
 -- a machine can be kept: it has a name, its kept entries have texts, and they are allowed one after another
 pub record MayBeKept (t : Track) : Type 0 where

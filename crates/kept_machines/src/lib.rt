@@ -6,8 +6,8 @@
 //! Proved: what is loaded is what the rows lead to, or the first bad row is named (`specs/Loading.antt`); exactly the new
 //! rows of the machines are added, or none (`specs/Rows.antt`). [`rows_law`] says that rows lead to one list of machines at
 //! most, and [`comes_back_law`] that what was kept comes back: the rows before and the new rows of machines that went on
-//! from those loaded lead to each as it is kept (`specs/Kept.antt`, `specs/Growth.antt`, `specs/Laws.antt`). By
-//! [`kept_law`] leaving out the publications keeps a history legal.
+//! from those loaded lead to each as it is kept (`specs/Kept.antt`, `specs/Growth.antt`, `specs/Laws.antt`); by
+//! [`may_be_kept_law`] all machines may be kept. By [`kept_law`] leaving out the publications keeps a history legal.
 //!
 //! [`place_of`] finds a machine among others (`specs/Machines.antt`, `specs/Places.antt`).
 //!
@@ -19,6 +19,7 @@ mod append;
 mod laws;
 mod loading;
 mod place;
+mod spelled;
 mod states;
 
 pub use append::append_all;
@@ -26,4 +27,5 @@ pub use keep_rows::{AppendFault, LoadFault};
 pub use laws::{comes_back_law, kept_law, rows_law};
 pub use loading::load;
 pub use place::place_of;
+pub use spelled::may_be_kept_law;
 pub use std::alloc::AllocError as NoMemory;

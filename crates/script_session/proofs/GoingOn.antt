@@ -1,13 +1,16 @@
--- Kept machines that a session leaves go on from what they were.
+-- Kept machines that a session leaves go on from what they were, and come back.
 use Rattle.std.proofs.Common.{◌≡◌, true, List, [], ◌∷◌, ap, ◌∙◌}
 use Rattle.std.specs.List.{AllByRecursion}
 use Rattle.history_model.specs.declared.entries.Author.{Author}
 use Rattle.history_model.specs.declared.entries.Placed.{Placed}
 use Rattle.track_model.specs.Tracks.{Track}
-use Rattle.kept_machines.specs.Growth.{AreOfSession, GoOn, IsNewTrack}
-use Rattle.kept_machines.specs.Kept.{kept_of}
+use Rattle.kept_machines.specs.Growth.{AreOfSession, GoOn, IsNewTrack, MayBeKept}
+use Rattle.kept_machines.specs.Kept.{kept_of, AreKept}
+use Rattle.kept_machines.specs.Laws.{KeptComesBack, LoadedAreKept}
 use Rattle.kept_machines.specs.Rows.{is_of_session}
-use Rattle.script_session.specs.Growth.{AreBy, IsNew, Grows, SessionsGoOn}
+use Rattle.script_session.specs.Growth.{AreBy, ComesBack, IsNew, Grows, SessionsGoOn, Stays}
+use Rattle.script_session.specs.Sessions.{State}
+use Rattle.script_session.proofs.Growing.{sessions_stay}
 
 made_by : (author : Author) → is_of_session author ≡ true → (entries : List Placed) → AreBy author entries → AreOfSession entries
 made_by author is [] by = tt
@@ -33,3 +36,14 @@ go_on author is (t ∷ old) (u ∷ new) are grows = (
 
 pub sessions_go_on : SessionsGoOn
 sessions_go_on author old new is are grows = go_on author is old new are.kept grows
+
+pub kept_come_back : (after : State) → KeptComesBack → LoadedAreKept → AllByRecursion MayBeKept after.tracks → ComesBack after
+kept_come_back after back loaded may rows before items text is led output =
+    let are : AreKept before.tracks = loaded rows before.tracks led in
+    let stays : Stays before.author before.tracks after.tracks = sessions_stay before after items text output in
+    back rows before.tracks after.tracks led (record {
+      go_on = go_on before.author is before.tracks after.tracks are.kept stays.grows;
+      may = may;
+      different = stays.different are.different;
+      few = stays.few are.few;
+    })

@@ -3,6 +3,7 @@ mod Reading
 mod Opening
 mod Sources
 mod Once
+mod Parted
 mod Computed
 mod Examples
 mod Growing

@@ -1,5 +1,5 @@
 -- What a session leaves of the tracks that it began with.
-use Rattle.std.specs.Prelude.{◌≡◌, ℕ, ◌≤◌, true, false, List, [], ◌∷◌, ◌++◌, length}
+use Rattle.std.specs.Prelude.{◌≡◌, ℕ, ◌≤◌, true, false, List, [], ◌∷◌, ◌++◌, length, map}
 use Rattle.std.specs.List.{AllByRecursion}
 use Rattle.metric_table.specs.Limits.{most}
 use Rattle.metric_table.specs.declared.limits.Limit.TheVariants.{Machines}
@@ -8,8 +8,9 @@ use Rattle.history_model.specs.declared.entries.Author.{Author}
 use Rattle.history_model.specs.declared.entries.Placed.{Placed}
 use Rattle.track_model.specs.Tracks.{Track}
 use Rattle.kept_machines.specs.Growth.{GoOn}
-use Rattle.kept_machines.specs.Kept.{AreKept}
-use Rattle.kept_machines.specs.Rows.{is_of_session}
+use Rattle.kept_machines.specs.Kept.{kept_of, AreKept}
+use Rattle.kept_machines.specs.Loading.{LeadTo}
+use Rattle.kept_machines.specs.Rows.{is_of_session, new_rows}
 pub use Rattle.kept_machines.specs.Machines.{IsOther, AreDifferent, names_of}
 use Rattle.script_session.specs.Sessions.{State, AnswersFor}
 use Rattle.script_session.specs.Outputs.{IsOutput}
@@ -49,3 +50,10 @@ SessionsStay = (before after : State) (items : List Item) (text : List ℕ) → 
 abbrev pub SessionsGoOn : Type 0
 SessionsGoOn =
     (author : Author) (old new : List Track) → is_of_session author ≡ true → AreKept old → Grows author old new → GoOn old new
+
+-- what a session leaves comes back: rows that led to the machines that it began with, and the new rows of those that it left,
+-- lead to each of the latter as it is kept, where its entries are of one of this session
+abbrev pub ComesBack : State → Type 0
+ComesBack after =
+    (rows : List (List ℕ)) (before : State) (items : List Item) (text : List ℕ) → is_of_session before.author ≡ true → LeadTo rows before.tracks
+    → IsOutput AnswersFor before items text after → LeadTo (rows ++ new_rows after.tracks) (map kept_of after.tracks)

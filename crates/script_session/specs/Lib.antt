@@ -4,4 +4,5 @@ pub mod Endings
 pub mod Stops
 pub mod Turns
 pub mod Laws
+pub mod Part
 pub mod Growth

@@ -10,6 +10,14 @@ ghost use Rattle.script_session.specs.Laws.{
   BeginsOutput,
   OpenIsFirst,
 };
+ghost use Rattle.script_session.specs.Part.{
+  OneReplyEach,
+  TellsPart,
+  TellsNoMore,
+  OutputsAreParts,
+  PartsAreOfOutputs,
+  PartOfEach,
+};
 
 use request_text::reading_law;
 use track_model::outcome_law;
@@ -38,6 +46,21 @@ pub fn trial_law()
 {
     outcome_law();
     reading_law();
+}
+
+/// A session that tells the replies about segmentations alone makes the same of the machines as one that tells each reply,
+/// and tells exactly the part of those replies: that of each request for a segmentation or for changes, and of each item
+/// that could not be read. So its output of a script is the part of whatever the script is answered. Does nothing: its
+/// contract is what it is for.
+pub fn part_law()
+    ensures each { OneReplyEach }
+    ensures tells { TellsPart }
+    ensures no_more { TellsNoMore }
+    ensures outputs { OutputsAreParts }
+    ensures whole { PartsAreOfOutputs }
+    ensures part { PartOfEach }
+{
+    output_law();
 }
 
 /// A session leaves the machines that it began with in their order, each with entries of its own author more, and new ones

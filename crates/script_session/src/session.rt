@@ -1,11 +1,13 @@
 //! The machines of one thread.
 ghost use Rattle.std.specs.Prelude.{◌≡◌, All, IfOk};
+ghost use Rattle.script_session.specs.Growth.{ComesBack};
 ghost use Rattle.script_session.specs.Sessions.{HasLegalHistory, RepliesTo};
 
 use crate::NoMemory;
 use crate::desk::Desk;
 use crate::machines::answer_request;
 use history_model::Author;
+use kept_machines::{comes_back_law, may_be_kept_law};
 use request_model::{Reply, Request};
 use std::alloc::Global;
 use std::marker::Model;
@@ -54,6 +56,15 @@ impl Session {
         for machine in &self.machines {
             machine.history_law();
         }
+    }
+
+    /// Rows that led to the machines that the session began with, and the new rows of those that stand now, lead to each of
+    /// the latter as it is kept. Changes nothing: its contract is what it is for. Linear in the entries of the machines.
+    pub fn comes_back_law(&self)
+        ensures { ComesBack self.now }
+    {
+        comes_back_law();
+        may_be_kept_law(self.machines());
     }
 
     /// The machines. Takes no memory.

@@ -2,9 +2,7 @@
 use Rattle.std.specs.Prelude.{ℕ, List, codes}
 use Rattle.history_model.specs.declared.entries.Entry.{Entry}
 use Rattle.history_model.specs.declared.entries.Entry.TheVariants as entry
-use Rattle.history_model.specs.declared.events.RegressionEvent.{RegressionEvent}
 use Rattle.history_model.specs.declared.events.RegressionEvent.TheVariants as regression
-use Rattle.history_model.specs.declared.events.JobEvent.{JobEvent}
 use Rattle.history_model.specs.declared.events.JobEvent.TheVariants as job
 use Rattle.track_entry.specs.declared.kind.Kind.{Kind}
 use Rattle.track_entry.specs.declared.kind.Kind.TheVariants.{Commit, Accept, Retract, Tune, Publish, Raise, Move, Begin, Answer, GiveUp}

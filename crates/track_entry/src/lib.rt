@@ -1,17 +1,19 @@
 //! The entries of a history, and the one text that spells each.
 //!
 //! The types stand in `history_model`, since definitions of histories cite them too. An entry's text has single spaces
-//! between its words, canonical names and numbers.
+//! between its words, canonical names and numbers. By [`entry_law`] and [`legal_law`] each entry of a legal history has one.
 #![tactic(auto)]
 
 mod events;
 mod fault;
+mod fits;
 mod kind;
 mod put;
 mod read;
 mod words;
 
 pub use fault::EntryFault;
+pub use fits::{entry_law, legal_law};
 pub use history_model::{Author, Entry, Placed, Publication};
 pub use put::put_entry;
 pub use read::{entries_law, read_entry};

@@ -4,15 +4,16 @@ ghost use Rattle.line_text.specs.Lines.{words_of};
 ghost use Rattle.sample_model.specs.Samples.{Measurement, AreSamples};
 ghost use Rattle.history_model.specs.declared.entries.Entry.{Entry as AnEntry};
 ghost use Rattle.history_model.specs.declared.entries.Entry.TheVariants as entry;
-ghost use Rattle.track_entry.specs.Texts.{sample_words, entry_words, IsEntry, IsPublication, SpellsEntry, IsOneEntry};
+ghost use Rattle.track_entry.specs.Texts.{sample_words, entry_words, HasShortMetric, IsEntry, SpellsEntry, IsOneEntry};
 ghost use Rattle.track_entry.specs.Decoded.{Reads, commit_of, accept_of, retract_of, tune_of, publish_of};
 
 use crate::events::{read_answer, read_begin, read_give_up, read_move, read_raise};
 use crate::fault::EntryFault;
+use crate::fits::entry_law;
 use crate::kind::{Kind, read_kind};
 use crate::put::put_entry;
 use crate::words::{METRIC_LIMIT, end_at, name_at, number_at, sample_at, series_at, signed_at};
-use history_model::{Entry, JobEvent, Publication, RegressionEvent, Run};
+use history_model::{Entry, Publication, RegressionEvent, Run};
 use line_text::{Numbers, names_law, next_word, words_law};
 use metric_table::Limit;
 use sample_model::Samples;
@@ -184,94 +185,24 @@ fn is_entry(entry: &Entry) -> bool
     ensures yes { IsTrue result → IsEntry entry.now }
     ensures no { IsFalse result → ¬ IsEntry entry.now }
 {
+    entry_law(entry);
+    has_short_metric(entry)
+}
+
+// Whether the metric that an entry itself names is short enough.
+fn has_short_metric(entry: &Entry) -> bool
+    ensures yes { IsTrue result → HasShortMetric entry.now }
+    ensures no { IsFalse result → ¬ IsEntry entry.now }
+{
     match entry {
-        Entry::Commit { number, name } => {
-            let _number = *number;
-            name.bytes_law();
-            true
-        }
-        Entry::Accept { run } => {
-            let _commit = run.commit;
-            run.run.bytes_law();
-            run.samples.limits();
-            true
-        }
-        Entry::Retract { run } => {
-            run.bytes_law();
-            true
-        }
-        Entry::Tune { metric, penalty } => {
-            let _penalty = *penalty;
-            metric.bytes_law();
-            metric.as_str().len() <= METRIC_LIMIT
-        }
-        Entry::Publish { publication } => is_publication(publication),
-        Entry::Regression { event } => is_regression(event),
-        Entry::Job { event } => {
-            job_fits(event);
-            true
-        }
+        Entry::Tune { metric, .. } => metric.as_str().len() <= METRIC_LIMIT,
+        Entry::Publish { publication } => publication.metric.as_str().len() <= METRIC_LIMIT,
+        Entry::Regression {
+            event: RegressionEvent::Raise { raised },
+        } => raised.metric.as_str().len() <= METRIC_LIMIT,
+        _ => true,
     }
 }
-
-fn is_regression(event: &RegressionEvent) -> bool
-    ensures yes { IsTrue result → IsEntry (entry.Regression event.now) }
-    ensures no { IsFalse result → ¬ IsEntry (entry.Regression event.now) }
-{
-    match event {
-        RegressionEvent::Raise { raised } => {
-            let _before = raised.before;
-            let _after = raised.after;
-            raised.test.bytes_law();
-            raised.metric.bytes_law();
-            raised.metric.as_str().len() <= METRIC_LIMIT
-        }
-        RegressionEvent::Move { regression, .. } => {
-            let _regression = *regression;
-            true
-        }
-    }
-}
-
-// What the type of a job's event keeps.
-fn job_fits(event: &JobEvent)
-    ensures { IsEntry (entry.Job event.now) }
-{
-    match event {
-        JobEvent::Begin { lo, hi } => {
-            let _lo = *lo;
-            let _hi = *hi;
-        }
-        JobEvent::Answer { job, place, status } => {
-            let _job = *job;
-            let _place = *place;
-            let _status = *status;
-        }
-        JobEvent::GiveUp { job, place } => {
-            let _job = *job;
-            let _place = *place;
-        }
-    }
-}
-
-fn is_publication(p: &Publication) -> bool
-    ensures yes { IsTrue result → IsPublication p.now }
-    ensures no { IsFalse result → ¬ IsPublication p.now }
-{
-    let _version = p.version;
-    let _base = p.base;
-    let _total = p.total;
-    p.test.bytes_law();
-    p.metric.bytes_law();
-    numbers_fit(p.cuts.as_slice());
-    p.metric.as_str().len() <= METRIC_LIMIT
-}
-
-// What the type of numbers keeps.
-fn numbers_fit(numbers: &[u64])
-    ensures few { length numbers.now < 2 ^ 64 }
-    ensures each { All (λ n. n < 2 ^ 64) numbers.now }
-{}
 
 /// No text spells two entries. Does nothing: its contract is what it is for.
 pub fn entries_law()

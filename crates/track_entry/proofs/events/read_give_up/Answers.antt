@@ -1,6 +1,4 @@
-use Rattle.std.proofs.Common.{◌∷◌, [], decimal, ◌∙◌, ap, ap₂}
-use Rattle.history_model.specs.declared.entries.Entry.TheVariants.{Job}
-use Rattle.history_model.specs.declared.events.JobEvent.TheVariants.{GiveUp}
+use Rattle.std.proofs.Common.{[]}
 use Rattle.track_entry.proofs.Readers.{kept_err}
 use Rattle.track_entry.proofs.OfEvent.{give_up_is}
 use Rattle.track_entry.proofs.events.read_give_up.Goals as goal

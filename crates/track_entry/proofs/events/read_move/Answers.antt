@@ -1,4 +1,4 @@
-use Rattle.std.proofs.Common.{◌∷◌, [], decimal, ◌∙◌, ap, ap₂}
+use Rattle.std.proofs.Common.{[], ◌∙◌, ap₂}
 use Rattle.history_model.specs.declared.entries.Entry.TheVariants.{Regression}
 use Rattle.history_model.specs.declared.events.RegressionEvent.TheVariants.{Move}
 use Rattle.track_entry.proofs.Readers.{kept_err}

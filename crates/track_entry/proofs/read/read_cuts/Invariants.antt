@@ -1,4 +1,4 @@
-use Rattle.std.proofs.Common.{◌≡◌, ℕ, ◌≤◌, ◌<◌, ◌-◌, ◌^◌, ◌++◌, List, All, length, drop, map, decimal}
+use Rattle.std.proofs.Common.{◌≡◌, ℕ, ◌≤◌, ◌<◌, ◌-◌, ◌^◌, List, All, length, drop, map, decimal}
 use Rattle.line_text.specs.Lines.{words_of}
 use Rattle.track_entry.proofs.OneByOne.{Rest}
 use Rattle.track_entry.proofs.read.read_cuts.Given as goal

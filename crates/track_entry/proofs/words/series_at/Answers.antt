@@ -1,4 +1,4 @@
-use Rattle.std.proofs.Common.{◌∷◌, ◌≤◌, length, arith, subst, sym, ap}
+use Rattle.std.proofs.Common.{◌∷◌}
 use Rattle.line_text.specs.Names.{spelling}
 use Rattle.track_entry.proofs.Readers.{kept_err}
 use Rattle.track_entry.proofs.words.series_at.Goals as goal

@@ -1,0 +1,10 @@
+use Rattle.std.proofs.Common.{subst}
+use Rattle.std.specs.List.{AllByRecursion}
+use Rattle.kept_machines.specs.Growth.{MayBeKept}
+use Rattle.script_session.proofs.GoingOn.{kept_come_back}
+use Rattle.script_session.proofs.session.Session.comes_back_law.Goals as goal
+
+pub returns : goal.returns
+returns c =
+    kept_come_back c.args.self.now c.comes_back_law.ensures.back c.comes_back_law.ensures.loaded
+    (subst (AllByRecursion MayBeKept) c.machines.ensures c.may_be_kept_law.ensures)
