@@ -1,0 +1,11 @@
+mod Steps
+mod Limits
+mod Outcomes
+mod Commits
+mod Runs
+mod Following
+mod Positions
+mod Values
+mod Publishing
+mod Replies
+mod Examples
