@@ -1,0 +1,11 @@
+mod PlainWords
+mod GoBody
+mod Lines
+mod Turns
+mod Whole
+mod Lists
+mod Reached
+mod Bounds
+mod Passing
+mod Accepting
+mod AllAccepted

@@ -1,0 +1,187 @@
+-- Requests one after another on the history of the one machine: what holds before some of them leads to what holds after
+-- them, and none of them is refused.
+use Rattle.std.proofs.Common.{◌≡◌, ◌≢◌, ℕ, zero, suc, ◌<◌, false, List, [], ◌∷◌, ◌++◌, refl, sym, ap, ◌∙◌, subst, arith, append_assoc, append-nil, Option, Some, None, Ok}
+use Rattle.std.specs.Prelude.{find, option_to_list}
+use Rattle.std.specs.List.{AllByRecursion}
+use Rattle.std.proofs.lemmas.List.{map-append}
+use Rattle.history_model.specs.declared.entries.Author.{Author}
+use Rattle.history_model.specs.declared.entries.Entry.{Entry}
+use Rattle.history_model.specs.declared.entries.Placed.{Placed}
+use Rattle.history_model.specs.Entries.{entries_of}
+use Rattle.history_model.proofs.Chosen.{entries-push}
+use Rattle.request_model.specs.declared.requests.Request.{Request}
+use Rattle.request_model.specs.declared.requests.Request.TheVariants as request
+use Rattle.request_model.specs.declared.replies.Refusal.{Refusal}
+use Rattle.request_model.specs.declared.replies.Answer.TheVariants as answer
+use Rattle.request_model.specs.declared.replies.Reply.{Reply}
+use Rattle.track_model.specs.Outcomes.{Outcome}
+use Rattle.track_model.specs.Replies.{machine_of, reply_of}
+use Rattle.track_model.specs.Tracks.{Track, with_added, with_outcome, ComesTo}
+use Rattle.request_text.specs.Bodies.{Item}
+use Rattle.script_session.specs.Sessions.{Answered, State, Answers, AnswersAbout, AnswersFor, is_track, stepped}
+use Rattle.script_session.specs.Outputs.{AreAnswers}
+use Rattle.trial_script.specs.Requests.{machine, asked_in_turn}
+use Rattle.trial_script.specs.Accepted.{IsAccepted}
+use Rattle.trial_script.proofs.Turns.{oks}
+
+-- the one machine, with its history
+abbrev pub track : List Placed → Track
+track hist = record { machine = machine; kept = false; history = hist }
+
+-- the session has that machine alone, with this history
+pub record On (s : State) (h : List Entry) : Type 0 where
+  pub hist : List Placed
+  pub tracks : s.tracks ≡ track hist ∷ []
+  pub entries : entries_of hist ≡ h
+
+-- the replies refuse nothing, and this holds of the history after them
+pub record Passed (Q : List Entry → Type 0) (replies : List Reply) (after : State) : Type 0 where
+  pub accepted : AllByRecursion IsAccepted replies
+  pub last : List Entry
+  pub on : On after last
+  pub holds : Q last
+
+abbrev pub Passes : (List Entry → Type 0) → List Request → (List Entry → Type 0) → Type 0
+Passes P qs Q = (before after : State) (h : List Entry) (replies : List Reply) → On before h → P h → AreAnswers AnswersFor before
+    (oks qs) replies after → Passed Q replies after
+
+-- ---- one request
+
+-- what a request comes to isn't refused, and its entry leads to this
+pub record Good (Q : List Entry → Type 0) (h : List Entry) (o : Outcome) : Type 0 where
+  pub accepted : (reason : Refusal) → o.answer ≢ answer.Refused reason
+  pub holds : Q (h ++ option_to_list o.adds)
+
+record Added (author : Author) (hist : List Placed) (adds : Option Entry) : Type 0 where
+  now : List Placed
+  tracks : with_added author (track hist) adds ≡ track now
+  entries : entries_of now ≡ entries_of hist ++ option_to_list adds
+
+added : (author : Author) (hist : List Placed) (adds : Option Entry) → Added author hist adds
+added author hist None = record { now = hist; tracks = refl; entries = sym (append-nil (entries_of hist)) }
+added author hist (Some e) =
+    record { now = hist ++ record { author = author; entry = e } ∷ []; tracks = refl; entries = entries-push hist (record { author = author; entry = e }) }
+
+-- the answer of the one machine
+about_one : (author : Author) (hist : List Placed) (tracks : List Track) (q : Request) (a : Answered) → machine_of q ≡ machine
+    → tracks ≡ track hist ∷ [] → Answers author tracks q a
+    → (o : Outcome) × ComesTo (entries_of hist) q o × (a ≡ stepped author tracks q (track hist) o)
+about_one author hist tracks q a same is answers =
+    let found : find (is_track (machine_of q)) tracks ≡ Some (track hist) = rw (same, is) refl in
+    subst (λ found. AnswersAbout found author tracks q a) found answers
+
+left_track : (author : Author) (hist now : List Placed) (tracks : List Track) (q : Request) (o : Outcome) → machine_of q ≡ machine → tracks ≡ track hist ∷ []
+    → with_outcome author (track hist) o ≡ track now → (stepped author tracks q (track hist) o).tracks ≡ track now ∷ []
+left_track author hist now tracks q o same is made = rw (same, is) (ap (λ (t : Track). t ∷ []) made)
+
+pub one : {P Q : List Entry → Type 0} (q : Request) → machine_of q ≡ machine → ((h : List Entry) (o : Outcome) → P h → ComesTo h q o → Good Q h o)
+    → Passes P (q ∷ []) Q
+one {Q = Q} q same good before after h replies on holds answers =
+    let about = about_one before.author on.hist before.tracks q (record { reply = answers.3.0; tracks = answers.1.tracks }) same on.tracks answers.3.1.1 in
+    let o : Outcome = about.0 in
+    let is = good h o holds (subst (λ (hs : List Entry). ComesTo hs q o) on.entries about.1) in
+    let told : answers.3.0 ≡ reply_of (entries_of on.hist) o = ap (λ (a : Answered). a.reply) about.2 in
+    let more = added before.author on.hist o.adds in
+    let left : answers.1.tracks ≡ track more.now ∷ [] =
+    ap (λ (a : Answered). a.tracks) about.2 ∙ left_track before.author on.hist more.now before.tracks q o same on.tracks more.tracks in
+    let all : replies ≡ answers.3.0 ∷ [] = answers.4 ∙ rw (answers.3.2, answers.5.0) refl in
+    let accepted : IsAccepted answers.3.0 = λ reason refused. is.accepted reason (sym (ap (λ (r : Reply). r.answer) told) ∙ refused) in
+    record {
+      accepted = subst (AllByRecursion IsAccepted) (sym all) (accepted, tt);
+      last = h ++ option_to_list o.adds;
+      on = record {
+        hist = more.now;
+        tracks = ap (λ (s : State). s.tracks) answers.5.1 ∙ left;
+        entries = more.entries ∙ ap (λ (hs : List Entry). hs ++ option_to_list o.adds) on.entries;
+      };
+      holds = is.holds;
+    }
+
+-- ---- requests behind one another
+
+record Parted (before : State) (items more : List Item) (replies : List Reply) (after : State) : Type 0 where
+  first : List Reply
+  rest : List Reply
+  between : State
+  front : AreAnswers AnswersFor before items first between
+  back : AreAnswers AnswersFor between more rest after
+  joined : replies ≡ first ++ rest
+
+parted : (before : State) (items more : List Item) (replies : List Reply) (after : State) → AreAnswers AnswersFor before (items ++ more) replies after
+    → Parted before items more replies after
+parted before [] more replies after told = record { first = []; rest = replies; between = before; front = (refl, refl); back = told; joined = refl }
+parted before (item ∷ items) more replies after told =
+    let later = parted told.1 items more told.2 after told.5 in
+    record {
+      first = option_to_list told.0 ++ later.first;
+      rest = later.rest;
+      between = later.between;
+      front = (told.0, told.1, later.first, told.3, refl, later.front);
+      back = later.back;
+      joined = told.4 ∙ ap (λ rs. option_to_list told.0 ++ rs) later.joined ∙ sym (append_assoc (option_to_list told.0) later.first later.rest);
+    }
+
+all_joined : (rs more : List Reply) → AllByRecursion IsAccepted rs → AllByRecursion IsAccepted more → AllByRecursion IsAccepted (rs ++ more)
+all_joined [] more all others = others
+all_joined (r ∷ rs) more all others = (all.0, all_joined rs more all.1 others)
+
+pub behind : {P Q R : List Entry → Type 0} (qs others : List Request) → Passes P qs R → Passes R others Q → Passes P (qs ++ others) Q
+behind {Q = Q} qs others one two before after h replies on holds answers =
+    let apart = parted before (oks qs) (oks others) replies after
+    (subst (λ items. AreAnswers AnswersFor before items replies after) (map-append (λ q. Ok q) qs others) answers) in
+    let first = one before apart.between h apart.first on holds apart.front in
+    let second = two apart.between after first.last apart.rest first.on first.holds apart.back in
+    record {
+      accepted = subst (AllByRecursion IsAccepted) (sym apart.joined) (all_joined apart.first apart.rest first.accepted second.accepted);
+      last = second.last;
+      on = second.on;
+      holds = second.holds;
+    }
+
+-- the same from a session without machines
+abbrev pub Begins : List Request → (List Entry → Type 0) → Type 0
+Begins qs Q = (before after : State) (replies : List Reply) → before.tracks ≡ [] → AreAnswers AnswersFor before (oks qs) replies after → Passed Q replies after
+
+pub begun_then : {Q R : List Entry → Type 0} (qs others : List Request) → Begins qs R → Passes R others Q → Begins (qs ++ others) Q
+begun_then {Q = Q} qs others one two before after replies none answers =
+    let apart = parted before (oks qs) (oks others) replies after
+    (subst (λ items. AreAnswers AnswersFor before items replies after) (map-append (λ q. Ok q) qs others) answers) in
+    let first = one before apart.between apart.first none apart.front in
+    let second = two apart.between after first.last apart.rest first.on first.holds apart.back in
+    record {
+      accepted = subst (AllByRecursion IsAccepted) (sym apart.joined) (all_joined apart.first apart.rest first.accepted second.accepted);
+      last = second.last;
+      on = second.on;
+      holds = second.holds;
+    }
+
+pub nothing : {P Q : List Entry → Type 0} → ((h : List Entry) → P h → Q h) → Passes P [] Q
+nothing {Q = Q} leads before after h replies on holds answers =
+    record {
+      accepted = subst (AllByRecursion IsAccepted) (sym answers.0) tt;
+      last = h;
+      on = subst (λ s. On s h) (sym answers.1) on;
+      holds = leads h holds;
+    }
+
+pub in_turn : (P : ℕ → List Entry → Type 0) (asked : ℕ → List Request) (n : ℕ) → ((i : ℕ) → i < n → Passes (P i) (asked i) (P (suc i)))
+    → Passes (P 0) (asked_in_turn asked n) (P n)
+unfolding asked_in_turn
+in_turn P asked zero each = nothing (λ h holds. holds)
+in_turn P asked (suc n) each = behind (asked_in_turn asked n) (asked n) (in_turn P asked n (λ i less. each i (omega (arith, less)))) (each n (omega arith))
+
+-- ---- the first request, which declares the machine
+pub declared : {Q : List Entry → Type 0} → Q [] → Begins (request.Machine machine ∷ []) Q
+declared holds before after replies none answers =
+    let a : Answered = record { reply = answers.3.0; tracks = answers.1.tracks } in
+    let is : Answers before.author [] (request.Machine machine) a = subst
+    (λ (ts : List Track). Answers before.author ts (request.Machine machine) a) none answers.3.1.1 in
+    let told : answers.3.0.answer ≡ answer.Machine machine = ap (λ (b : Answered). b.reply.answer) is in
+    let all : replies ≡ answers.3.0 ∷ [] = answers.4 ∙ rw (answers.3.2, answers.5.0) refl in
+    let accepted : IsAccepted answers.3.0 = λ reason refused. let no : answer.Machine machine ≡ answer.Refused reason = sym told ∙ refused in cc in
+    record {
+      accepted = subst (AllByRecursion IsAccepted) (sym all) (accepted, tt);
+      last = [];
+      on = record { hist = []; tracks = ap (λ (s : State). s.tracks) answers.5.1 ∙ ap (λ (b : Answered). b.tracks) is; entries = refl };
+      holds = holds;
+    }
