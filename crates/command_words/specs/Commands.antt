@@ -1,0 +1,69 @@
+-- Which words are a command.
+use Rattle.std.specs.Prelude.{◌≡◌, ℕ, ◌^◌, ◌<◌, ◌≤◌, List, [], ◌∷◌, ◌++◌, length, map, codes, decimal, String, string_bytes, Option, Some, None, IfSome}
+use Rattle.command_words.specs.Simple.{cut_app, number_app, apply_app, Gives}
+use Rattle.command_words.specs.declared.command.Command.{Command}
+use Rattle.command_words.specs.declared.command.Command.TheVariants.{Cut, Apply, Gen, Trial}
+
+-- the bytes of the words
+abbrev pub texts : {A : Type 0} → List (String A) → List (List ℕ)
+texts words = map string_bytes words
+
+-- what is found is it, and where nothing is found, nothing is it
+abbrev pub Finds : {T : Type 0} → (T → Type 0) → Option T → Type 0
+Finds {T} IsIt None = (x : T) → ¬ IsIt x
+Finds IsIt (Some x) = IsIt x
+
+-- `cut`, and words that give it a penalty of at most 10^36
+pub record IsCutCommand (words : List (List ℕ)) (penalty : ℕ) : Type 0 where
+  pub rest : List (List ℕ)
+  pub named : words ≡ codes "cut" ∷ rest
+  pub gives : Gives cut_app (codes "PENALTY") rest (Some (decimal penalty))
+  pub small : penalty ≤ 10 ^ 36
+
+-- the command's name, and words that give it a number of 64 bits
+pub record IsNumbered (name : List ℕ) (words : List (List ℕ)) (number : ℕ) : Type 0 where
+  pub rest : List (List ℕ)
+  pub named : words ≡ name ∷ rest
+  pub gives : Gives (number_app name) (codes "NUMBER") rest (Some (decimal number))
+  pub small : number < 2 ^ 64
+
+-- `apply`, and words that give it no store, or the name of one, which isn't empty
+pub record IsApplyCommand (words : List (List ℕ)) (store : Option (List ℕ)) : Type 0 where
+  pub rest : List (List ℕ)
+  pub named : words ≡ codes "apply" ∷ rest
+  pub gives : Gives apply_app (codes "store") rest store
+  pub some : IfSome store (λ name. 0 < length name)
+
+-- the words are this command
+abbrev pub IsSpelled : List (List ℕ) → Command → Type 0
+IsSpelled words (Cut penalty) = IsCutCommand words penalty
+IsSpelled words (Apply store) = IsApplyCommand words store
+IsSpelled words (Gen number) = IsNumbered (codes "gen") words number
+IsSpelled words (Trial number) = IsNumbered (codes "trial") words number
+
+-- the words are no command
+abbrev pub AreNoCommand : List (List ℕ) → Type 0
+AreNoCommand words = (command : Command) → ¬ IsSpelled words command
+
+-- the numbers of the command are within their limits, and the name of its store isn't empty
+abbrev pub IsInRange : Command → Type 0
+IsInRange (Cut penalty) = penalty ≤ 10 ^ 36
+IsInRange (Apply store) = IfSome store (λ name. 0 < length name)
+IsInRange (Gen number) = number < 2 ^ 64
+IsInRange (Trial number) = number < 2 ^ 64
+
+-- no words are two commands
+abbrev pub AreOneCommand : Type 0
+AreOneCommand = (words : List (List ℕ)) (one other : Command) → IsSpelled words one → IsSpelled words other → one ≡ other
+
+-- the plain words of a command: its name, then its number in decimal digits, or `--store=` and the name of its store
+abbrev pub plain_words : Command → List (List ℕ)
+plain_words (Cut penalty) = codes "cut" ∷ decimal penalty ∷ []
+plain_words (Apply None) = codes "apply" ∷ []
+plain_words (Apply (Some name)) = codes "apply" ∷ (codes "--store=" ++ name) ∷ []
+plain_words (Gen number) = codes "gen" ∷ decimal number ∷ []
+plain_words (Trial number) = codes "trial" ∷ decimal number ∷ []
+
+-- the plain words of each command whose numbers are within their limits are it
+abbrev pub PlainWordsAreCommands : Type 0
+PlainWordsAreCommands = (command : Command) → IsInRange command → IsSpelled (plain_words command) command
