@@ -1,0 +1,167 @@
+//! A keeper over the statements on a store.
+ghost use Rattle.std.specs.Prelude.{◌≡◌, ℕ, ◌≤◌, OnErr, Option, None};
+ghost use Rattle.track_outside.specs.Counts.{Rose, one_more};
+ghost use Rattle.track_outside.specs.declared.out_error.OutError.TheVariants as error;
+
+use crate::statements::{Store, append_rows, close, count_rows, find_store, open_store, read_row};
+use sqlite::{Error, ErrorCode};
+use std::alloc::Global;
+use std::marker::Model;
+use track_outside::{Failed, Keeper, OutError};
+
+/// A keeper of rows in a SQLite file. Until a `start` has answered Ok, its other calls fail. Contracts see how often it
+/// failed.
+#[derive(Drop)]
+pub struct SqliteKeeper<'a> {
+    rt: &'a HostRuntime,
+    // The name of the file, once it was started.
+    name: Option<String>,
+    // The file, while it is open. It isn't where there is none yet, and between an append and the next call.
+    store: Option<Store>,
+    // How many rows it had when they were counted or added last. Another run may change the file while it isn't open.
+    count: u64,
+    faults: u64,
+}
+
+impl<'a> Model for SqliteKeeper<'a> {
+    ghost use Rattle.std.specs.Prelude.{ℕ};
+
+    ghost Value = { ℕ };
+
+    ghost view = { λ s. s.faults };
+}
+
+impl<'a> SqliteKeeper<'a> {
+    /// A keeper that was not started.
+    pub fn new(rt: &'a HostRuntime, _alloc: Global) -> SqliteKeeper<'a>
+        ensures { result ≡ 0 }
+    {
+        SqliteKeeper {
+            rt,
+            name: None,
+            store: None,
+            count: 0,
+            faults: 0,
+        }
+    }
+
+    // Counts one fault more.
+    fn fail(&mut self) -> Failed
+        ensures rose { Rose self.old self.new }
+        ensures counts { self.old ≤ self.new }
+    {
+        self.faults = self.faults.saturating_add(1);
+        Failed
+    }
+
+    // An answer of the store, of which each error but want of memory is counted.
+    fn counted<T: Drop>(&mut self, answer: Result<T, Error>) -> Result<T, OutError>
+        ensures rose { result ≡ Err error.Failed → Rose self.old self.new }
+        ensures counts { self.old ≤ self.new }
+    {
+        match answer {
+            Ok(given) => Ok(given),
+            Err(Error::SqliteFailure(ErrorCode::OutOfMemory)) => Err(OutError::NoMemory),
+            Err(_) => {
+                let _ = self.fail();
+                Err(OutError::Failed)
+            }
+        }
+    }
+
+    // Closes what was started, and finds the file of that name, if there is one.
+    fn begin(&mut self, name: String) -> Result<(), Error>
+        ensures { self.new ≡ self.old }
+    {
+        self.name = None;
+        self.store = None;
+        self.count = 0;
+        self.store = find_store(self.rt, &name)?;
+        self.name = Some(name);
+        Ok(())
+    }
+
+    // Opens the file that was started, if there is one by now and it isn't open.
+    fn open_again(&mut self) -> Result<(), Error>
+        ensures { self.new ≡ self.old }
+    {
+        let Some(name) = &self.name else {
+            return Err(Error::InvalidQuery);
+        };
+        if self.store.is_none() {
+            self.store = find_store(self.rt, name)?;
+        }
+        Ok(())
+    }
+
+    fn count_kept(&mut self) -> Result<u64, Error>
+        ensures { self.new ≡ self.old }
+    {
+        self.open_again()?;
+        self.count = match &mut self.store {
+            Some(store) => count_rows(store)?,
+            None => 0,
+        };
+        Ok(self.count)
+    }
+
+    fn read_kept(&mut self, k: u64) -> Result<Vec<u8>, Error>
+        ensures { self.new ≡ self.old }
+    {
+        self.open_again()?;
+        match (&mut self.store, i64::try_from(k)) {
+            (Some(store), Ok(k)) => read_row(store, k),
+            _ => Err(Error::QueryReturnedNoRows),
+        }
+    }
+
+    // Adds all of the rows, and closes the file, so that it holds them.
+    fn add(&mut self, rows: &[Vec<u8>]) -> Result<(), Error>
+        ensures { self.new ≡ self.old }
+    {
+        let Some(name) = &self.name else {
+            return Err(Error::InvalidQuery);
+        };
+        if rows.is_empty() {
+            return Ok(());
+        }
+        let mut store = match self.store.take() {
+            Some(store) => store,
+            None => open_store(self.rt, name, self.count)?,
+        };
+        self.count = append_rows(&mut store, rows)?;
+        close(store);
+        Ok(())
+    }
+}
+
+impl<'a> Keeper for SqliteKeeper<'a> {
+    ghost kept = { λ s. None };
+
+    ghost started = { λ s. None };
+
+    ghost faults = { λ s. s };
+
+    fn start(&mut self, alloc: Global, name: &str) -> Result<(), OutError> {
+        let name = String::from_str(alloc, name)?;
+        let begun = self.begin(name);
+        self.counted(begun)
+    }
+
+    fn count(&mut self) -> Result<u64, Failed> {
+        match self.count_kept() {
+            Ok(count) => Ok(count),
+            Err(_) => Err(self.fail()),
+        }
+    }
+
+    fn row(&mut self, _alloc: Global, k: u64) -> Result<Vec<u8>, OutError> {
+        let row = self.read_kept(k);
+        self.counted(row)
+    }
+
+    fn append(&mut self, _alloc: Global, rows: &[Vec<u8>]) -> Result<(), OutError> {
+        let added = self.add(rows);
+        self.counted(added)
+    }
+}

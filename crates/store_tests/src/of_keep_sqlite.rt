@@ -1,0 +1,147 @@
+//! Rows are there again when a store is opened again; files that are none are refused.
+use keep_sqlite::SqliteKeeper;
+use sqlite::Connection;
+use std::alloc::Global;
+use std::fs;
+use track_outside::Keeper;
+
+const FILE: &str = "rows.db";
+
+// A file that two keepers make at once.
+const SHARED: &str = "shared.db";
+
+const OTHER_FILE: &str = "no_database";
+
+// Files with tables that no store has.
+const OTHERS: [(&str, &str); 3] = [
+    (
+        "other.db",
+        "CREATE TABLE other (number INTEGER PRIMARY KEY, content BLOB NOT NULL) STRICT",
+    ),
+    (
+        "text.db",
+        "CREATE TABLE kept (number INTEGER PRIMARY KEY, content TEXT NOT NULL) STRICT",
+    ),
+    (
+        "more.db",
+        "CREATE TABLE kept (number INTEGER PRIMARY KEY, content BLOB NOT NULL) STRICT; CREATE TABLE more (name TEXT) STRICT",
+    ),
+];
+
+// A store whose second row has the number 3.
+const GAP: (&str, &str) = (
+    "gap.db",
+    "CREATE TABLE kept (number INTEGER PRIMARY KEY, content BLOB NOT NULL) STRICT; INSERT INTO kept VALUES (1, x'61'), (3, x'62')",
+);
+
+#[test]
+fn rows_are_there_after_an_opening(rt: HostRuntime) {
+    assert!(rt; makes(&rt, rt.alloc()), "made");
+    assert!(rt; reopens(&rt, rt.alloc()), "opened again");
+    assert!(rt; is_locked(&rt, rt.alloc()), "open elsewhere");
+    assert!(rt; adds_behind_none(&rt, rt.alloc()), "two at once");
+}
+
+#[test]
+fn other_files_are_refused(rt: HostRuntime) {
+    for (file, statements) in &OTHERS {
+        assert!(rt;
+            holds(&rt, file, statements) && is_refused(&rt, rt.alloc(), file),
+            "another table"
+        );
+    }
+    assert!(rt;
+        fs::write(&rt, OTHER_FILE, b"no database".as_slice()).is_ok(),
+        "written"
+    );
+    assert!(rt; is_refused(&rt, rt.alloc(), OTHER_FILE), "no database");
+    assert!(rt; is_refused(&rt, rt.alloc(), "."), "a folder");
+    assert!(rt;
+        holds(&rt, GAP.0, GAP.1) && has_gap(&rt, rt.alloc()),
+        "a gap"
+    );
+}
+
+// Whether no call is answered before a start, no file is made before the first append, and then the row is there.
+fn makes(rt: &HostRuntime, alloc: Global) -> bool {
+    let mut keeper = SqliteKeeper::new(rt, alloc);
+    let fresh = keeper.count().is_err() && keeper.start(alloc, FILE).is_ok();
+    fresh && is_missing(rt) && adds(alloc, &mut keeper) && has(alloc, &mut keeper)
+}
+
+fn is_missing(rt: &HostRuntime) -> bool {
+    match fs::exists(rt, FILE) {
+        Ok(found) => !found,
+        Err(_) => false,
+    }
+}
+
+fn reopens(rt: &HostRuntime, alloc: Global) -> bool {
+    let mut keeper = SqliteKeeper::new(rt, alloc);
+    keeper.start(alloc, FILE).is_ok() && has(alloc, &mut keeper)
+}
+
+// Whether a store can't be opened while it is open.
+fn is_locked(rt: &HostRuntime, alloc: Global) -> bool {
+    let mut keeper = SqliteKeeper::new(rt, alloc);
+    keeper.start(alloc, FILE).is_ok() && is_refused(rt, alloc, FILE)
+}
+
+// Whether, where no file was there, a keeper adds nothing behind the rows of another.
+fn adds_behind_none(rt: &HostRuntime, alloc: Global) -> bool {
+    let mut keeper = SqliteKeeper::new(rt, alloc);
+    let begun = keeper.start(alloc, SHARED).is_ok() && keeper.count() == Ok(0);
+    begun && adds_to(rt, alloc) && !adds_row(alloc, &mut keeper)
+}
+
+fn adds_to(rt: &HostRuntime, alloc: Global) -> bool {
+    let mut keeper = SqliteKeeper::new(rt, alloc);
+    keeper.start(alloc, SHARED).is_ok() && adds(alloc, &mut keeper)
+}
+
+fn adds(alloc: Global, keeper: &mut SqliteKeeper<'_>) -> bool {
+    keeper.count() == Ok(0) && adds_row(alloc, keeper)
+}
+
+fn adds_row(alloc: Global, keeper: &mut SqliteKeeper<'_>) -> bool {
+    match Vec::from_slice(alloc, b"machine m\xff") {
+        Ok(row) => keeper.append(alloc, &[row]).is_ok(),
+        Err(_) => false,
+    }
+}
+
+fn has(alloc: Global, keeper: &mut SqliteKeeper<'_>) -> bool {
+    match keeper.row(alloc, 1) {
+        Ok(row) => {
+            row.as_slice() == b"machine m\xff".as_slice()
+                && keeper.count() == Ok(1)
+                && keeper.row(alloc, 2).is_err()
+        }
+        Err(_) => false,
+    }
+}
+
+fn is_refused(rt: &HostRuntime, alloc: Global, name: &str) -> bool {
+    SqliteKeeper::new(rt, alloc).start(alloc, name).is_err()
+}
+
+// Whether the second row isn't there, though there are two.
+fn has_gap(rt: &HostRuntime, alloc: Global) -> bool {
+    let mut keeper = SqliteKeeper::new(rt, alloc);
+    keeper.start(alloc, GAP.0).is_ok()
+        && keeper.count() == Ok(2)
+        && keeper.row(alloc, 1).is_ok()
+        && keeper.row(alloc, 2).is_err()
+}
+
+// Makes the file by these statements.
+fn holds(rt: &HostRuntime, file: &str, statements: &str) -> bool {
+    match Connection::open(rt, file) {
+        Ok(mut store) => {
+            let done = store.execute_batch(statements).is_ok();
+            let _ = store.close();
+            done
+        }
+        Err(_) => false,
+    }
+}
