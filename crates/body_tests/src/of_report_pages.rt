@@ -223,3 +223,38 @@ fn each_kind_of_line_stands_in_its_columns(rt: HostRuntime) {
     assert!(rt; is_full(rt.alloc()));
     assert!(rt; is_empty(rt.alloc()));
 }
+
+/// The lines of JSON that the scripts of `tracker_top`'s tests print, and what is read of each.
+const PRINTED: [(&str, &str); 6] = [
+    (
+        "{\"jobs\":[],\"machine\":\"m1\",\"regressions\":[],\"series\":[{\"centre\":\"10\",\"changes\":1,\"metric\":\"B/op\",\"positions\":4,\"samples\":4,\"test\":\"X\"}],\"step\":11}\n",
+        "{jobs=[],machine=|m1|,regressions=[],series=[{centre=|10|,changes=#1,metric=|B/op|,positions=#4,samples=#4,test=|X|,},],step=#11,}",
+    ),
+    (
+        "{\"jobs\":[],\"machine\":\"m1\",\"regressions\":[{\"after\":\"c\",\"before\":\"b\",\"metric\":\"B/op\",\"number\":1,\"state\":\"fixed\",\"test\":\"X\"}],\"series\":[{\"centre\":\"10\",\"changes\":1,\"metric\":\"B/op\",\"positions\":4,\"samples\":4,\"test\":\"X\"}],\"step\":15}\n",
+        "{jobs=[],machine=|m1|,regressions=[{after=|c|,before=|b|,metric=|B/op|,number=#1,state=|fixed|,test=|X|,},],series=[{centre=|10|,changes=#1,metric=|B/op|,positions=#4,samples=#4,test=|X|,},],step=#15,}",
+    ),
+    (
+        "{\"jobs\":[{\"job\":1,\"outcome\":\"found c5 c6\",\"questions\":3,\"range\":8},{\"job\":2,\"outcome\":\"found c0 c1\",\"questions\":0,\"range\":1},{\"job\":3,\"outcome\":\"undecided c4 125\",\"questions\":0,\"range\":8},{\"job\":4,\"outcome\":\"asks c4\",\"questions\":0,\"range\":8}],\"machine\":\"m\",\"regressions\":[],\"series\":[],\"step\":17}\n",
+        "{jobs=[{job=#1,outcome=|found c5 c6|,questions=#3,range=#8,},{job=#2,outcome=|found c0 c1|,questions=#0,range=#1,},{job=#3,outcome=|undecided c4 125|,questions=#0,range=#8,},{job=#4,outcome=|asks c4|,questions=#0,range=#8,},],machine=|m|,regressions=[],series=[],step=#17,}",
+    ),
+    (
+        "{\"jobs\":[{\"job\":1,\"outcome\":\"asks d%20e\",\"questions\":0,\"range\":2}],\"machine\":\"m\\\"\\\\\\u0001é%\",\"regressions\":[{\"after\":\"d e\",\"before\":\"c\\\"\\u001f\\\\\",\"metric\":\"B/op\",\"number\":1,\"state\":\"detected\",\"test\":\"Q\\\"\\\\\x7fé€/a%b\"}],\"series\":[{\"centre\":\"9\",\"changes\":1,\"metric\":\"B/op\",\"positions\":2,\"samples\":2,\"test\":\"Q\\\"\\\\\x7fé€/a%b\"}],\"step\":10}\n",
+        "{jobs=[{job=#1,outcome=|asks d%20e|,questions=#0,range=#2,},],machine=|m\"\\\x01é%|,regressions=[{after=|d e|,before=|c\"\x1f\\|,metric=|B/op|,number=#1,state=|detected|,test=|Q\"\\\x7fé€/a%b|,},],series=[{centre=|9|,changes=#1,metric=|B/op|,positions=#2,samples=#2,test=|Q\"\\\x7fé€/a%b|,},],step=#10,}",
+    ),
+    (
+        "{\"jobs\":[],\"machine\":\"m\",\"regressions\":[],\"series\":[],\"step\":0}\n",
+        "{jobs=[],machine=|m|,regressions=[],series=[],step=#0,}",
+    ),
+    (
+        "{\"jobs\":[],\"machine\":\"m\",\"regressions\":[],\"series\":[{\"centre\":\"3.5000\",\"changes\":0,\"metric\":\"x\",\"positions\":0,\"samples\":0,\"test\":\"A\"},{\"centre\":null,\"changes\":null,\"metric\":\"y\",\"positions\":0,\"samples\":0,\"test\":\"A\"},{\"centre\":null,\"changes\":null,\"metric\":\"x\",\"positions\":0,\"samples\":0,\"test\":\"AB\"},{\"centre\":null,\"changes\":0,\"metric\":\"x\",\"positions\":0,\"samples\":0,\"test\":\"B\"}],\"step\":5}\n",
+        "{jobs=[],machine=|m|,regressions=[],series=[{centre=|3.5000|,changes=#0,metric=|x|,positions=#0,samples=#0,test=|A|,},{centre=null,changes=null,metric=|y|,positions=#0,samples=#0,test=|A|,},{centre=null,changes=null,metric=|x|,positions=#0,samples=#0,test=|AB|,},{centre=null,changes=#0,metric=|x|,positions=#0,samples=#0,test=|B|,},],step=#5,}",
+    ),
+];
+
+#[test]
+fn reports_of_scripts_are_read(rt: HostRuntime) {
+    for (line, tree) in &PRINTED {
+        assert!(rt; is_answer(rt.alloc(), line.as_bytes(), tree), "{line}");
+    }
+}

@@ -1,4 +1,4 @@
-//! The program `lnttrack`: its words, standard input, output and error, handed to `tracker_top`.
+//! The program `lnttrack`: its words, standard input, output and error, files and a store, handed to `tracker_top`.
 //!
 //! What a command does, and when each status comes, is the contract of `tracker_top::alone`, which this program calls
 //! with the real objects of `track_outside`; it ends with the status' number.
@@ -8,10 +8,13 @@ ghost use Rattle.std.specs.Prelude.{◌≡◌};
 ghost use Rattle.std.specs.Process.{exit_status};
 ghost use Rattle.tracker_top.specs.Statuses.{number_of};
 
+#[cfg(test)]
+mod tests;
 mod words;
 
+use keep_sqlite::SqliteKeeper;
 use std::process::ExitCode;
-use track_outside::{RealSink, RealSource};
+use track_outside::{RealFiles, RealSink, RealSource};
 use tracker_top::{Status, alone, put_status};
 use words::words_of;
 
@@ -20,7 +23,15 @@ fn main(rt: HostRuntime) -> ExitCode {
     let mut out = RealSink::output(&rt);
     let mut err = RealSink::error(&rt);
     let status = match words_of(&rt, rt.alloc()) {
-        Ok(words) => alone(rt.alloc(), &words, &mut input, &mut out, &mut err),
+        Ok(words) => alone(
+            rt.alloc(),
+            &words,
+            &mut input,
+            &mut out,
+            &mut err,
+            &mut RealFiles::new(&rt),
+            &mut SqliteKeeper::new(&rt, rt.alloc()),
+        ),
         Err(status) => {
             // A status stands also where it can't be told.
             let _ = put_status(&mut err, status);

@@ -1,9 +1,10 @@
 -- How a command ends where reading stops, and that what is due comes.
-use Rattle.std.proofs.Common.{◌≡◌, ◌≢◌, ℕ, ◌+◌, ◌^◌, ◌≤◌, ◌⊎◌, inl, inr, List, Option, None, Some, Result, Ok, Err, IfSome, refl, sym, subst}
+use Rattle.std.proofs.Common.{◌≡◌, ◌≢◌, ℕ, ◌+◌, ◌^◌, ◌≤◌, ◌⊎◌, inl, inr, List, [], ◌∷◌, Option, None, Some, Result, Ok, Err, IfSome, map, refl, sym, ap, subst, ◌∙◌, arith}
 use Rattle.track_outside.specs.Counts.{Rose}
 use Rattle.track_outside.specs.declared.source.Source as source
 use Rattle.track_outside.specs.declared.sink.Sink as sink
-use Rattle.track_outside.specs.Calls.{IsUntouched, GaveAtMost}
+use Rattle.track_outside.specs.declared.keeper.Keeper as keeper
+use Rattle.track_outside.specs.Calls.{Took, IsUntouched, GaveAtMost}
 use Rattle.request_text.specs.Bodies.{Item}
 use Rattle.request_text.specs.Scripts.{Ending, end, cut_off, unfinished, IsScript}
 use Rattle.script_session.specs.declared.stop.Stop.{Stop as ScriptStop}
@@ -13,14 +14,22 @@ use Rattle.cut_lines.specs.declared.stop.Refusal.TheVariants as refusal
 use Rattle.cut_lines.specs.declared.stop.Stop.{Stop}
 use Rattle.cut_lines.specs.declared.stop.Stop.TheVariants as stop
 use Rattle.cut_lines.specs.Stops.{BytesShow, StopsFor}
-use Rattle.tracker_top.specs.declared.command.Command.{Command}
-use Rattle.tracker_top.specs.declared.command.Command.TheVariants.{Cut, Apply, Gen, Trial}
+use Rattle.command_words.specs.declared.command.Command.{Command}
+use Rattle.command_words.specs.declared.command.Command.TheVariants.{Cut, Apply, Gen, Trial}
 use Rattle.tracker_top.specs.declared.status.Status.{Status}
-use Rattle.tracker_top.specs.declared.status.Status.TheVariants.{Done, BadWords, ReadFault, WriteFault, CutOff, NoMemory, InputTooLong, BadLine, Full}
-use Rattle.tracker_top.specs.Commands.{IsSpelled}
-use Rattle.tracker_top.specs.Statuses.{status_of, script_status, ended, CutShows, ScriptShows, Shows, IsDue, OneStatusIsDue}
-use Rattle.tracker_top.specs.Endings.{HasCause, EndsInput, EndsOutput, IsOfOutput, HasAsked, Ends}
-use Rattle.tracker_top.specs.Answers.{IsCertificateText}
+use Rattle.tracker_top.specs.declared.status.Status.TheVariants.{Done, BadWords, ReadFault, WriteFault, StoreFault, BadStore, CutOff, NoMemory, InputTooLong}
+use Rattle.command_words.specs.Commands.{IsSpelled, AreOneCommand}
+use Rattle.tracker_top.specs.Statuses.{status_of, script_status_of, script_status, ended, CutShows, ScriptShows, Shows, IsDue, OneStatusIsDue}
+use Rattle.tracker_top.specs.Endings.{HasCause, EndsInput, EndsOutput, AnswersScript, Begins, WasStarted, Keeps, Prints, AppendCause, LoadCause, EndsSo, EndsScript, EndsApply, IsOfOutput, HasAsked, Ends}
+use Rattle.tracker_top.specs.Answers.{IsCertificateText, state_of}
+use Rattle.track_outside.specs.Kept.{with_more}
+use Rattle.kept_machines.specs.Kept.{kept_of, AreKept}
+use Rattle.kept_machines.specs.Loading.{LeadTo, IsFirstBad}
+use Rattle.kept_machines.specs.Rows.{new_rows}
+use Rattle.script_session.specs.Growth.{ComesBack}
+use Rattle.track_model.specs.Tracks.{Track}
+use Rattle.script_session.specs.Sessions.{State, AnswersFor}
+use Rattle.script_session.specs.Outputs.{IsOutput}
 use Rattle.series_gen.specs.Script.{script as script_of}
 
 -- ---- where reading stops
@@ -37,16 +46,16 @@ module _ {I : Type 0} (g : source.Ghosts I) (old new : I) where
   stop_causes (stop.Refused refusal.Bad k) told = stop_shows (g.left old) (stop.Refused refusal.Bad k) told
   stop_causes (stop.Refused refusal.Full k) told = stop_shows (g.left old) (stop.Refused refusal.Full k) told
 
-  not_done : (why : Stop) → status_of why ≢ Done
-  not_done stop.Fault is = cc
-  not_done stop.NoMemory is = cc
-  not_done stop.TooLong is = cc
-  not_done (stop.Refused refusal.Bad k) is = cc
-  not_done (stop.Refused refusal.Full k) is = cc
+  stop_not_done : (why : Stop) → status_of why ≢ Done
+  stop_not_done stop.Fault is = cc
+  stop_not_done stop.NoMemory is = cc
+  stop_not_done stop.TooLong is = cc
+  stop_not_done (stop.Refused refusal.Bad k) is = cc
+  stop_not_done (stop.Refused refusal.Full k) is = cc
 
   pub stop_ends : (why : Stop) → StopsFor g old new why → GaveAtMost (2 ^ 30 + 1) (g.left old) (g.left new) → g.faults old ≤ g.faults new
       → EndsInput g old new (status_of why)
-  stop_ends why told few counts = record { cause = stop_causes why told; whole = λ is. absurd (not_done why is); few = few; counts = counts }
+  stop_ends why told few counts = record { cause = stop_causes why told; whole = λ is. absurd (stop_not_done why is); few = few; counts = counts }
 
 pub stop_writes : {O : Type 0} (g : sink.Ghosts O) (Answers : List ℕ → Type 0) (old new : O) (why : Stop) → IsUntouched g old new → EndsOutput g Answers old new (status_of why)
 stop_writes g Answers old new stop.Fault same = same
@@ -62,75 +71,201 @@ if_some None all = tt
 if_some (Some bytes) all = all bytes
 
 -- the answer is the status that is due, or memory was wanting, or an object failed
-abbrev Comes : Type 0 → Type 0 → Status → Status → Type 0
-Comes R W result status = (result ≡ status) ⊎ ((result ≡ NoMemory) ⊎ (R ⊎ W))
+abbrev Comes : Type 0 → Type 0 → Type 0 → Status → Status → Type 0
+Comes R W K result status = (result ≡ status) ⊎ ((result ≡ NoMemory) ⊎ (R ⊎ (W ⊎ K)))
 
-module _ {I O : Type 0} (g : source.Ghosts I) (h : sink.Ghosts O) (words : List (List ℕ)) (old new : I) (before after : O) (once : OneStatusIsDue) where
-  abbrev WhatIsDueComes : Status → Type 0
-  WhatIsDueComes result =
-      IfSome (g.left old) (λ bytes. (status : Status) → IsDue words bytes status
-      → Comes (Rose (g.faults old) (g.faults new)) (Rose (h.faults before) (h.faults after)) result status)
+module _ {I O K : Type 0} (g : source.Ghosts I) (h : sink.Ghosts O) (k : keeper.Ghosts K) (words : List (List ℕ)) (old new : I) (before after : O) (first last : K) (one_command : AreOneCommand) (once : OneStatusIsDue) where
+  abbrev DueComes : Option (List (List ℕ)) → Status → Type 0
+  DueComes rows result =
+      IfSome (g.left old) (λ bytes. (status : Status) → IsDue words rows bytes status
+      → Comes (Rose (g.faults old) (g.faults new)) (Rose (h.faults before) (h.faults after)) (Rose (k.faults first) (k.faults last)) result status)
 
-  module _ (command : Command) (spelled : IsSpelled words command) where
-    shown : (known : Option (List ℕ)) (result : Status) (R W : Type 0) → IfSome known (λ bytes. Shows command bytes result)
-        → IfSome known (λ bytes. (status : Status) → IsDue words bytes status → Comes R W result status)
-    shown None result R W shows = tt
-    shown (Some bytes) result R W shows = λ status due. inl (once words bytes result status (inr (command, spelled, shows)) due)
+  module _ (rows : Option (List (List ℕ))) (command : Command) (spelled : IsSpelled words command) where
+    shown : (known : Option (List ℕ)) (result : Status) (R W S : Type 0) → IfSome known (λ bytes. Shows command rows bytes result)
+        → IfSome known (λ bytes. (status : Status) → IsDue words rows bytes status → Comes R W S result status)
+    shown None result R W S shows = tt
+    shown (Some bytes) result R W S shows = λ status due. inl (once words rows bytes result status (inr (command, spelled, shows)) due)
 
-  cut_comes : (penalty : ℕ) (Answers : List ℕ → Type 0) → IsSpelled words (Cut penalty) → (result : Status)
-      → HasCause g old new result → EndsOutput h Answers before after result → WhatIsDueComes result
-  cut_comes penalty Answers spelled ReadFault cause output = if_some (g.left old) (λ bytes status due. inr (inr (inl cause.0)))
-  cut_comes penalty Answers spelled WriteFault cause output = if_some (g.left old) (λ bytes status due. inr (inr (inr output.2.rose)))
-  cut_comes penalty Answers spelled NoMemory cause output = if_some (g.left old) (λ bytes status due. inr (inl refl))
-  cut_comes penalty Answers spelled BadWords cause output = absurd cause
-  cut_comes penalty Answers spelled Done cause output = shown (Cut penalty) spelled (g.left old) Done _ _ cause
-  cut_comes penalty Answers spelled (CutOff script offset) cause output = shown (Cut penalty) spelled (g.left old) (CutOff script offset) _ _ cause
-  cut_comes penalty Answers spelled (InputTooLong script) cause output = shown (Cut penalty) spelled (g.left old) (InputTooLong script) _ _ cause
-  cut_comes penalty Answers spelled (BadLine k) cause output = shown (Cut penalty) spelled (g.left old) (BadLine k) _ _ cause
-  cut_comes penalty Answers spelled (Full k) cause output = shown (Cut penalty) spelled (g.left old) (Full k) _ _ cause
+  module _ (rows : Option (List (List ℕ))) where
+    failed_read : (result : Status) → Rose (g.faults old) (g.faults new) → DueComes rows result
+    failed_read result rose = if_some (g.left old) (λ bytes status due. inr (inr (inl rose)))
 
+    failed_write : (result : Status) → Rose (h.faults before) (h.faults after) → DueComes rows result
+    failed_write result rose = if_some (g.left old) (λ bytes status due. inr (inr (inr (inl rose))))
+
+    failed_store : (result : Status) → Rose (k.faults first) (k.faults last) → DueComes rows result
+    failed_store result rose = if_some (g.left old) (λ bytes status due. inr (inr (inr (inr rose))))
+
+    wanted : DueComes rows NoMemory
+    wanted = if_some (g.left old) (λ bytes status due. inr (inl refl))
+
+  -- ---- cut
+  module _ (rows : Option (List (List ℕ))) (penalty : ℕ) (spelled : IsSpelled words (Cut penalty)) where
+    cut_shown : (result : Status) → IfSome (g.left old) (λ bytes. CutShows bytes result) → DueComes rows result
+    cut_shown result shows = shown rows (Cut penalty) spelled (g.left old) result _ _ _ shows
+
+    cut_comes : (Answers : List ℕ → Type 0) (result : Status) → HasCause g old new result → EndsOutput h Answers before after result → DueComes rows result
+    cut_comes Answers ReadFault cause output = failed_read rows ReadFault cause.0
+    cut_comes Answers WriteFault cause output = failed_write rows WriteFault output.2.rose
+    cut_comes Answers NoMemory cause output = wanted rows
+    cut_comes Answers BadWords cause output = absurd cause
+    cut_comes Answers StoreFault cause output = absurd cause
+    cut_comes Answers (BadStore row) cause output = absurd cause
+    cut_comes Answers other cause output = cut_shown other cause
+
+  -- ---- apply
   script_shows : (known : Option (List ℕ)) (items : List Item) (ending : Ending) → IfSome known (λ bytes. IsScript bytes items ending)
       → IfSome known (λ bytes. ScriptShows bytes (ended ending))
   script_shows None items ending script = tt
   script_shows (Some bytes) items ending script = (items, ending, script, refl)
 
-  apply_comes : IsSpelled words Apply → (items : List Item) (text : List ℕ) (result : Result (Unit {0}) ScriptStop)
-      → HasRead g old new items result → HasWritten h before after text result → WhatIsDueComes (script_status result)
-  apply_comes spelled items text (Ok done) read wrote = shown Apply spelled (g.left old) Done _ _ (script_shows (g.left old) items end read.0)
-  apply_comes spelled items text (Err script.ReadFault) read wrote = if_some (g.left old) (λ bytes status due. inr (inr (inl read.0)))
-  apply_comes spelled items text (Err script.WriteFault) read wrote = if_some (g.left old) (λ bytes status due. inr (inr (inr wrote.rose)))
-  apply_comes spelled items text (Err (script.CutOff offset)) read wrote =
-      shown Apply spelled (g.left old) (CutOff 0 offset) _ _ (script_shows (g.left old) items (cut_off offset) read)
-  apply_comes spelled items text (Err script.InputTooLong) read wrote =
-      shown Apply spelled (g.left old) (InputTooLong 0) _ _ (script_shows (g.left old) items unfinished read)
-  apply_comes spelled items text (Err script.NoMemory) read wrote = if_some (g.left old) (λ bytes status due. inr (inl refl))
+  -- where what a script shows is shown, what is due comes
+  module _ (rows : Option (List (List ℕ))) (show : (result : Status) → IfSome (g.left old) (λ bytes. ScriptShows bytes result) → DueComes rows result) where
+    script_comes : (items : List Item) (text : List ℕ) (result : Result (Unit {0}) ScriptStop)
+        → HasRead g old new items result → HasWritten h before after text result → DueComes rows (script_status result)
+    script_comes items text (Ok done) read wrote = show Done (script_shows (g.left old) items end read.0)
+    script_comes items text (Err script.ReadFault) read wrote = failed_read rows ReadFault read.0
+    script_comes items text (Err script.WriteFault) read wrote = failed_write rows WriteFault wrote.rose
+    script_comes items text (Err (script.CutOff offset)) read wrote = show (CutOff 0 offset) (script_shows (g.left old) items (cut_off offset) read)
+    script_comes items text (Err script.InputTooLong) read wrote = show (InputTooLong 0) (script_shows (g.left old) items unfinished read)
+    script_comes items text (Err script.NoMemory) read wrote = wanted rows
 
-  gen_comes : (number : ℕ) → IsSpelled words (Gen number) → (result : Status) → IsOfOutput result
-      → EndsOutput h (λ text. text ≡ script_of number) before after result → WhatIsDueComes result
-  gen_comes number spelled Done cause output = shown (Gen number) spelled (g.left old) Done _ _ (if_some (g.left old) (λ bytes. refl))
-  gen_comes number spelled WriteFault cause output = if_some (g.left old) (λ bytes status due. inr (inr (inr output.2.rose)))
-  gen_comes number spelled NoMemory cause output = if_some (g.left old) (λ bytes status due. inr (inl refl))
-  gen_comes number spelled BadWords cause output = absurd cause
-  gen_comes number spelled ReadFault cause output = absurd cause
-  gen_comes number spelled (CutOff script offset) cause output = absurd cause
-  gen_comes number spelled (InputTooLong script) cause output = absurd cause
-  gen_comes number spelled (BadLine k) cause output = absurd cause
-  gen_comes number spelled (Full k) cause output = absurd cause
+    append_comes : (result : Status) → AppendCause k first last result → DueComes rows result
+    append_comes StoreFault cause = failed_store rows StoreFault cause
+    append_comes NoMemory cause = wanted rows
+    append_comes other cause = absurd cause
 
-  trial_comes : (number : ℕ) → IsSpelled words (Trial number) → (items : List Item) (text : List ℕ) (result : Result (Unit {0}) ScriptStop)
-      → HasAsked (script_of number) items result → HasWritten h before after text result → WhatIsDueComes (script_status result)
-  trial_comes number spelled items text (Ok done) read wrote = shown (Trial number) spelled (g.left old) Done _ _ (if_some (g.left old) (λ bytes. (items, end, read, refl)))
-  trial_comes number spelled items text (Err script.ReadFault) read wrote = absurd read
-  trial_comes number spelled items text (Err script.WriteFault) read wrote = if_some (g.left old) (λ bytes status due. inr (inr (inr wrote.rose)))
-  trial_comes number spelled items text (Err (script.CutOff offset)) read wrote =
-      shown (Trial number) spelled (g.left old) (CutOff 0 offset) _ _ (if_some (g.left old) (λ bytes. (items, cut_off offset, read, refl)))
-  trial_comes number spelled items text (Err script.InputTooLong) read wrote =
-      shown (Trial number) spelled (g.left old) (InputTooLong 0) _ _ (if_some (g.left old) (λ bytes. (items, unfinished, read, refl)))
-  trial_comes number spelled items text (Err script.NoMemory) read wrote = if_some (g.left old) (λ bytes status due. inr (inl refl))
+    ends_so_comes : (store : Option (List ℕ)) (items : List Item) (text : List ℕ) (why : Result (Unit {0}) ScriptStop) (result : Status)
+        → HasRead g old new items why → HasWritten h before after text why → EndsSo k store first last why result → DueComes rows result
+    ends_so_comes store items text (Err stop) result read wrote ends = subst (DueComes rows) (sym ends) (script_comes items text (Err stop) read wrote)
+    ends_so_comes None items text (Ok done) result read wrote ends = subst (DueComes rows) (sym ends) (script_comes items text (Ok done) read wrote)
+    ends_so_comes (Some name) items text (Ok done) result read wrote (inl ends) = subst (DueComes rows) (sym ends) (script_comes items text (Ok done) read wrote)
+    ends_so_comes (Some name) items text (Ok done) result read wrote (inr cause) = append_comes result cause
 
-  pub comes : (command : Command) (result : Status) → IsSpelled words command → Ends g h command old new before after result → WhatIsDueComes result
-  comes (Cut penalty) result spelled ends = cut_comes penalty (IsCertificateText penalty (g.left old)) spelled result ends.input.cause ends.output
-  comes Apply result spelled ends = subst WhatIsDueComes (sym ends.told) (apply_comes spelled ends.items ends.text ends.result ends.read ends.wrote)
-  comes (Gen number) result spelled ends = gen_comes number spelled result ends.cause ends.output
+  module _ (name : List ℕ) (spelled : IsSpelled words (Apply (Some name))) where
+    -- a store that tells no rows has nothing due
+    none_due : (bytes : List ℕ) (status : Status) → IsDue words None bytes status → ⊥
+    none_due bytes status (inl (is, none)) = none (Apply (Some name)) spelled
+    none_due bytes status (inr (command, its, shows)) =
+        subst (λ c. Shows c None bytes status) (one_command words command (Apply (Some name)) its spelled) shows
+
+    bad_shown : (rows : Option (List (List ℕ))) (row : ℕ) → IfSome rows (λ told. IsFirstBad told row) → DueComes rows (BadStore row)
+    bad_shown None row bad = if_some (g.left old) (λ bytes status due. absurd (none_due bytes status due))
+    bad_shown (Some told) row bad =
+        if_some (g.left old) (λ bytes status due. inl (once words (Some told) bytes (BadStore row) status (inr (Apply (Some name), spelled, inl (row, bad, refl))) due))
+
+    store_shown : (rows : Option (List (List ℕ))) (machines : List Track) → IfSome rows (λ told. LeadTo told machines)
+        → (known : Option (List ℕ)) (result : Status) (R W S : Type 0) → IfSome known (λ bytes. ScriptShows bytes result)
+        → IfSome known (λ bytes. (status : Status) → IsDue words rows bytes status → Comes R W S result status)
+    store_shown rows machines led None result R W S shows = tt
+    store_shown None machines led (Some bytes) result R W S shows = λ status due. absurd (none_due bytes status due)
+    store_shown (Some told) machines led (Some bytes) result R W S shows =
+        λ status due. inl (once words (Some told) bytes result status (inr (Apply (Some name), spelled, inr (machines, led, shows))) due)
+
+    unread_comes : (result : Status) → LoadCause k first last result → DueComes (k.kept first) result
+    unread_comes StoreFault cause = failed_store (k.kept first) StoreFault cause
+    unread_comes (BadStore row) cause = bad_shown (k.kept first) row cause
+    unread_comes NoMemory cause = wanted (k.kept first)
+    unread_comes other cause = absurd cause
+
+  apply_comes : (store : Option (List ℕ)) → IsSpelled words (Apply store) → (result : Status)
+      → EndsApply g h k store old new before after first last result → DueComes (k.kept first) result
+  apply_comes None spelled result e =
+      ends_so_comes (k.kept first) (λ status shows. shown (k.kept first) (Apply None) spelled (g.left old) status _ _ _ shows)
+      None e.answers.items e.answers.text e.result result e.answers.read e.answers.wrote e.ends
+  apply_comes (Some name) spelled result (inl e) = unread_comes name spelled result e.cause
+  apply_comes (Some name) spelled result (inr e) =
+      ends_so_comes (k.kept first) (λ status shows. store_shown name spelled (k.kept first) e.machines e.begins.1 (g.left old) status _ _ _ shows)
+      (Some name) e.answers.items e.answers.text e.result result e.answers.read e.answers.wrote e.ends
+
+  -- ---- gen
+  gen_comes : (rows : Option (List (List ℕ))) (number : ℕ) → IsSpelled words (Gen number) → (result : Status) → IsOfOutput result
+      → EndsOutput h (λ text. text ≡ script_of number) before after result → DueComes rows result
+  gen_comes rows number spelled Done cause output = shown rows (Gen number) spelled (g.left old) Done _ _ _ (if_some (g.left old) (λ bytes. refl))
+  gen_comes rows number spelled WriteFault cause output = failed_write rows WriteFault output.2.rose
+  gen_comes rows number spelled NoMemory cause output = wanted rows
+  gen_comes rows number spelled other cause output = absurd cause
+
+  -- ---- trial
+  trial_comes : (rows : Option (List (List ℕ))) (number : ℕ) → IsSpelled words (Trial number) → (items : List Item) (text : List ℕ) (result : Result (Unit {0}) ScriptStop)
+      → HasAsked (script_of number) items result → HasWritten h before after text result → DueComes rows (script_status result)
+  trial_comes rows number spelled items text (Ok done) read wrote =
+      shown rows (Trial number) spelled (g.left old) Done _ _ _ (if_some (g.left old) (λ bytes. refl))
+  trial_comes rows number spelled items text (Err script.ReadFault) read wrote = absurd read
+  trial_comes rows number spelled items text (Err script.WriteFault) read wrote = failed_write rows WriteFault wrote.rose
+  trial_comes rows number spelled items text (Err (script.CutOff offset)) read wrote = absurd read
+  trial_comes rows number spelled items text (Err script.InputTooLong) read wrote = absurd read
+  trial_comes rows number spelled items text (Err script.NoMemory) read wrote = wanted rows
+
+  pub comes : (command : Command) (result : Status) → IsSpelled words command → Ends g h k command old new before after first last result
+      → DueComes (k.kept first) result
+  comes (Cut penalty) result spelled ends = cut_comes (k.kept first) penalty spelled (IsCertificateText penalty (g.left old)) result ends.0.input.cause ends.0.output
+  comes (Apply store) result spelled ends = apply_comes store spelled result ends
+  comes (Gen number) result spelled ends = gen_comes (k.kept first) number spelled result ends.0.cause ends.0.output
   comes (Trial number) result spelled ends =
-      subst WhatIsDueComes (sym ends.run.told) (trial_comes number spelled ends.run.items ends.run.text ends.run.result ends.run.read ends.run.wrote)
+      subst (DueComes (k.kept first)) (sym ends.0.run.told) (trial_comes (k.kept first) number spelled ends.0.run.items ends.0.run.text ends.0.run.result ends.0.run.read ends.0.run.wrote)
+
+-- ---- how `apply` ends
+not_done : (stop : ScriptStop) → script_status_of stop ≢ Done
+not_done script.ReadFault is = cc
+not_done other is = cc
+
+module _ {I O K : Type 0} (g : source.Ghosts I) (h : sink.Ghosts O) (k : keeper.Ghosts K) (machines : List Track) (now : State) (old new : I) (before after : O) (first last : K) where
+  prints : (items : List Item) (text : List ℕ) (known : Option (List ℕ)) → IfSome known (λ bytes. IsScript bytes items end)
+      → IsOutput AnswersFor (state_of machines) items text now → Took h before after text → IfSome known (λ bytes. Prints h machines bytes now before after)
+  prints items text None read output took = tt
+  prints items text (Some bytes) read output took = (text, record { items = items; script = read; output = output }, took)
+
+  whole_of : (store : Option (List ℕ)) (why : Result (Unit {0}) ScriptStop) (status : Status) → AnswersScript g h (state_of machines) now old new before after why
+      → EndsSo k store first last why status → status ≡ Done → IfSome (g.left old) (λ bytes. Prints h machines bytes now before after)
+  whole_of store (Ok done) status answers ends is =
+      prints answers.items answers.text (g.left old) answers.read.0
+      (subst (IsOutput AnswersFor (state_of machines) answers.items answers.text) (sym answers.answered.stands) answers.answered.output) answers.wrote
+  whole_of store (Err stop) status answers ends is = absurd (not_done stop (sym ends ∙ is))
+
+  pub ends_script : (store : Option (List ℕ)) (why : Result (Unit {0}) ScriptStop) (status : Status) → Begins k store first machines → AnswersScript g h (state_of machines) now old new before after why
+      → EndsSo k store first last why status → Keeps k store now.tracks first last status → EndsScript g h k store old new before after first last status
+  ends_script store why status begins answers ends keeps = record {
+    machines = machines;
+    begins = begins;
+    now = now;
+    result = why;
+    answers = answers;
+    ends = ends;
+    keeps = keeps;
+    whole = whole_of store why status answers ends;
+  }
+
+  -- with a store, where all is done
+  ends_added : (name : List ℕ) (middle : K) (done : Unit {0}) → AreKept machines → IfSome (k.kept first) (λ rows. LeadTo rows machines)
+      → k.kept middle ≡ k.kept first → WasStarted k name first last → AnswersScript g h (state_of machines) now old new before after (Ok done)
+      → ComesBack now → k.kept last ≡ with_more (k.kept middle) (new_rows now.tracks) → EndsScript g h k (Some name) old new before after first last Done
+  ends_added name middle done are led same started answers back is =
+      let rows : k.kept last ≡ with_more (k.kept first) (new_rows now.tracks) = is ∙ ap (λ r. with_more r (new_rows now.tracks)) same in
+      ends_script (Some name) (Ok done) Done (are, led) answers (inl refl) (record {
+        started = started;
+        added = rows;
+        comes_back = subst (λ r. IfSome r (λ told. LeadTo told (map kept_of now.tracks))) (sym rows) (leads (k.kept first) led);
+      })
+    where
+      output : IsOutput AnswersFor (state_of machines) answers.items answers.text now
+      output = subst (IsOutput AnswersFor (state_of machines) answers.items answers.text) (sym answers.answered.stands) answers.answered.output
+
+      leads : (known : Option (List (List ℕ))) → IfSome known (λ told. LeadTo told machines)
+          → IfSome (with_more known (new_rows now.tracks)) (λ told. LeadTo told (map kept_of now.tracks))
+      leads None led = tt
+      leads (Some told) led = back told (state_of machines) answers.items answers.text refl led output
+
+  -- the same of what was called: the store's name, the machines that the session began with, and those that it left
+  pub ends_kept : (name called : List ℕ) (middle : K) (begun : State) (left : List Track) (done : Unit {0})
+      → called ≡ name → begun ≡ state_of machines → left ≡ now.tracks
+      → AreKept machines → IfSome (k.kept first) (λ rows. LeadTo rows machines) → k.kept middle ≡ k.kept first
+      → k.started middle ≡ with_more (k.started first) (called ∷ []) → k.faults first ≤ k.faults middle
+      → AnswersScript g h begun now old new before after (Ok done) → ComesBack now
+      → k.kept last ≡ with_more (k.kept middle) (new_rows left) → k.started last ≡ k.started middle → k.faults middle ≤ k.faults last
+      → EndsScript g h k (Some name) old new before after first last Done
+  ends_kept name called middle begun left done name_is begun_is left_is are led same named counts answers back added stays more =
+      let started : k.started last ≡ with_more (k.started first) (name ∷ []) = stays ∙ named ∙ ap (λ n. with_more (k.started first) (n ∷ [])) name_is in
+      ends_added name middle done are led same (record { named = started; counts = omega (arith, counts, more) })
+      (subst (λ s. AnswersScript g h s now old new before after (Ok done)) begun_is answers) back
+      (added ∙ ap (λ ts. with_more (k.kept middle) (new_rows ts)) left_is)

@@ -1,5 +1,5 @@
 -- How the answering of a script that is whole in memory ends.
-use Rattle.std.proofs.Common.{◌≡◌, ◌≢◌, ℕ, List, [], ◌++◌, Option, None, Some, Result, Ok, Err, IfSome, subst, sym, ap, arith, inl, refl, append-nil}
+use Rattle.std.proofs.Common.{◌≡◌, ◌≢◌, ℕ, List, [], Option, None, Some, Result, Ok, Err, IfSome, subst, sym, ap, arith, inl, refl, append-nil}
 use Rattle.std.specs.Io.KnownBytes.{append_known}
 use Rattle.std.proofs.lemmas.List.Elements.{All-nil}
 use Rattle.track_outside.specs.declared.source.Source as source
@@ -7,13 +7,15 @@ use Rattle.track_outside.specs.declared.sink.Sink as sink
 use Rattle.request_text.specs.Bodies.{Item}
 use Rattle.script_session.specs.declared.stop.Stop.{Stop}
 use Rattle.script_session.specs.declared.stop.Stop.TheVariants as stop
-use Rattle.script_session.specs.Sessions.{State, AnswersSome}
-use Rattle.script_session.specs.Outputs.{AsksFirst, IsOutput}
+use Rattle.script_session.specs.Sessions.{State, AnswersFor, AnswersSome}
+use Rattle.request_text.specs.Scripts.{end, cut_off, unfinished}
+use Rattle.script_session.specs.Outputs.{IsOutput, Out}
+use Rattle.script_session.specs.Part.{OutputsAreParts}
 use Rattle.script_session.specs.Endings.{HasRead, HasAnswered, HasWritten}
 use Rattle.tracker_top.specs.declared.status.Status.TheVariants.{Done, NoMemory}
 use Rattle.tracker_top.specs.Answers.{new_state, PublishesWell, AllPublishWell}
 use Rattle.tracker_top.specs.Statuses.{script_status, script_status_of}
-use Rattle.tracker_top.specs.Endings.{HasAsked, RunsScript}
+use Rattle.tracker_top.specs.Endings.{EndsWell, RefusesNone, HasAsked, IsOfOutput, RunsScript}
 
 not_done : (why : Stop) → script_status_of why ≢ Done
 not_done stop.ReadFault is = cc
@@ -22,23 +24,36 @@ not_done (stop.CutOff offset) is = cc
 not_done stop.InputTooLong is = cc
 not_done stop.NoMemory is = cc
 
-module _ {I O : Type 0} (g : source.Ghosts I) (h : sink.Ghosts O) (old new : I) (before after : O) (bytes : List ℕ) (tells : g.left old ≡ Some bytes) (sure : g.faults new ≡ 0) where
+module _ {I O : Type 0} (g : source.Ghosts I) (h : sink.Ghosts O) (old new : I) (before after : O) (bytes : List ℕ) (tells : g.left old ≡ Some bytes) (sure : g.faults new ≡ 0) (well : EndsWell bytes) (refuses : RefusesNone bytes) (parts : OutputsAreParts) where
   known : (P : List ℕ → Type 0) → IfSome (g.left old) P → P bytes
   known P told = subst (λ left. IfSome left P) tells told
 
   has_asked : (items : List Item) (result : Result (Unit {0}) Stop) → HasRead g old new items result → HasAsked bytes items result
   has_asked items (Ok done) read = known _ read.0
   has_asked items (Err stop.ReadFault) read = absurd (omega (arith, read.0, sure))
-  has_asked items (Err (stop.CutOff offset)) read = known _ read
-  has_asked items (Err stop.InputTooLong) read = known _ read
+  has_asked items (Err (stop.CutOff offset)) read = let no : cut_off offset ≡ end = well items (cut_off offset) (known _ read) in cc
+  has_asked items (Err stop.InputTooLong) read = let no : unfinished ≡ end = well items unfinished (known _ read) in cc
   has_asked items (Err stop.WriteFault) read = known _ read
   has_asked items (Err stop.NoMemory) read = known _ read
+
+  of_output : (items : List Item) (result : Result (Unit {0}) Stop) → HasAsked bytes items result → IsOfOutput (script_status result)
+  of_output items (Ok done) read = tt
+  of_output items (Err stop.ReadFault) read = absurd read
+  of_output items (Err (stop.CutOff offset)) read = absurd read
+  of_output items (Err stop.InputTooLong) read = absurd read
+  of_output items (Err stop.WriteFault) read = tt
+  of_output items (Err stop.NoMemory) read = tt
 
   module _ (now : State) (published : AllPublishWell now) (items : List Item) (text : List ℕ) where
     pub runs : (result : Result (Unit {0}) Stop) → HasRead g old new items result → HasAnswered AnswersSome new_state now items text result → HasWritten h before after text result
         → RunsScript h bytes before after (script_status result)
     runs (Ok done) read answered wrote =
         let asked : HasAsked bytes items (Ok done) = has_asked items (Ok done) read in
+        let output : IsOutput AnswersSome new_state items text now = subst (λ s. IsOutput AnswersSome new_state items text s) (sym answered.stands) answered.output in
+        let part = (parts new_state now bytes text end).0 (record { items = items; script = asked; output = output }) in
+        let is = part.1 in
+        let all : Out AnswersFor new_state bytes part.0 now end =
+        record { items = is.items; script = is.script; output = record { replies = is.replies; answers = is.answers; told = is.all } } in
         record {
           result = Ok done;
           told = refl;
@@ -46,15 +61,11 @@ module _ {I O : Type 0} (g : source.Ghosts I) (h : sink.Ghosts O) (old new : I) 
           text = text;
           now = now;
           read = asked;
+          cause = tt;
           answered = answered;
           wrote = wrote;
           published = published;
-          whole = λ is. (
-            text,
-            now,
-            record { items = items; script = asked; output = subst (λ s. IsOutput AnswersSome new_state items text s) (sym answered.stands) answered.output },
-            wrote,
-          );
+          whole = λ done. record { whole = part.0; text = text; last = now; part = is; accepted = refuses part.0 now end all; took = wrote };
         }
     runs (Err why) read answered wrote = record {
       result = Err why;
@@ -63,6 +74,7 @@ module _ {I O : Type 0} (g : source.Ghosts I) (h : sink.Ghosts O) (old new : I) 
       text = text;
       now = now;
       read = has_asked items (Err why) read;
+      cause = of_output items (Err why) (has_asked items (Err why) read);
       answered = answered;
       wrote = wrote;
       published = published;
@@ -82,6 +94,7 @@ runs_none h before bytes = record {
   text = [];
   now = new_state;
   read = inl ([], bytes, refl, omega arith, ([], (refl, refl)));
+  cause = tt;
   answered = record { after = new_state; output = record { replies = []; answers = (refl, refl); told = refl }; stands = tt };
   wrote = record { part = (0, omega arith, same_known (h.taken before)); counts = omega arith };
   published = All-nil PublishesWell;

@@ -22,9 +22,13 @@ pub record IsTextOf (points : List Position) (penalty : ℕ) (text : List ℕ) :
 abbrev pub IsCertificateText : ℕ → Option (List ℕ) → List ℕ → Type 0
 IsCertificateText penalty input text = (points : List Position) × ArePointsOfInput input points × IsTextOf points penalty text
 
--- a session of the one script, without a store: no machine is declared before it
+-- the session of the one script, on these machines
+abbrev pub state_of : List Track → State
+state_of tracks = record { author = author.Script 1; tracks = tracks }
+
+-- that session before the first machine is declared
 abbrev pub new_state : State
-new_state = record { author = author.Script 1; tracks = [] }
+new_state = state_of []
 
 -- each published segmentation of a machine names a version of its history, and is the best of exactly that version's
 -- positions at its penalty

@@ -1,21 +1,26 @@
--- Which status is due, by the words and by the input's bytes.
-use Rattle.std.specs.Prelude.{◌≡◌, ℕ, ◌⊎◌, List, Result, Ok, Err}
+-- Which status is due, by the words, the rows of a store and the input's bytes.
+use Rattle.std.specs.Prelude.{◌≡◌, ℕ, ◌⊎◌, List, Option, Some, None, Result, Ok, Err}
 use Rattle.segment_model.specs.Segments.{Position}
 use Rattle.request_text.specs.Bodies.{Item}
 use Rattle.request_text.specs.Scripts.{Ending, end, cut_off, unfinished, IsScript}
 use Rattle.script_session.specs.declared.stop.Stop.{Stop as ScriptStop}
 use Rattle.script_session.specs.declared.stop.Stop.TheVariants as script
-use Rattle.series_gen.specs.Script.{script as script_of}
 use Rattle.cut_lines.specs.declared.stop.Refusal.TheVariants as refusal
 use Rattle.cut_lines.specs.declared.stop.Stop.{Stop}
 use Rattle.cut_lines.specs.declared.stop.Stop.TheVariants as stop
 use Rattle.cut_lines.specs.Reading.{ArePointsOf}
 use Rattle.cut_lines.specs.Stops.{BytesShow}
-use Rattle.tracker_top.specs.declared.command.Command.{Command}
-use Rattle.tracker_top.specs.declared.command.Command.TheVariants.{Cut, Apply, Gen, Trial}
+use Rattle.keep_rows.specs.declared.append.AppendFault.{AppendFault}
+use Rattle.keep_rows.specs.declared.append.AppendFault.TheVariants as append
+use Rattle.keep_rows.specs.declared.load.LoadFault.{LoadFault}
+use Rattle.keep_rows.specs.declared.load.LoadFault.TheVariants as load
+use Rattle.kept_machines.specs.Loading.{LeadTo, IsFirstBad}
+use Rattle.track_model.specs.Tracks.{Track}
+use Rattle.command_words.specs.declared.command.Command.{Command}
+use Rattle.command_words.specs.declared.command.Command.TheVariants.{Cut, Apply, Gen, Trial}
 use Rattle.tracker_top.specs.declared.status.Status.{Status}
-use Rattle.tracker_top.specs.declared.status.Status.TheVariants.{Done, BadWords, ReadFault, WriteFault, CutOff, NoMemory, InputTooLong, BadLine, Full}
-use Rattle.tracker_top.specs.Commands.{IsSpelled, AreNoCommand}
+use Rattle.tracker_top.specs.declared.status.Status.TheVariants.{Done, BadWords, ReadFault, WriteFault, StoreFault, BadStore, CutOff, NoMemory, InputTooLong, BadLine, Full}
+use Rattle.command_words.specs.Commands.{IsSpelled, AreNoCommand}
 
 -- the status at which a command ends where reading of its cut lines stops
 abbrev pub status_of : Stop → Status
@@ -37,6 +42,16 @@ abbrev pub script_status : Result (Unit {0}) ScriptStop → Status
 script_status (Ok done) = Done
 script_status (Err stop) = script_status_of stop
 
+-- the status at which a command ends where the rows of its store are not loaded, or the new ones not appended
+abbrev pub load_status_of : LoadFault → Status
+load_status_of load.KeepFault = StoreFault
+load_status_of (load.BadRow row) = BadStore row
+load_status_of load.NoMemory = NoMemory
+
+abbrev pub append_status_of : AppendFault → Status
+append_status_of append.KeepFault = StoreFault
+append_status_of append.NoMemory = NoMemory
+
 -- the bytes show this status of `cut`: it is Done and they have points, or they show the stop that it is the status of
 abbrev pub CutShows : List ℕ → Status → Type 0
 CutShows bytes status =
@@ -54,24 +69,33 @@ ended unfinished = InputTooLong 0
 abbrev pub ScriptShows : List ℕ → Status → Type 0
 ScriptShows bytes status = (items : List Item) × (ending : Ending) × IsScript bytes items ending × (status ≡ ended ending)
 
--- the input's bytes show this status of the command, or those of the script that a number gives; they never show a fault
--- or want of memory
-abbrev pub Shows : Command → List ℕ → Status → Type 0
-Shows (Cut penalty) bytes status = CutShows bytes status
-Shows Apply bytes status = ScriptShows bytes status
-Shows (Gen number) bytes status = status ≡ Done
-Shows (Trial number) bytes status = ScriptShows (script_of number) status
+-- the rows of a store, where it tells them, and the bytes show this status of `apply`: the rows have a first bad one, or
+-- lead to machines and the bytes are a script that ends so
+abbrev pub StoreShows : Option (List (List ℕ)) → List ℕ → Status → Type 0
+StoreShows None bytes status = ⊥
+StoreShows (Some rows) bytes status =
+    ((row : ℕ) × IsFirstBad rows row × (status ≡ BadStore row)) ⊎ ((tracks : List Track) × LeadTo rows tracks × ScriptShows bytes status)
 
--- the words and the bytes show this status: the words are no command, or one of which the bytes show it
-abbrev pub IsDue : List (List ℕ) → List ℕ → Status → Type 0
-IsDue words bytes status =
+-- the rows of the keeper, where it tells them, and the input's bytes show this status of the command; a number shows that
+-- all is done; they never show a fault or want of memory
+abbrev pub Shows : Command → Option (List (List ℕ)) → List ℕ → Status → Type 0
+Shows (Cut penalty) rows bytes status = CutShows bytes status
+Shows (Apply None) rows bytes status = ScriptShows bytes status
+Shows (Apply (Some name)) rows bytes status = StoreShows rows bytes status
+Shows (Gen number) rows bytes status = status ≡ Done
+Shows (Trial number) rows bytes status = status ≡ Done
+
+-- the words, the rows and the bytes show this status: the words are no command, or one of which the others show it
+abbrev pub IsDue : List (List ℕ) → Option (List (List ℕ)) → List ℕ → Status → Type 0
+IsDue words rows bytes status =
     ((status ≡ BadWords) × AreNoCommand words)
-    ⊎ ((command : Command) × IsSpelled words command × Shows command bytes status)
+    ⊎ ((command : Command) × IsSpelled words command × Shows command rows bytes status)
 
--- no words and bytes show two statuses
+-- no words, rows and bytes show two statuses
 abbrev pub OneStatusIsDue : Type 0
 OneStatusIsDue =
-    (words : List (List ℕ)) (bytes : List ℕ) (one other : Status) → IsDue words bytes one → IsDue words bytes other → one ≡ other
+    (words : List (List ℕ)) (rows : Option (List (List ℕ))) (bytes : List ℕ) (one other : Status)
+    → IsDue words rows bytes one → IsDue words rows bytes other → one ≡ other
 
 -- the number that the program ends with
 abbrev pub number_of : Status → ℕ
@@ -79,6 +103,8 @@ number_of Done = 0
 number_of BadWords = 2
 number_of ReadFault = 3
 number_of WriteFault = 4
+number_of StoreFault = 5
+number_of (BadStore row) = 6
 number_of (CutOff script offset) = 7
 number_of NoMemory = 8
 number_of (InputTooLong script) = 9

@@ -18,6 +18,8 @@ pub fn put_status<O: Sink>(err: &mut O, status: Status) -> Result<(), Failed>
         Status::BadWords => put_all(err, b"bad words\n"),
         Status::ReadFault => put_all(err, b"read fault\n"),
         Status::WriteFault => put_all(err, b"write fault\n"),
+        Status::StoreFault => put_all(err, b"store fault\n"),
+        Status::BadStore(row) => put_numbered(err, b"bad store: row ", row),
         Status::CutOff(_, offset) => put_numbered(err, b"cut off: input at ", offset),
         Status::NoMemory => put_all(err, b"no memory\n"),
         Status::InputTooLong(_) => put_all(err, b"input too long: input\n"),

@@ -3,6 +3,7 @@ ghost use Rattle.std.specs.Prelude.{◌≡◌};
 ghost use Rattle.tracker_top.specs.Statuses.{number_of};
 
 use cut_lines::{Refusal, Stop as CutStop};
+use kept_machines::{AppendFault, LoadFault};
 use script_session::Stop as ScriptStop;
 use std::alloc::AllocError;
 
@@ -18,6 +19,10 @@ pub enum Status {
     ReadFault,
     /// The output failed.
     WriteFault,
+    /// The keeper of the store failed.
+    StoreFault,
+    /// This row of the store, counted from 1, is none, or isn't allowed after those before it.
+    BadStore(u64),
     /// This script ends inside the body of the request line that begins at this byte, or has a line there that is too long.
     CutOff(u64, u64),
     /// There was no memory.
@@ -40,6 +45,8 @@ impl Status {
             Status::BadWords => 2,
             Status::ReadFault => 3,
             Status::WriteFault => 4,
+            Status::StoreFault => 5,
+            Status::BadStore(_) => 6,
             Status::CutOff(_, _) => 7,
             Status::NoMemory => 8,
             Status::InputTooLong(_) => 9,
@@ -92,6 +99,37 @@ impl From<ScriptStop> for Status {
             ScriptStop::CutOff(offset) => Status::CutOff(0, offset),
             ScriptStop::InputTooLong => Status::InputTooLong(0),
             ScriptStop::NoMemory => Status::NoMemory,
+        }
+    }
+}
+
+/// How a command ends where the rows of its store are not loaded.
+impl From<LoadFault> for Status {
+    ghost use Rattle.std.specs.Prelude.{◌≡◌};
+    ghost use Rattle.tracker_top.specs.Statuses.{load_status_of};
+
+    ghost from_gives = { λ fault status. status ≡ load_status_of fault };
+
+    fn from(fault: LoadFault) -> Status {
+        match fault {
+            LoadFault::KeepFault => Status::StoreFault,
+            LoadFault::BadRow(row) => Status::BadStore(row),
+            LoadFault::NoMemory => Status::NoMemory,
+        }
+    }
+}
+
+/// How a command ends where the new rows of its store are not appended.
+impl From<AppendFault> for Status {
+    ghost use Rattle.std.specs.Prelude.{◌≡◌};
+    ghost use Rattle.tracker_top.specs.Statuses.{append_status_of};
+
+    ghost from_gives = { λ fault status. status ≡ append_status_of fault };
+
+    fn from(fault: AppendFault) -> Status {
+        match fault {
+            AppendFault::KeepFault => Status::StoreFault,
+            AppendFault::NoMemory => Status::NoMemory,
         }
     }
 }

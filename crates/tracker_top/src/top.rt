@@ -1,34 +1,40 @@
 //! The top call: it runs the command that the words are.
-ghost use Rattle.std.specs.Prelude.{◌≡◌, ◌≢◌, ℕ, ◌^◌, ◌≤◌, ◌⊎◌, List, Some, IfOk, IfSome};
+ghost use Rattle.std.specs.Prelude.{◌≡◌, ◌≢◌, ℕ, ◌^◌, ◌≤◌, ◌⊎◌, List, [], IfOk, IfSome, Result, Some};
 ghost use Rattle.track_outside.specs.Counts.{Rose};
-ghost use Rattle.tracker_top.specs.declared.command.Command.{Command};
-ghost use Rattle.tracker_top.specs.declared.command.Command.TheVariants.{Cut, Apply};
-ghost use Rattle.tracker_top.specs.Commands.{texts, IsSpelled, IsInRange, AreNoCommand};
-ghost use Rattle.tracker_top.specs.Statuses.{IsDue, OneStatusIsDue};
-ghost use Rattle.tracker_top.specs.Answers.{IsCertificateText, IsTextOf, AllBisectWell};
-ghost use Rattle.tracker_top.specs.Endings.{EndsInput, EndsOutput, IsOfOutput, RunsScript, Ends, IsTold};
+ghost use Rattle.script_session.specs.Sessions.{State};
+ghost use Rattle.script_session.specs.declared.stop.Stop.{Stop};
+ghost use Rattle.command_words.specs.declared.command.Command.{Command};
+ghost use Rattle.command_words.specs.Commands.{texts, IsSpelled, IsInRange, AreNoCommand};
+ghost use Rattle.tracker_top.specs.Statuses.{script_status, IsDue, OneStatusIsDue};
+ghost use Rattle.tracker_top.specs.Answers.{IsCertificateText, IsTextOf, state_of, AllBisectWell};
+ghost use Rattle.tracker_top.specs.Endings.{EndsInput, EndsOutput, AnswersScript, EndsApply, EndsWell, RefusesNone, IsOfOutput, RunsScript, Ends, EndsUnbegun, IsTold};
 ghost use Rattle.series_gen.specs.Script.{script as script_of};
 
-use crate::command::{Command, command_of};
 use crate::printing::put_status;
 use crate::status::Status;
+use command_words::{Command, StoreName, command_of, one_command_law};
 use cost_certificate::put_cert;
 use cut_lines::{one_stop_law, read_points};
 use history_model::{Author, finished_law, publication_law};
+use kept_machines::{append_all, load, rows_law};
 use pelt_core::segmentation;
-use script_session::{Session, Trial, answer_script, output_law};
+use script_session::{Session, Stop, Trial, answer_script, output_law, part_law};
 use segment_cost::Points;
 use series_gen::put_script;
 use std::alloc::Global;
-use track_outside::{NoMemory, Sink, Source, SureSource, put_all};
+use track_outside::{Files, Keeper, NoMemory, Sink, Source, SureSource, put_all};
+use track_state::TrackState;
+use trial_script::{accepted_law, script_law};
 
-/// No words and bytes of an input have two statuses, but for those that the outside or the memory give. Does nothing:
-/// its contract is what it is for.
+/// No words, rows of a store and bytes of an input have two statuses, but for those that the outside or the memory give.
+/// Does nothing: its contract is what it is for.
 pub fn one_status_law()
     ensures { OneStatusIsDue }
 {
+    one_command_law();
     one_stop_law();
     output_law();
+    rows_law();
 }
 
 /// Runs the command that the words are, those behind the program's name, and answers how it ends.
@@ -36,66 +42,88 @@ pub fn one_status_law()
 /// `cut PENALTY`, with a number of at most 10^36, reads cut lines from the input, an order and a value each, and writes
 /// the certificate of the best segmentation of their points to `out`, in seven lines. `apply` reads the requests of a
 /// script from the input, answers one after another on the machines that it declares, and writes the replies to `out`.
-/// `gen NUMBER`, with a number of 64 bits, reads nothing and writes the script of the number to `out`; `trial NUMBER`
-/// answers that script and writes the replies about segmentations alone.
+/// `apply --store NAME` begins with the machines that the keeper's rows of that name lead to, and adds the new rows at the
+/// end of the script, all or none. `gen NUMBER`, with a number of 64 bits, reads nothing and writes the script of the number
+/// to `out`; `trial NUMBER` answers that script and writes the replies about segmentations alone: the part of what `apply`
+/// answers it. That script is whole and none of its requests is refused, so only the output and want of memory stop a trial. The words
+/// are read as those of command lines (`command_words`), which takes memory; where it is wanting, nothing else is touched but the
+/// status' line.
 /// The status' line goes to `err`; where that fails the status stands. At most 2^30 bytes of an input are read, and one
 /// more to see that there are no more. The texts are those of docs/FORMATS.md, the statuses those of docs/COMMANDS.md.
 ///
 /// Linear in the bytes read. `cut` is quadratic in the positions, and linear in the values for each position; its memory
-/// is linear in the values. `apply` takes what each request takes of its machine's state (`TrackState::step`), and keeps
-/// the histories, one line and one body.
-pub fn alone<I: Source, O: Sink>(
+/// is linear in the values. `apply` takes what each request and each kept entry takes of its machine's state
+/// (`TrackState::step`, `TrackState::replay`), and keeps the histories, one line and one body.
+pub fn alone<F: Files, K: Keeper>(
     alloc: Global,
     words: &[String],
-    input: &mut I,
-    out: &mut O,
-    err: &mut O,
+    input: &mut F::Input,
+    out: &mut F::Output,
+    err: &mut F::Output,
+    files: &mut F,
+    keeper: &mut K,
 ) -> Status
-    // Bad words are no command, and then nothing is read or written but the status' line.
+    // Bad words are no command, and then nothing is read, written or kept but the status' line.
     ensures bad_words { result ≡ Status.BadWords → AreNoCommand (texts words.now) }
-    ensures untouched { result ≡ Status.BadWords → (input.new ≡ input.old) × (out.new ≡ out.old) }
+    ensures untouched { result ≡ Status.BadWords
+        → (input.new ≡ input.old) × (out.new ≡ out.old) × (keeper.new ≡ keeper.old) }
 
-    // Else they are a command, which ends so on the input and the output, as `Ends` says of each.
-    ensures command { result ≢ Status.BadWords → (command : Command)
-        × IsSpelled (texts words.now) command
-        × Ends I.Source O.Sink command input.old input.new out.old out.new result }
+    // No command opens or creates a file.
+    ensures files { files.new ≡ files.old }
 
-    // What is due comes, unless an object fails or memory is wanting. So good words and good input are Done.
-    ensures complete { IfSome (I.left input.old) (λ bytes. (status : Status)
-        → IsDue (texts words.now) bytes status
+    // Else memory was wanting to read them, or they are a command, which ends so on the input, the output and the keeper,
+    // as `Ends` says of each.
+    ensures command { result ≢ Status.BadWords
+        → EndsUnbegun input.old input.new out.old out.new keeper.old keeper.new result
+        ⊎ ((command : Command) × IsSpelled (texts words.now) command
+        × Ends F.Input.Source F.Output.Sink K.Keeper command
+        input.old input.new out.old out.new keeper.old keeper.new result) }
+
+    // What is due comes, unless an object fails or memory is wanting. So good words, rows and input are Done.
+    ensures complete { IfSome (F.Input.left input.old) (λ bytes. (status : Status)
+        → IsDue (texts words.now) (K.kept keeper.old) bytes status
         → (result ≡ status) ⊎ (result ≡ Status.NoMemory)
-        ⊎ Rose (I.faults input.old) (I.faults input.new)
-        ⊎ Rose (O.faults out.old) (O.faults out.new)) }
+        ⊎ Rose (F.Input.faults input.old) (F.Input.faults input.new)
+        ⊎ Rose (F.Output.faults out.old) (F.Output.faults out.new)
+        ⊎ Rose (K.faults keeper.old) (K.faults keeper.new)) }
 
     // The status is told.
-    ensures told { IsTold O.Sink err.old err.new result }
+    ensures told { IsTold F.Output.Sink err.old err.new result }
 {
     one_status_law();
-    let Some(command) = command_of(words) else {
+    one_command_law();
+    let Ok(told) = command_of(alloc, words) else {
+        let _ = put_status(err, Status::NoMemory);
+        return Status::NoMemory;
+    };
+    let Some(command) = told else {
         let _ = put_status(err, Status::BadWords);
         return Status::BadWords;
     };
-    let status = run_command(alloc, command, input, out);
+    let status = run_command(alloc, &command, input, out, keeper);
     // A status stands also where it can't be told.
     let _ = put_status(err, status);
     status
 }
 
 // Runs the command, and leaves the telling of its status to the caller.
-fn run_command<I: Source, O: Sink>(
+fn run_command<I: Source, O: Sink, K: Keeper>(
     alloc: Global,
-    command: Command,
+    command: &Command<'_>,
     input: &mut I,
     out: &mut O,
+    keeper: &mut K,
 ) -> Status
-    requires { IsInRange command }
-    ensures { Ends I.Source O.Sink command input.old input.new out.old out.new result }
+    requires { IsInRange command.now }
+    ensures { Ends I.Source O.Sink K.Keeper command.now
+        input.old input.new out.old out.new keeper.old keeper.new result }
 {
     match command {
-        Command::Cut(penalty) => cut(alloc, penalty, input, out),
-        Command::Apply => apply(alloc, input, out),
-        Command::Gen(number) => generate(alloc, number, out),
-        Command::Trial(number) => run_trial(alloc, number, out),
+        Command::Cut(penalty) => cut(alloc, *penalty, input, out),
+        Command::Apply(None) => apply(alloc, input, out),
+        Command::Apply(Some(store)) => apply_to(alloc, store, input, out, keeper),
+        Command::Gen(number) => generate(alloc, *number, out),
+        Command::Trial(number) => run_trial(alloc, *number, out),
     }
 }
 
@@ -130,19 +158,66 @@ fn certificate_text(alloc: Global, points: &Points, penalty: u128) -> Result<Vec
     Ok(text)
 }
 
-// Answers the script, and writes the replies.
+// Answers the script on no machines, and writes the replies.
 fn apply<I: Source, O: Sink>(alloc: Global, input: &mut I, out: &mut O) -> Status
-    ensures { Ends I.Source O.Sink Apply input.old input.new out.old out.new result }
+    ensures { (now : State) × (why : Result (Unit {0}) Stop) × (result ≡ script_status why)
+        × AnswersScript I.Source O.Sink (state_of []) now input.old input.new out.old out.new why }
 {
-    let mut session = Session::new(alloc, Author::Script(1), Vec::new(alloc));
-    let answered = answer_script(alloc, &mut session, input, out);
-    publication_law();
-    session.histories_law();
-    finishes_law(&session);
-    match answered {
+    let mut session = session_on(alloc, Vec::new(alloc));
+    match answer(alloc, &mut session, input, out) {
         Ok(()) => Status::Done,
         Err(stop) => Status::from(stop),
     }
+}
+
+// Answers the script on the machines of a store, writes the replies, and adds the new rows.
+fn apply_to<I: Source, O: Sink, K: Keeper>(
+    alloc: Global,
+    store: &StoreName<'_>,
+    input: &mut I,
+    out: &mut O,
+    keeper: &mut K,
+) -> Status
+    ensures { EndsApply I.Source O.Sink K.Keeper (Some store.now)
+        input.old input.new out.old out.new keeper.old keeper.new result }
+{
+    let machines = match load(alloc, keeper, store.as_str()) {
+        Ok(machines) => machines,
+        Err(fault) => return Status::from(fault),
+    };
+    let mut session = session_on(alloc, machines);
+    if let Err(stop) = answer(alloc, &mut session, input, out) {
+        return Status::from(stop);
+    }
+    session.comes_back_law();
+    match append_all(alloc, keeper, session.machines()) {
+        Ok(()) => Status::Done,
+        Err(fault) => Status::from(fault),
+    }
+}
+
+// The session of the one script, on these machines.
+fn session_on(alloc: Global, machines: Vec<TrackState>) -> Session
+    ensures { result ≡ state_of machines.items }
+{
+    Session::new(alloc, Author::Script(1), machines)
+}
+
+// Answers the script, and writes the replies.
+fn answer<I: Source, O: Sink>(
+    alloc: Global,
+    session: &mut Session,
+    input: &mut I,
+    out: &mut O,
+) -> Result<(), Stop>
+    ensures { AnswersScript I.Source O.Sink session.old session.new
+        input.old input.new out.old out.new result }
+{
+    let answered = answer_script(alloc, session, input, out);
+    publication_law();
+    session.histories_law();
+    finishes_law(session);
+    answered
 }
 
 // What the machines of a session bisected finished well. Does nothing: its contract is what it is for.
@@ -172,17 +247,21 @@ fn generate<O: Sink>(alloc: Global, number: u64, out: &mut O) -> Status
 fn run_trial<O: Sink>(alloc: Global, number: u64, out: &mut O) -> Status
     ensures { RunsScript O.Sink (script_of number) out.old out.new result }
 {
+    script_law();
+    accepted_law();
     let Ok(mut script) = script_source(alloc, number) else {
         return Status::NoMemory;
     };
     try_script(alloc, &mut script, out)
 }
 
-// Answers a script whose source tells its bytes and never fails, and writes the replies about segmentations.
+// Answers a script that ends well and has no request to refuse, whose source tells its bytes and never fails, and writes
+// the replies about segmentations.
 fn try_script<I: Source, O: Sink>(alloc: Global, script: &mut I, out: &mut O) -> Status
     ensures { (bytes : List ℕ) → I.left script.old ≡ Some bytes → I.faults script.new ≡ 0
-        → RunsScript O.Sink bytes out.old out.new result }
+        → EndsWell bytes → RefusesNone bytes → RunsScript O.Sink bytes out.old out.new result }
 {
+    part_law();
     let mut trial = Trial::new(Session::new(alloc, Author::Script(1), Vec::new(alloc)));
     let answered = answer_script(alloc, &mut trial, script, out);
     publication_law();

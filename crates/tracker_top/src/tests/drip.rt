@@ -1,10 +1,11 @@
 //! Scripts that end, come and fail at each byte.
 ghost use Rattle.std.specs.Prelude.{◌≡◌, None};
 
+use crate::tests::closed::Closed;
 use crate::{Status, alone};
 use std::alloc::{AllocError, Global};
 use std::test::Fail;
-use track_outside::{Failed, MemSink, MemSource, NoMemory, Source};
+use track_outside::{Failed, MemKeeper, MemSink, MemSource, NoMemory, Source};
 
 // A source that gives one byte a call. It tells contracts nothing of its bytes.
 #[derive(Drop)]
@@ -56,7 +57,15 @@ fn run_by_bytes(alloc: Global, script: &[u8], fails: &[u64]) -> Result<Dripped, 
     };
     let mut out = MemSink::new(alloc, 100_000, &[])?;
     let mut err = MemSink::new(alloc, 1_000, &[])?;
-    let status = alone(alloc, &words, &mut source, &mut out, &mut err);
+    let status = alone(
+        alloc,
+        &words,
+        &mut source,
+        &mut out,
+        &mut err,
+        &mut Closed::<Drip>::new(),
+        &mut MemKeeper::new(alloc, &[])?,
+    );
     Ok(Dripped {
         status,
         out,

@@ -4,7 +4,7 @@ use line_text::put_u64;
 use metric_table::Limit;
 use std::alloc::{AllocError, Global};
 use std::test::Fail;
-use track_outside::{MemSink, MemSource};
+use track_outside::{MemFiles, MemKeeper, MemSink, MemSource};
 
 // Appends a text, a number and a text.
 fn put(
@@ -106,7 +106,15 @@ fn the_request_that_would_pass_a_limit_is_refused(rt: HostRuntime) -> Result<(),
         let mut source = MemSource::new(alloc, &script_over(alloc, limit)?, &[])?;
         let mut out = MemSink::new(alloc, 10_000_000, &[])?;
         let mut err = MemSink::new(alloc, 100, &[])?;
-        let status = alone(alloc, &words, &mut source, &mut out, &mut err);
+        let status = alone(
+            alloc,
+            &words,
+            &mut source,
+            &mut out,
+            &mut err,
+            &mut MemFiles::new(alloc, 0, &[])?,
+            &mut MemKeeper::new(alloc, &[])?,
+        );
         assert_eq!(rt; status, Status::Done);
         assert!(rt; last_line(out.bytes()) == reply.as_bytes(), "{reply}");
     }

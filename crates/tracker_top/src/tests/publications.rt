@@ -5,7 +5,7 @@ use super::{NO_FAILS, answers};
 use crate::{Status, alone};
 use series_gen::put_script;
 use std::alloc::{AllocError, Global};
-use track_outside::{MemSink, MemSource};
+use track_outside::{MemFiles, MemKeeper, MemSink, MemSource};
 
 // Scripts and what they are answered. The replies were worked out by hand or by a plain model written apart from the
 // program.
@@ -109,7 +109,15 @@ fn replies_to_seven(alloc: Global) -> Option<MemSink> {
     let mut source = MemSource::new(alloc, &script, &[]).ok()?;
     let mut out = MemSink::new(alloc, 1_000_000, &[]).ok()?;
     let mut err = MemSink::new(alloc, 100, &[]).ok()?;
-    let status = alone(alloc, &words, &mut source, &mut out, &mut err);
+    let status = alone(
+        alloc,
+        &words,
+        &mut source,
+        &mut out,
+        &mut err,
+        &mut MemFiles::new(alloc, 0, &[]).ok()?,
+        &mut MemKeeper::new(alloc, &[]).ok()?,
+    );
     if status == Status::Done {
         Some(out)
     } else {

@@ -3,7 +3,7 @@ use super::{Fails, NO_FAILS, READ_FAILS, SECOND_WRITE_FAILS, ends, run};
 use crate::Status;
 use series_gen::put_script;
 use std::alloc::Global;
-use track_outside::MemSink;
+use track_outside::{MemKeeper, MemSink};
 
 // What is told of the script of 7, by a plain model written apart from the program.
 const SEVEN: &str =
@@ -38,7 +38,8 @@ fn segmentations_of_seven_are_told(rt: HostRuntime) {
 fn replies_to_one(alloc: Global) -> Option<MemSink> {
     let mut script = Vec::new(alloc);
     put_script(alloc, &mut script, 1).ok()?;
-    let told = run(alloc, &["apply"], &script, NO_FAILS).ok()?;
+    let mut keeper = MemKeeper::new(alloc, &[]).ok()?;
+    let told = run(alloc, &["apply"], &script, NO_FAILS, &mut keeper).ok()?;
     Some(told.out)
 }
 

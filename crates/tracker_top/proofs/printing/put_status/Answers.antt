@@ -2,10 +2,10 @@ use Rattle.std.proofs.Common.{decimal, append-nil}
 use Rattle.tracker_top.proofs.printing.put_status.Goals as goal
 
 pub returns-in-CutOff-clause-ok : goal.returns-in-CutOff-clause-ok
-returns-in-CutOff-clause-ok g c = rw (c.in-CutOff.is, append-nil (decimal c.in-CutOff.offset)) c.put_numbered.ensures.ok
+returns-in-CutOff-clause-ok g c = rw (c.in-CutOff.is, append-nil (decimal c.in-CutOff.offset)) c.put_numbered-in-CutOff.ensures.ok
 
 pub returns-in-CutOff-clause-err : goal.returns-in-CutOff-clause-err
-returns-in-CutOff-clause-err g c = rw (c.in-CutOff.is, append-nil (decimal c.in-CutOff.offset)) c.put_numbered.ensures.err
+returns-in-CutOff-clause-err g c = rw (c.in-CutOff.is, append-nil (decimal c.in-CutOff.offset)) c.put_numbered-in-CutOff.ensures.err
 
 pub returns-in-InputTooLong-clause-ok : goal.returns-in-InputTooLong-clause-ok
 returns-in-InputTooLong-clause-ok g c = rw c.in-InputTooLong.is c.put_all-in-InputTooLong.ensures.ok

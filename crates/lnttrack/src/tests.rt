@@ -1,0 +1,86 @@
+//! Scripts on the machines of a SQLite file that is opened again for each run.
+use keep_sqlite::SqliteKeeper;
+use std::alloc::{AllocError, Global};
+use track_outside::{MemFiles, MemSink, MemSource};
+use tracker_top::{Status, alone};
+
+// A script, and what it is answered.
+type Run = (&'static str, &'static str);
+
+// Runs one after another over the file of a name.
+const STORED: [(&str, &[Run]); 2] = [
+    (
+        "rows.db",
+        &[
+            (
+                "machine m1\ncommit m1 10 a\ntune m1 B/op 50\n",
+                "@0 machine m1\n@1 commit 10 a\n@2 tuned B/op 50\n",
+            ),
+            ("commit m1 10 a\n", "@2 duplicate @1\n"),
+        ],
+    ),
+    // A bisection that was begun is answered, and a regression goes on.
+    (
+        "followed.db",
+        &[
+            (
+                "machine m\ncommit m 10 a\ncommit m 20 b\ncommit m 30 c\ncommit m 40 d\ntune m B/op 50\nsubmit go m a r1 20\nBenchmarkX 1 0 B/op\nsubmit go m b r2 20\nBenchmarkX 1 0 B/op\nsubmit go m d r4 21\nBenchmarkX 1 10 B/op\nsubmit go m c r3 21\nBenchmarkX 1 10 B/op\nsegment m X B/op\nregress m X B/op 1\nstate m 1 active\nbisect m a d\n",
+                "@0 machine m\n@1 commit 10 a\n@2 commit 20 b\n@3 commit 30 c\n@4 commit 40 d\n@5 tuned B/op 50\n@6 accepted r1 samples 1 ignored 0\n@7 accepted r2 samples 1 ignored 0\n@8 accepted r4 samples 1 ignored 0\n@9 accepted r3 samples 1 ignored 0\n@10 segmented version 9 base 0 points 4 cuts 1 redone 4 total 50\n@11 regression 1 detected\n@12 regression 1 detected active\n@13 job 1 range 3 questions 0 asks b\n",
+            ),
+            (
+                "answer m 1 b 0\nstate m 1 verify\nsubmit go m a r1 20\nBenchmarkX 1 0 B/op\nchanges m X B/op\nanswer m 1 c 1\nreport m text\nsegment m X B/op\n",
+                "@13 job 1 range 3 questions 1 asks c\n@14 regression 1 active verify\n@14 duplicate @6\n@14 E14 NothingPublished\n@15 job 1 range 3 questions 2 found b c\n@15 report lines 3\nseries X                                        B/op                    4        4        -                    -\nregression 1 X B/op b c verify\njob 1 range 3 questions 2 found b c\n@16 segmented version 15 base 0 points 4 cuts 1 redone 4 total 50\n",
+            ),
+            ("job m 1", "@15 job 1 range 3 questions 2 found b c\n"),
+        ],
+    ),
+];
+
+#[test]
+fn runs_go_on_from_a_file(rt: HostRuntime) {
+    for (name, runs) in &STORED {
+        for run in *runs {
+            assert!(rt; is_answered(&rt, name, run), "{}", run.1);
+        }
+    }
+}
+
+// Whether the script is answered so, and all is done.
+fn is_answered(rt: &HostRuntime, name: &str, run: &Run) -> bool {
+    match answer(rt, rt.alloc(), name, run.0.as_bytes()) {
+        Ok((status, out)) => status == Status::Done && out.bytes() == run.1.as_bytes(),
+        Err(_) => false,
+    }
+}
+
+fn answer(
+    rt: &HostRuntime,
+    alloc: Global,
+    name: &str,
+    script: &[u8],
+) -> Result<(Status, MemSink), AllocError> {
+    let words = words_for(alloc, name)?;
+    let mut input = MemSource::new(alloc, script, &[])?;
+    let mut out = MemSink::new(alloc, 10_000, &[])?;
+    let mut err = MemSink::new(alloc, 1_000, &[])?;
+    let mut files = MemFiles::new(alloc, 0, &[])?;
+    let mut keeper = SqliteKeeper::new(rt, alloc);
+    let status = alone(
+        alloc,
+        &words,
+        &mut input,
+        &mut out,
+        &mut err,
+        &mut files,
+        &mut keeper,
+    );
+    Ok((status, out))
+}
+
+fn words_for(alloc: Global, name: &str) -> Result<Vec<String>, AllocError> {
+    let mut words = Vec::new(alloc);
+    for word in ["apply", "--store", name] {
+        words.push(String::from_str(alloc, word)?)?;
+    }
+    Ok(words)
+}
