@@ -3,6 +3,7 @@ pub mod Digits
 pub mod LineParts
 pub mod OneReading
 pub mod Passed
+mod Whites
 pub mod PkgInForce
 pub mod Progress
 pub mod Partings

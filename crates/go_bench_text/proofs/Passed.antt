@@ -6,10 +6,10 @@ use Rattle.std.specs.Str.{chars, IsUtf8, IsCharBoundary}
 use Rattle.std.proofs.lemmas.Bool.{and_from}
 use Rattle.std.proofs.lemmas.Bool.Decides.{nat_tests}
 use Rattle.std.proofs.lemmas.Str.{IsUtf8-nil, IsUtf8-append, IsUtf8-drop, IsCharBoundary-after_ascii, encode_ascii, IsUtf8-encode, chars-append, chars_past_char, chars-nil, IsCharBoundary-at_seam}
-use Rattle.std.proofs.lemmas.List.{append-nil, take_at, drop_at, drop_more}
+use Rattle.std.proofs.lemmas.List.{append-nil, take_at, drop_at, drop_more, length-drop}
 use Rattle.std.proofs.lemmas.List.Folds.{list_all-append}
 use Rattle.go_bench_text.specs.Characters.{is_black}
-use Rattle.go_bench_text.specs.Parts.{IsBlackByte}
+use Rattle.go_bench_text.specs.Parts.{IsBlackByte, IsWhiteByte, is_stopped}
 
 -- the rest of the text behind characters other than white space
 pub record Passed (text rest : List ℕ) : Type 0 where
@@ -80,3 +80,24 @@ passed_halves text rest front back p e f =
       same = back_is;
       more = subst IsUtf8 (sym back_is) p.more;
     }
+
+-- ASCII characters other than white space in front, cut off where they end
+pub ascii_halves : (text front back : List ℕ) (n : ℕ) → IsUtf8 text → n ≤ length text → ((k : ℕ) → k < n → IsBlackByte (get_or text k 0)) → front ≡ take n text → back ≡ drop n text
+    → Halves text front back (drop n text)
+ascii_halves text front back n is within black e f =
+    let passed = passed_ascii text n is within black in
+    let rest : length text - length (drop n text) ≡ n = omega (arith, length-drop n text) in
+    passed_halves text (drop n text) front back passed (e ∙ ap (λ (m : ℕ). take m text) (sym rest)) (f ∙ ap (λ (m : ℕ). drop m text) (sym rest))
+
+-- which is at the end, or at white space
+pub ascii_stopped : (text : List ℕ) (n : ℕ) → IsUtf8 (drop n text) → (n < length text → IsWhiteByte (get_or text n 0)) → is_stopped (chars (drop n text)) ≡ true
+ascii_stopped text n is white = by_end (drop n text) refl where
+  by_end : (rest : List ℕ) → drop n text ≡ rest → is_stopped (chars rest) ≡ true
+  by_end [] e = ap is_stopped chars-nil
+  by_end (b ∷ rest) e =
+      let some : n < length text = omega (arith, length-drop n text, ap length e) in
+      let same : drop n text ≡ get_or text n 0 ∷ drop (n + 1) text = drop_more text n 0 some in
+      let here : b ≡ get_or text n 0 = ap (λ (xs : List ℕ). get_or xs 0 0) (sym e ∙ same) in
+      let at : IsWhiteByte b = subst IsWhiteByte (sym here) (white some) in
+      let of_b : chars (b ∷ rest) ≡ b ∷ chars rest = chars_past_char (b ∷ rest) rest b (subst IsUtf8 e is) (ap (λ (xs : List ℕ). xs ++ rest) (sym (encode_ascii b at.0))) in
+      ap is_stopped of_b ∙ at.1

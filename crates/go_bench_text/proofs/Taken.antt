@@ -1,5 +1,5 @@
 -- The pairs of a line as far as they were read.
-use Rattle.std.proofs.Common.{◌≡◌, ℕ, zero, suc, ◌<◌, ◌≤◌, inl, inr, List, [], ◌∷◌, ◌++◌, length, map, refl, sym, ◌∙◌, ap, subst, arith, append_assoc}
+use Rattle.std.proofs.Common.{◌≡◌, ℕ, zero, suc, ◌<◌, ◌≤◌, inl, inr, List, [], ◌∷◌, ◌++◌, length, refl, sym, ◌∙◌, ap, subst, arith, append_assoc}
 use Rattle.std.specs.List.{All}
 use Rattle.std.proofs.lemmas.List.{append-nil, map-append, length-map}
 use Rattle.std.proofs.lemmas.List.Elements.{All-append}
@@ -8,7 +8,7 @@ use Rattle.fixed_value.specs.Numerals.{HasNumeral}
 use Rattle.metric_value.specs.Values.{HasNoneInRange}
 use Rattle.go_bench_text.specs.Lines.{ArePairs}
 use Rattle.go_bench_text.specs.Pairs.{IsPair, IsPairOf, sample_of, samples_of, ReadsPairs, HasLargePair}
-use Rattle.go_bench_text.specs.Readings.{IsSampleOf, HasLarge, PairsGive}
+use Rattle.go_bench_text.specs.Readings.{HasLarge, PairsGive}
 use Rattle.go_bench_text.specs.declared.pairs.Pair.{Pair}
 
 -- these pairs stand in front of the rest

@@ -6,7 +6,7 @@ ghost use Rattle.fixed_value.specs.Numerals.{AreDigits, HasNumeral};
 ghost use Rattle.go_bench_text.specs.Characters.{is_black};
 ghost use Rattle.go_bench_text.specs.Fields.{fields_of};
 ghost use Rattle.go_bench_text.specs.Lines.{ArePairs};
-ghost use Rattle.go_bench_text.specs.Parts.{is_stopped, IsBlackByte};
+ghost use Rattle.go_bench_text.specs.Parts.{is_stopped, IsBlackByte, IsWhiteByte};
 
 use crate::characters::split_first;
 use fixed_value::Numeral;
@@ -30,8 +30,49 @@ fn is_black_byte(byte: u8) -> bool
     byte.is_ascii() && !char::from(byte).is_whitespace()
 }
 
-// The characters before the first white space, and what follows them. Most texts are ASCII, so that is passed byte by byte.
-fn split_black(text: &str) -> (&str, &str)
+// Whether the byte is an ASCII character that is white space.
+fn is_white_byte(byte: u8) -> bool
+    ensures { IsTrue result ↔ IsWhiteByte byte }
+{
+    byte.is_ascii() && char::from(byte).is_whitespace()
+}
+
+// Whether the bytes end there, or have ASCII white space there.
+fn stops_at(bytes: &[u8], at: usize) -> bool
+    ensures { IsTrue result → at < length bytes.now → IsWhiteByte (slice_index bytes.now at) }
+{
+    match bytes.get(at) {
+        Some(byte) => is_white_byte(*byte),
+        None => true,
+    }
+}
+
+// How many bytes in front are ASCII white space.
+fn white_count(bytes: &[u8]) -> usize
+    ensures within { result ≤ length bytes.now }
+    ensures white { (k : ℕ) → k < result → IsWhiteByte (slice_index bytes.now k) }
+{
+    let mut count = 0;
+    while count < bytes.len() && is_white_byte(bytes[count]) {
+        count += 1;
+    }
+    count
+}
+
+// A text without the white space in front. Most texts are ASCII, so that is passed byte by byte.
+fn without_white(text: &str) -> &str
+    ensures trim { result.now ≡ trim_start text.now }
+    ensures shorter { length result.now ≤ length text.now }
+{
+    let rest = &text[white_count(text.as_bytes())..];
+    match rest.as_bytes() {
+        [first, ..] if is_black_byte(*first) => rest,
+        _ => rest.trim_start(),
+    }
+}
+
+// The characters before the first white space, and what follows them, of any text.
+fn split_any(text: &str) -> (&str, &str)
     ensures joined { text.now ≡ result.0.now ++ result.1.now }
     ensures black { list_all is_black (chars result.0.now) ≡ true }
     ensures stopped { is_stopped (chars result.1.now) ≡ true }
@@ -48,6 +89,21 @@ fn split_black(text: &str) -> (&str, &str)
     (text, rest)
 }
 
+// The characters before the first white space, and what follows them. Most texts are ASCII, so that is passed byte by byte.
+fn split_black(text: &str) -> (&str, &str)
+    ensures joined { text.now ≡ result.0.now ++ result.1.now }
+    ensures black { list_all is_black (chars result.0.now) ≡ true }
+    ensures stopped { is_stopped (chars result.1.now) ≡ true }
+    ensures front { IsUtf8 result.0.now }
+    ensures back { IsUtf8 result.1.now }
+{
+    let end = ascii_end(text.as_bytes());
+    if stops_at(text.as_bytes(), end) {
+        return text.split_at(end);
+    }
+    split_any(text)
+}
+
 // The first field of a text, and what follows it; none where there is only white space.
 pub(crate) fn next_field(text: &str) -> Option<(&str, &str)>
     ensures some { IfSome result (λ cut. fields_of text.now ≡ cut.0.now ∷ fields_of cut.1.now) }
@@ -57,7 +113,7 @@ pub(crate) fn next_field(text: &str) -> Option<(&str, &str)>
     ensures more { IfSome result (λ cut. IsUtf8 cut.1.now) }
     ensures shorter { IfSome result (λ cut. length cut.1.now < length text.now) }
 {
-    let from = text.trim_start();
+    let from = without_white(text);
     if from.is_empty() {
         return None;
     }

@@ -6,10 +6,9 @@ ghost use Rattle.go_bench_text.specs.Readings.{IsOver, pkg_of};
 
 use crate::fault::LineFault;
 use crate::line::head_of;
-use crate::names::Names;
 use crate::pairs::{Pair, read_pairs};
-use crate::sample::{test_fits, test_name};
-use line_text::Name;
+use crate::sample::{shared_name, test_fits, test_name};
+use line_text::{Name, Names};
 use metric_table::Limit;
 use sample_model::{NoMemory, Sample, Samples};
 use std::alloc::Global;
@@ -19,7 +18,6 @@ use std::alloc::Global;
 pub(crate) struct Gathered {
     pub(crate) samples: Samples,
     pub(crate) full: bool,
-    names: Names,
     buffer: String,
 }
 
@@ -29,16 +27,15 @@ impl Gathered {
     ghost use Rattle.go_bench_text.specs.Pairs.{IsPair, sample_of, samples_of};
     ghost use Rattle.go_bench_text.specs.Readings.{test_of};
 
-    // No samples, of a text of this length.
-    pub(crate) fn new(alloc: Global, length: usize) -> Result<Gathered, NoMemory>
-        ensures { IfOk result (λ made. Keeps made []) }
+    // No samples.
+    pub(crate) fn new(alloc: Global) -> Gathered
+        ensures { Keeps result [] }
     {
-        Ok(Gathered {
+        Gathered {
             samples: Samples::new(alloc),
             full: false,
-            names: Names::new(alloc, length)?,
             buffer: String::new(alloc),
-        })
+        }
     }
 
     // Whether there are as many samples as a run may have.
@@ -49,7 +46,13 @@ impl Gathered {
     }
 
     // The sample of a pair more, kept if a run may have it.
-    fn add(&mut self, alloc: Global, test: &Name, pair: &Pair<'_>) -> Result<(), NoMemory>
+    fn add(
+        &mut self,
+        alloc: Global,
+        names: &mut Names,
+        test: &Name,
+        pair: &Pair<'_>,
+    ) -> Result<(), NoMemory>
         requires { IsPair pair.now }
         ensures { OnOk result (Gains self.old self.new (sample_of test.now pair.now ∷ [])) }
     {
@@ -57,7 +60,7 @@ impl Gathered {
             self.full = true;
             return Ok(());
         }
-        let metric = self.names.name_of(alloc, pair.unit)?;
+        let metric = shared_name(alloc, names, pair.unit)?;
         self.samples.push(Sample {
             test: test.copy(alloc)?,
             metric,
@@ -66,12 +69,18 @@ impl Gathered {
     }
 
     // The samples of pairs more, as far as a run may have them.
-    fn add_all(&mut self, alloc: Global, test: &Name, pairs: &[Pair<'_>]) -> Result<(), NoMemory>
+    fn add_all(
+        &mut self,
+        alloc: Global,
+        names: &mut Names,
+        test: &Name,
+        pairs: &[Pair<'_>],
+    ) -> Result<(), NoMemory>
         requires { All IsPair pairs.now }
         ensures { OnOk result (Gains self.old self.new (samples_of test.now pairs.now)) }
     {
         for pair in pairs {
-            self.add(alloc, test, pair)?;
+            self.add(alloc, names, test, pair)?;
         }
         Ok(())
     }
@@ -80,6 +89,7 @@ impl Gathered {
     fn add_pairs(
         &mut self,
         alloc: Global,
+        names: &mut Names,
         pkg: &str,
         name: &str,
         pairs: &[Pair<'_>],
@@ -99,8 +109,8 @@ impl Gathered {
             self.full = true;
             return Ok(());
         }
-        let test = test_name(alloc, &mut self.names, &mut self.buffer, pkg, name)?;
-        Ok(self.add_all(alloc, &test, pairs)?)
+        let test = test_name(alloc, names, &mut self.buffer, pkg, name)?;
+        Ok(self.add_all(alloc, names, &test, pairs)?)
     }
 }
 
@@ -108,6 +118,7 @@ impl Gathered {
 // are ignored there: one where the line is broken, else none. What `pairs` holds is of no account.
 pub(crate) fn add_measured<'a>(
     alloc: Global,
+    names: &mut Names,
     gathered: &mut Gathered,
     pairs: &mut Vec<Pair<'a>>,
     pkg: &str,
@@ -126,6 +137,6 @@ pub(crate) fn add_measured<'a>(
     if !read_pairs(behind, pairs)? {
         return Ok(1);
     }
-    gathered.add_pairs(alloc, pkg, name, pairs)?;
+    gathered.add_pairs(alloc, names, pkg, name, pairs)?;
     Ok(0)
 }

@@ -19,7 +19,6 @@ mod fault;
 mod fields;
 mod gather;
 mod line;
-mod names;
 mod pairs;
 mod put;
 mod read;
@@ -28,4 +27,4 @@ mod spelling;
 
 pub use line::{LineKind, line_kind};
 pub use put::{PutFault, put_go};
-pub use read::{GoFault, GoRun, one_reading_law, read_go};
+pub use read::{GoFault, GoRun, one_reading_law, read_go, read_go_with};

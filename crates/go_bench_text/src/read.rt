@@ -14,10 +14,19 @@ use crate::fault::LineFault;
 use crate::gather::{Gathered, add_measured};
 use crate::line::begins;
 use crate::pairs::Pair;
+use line_text::Names;
 use metric_table::Limit;
 use metric_value::value_law;
 use sample_model::{NoMemory, Samples};
 use std::alloc::Global;
+
+// A text of fewer bytes has few places for names.
+const LONG: usize = 65_536;
+
+// How many places there are.
+const FEW: usize = 64;
+
+const MANY: usize = 4_096;
 
 /// What a text of benchmark output has.
 #[derive(Debug, Drop)]
@@ -68,6 +77,7 @@ fn pkg_value(line: &str) -> Option<&str>
 // ignored there.
 fn read_line<'a>(
     alloc: Global,
+    names: &mut Names,
     gathered: &mut Gathered,
     pairs: &mut Vec<Pair<'a>>,
     pkg: &'a str,
@@ -83,7 +93,7 @@ fn read_line<'a>(
     ensures text { IfOk result (λ read. IsUtf8 read.0.now) }
 {
     if begins(line) {
-        let ignored = add_measured(alloc, gathered, pairs, pkg, line)?;
+        let ignored = add_measured(alloc, names, gathered, pairs, pkg, line)?;
         return Ok((pkg, ignored));
     }
     match pkg_value(line) {
@@ -93,21 +103,19 @@ fn read_line<'a>(
 }
 
 // The samples of a text, kept, and how many of its lines are ignored.
-fn gather(alloc: Global, text: &str) -> Result<(Gathered, u64), GoFault>
+fn gather(alloc: Global, names: &mut Names, text: &str) -> Result<(Gathered, u64), GoFault>
     ensures ok { IfOk result (λ all. (given : List Measurement)
         × Keeps all.0 given × IsRead text.now given all.1) }
     ensures fault { IfErr result (λ fault. IsFault text.now fault) }
 {
-    let Ok(mut gathered) = Gathered::new(alloc, text.len()) else {
-        return Err(GoFault::NoMemory);
-    };
+    let mut gathered = Gathered::new(alloc);
     let mut pairs = Vec::new(alloc);
     let mut pkg = "";
     let mut number = 0u64;
     let mut ignored = 0u64;
     for line in text.split('\n') {
         number += 1;
-        match read_line(alloc, &mut gathered, &mut pairs, pkg, line) {
+        match read_line(alloc, names, &mut gathered, &mut pairs, pkg, line) {
             Ok((value, count)) => {
                 pkg = value;
                 ignored += count;
@@ -120,7 +128,7 @@ fn gather(alloc: Global, text: &str) -> Result<(Gathered, u64), GoFault>
 }
 
 // The answer of `read_go`, by its causes.
-fn read_text(alloc: Global, bytes: &[u8]) -> Result<GoRun, GoFault>
+fn read_text(alloc: Global, names: &mut Names, bytes: &[u8]) -> Result<GoRun, GoFault>
     ensures ok { IfOk result (λ run. IsRead bytes.now run.samples run.ignored) }
     ensures fault { IfErr result (λ fault. IsFault bytes.now fault) }
 {
@@ -128,7 +136,7 @@ fn read_text(alloc: Global, bytes: &[u8]) -> Result<GoRun, GoFault>
         Ok(text) => text,
         Err(fault) => return Err(GoFault::NotText(fault.valid_up_to() as u64)),
     };
-    let (gathered, ignored) = gather(alloc, text)?;
+    let (gathered, ignored) = gather(alloc, names, text)?;
     if gathered.full {
         return Err(GoFault::Full(Limit::RunSamples));
     }
@@ -167,6 +175,20 @@ pub fn read_go(alloc: Global, bytes: &[u8]) -> Result<GoRun, GoFault>
     // Each fault is at its place.
     ensures fault { IfErr result (λ fault. IsFault bytes.now fault) }
 {
+    let places = if bytes.len() < LONG { FEW } else { MANY };
+    read_go_with(alloc, &mut Names::new(alloc, places), bytes)
+}
+
+/// The samples of a text of benchmark output, as [`read_go`] gives them, with names that are shared with those met before: for
+/// texts that come one after another, and measure the same tests by the same units.
+pub fn read_go_with(alloc: Global, names: &mut Names, bytes: &[u8]) -> Result<GoRun, GoFault>
+    ensures ok { IfOk result (λ run. IsRead bytes.now run.samples run.ignored) }
+    ensures only { (samples : List Measurement) (ignored : ℕ) → IsRead bytes.now samples ignored
+        → length samples ≤ most RunSamples
+        → MatchResult result (λ run. (run.samples ≡ samples) × (run.ignored ≡ ignored))
+        (λ fault. fault ≡ GoFault.NoMemory) }
+    ensures fault { IfErr result (λ fault. IsFault bytes.now fault) }
+{
     one_reading_law();
-    read_text(alloc, bytes)
+    read_text(alloc, names, bytes)
 }

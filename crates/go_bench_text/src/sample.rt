@@ -1,9 +1,8 @@
 //! The test that a sample is of.
-ghost use Rattle.std.specs.Prelude.{◌≡◌, ◌≤◌, ◌↔◌, length, IsTrue, IfOk};
+ghost use Rattle.std.specs.Prelude.{◌≡◌, ◌≤◌, ◌↔◌, ◌<◌, length, IsTrue, IfOk};
 ghost use Rattle.go_bench_text.specs.Readings.{test_of};
 
-use crate::names::Names;
-use line_text::Name;
+use line_text::{Name, Names};
 use sample_model::NoMemory;
 use std::alloc::Global;
 
@@ -15,6 +14,18 @@ pub(crate) fn test_fits(pkg: &str, name: &str) -> bool
         name.len() <= 256
     } else {
         pkg.len() < 256 && pkg.len() + 1 + name.len() <= 256
+    }
+}
+
+// The name of a text, shared where it was met before.
+pub(crate) fn shared_name(alloc: Global, names: &mut Names, text: &str) -> Result<Name, NoMemory>
+    requires some { 0 < length text.now }
+    requires short { length text.now ≤ 256 }
+    ensures { IfOk result (λ name. name ≡ text.now) }
+{
+    match names.name_of(alloc, text) {
+        Ok(name) => Ok(name),
+        Err(_) => Err(NoMemory),
     }
 }
 
@@ -31,11 +42,11 @@ pub(crate) fn test_name(
 {
     if pkg.is_empty() {
         let test = if name.is_empty() { "#" } else { name };
-        return names.name_of(alloc, test);
+        return shared_name(alloc, names, test);
     }
     buffer.clear();
     buffer.push_str(pkg)?;
     buffer.push_str("#")?;
     buffer.push_str(name)?;
-    names.name_of(alloc, buffer.as_str())
+    shared_name(alloc, names, buffer.as_str())
 }

@@ -4,8 +4,8 @@ ghost use Rattle.request_text.specs.Refused.{IsGoRefused, IsLntRefused};
 ghost use Rattle.request_text.specs.Bodies.{of_go, AsksGo, of_lnt, AsksLnt};
 
 use crate::NoMemory;
-use go_bench_text::{GoFault, GoRun, read_go};
-use line_text::Name;
+use go_bench_text::{GoFault, GoRun, read_go_with};
+use line_text::{Name, Names};
 use lnt_report::{LntRun, ReportFault, read_report};
 use request_model::{RangePlace, Refusal, Request};
 use std::alloc::Global;
@@ -13,6 +13,7 @@ use std::alloc::Global;
 // What a submission of Go benchmark text asks.
 pub(crate) fn go_asked(
     alloc: Global,
+    names: &mut Names,
     machine: Name,
     commit: Name,
     run: Name,
@@ -20,7 +21,7 @@ pub(crate) fn go_asked(
 ) -> Result<Result<Request, Refusal>, NoMemory>
     ensures { IfOk result (AsksGo body.now (of_go machine commit run)) }
 {
-    let GoRun { samples, ignored } = match read_go(alloc, body) {
+    let GoRun { samples, ignored } = match read_go_with(alloc, names, body) {
         Ok(given) => given,
         Err(fault) => return go_refused(fault),
     };

@@ -4,7 +4,7 @@ ghost use Rattle.request_text.specs.Begun.{BeginsWithHead};
 ghost use Rattle.request_text.specs.Parts.{AsksKept, TakesFrom, Fails};
 
 use crate::asked::Asked;
-use crate::head::{Head, item_of};
+use crate::head::Head;
 use crate::last::asked_of;
 use crate::lines::Lines;
 use crate::need::need;
@@ -49,7 +49,7 @@ fn ask_kept(
     ensures ok { IfOk result (AsksKept head lines.old lines.new ended total) }
     ensures err { IfErr result (λ stop. stop ≡ ReadStop.NoMemory) }
 {
-    let item = item_of(alloc, head, &lines.kept()[ended..total])?;
+    let item = lines.item(alloc, head, ended, total)?;
     lines.use_up(total);
     Ok(asked_of(item))
 }

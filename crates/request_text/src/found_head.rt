@@ -7,22 +7,22 @@ ghost use Rattle.request_text.specs.Heads.{IsHeadBehind};
 
 use crate::NoMemory;
 use crate::head::{Head, formless, three_and_number, unnamed};
-use crate::names::{named, series_named, three_named, two_named};
+use crate::names::{machine_named, series_named, three_named, two_named};
 use crate::verb::JobVerb;
 use crate::words::Words;
-use line_text::{Name, read_u64};
+use line_text::{Name, Names, read_u64};
 use regression_state::{State, read_state};
 use request_model::Request;
 use std::alloc::Global;
 
 // `regress M TEST METRIC CHANGE`.
-pub(crate) fn regress_head(alloc: Global, words: Words) -> Result<Head, NoMemory>
+pub(crate) fn regress_head(alloc: Global, names: &mut Names, words: Words) -> Result<Head, NoMemory>
     ensures { IfOk result (λ head. IsHeadBehind (codes "regress") words.entry head) }
 {
     let Some((m, t, x, change)) = three_and_number(words) else {
         return Ok(formless());
     };
-    let Some((machine, test, metric)) = series_named(alloc, m, t, x)? else {
+    let Some((machine, test, metric)) = series_named(alloc, names, m, t, x)? else {
         return Ok(unnamed(0));
     };
     Ok(Head::Asked(Request::Regress {
@@ -34,13 +34,13 @@ pub(crate) fn regress_head(alloc: Global, words: Words) -> Result<Head, NoMemory
 }
 
 // `state M REGRESSION STATE`.
-pub(crate) fn state_head(alloc: Global, words: Words) -> Result<Head, NoMemory>
+pub(crate) fn state_head(alloc: Global, names: &mut Names, words: Words) -> Result<Head, NoMemory>
     ensures { IfOk result (λ head. IsHeadBehind (codes "state") words.entry head) }
 {
     let Some((m, regression, state)) = state_words(words) else {
         return Ok(formless());
     };
-    let Some(machine) = named(alloc, m)? else {
+    let Some(machine) = machine_named(alloc, names, m)? else {
         return Ok(unnamed(0));
     };
     Ok(Head::Asked(Request::SetState {
@@ -64,26 +64,30 @@ fn state_words<'a>(mut words: Words<'a>) -> Option<(&'a [u8], u64, State)>
 }
 
 // `bisect M LO HI`.
-pub(crate) fn bisect_head(alloc: Global, mut words: Words) -> Result<Head, NoMemory>
+pub(crate) fn bisect_head(
+    alloc: Global,
+    names: &mut Names,
+    mut words: Words,
+) -> Result<Head, NoMemory>
     ensures { IfOk result (λ head. IsHeadBehind (codes "bisect") words.entry head) }
 {
     let Some((m, l, h)) = words.three() else {
         return Ok(formless());
     };
-    let Some((machine, lo, hi)) = three_named(alloc, m, l, h)? else {
+    let Some((machine, lo, hi)) = three_named(alloc, names, m, l, h)? else {
         return Ok(unnamed(0));
     };
     Ok(Head::Asked(Request::Bisect { machine, lo, hi }))
 }
 
 // `answer M JOB COMMIT STATUS`.
-pub(crate) fn answer_head(alloc: Global, words: Words) -> Result<Head, NoMemory>
+pub(crate) fn answer_head(alloc: Global, names: &mut Names, words: Words) -> Result<Head, NoMemory>
     ensures { IfOk result (λ head. IsHeadBehind (codes "answer") words.entry head) }
 {
     let Some((m, job, c, status)) = answer_words(words) else {
         return Ok(formless());
     };
-    let Some((machine, commit)) = two_named(alloc, m, c)? else {
+    let Some((machine, commit)) = two_named(alloc, names, m, c)? else {
         return Ok(unnamed(0));
     };
     Ok(Head::Asked(Request::Answer {
@@ -109,13 +113,18 @@ fn answer_words<'a>(mut words: Words<'a>) -> Option<(&'a [u8], u64, &'a [u8], u8
 }
 
 // `resume M JOB` and `job M JOB`.
-pub(crate) fn job_head(alloc: Global, words: Words, asked: JobVerb) -> Result<Head, NoMemory>
+pub(crate) fn job_head(
+    alloc: Global,
+    names: &mut Names,
+    words: Words,
+    asked: JobVerb,
+) -> Result<Head, NoMemory>
     ensures { IfOk result (λ head. IsHeadBehind (job_word asked) words.entry head) }
 {
     let Some((m, job)) = one_and_number(words) else {
         return Ok(formless());
     };
-    let Some(machine) = named(alloc, m)? else {
+    let Some(machine) = machine_named(alloc, names, m)? else {
         return Ok(unnamed(0));
     };
     Ok(Head::Asked(job_request(asked, machine, job)))
@@ -143,13 +152,13 @@ fn job_request(asked: JobVerb, machine: Name, job: u64) -> Request
 }
 
 // `report M text` and `report M json`.
-pub(crate) fn report_head(alloc: Global, words: Words) -> Result<Head, NoMemory>
+pub(crate) fn report_head(alloc: Global, names: &mut Names, words: Words) -> Result<Head, NoMemory>
     ensures { IfOk result (λ head. IsHeadBehind (codes "report") words.entry head) }
 {
     let Some((m, json)) = report_words(words) else {
         return Ok(formless());
     };
-    let Some(machine) = named(alloc, m)? else {
+    let Some(machine) = machine_named(alloc, names, m)? else {
         return Ok(unnamed(0));
     };
     Ok(Head::Asked(Request::Report { machine, json }))

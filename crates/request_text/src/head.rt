@@ -12,10 +12,10 @@ use crate::body::{go_asked, lnt_asked};
 use crate::found_head::{
     answer_head, bisect_head, job_head, regress_head, report_head, state_head,
 };
-use crate::names::{metric_named, named, series_named, three_named, two_named};
+use crate::names::{machine_named, metric_named, series_named, three_named, two_named};
 use crate::verb::{SeriesVerb, Verb, read_verb};
 use crate::words::Words;
-use line_text::{Name, read_u64};
+use line_text::{Name, Names, read_u64};
 use request_model::{Refusal, Request};
 use std::alloc::Global;
 
@@ -45,7 +45,7 @@ pub(crate) enum Head {
 }
 
 // What a request line asks.
-pub(crate) fn read_head(alloc: Global, line: &[u8]) -> Result<Head, NoMemory>
+pub(crate) fn read_head(alloc: Global, names: &mut Names, line: &[u8]) -> Result<Head, NoMemory>
     ensures { IfOk result (λ head. IsHead line.now head) }
 {
     let mut words = Words::of(line);
@@ -56,26 +56,27 @@ pub(crate) fn read_head(alloc: Global, line: &[u8]) -> Result<Head, NoMemory>
         return Ok(formless());
     };
     match verb {
-        Verb::Machine => machine_head(alloc, words),
-        Verb::Commit => commit_head(alloc, words),
-        Verb::Submit => submit_head(alloc, words),
-        Verb::Retract => retract_head(alloc, words),
-        Verb::Tune => tune_head(alloc, words),
-        Verb::Calibrate => calibrate_head(alloc, words),
-        Verb::Series(asked) => series_head(alloc, words, asked),
-        Verb::Regress => regress_head(alloc, words),
-        Verb::State => state_head(alloc, words),
-        Verb::Bisect => bisect_head(alloc, words),
-        Verb::Answer => answer_head(alloc, words),
-        Verb::Job(asked) => job_head(alloc, words, asked),
-        Verb::Runs => runs_head(alloc, words),
-        Verb::Report => report_head(alloc, words),
+        Verb::Machine => machine_head(alloc, names, words),
+        Verb::Commit => commit_head(alloc, names, words),
+        Verb::Submit => submit_head(alloc, names, words),
+        Verb::Retract => retract_head(alloc, names, words),
+        Verb::Tune => tune_head(alloc, names, words),
+        Verb::Calibrate => calibrate_head(alloc, names, words),
+        Verb::Series(asked) => series_head(alloc, names, words, asked),
+        Verb::Regress => regress_head(alloc, names, words),
+        Verb::State => state_head(alloc, names, words),
+        Verb::Bisect => bisect_head(alloc, names, words),
+        Verb::Answer => answer_head(alloc, names, words),
+        Verb::Job(asked) => job_head(alloc, names, words, asked),
+        Verb::Runs => runs_head(alloc, names, words),
+        Verb::Report => report_head(alloc, names, words),
     }
 }
 
 // What the line of this head asks with this body.
 pub(crate) fn item_of(
     alloc: Global,
+    names: &mut Names,
     head: Head,
     body: &[u8],
 ) -> Result<Result<Request, Refusal>, NoMemory>
@@ -84,7 +85,7 @@ pub(crate) fn item_of(
     match head {
         Head::Refused(fault, _) => Ok(Err(line_refusal(fault))),
         Head::Asked(request) => Ok(Ok(request)),
-        Head::Go(machine, commit, run, _) => go_asked(alloc, machine, commit, run, body),
+        Head::Go(machine, commit, run, _) => go_asked(alloc, names, machine, commit, run, body),
         Head::Lnt(machine, run, _) => lnt_asked(alloc, machine, run, body),
     }
 }
@@ -128,52 +129,52 @@ pub(crate) fn unnamed(count: u64) -> Head
 }
 
 // `machine M`.
-fn machine_head(alloc: Global, mut words: Words) -> Result<Head, NoMemory>
+fn machine_head(alloc: Global, names: &mut Names, mut words: Words) -> Result<Head, NoMemory>
     ensures { IfOk result (λ head. IsHeadBehind (codes "machine") words.entry head) }
 {
     let Some(m) = words.one() else {
         return Ok(formless());
     };
-    let Some(machine) = named(alloc, m)? else {
+    let Some(machine) = machine_named(alloc, names, m)? else {
         return Ok(unnamed(0));
     };
     Ok(Head::Asked(Request::Machine { machine }))
 }
 
 // `runs M`.
-fn runs_head(alloc: Global, mut words: Words) -> Result<Head, NoMemory>
+fn runs_head(alloc: Global, names: &mut Names, mut words: Words) -> Result<Head, NoMemory>
     ensures { IfOk result (λ head. IsHeadBehind (codes "runs") words.entry head) }
 {
     let Some(m) = words.one() else {
         return Ok(formless());
     };
-    let Some(machine) = named(alloc, m)? else {
+    let Some(machine) = machine_named(alloc, names, m)? else {
         return Ok(unnamed(0));
     };
     Ok(Head::Asked(Request::Runs { machine }))
 }
 
 // `retract M RUN`.
-fn retract_head(alloc: Global, mut words: Words) -> Result<Head, NoMemory>
+fn retract_head(alloc: Global, names: &mut Names, mut words: Words) -> Result<Head, NoMemory>
     ensures { IfOk result (λ head. IsHeadBehind (codes "retract") words.entry head) }
 {
     let Some((m, r)) = words.two() else {
         return Ok(formless());
     };
-    let Some((machine, run)) = two_named(alloc, m, r)? else {
+    let Some((machine, run)) = two_named(alloc, names, m, r)? else {
         return Ok(unnamed(0));
     };
     Ok(Head::Asked(Request::Retract { machine, run }))
 }
 
 // `tune M METRIC PENALTY`.
-fn tune_head(alloc: Global, words: Words) -> Result<Head, NoMemory>
+fn tune_head(alloc: Global, names: &mut Names, words: Words) -> Result<Head, NoMemory>
     ensures { IfOk result (λ head. IsHeadBehind (codes "tune") words.entry head) }
 {
     let Some((m, x, p)) = tune_words(words) else {
         return Ok(formless());
     };
-    let Some((machine, metric)) = metric_named(alloc, m, x)? else {
+    let Some((machine, metric)) = metric_named(alloc, names, m, x)? else {
         return Ok(unnamed(0));
     };
     let Some(penalty) = penalty_of(p) else {
@@ -200,13 +201,13 @@ fn tune_words<'a>(mut words: Words<'a>) -> Option<(&'a [u8], &'a [u8], &'a [u8])
 }
 
 // `calibrate M TEST METRIC FACTOR`.
-fn calibrate_head(alloc: Global, words: Words) -> Result<Head, NoMemory>
+fn calibrate_head(alloc: Global, names: &mut Names, words: Words) -> Result<Head, NoMemory>
     ensures { IfOk result (λ head. IsHeadBehind (codes "calibrate") words.entry head) }
 {
     let Some((m, t, x, factor)) = three_and_number(words) else {
         return Ok(formless());
     };
-    let Some((machine, test, metric)) = series_named(alloc, m, t, x)? else {
+    let Some((machine, test, metric)) = series_named(alloc, names, m, t, x)? else {
         return Ok(unnamed(0));
     };
     if !is_factor(factor) {
@@ -221,13 +222,18 @@ fn calibrate_head(alloc: Global, words: Words) -> Result<Head, NoMemory>
 }
 
 // `segment M TEST METRIC`, `changes M TEST METRIC` and `verify M TEST METRIC`.
-fn series_head(alloc: Global, mut words: Words, asked: SeriesVerb) -> Result<Head, NoMemory>
+fn series_head(
+    alloc: Global,
+    names: &mut Names,
+    mut words: Words,
+    asked: SeriesVerb,
+) -> Result<Head, NoMemory>
     ensures { IfOk result (λ head. IsHeadBehind (series_word asked) words.entry head) }
 {
     let Some((m, t, x)) = words.three() else {
         return Ok(formless());
     };
-    let Some((machine, test, metric)) = series_named(alloc, m, t, x)? else {
+    let Some((machine, test, metric)) = series_named(alloc, names, m, t, x)? else {
         return Ok(unnamed(0));
     };
     Ok(Head::Asked(series_request(asked, machine, test, metric)))
@@ -257,13 +263,13 @@ fn series_request(asked: SeriesVerb, machine: Name, test: Name, metric: Name) ->
 }
 
 // `commit M NUMBER NAME`.
-fn commit_head(alloc: Global, words: Words) -> Result<Head, NoMemory>
+fn commit_head(alloc: Global, names: &mut Names, words: Words) -> Result<Head, NoMemory>
     ensures { IfOk result (λ head. IsHeadBehind (codes "commit") words.entry head) }
 {
     let Some((m, number, n)) = commit_words(words) else {
         return Ok(formless());
     };
-    let Some((machine, name)) = two_named(alloc, m, n)? else {
+    let Some((machine, name)) = two_named(alloc, names, m, n)? else {
         return Ok(unnamed(0));
     };
     Ok(Head::Asked(Request::Commit {
@@ -287,23 +293,23 @@ fn commit_words<'a>(mut words: Words<'a>) -> Option<(&'a [u8], u64, &'a [u8])>
 }
 
 // `submit go` and `submit lnt`.
-fn submit_head(alloc: Global, mut words: Words) -> Result<Head, NoMemory>
+fn submit_head(alloc: Global, names: &mut Names, mut words: Words) -> Result<Head, NoMemory>
     ensures { IfOk result (λ head. IsHeadBehind (codes "submit") words.entry head) }
 {
     let Some(kind) = words.next() else {
         return Ok(formless());
     };
     if kind == b"go".as_slice() {
-        return go_head(alloc, words);
+        return go_head(alloc, names, words);
     }
     if kind == b"lnt".as_slice() {
-        return lnt_head(alloc, words);
+        return lnt_head(alloc, names, words);
     }
     Ok(formless())
 }
 
 // `submit go M COMMIT RUN LEN`.
-fn go_head(alloc: Global, words: Words) -> Result<Head, NoMemory>
+fn go_head(alloc: Global, names: &mut Names, words: Words) -> Result<Head, NoMemory>
     ensures { IfOk result (λ head. IsHeadBehind (codes "submit") (codes "go" ∷ words.entry) head) }
 {
     let Some((m, c, r, len)) = three_and_number(words) else {
@@ -312,7 +318,7 @@ fn go_head(alloc: Global, words: Words) -> Result<Head, NoMemory>
     if len > BODY_LIMIT {
         return Ok(Head::Refused(LineFault::BodyTooLong, len));
     }
-    let Some((machine, commit, run)) = three_named(alloc, m, c, r)? else {
+    let Some((machine, commit, run)) = three_named(alloc, names, m, c, r)? else {
         return Ok(unnamed(len));
     };
     Ok(Head::Go(machine, commit, run, len))
@@ -335,7 +341,7 @@ pub(crate) fn three_and_number<'a>(
 }
 
 // `submit lnt M RUN LEN`.
-fn lnt_head(alloc: Global, words: Words) -> Result<Head, NoMemory>
+fn lnt_head(alloc: Global, names: &mut Names, words: Words) -> Result<Head, NoMemory>
     ensures { IfOk result (λ head. IsHeadBehind (codes "submit") (codes "lnt" ∷ words.entry) head) }
 {
     let Some((m, r, len)) = lnt_words(words) else {
@@ -344,7 +350,7 @@ fn lnt_head(alloc: Global, words: Words) -> Result<Head, NoMemory>
     if len > BODY_LIMIT {
         return Ok(Head::Refused(LineFault::BodyTooLong, len));
     }
-    let Some((machine, run)) = two_named(alloc, m, r)? else {
+    let Some((machine, run)) = two_named(alloc, names, m, r)? else {
         return Ok(unnamed(len));
     };
     Ok(Head::Lnt(machine, run, len))

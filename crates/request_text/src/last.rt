@@ -6,7 +6,7 @@ ghost use Rattle.request_text.specs.Scripts.{IsLine};
 ghost use Rattle.request_text.specs.Unread.{Unread};
 
 use crate::asked::Asked;
-use crate::head::{body_count, item_of, read_head};
+use crate::head::body_count;
 use crate::line::is_skipped;
 use crate::lines::Lines;
 use crate::stop::ReadStop;
@@ -25,11 +25,12 @@ pub(crate) fn read_last(alloc: Global, lines: &mut Lines) -> Result<Asked, ReadS
         lines.end();
         return Ok(Asked::End);
     }
-    let head = read_head(alloc, lines.kept())?;
+    let len = lines.kept().len();
+    let head = lines.head(alloc, len)?;
     if body_count(&head) > 0 {
         return Err(ReadStop::CutOff(lines.before()));
     }
-    let item = item_of(alloc, head, b"")?;
+    let item = lines.item(alloc, head, len, len)?;
     lines.end();
     Ok(asked_of(item))
 }

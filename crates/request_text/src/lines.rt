@@ -1,18 +1,27 @@
 //! What was read of an input and not used yet.
-ghost use Rattle.std.specs.Prelude.{◌≡◌, ◌+◌, ◌≤◌, ◌<◌, ◌^◌, true, drop, length, IfOk, IfErr, OnErr};
+ghost use Rattle.std.specs.Prelude.{◌≡◌, ◌+◌, ◌≤◌, ◌<◌, ◌^◌, ◌≢◌, ℕ, List, true, false, All, SomeIndex, IsTrue, take, drop, length, slice_index, slice_range, IfOk, IfErr, OnErr};
+ghost use Rattle.request_text.specs.Heads.{IsHead};
+ghost use Rattle.request_text.specs.Items.{Asks};
 ghost use Rattle.request_text.specs.Filling.{Fills, StopsFillingFrom, IsReadOnto, StopsReadingOnto, GaveAtMost};
 ghost use Rattle.request_text.specs.LastLines.{HasEnded};
 ghost use Rattle.request_text.specs.Next.{GaveFewFrom};
 ghost use Rattle.request_text.specs.Unread.{nothing_read};
 
 use crate::NoMemory;
+use crate::head::{Head, item_of, read_head};
 use crate::stop::ReadStop;
+use line_text::Names;
+use memchr::memchr;
+use request_model::{Refusal, Request};
 use std::alloc::Global;
 use std::marker::Model;
 use track_outside::Source;
 
 // The most bytes of an input that are read.
 const INPUT_LIMIT: u64 = 0x4000_0000;
+
+// How many names are kept, so that they are shared where they come again.
+const NAMES: usize = 4_096;
 
 // How many bytes are read at once.
 const PIECE: usize = 0x1_0000;
@@ -29,6 +38,8 @@ pub struct Lines {
     before: u64,
     ended: bool,
     stopped: bool,
+    // The names of machines, tests and units that have come.
+    names: Names,
 }
 
 impl Model for Lines {
@@ -61,6 +72,7 @@ impl Lines {
             before: 0,
             ended: false,
             stopped: false,
+            names: Names::new(alloc, NAMES),
         })
     }
 
@@ -69,6 +81,14 @@ impl Lines {
         ensures { result ≡ self.now.ended }
     {
         self.ended
+    }
+
+    /// Whether a whole line is kept: else the next request can't be read without asking the source. Linear in the line.
+    pub fn holds_line(&self) -> bool
+        ensures yes { IsTrue result → SomeIndex self.now.kept (λ i. slice_index self.now.kept i ≡ 10) }
+        ensures no { result ≡ false → All (λ b. b ≢ 10) self.now.kept }
+    {
+        memchr(b'\n', self.kept()).is_some()
     }
 
     // Says what the type keeps. Does nothing: its contract is what it is for.
@@ -83,7 +103,7 @@ impl Lines {
         ensures same { result.now ≡ self.now.kept }
         ensures within { self.now.before + length result.now ≤ 2 ^ 30 }
     {
-        &self.bytes[self.start..]
+        behind(&self.bytes, self.start)
     }
 
     // How many bytes came before them.
@@ -91,6 +111,37 @@ impl Lines {
         ensures { result ≡ self.now.before }
     {
         self.before
+    }
+
+    // What a line asks that is the first of the bytes.
+    pub(crate) fn head(&mut self, alloc: Global, len: usize) -> Result<Head, NoMemory>
+        requires { len ≤ length self.old.kept }
+        ensures same { self.new ≡ self.old }
+        ensures head { IfOk result (IsHead (take len self.old.kept)) }
+    {
+        read_head(
+            alloc,
+            &mut self.names,
+            &behind(&self.bytes, self.start)[..len],
+        )
+    }
+
+    // What the line of a head asks with a body that stands between these places of the bytes.
+    pub(crate) fn item(
+        &mut self,
+        alloc: Global,
+        head: Head,
+        from: usize,
+        to: usize,
+    ) -> Result<Result<Request, Refusal>, NoMemory>
+        requires order { from ≤ to }
+        requires kept { to ≤ length self.old.kept }
+        ensures same { self.new ≡ self.old }
+        ensures item { IfOk result (λ item. (line : List ℕ) → IsHead line head
+            → Asks line (slice_range self.old.kept from to) item) }
+    {
+        let body = &behind(&self.bytes, self.start)[from..to];
+        item_of(alloc, &mut self.names, head, body)
     }
 
     // The first of the bytes are used.
@@ -187,6 +238,14 @@ impl Lines {
         self.bytes.truncate(rest);
         self.start = 0;
     }
+}
+
+// The bytes from a place on.
+fn behind(bytes: &[u8], start: usize) -> &[u8]
+    requires { start ≤ length bytes.now }
+    ensures { result.now ≡ drop start bytes.now }
+{
+    &bytes[start..]
 }
 
 // Reads bytes behind others, so many at most, and answers how many: none at the end.

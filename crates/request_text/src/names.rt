@@ -4,14 +4,14 @@ ghost use Rattle.request_text.specs.Forms.{SpellsName, name_of};
 ghost use Rattle.request_text.specs.Heads.{AreSeriesNames};
 
 use crate::NoMemory;
-use line_text::{Name, NameError, read_name};
+use line_text::{Name, NameError, Names, read_name};
 use std::alloc::Global;
 
 // The most bytes of a metric's name.
 const METRIC_LIMIT: usize = 64;
 
 // The name that a word spells.
-pub(crate) fn named(alloc: Global, word: &[u8]) -> Result<Option<Name>, NoMemory>
+fn named(alloc: Global, word: &[u8]) -> Result<Option<Name>, NoMemory>
     ensures some { IfOk result (λ found. IfSome found (λ name. name ≡ name_of word.now)) }
     ensures spelled { IfOk result (λ found. IfSome found (λ _. SpellsName word.now)) }
     ensures none { IfOk result (λ found. IfNone found (¬ SpellsName word.now)) }
@@ -23,9 +23,27 @@ pub(crate) fn named(alloc: Global, word: &[u8]) -> Result<Option<Name>, NoMemory
     }
 }
 
-// The names that two words spell.
+// The name of a machine that a word spells: the same machines are named again and again.
+pub(crate) fn machine_named(
+    alloc: Global,
+    names: &mut Names,
+    word: &[u8],
+) -> Result<Option<Name>, NoMemory>
+    ensures some { IfOk result (λ found. IfSome found (λ name. name ≡ name_of word.now)) }
+    ensures spelled { IfOk result (λ found. IfSome found (λ _. SpellsName word.now)) }
+    ensures none { IfOk result (λ found. IfNone found (¬ SpellsName word.now)) }
+{
+    match names.read(alloc, word) {
+        Ok(name) => Ok(Some(name)),
+        Err(NameError::BadName) => Ok(None),
+        Err(NameError::NoMemory) => Err(NoMemory),
+    }
+}
+
+// The names that two words spell, of which the first is a machine's.
 pub(crate) fn two_named(
     alloc: Global,
+    names: &mut Names,
     first: &[u8],
     second: &[u8],
 ) -> Result<Option<(Name, Name)>, NoMemory>
@@ -36,7 +54,7 @@ pub(crate) fn two_named(
     ensures none { IfOk result (λ found. IfNone found
         (¬ (SpellsName first.now × SpellsName second.now))) }
 {
-    let Some(one) = named(alloc, first)? else {
+    let Some(one) = machine_named(alloc, names, first)? else {
         return Ok(None);
     };
     let Some(other) = named(alloc, second)? else {
@@ -45,9 +63,10 @@ pub(crate) fn two_named(
     Ok(Some((one, other)))
 }
 
-// The names that three words spell.
+// The names that three words spell, of which the first is a machine's.
 pub(crate) fn three_named(
     alloc: Global,
+    names: &mut Names,
     first: &[u8],
     second: &[u8],
     third: &[u8],
@@ -59,7 +78,7 @@ pub(crate) fn three_named(
     ensures none { IfOk result (λ found. IfNone found
         (¬ (SpellsName first.now × SpellsName second.now × SpellsName third.now))) }
 {
-    let Some((one, other)) = two_named(alloc, first, second)? else {
+    let Some((one, other)) = two_named(alloc, names, first, second)? else {
         return Ok(None);
     };
     let Some(last) = named(alloc, third)? else {
@@ -68,9 +87,10 @@ pub(crate) fn three_named(
     Ok(Some((one, other, last)))
 }
 
-// The names that two words spell, of which the second is a metric's.
+// The names that two words spell, of which the first is a machine's and the second a metric's.
 pub(crate) fn metric_named(
     alloc: Global,
+    names: &mut Names,
     first: &[u8],
     metric: &[u8],
 ) -> Result<Option<(Name, Name)>, NoMemory>
@@ -81,7 +101,7 @@ pub(crate) fn metric_named(
     ensures none { IfOk result (λ found. IfNone found
         (¬ (SpellsName first.now × SpellsName metric.now × (length (name_of metric.now) ≤ 64)))) }
 {
-    let Some((one, other)) = two_named(alloc, first, metric)? else {
+    let Some((one, other)) = two_named(alloc, names, first, metric)? else {
         return Ok(None);
     };
     if other.as_str().len() > METRIC_LIMIT {
@@ -90,9 +110,10 @@ pub(crate) fn metric_named(
     Ok(Some((one, other)))
 }
 
-// The names that three words spell, of which the third is a metric's.
+// The names that three words spell, of which the first is a machine's and the third a metric's.
 pub(crate) fn series_named(
     alloc: Global,
+    names: &mut Names,
     first: &[u8],
     second: &[u8],
     metric: &[u8],
@@ -104,7 +125,7 @@ pub(crate) fn series_named(
     ensures none { IfOk result (λ found. IfNone found
         (¬ AreSeriesNames first.now second.now metric.now)) }
 {
-    let Some((one, other, last)) = three_named(alloc, first, second, metric)? else {
+    let Some((one, other, last)) = three_named(alloc, names, first, second, metric)? else {
         return Ok(None);
     };
     if last.as_str().len() > METRIC_LIMIT {

@@ -7,7 +7,7 @@ ghost use Rattle.request_text.specs.Passes.{PieceFrom};
 
 use crate::asked::Asked;
 use crate::body_read::read_short;
-use crate::head::{BODY_LIMIT, Head, body_count, read_head};
+use crate::head::{BODY_LIMIT, Head, body_count};
 use crate::line::is_skipped;
 use crate::lines::Lines;
 use crate::pass::pass_bytes;
@@ -34,7 +34,7 @@ pub(crate) fn read_whole<S: Source>(
         lines.use_up(len + 1);
         return Ok(None);
     }
-    let head = read_head(alloc, &lines.kept()[..len])?;
+    let head = lines.head(alloc, len)?;
     Ok(Some(read_body(alloc, lines, source, head, len + 1)?))
 }
 

@@ -5,14 +5,14 @@ use Rattle.go_bench_text.proofs.fields.next_field.Goals as goal
 
 pub returns-then-is_empty-clause-none : goal.returns-then-is_empty-clause-none
 returns-then-is_empty-clause-none c =
-    let empty : eqb (length c.trim_start-from.result.now) 0 ≡ true = sym c.is_empty.ensures ∙ c.if-is_empty.true in
-    none_is c.args.text.now c.trim_start-from.result.now c.utf8.text c.trim_start-from.ensures.trim (grind (arith, nat_tests))
+    let empty : eqb (length c.without_white-from.result.now) 0 ≡ true = sym c.is_empty.ensures ∙ c.if-is_empty.true in
+    none_is c.args.text.now c.without_white-from.result.now c.utf8.text c.without_white-from.ensures.trim (grind (arith, nat_tests))
 
 next : (c : goal.After-split_black) → IsNext c.args.text.now c.split_black.result.0.now c.split_black.result.1.now
 next c =
-    let some : eqb (length c.trim_start-from.result.now) 0 ≡ false = sym c.is_empty.ensures ∙ c.if-is_empty.false in
-    let there : length c.trim_start-from.result.now ≢ 0 = λ h. grind (arith, nat_tests) in
-    next_is c.args.text.now c.trim_start-from.result.now c.split_black.result.0.now c.split_black.result.1.now c.utf8.text c.trim_start-from.ensures.trim there
+    let some : eqb (length c.without_white-from.result.now) 0 ≡ false = sym c.is_empty.ensures ∙ c.if-is_empty.false in
+    let there : length c.without_white-from.result.now ≢ 0 = λ h. grind (arith, nat_tests) in
+    next_is c.args.text.now c.without_white-from.result.now c.split_black.result.0.now c.split_black.result.1.now c.utf8.text c.without_white-from.ensures.trim there
     c.split_black.ensures.joined c.split_black.ensures.front c.split_black.ensures.back c.split_black.ensures.black c.split_black.ensures.stopped
 
 pub returns-clause-some : goal.returns-clause-some

@@ -1,28 +1,23 @@
-use Rattle.std.proofs.Common.{◌≡◌, ℕ, ◌<◌, ◌≤◌, List, length, drop, get_or, rules, sym, ◌∙◌, subst, false}
-use Rattle.std.specs.Str.{IsUtf8}
-use Rattle.std.proofs.lemmas.Str.{IsCharBoundary-from_drop}
-use Rattle.go_bench_text.specs.Parts.{IsBlackByte}
-use Rattle.std.specs.Char.{is_whitespace}
-use Rattle.go_bench_text.proofs.Passed.{Passed, passed_ascii, passed_more, passed_seam}
+use Rattle.std.proofs.Common.{ℕ, ◌<◌, ◌≤◌, get_or, List, length, drop, subst, ap, ◌∙◌}
+use Rattle.std.specs.Str.{chars, IsUtf8}
+use Rattle.go_bench_text.specs.Parts.{is_stopped, IsBlackByte, IsWhiteByte}
+use Rattle.go_bench_text.proofs.Passed.{Halves, ascii_halves, ascii_stopped}
 use Rattle.go_bench_text.proofs.fields.split_black.Goals as goal
+use Rattle.go_bench_text.proofs.fields.split_black.Goals.{After-split_at}
 
-begun : (text bytes : List ℕ) (n : ℕ) → bytes ≡ text → IsUtf8 text → n ≤ length bytes → ((k : ℕ) → k < n → IsBlackByte (get_or bytes k 0)) → Passed text (drop n text)
-begun text bytes n same is within black =
-    subst (λ (xs : List ℕ). n ≤ length xs → ((k : ℕ) → k < n → IsBlackByte (get_or xs k 0)) → Passed text (drop n text)) (sym same) (passed_ascii text n is) within black
+-- the two parts of the text, cut at the first byte that is white space or no ASCII character
+halves : (c : goal.After-split_at) → Halves c.args.text.now c.split_at.result.0.now c.split_at.result.1.now (drop c.ascii_end-end.result c.args.text.now)
+halves c = ascii_halves c.args.text.now c.split_at.result.0.now c.split_at.result.1.now c.ascii_end-end.result c.utf8.text
+    (subst (λ (bytes : List ℕ). c.ascii_end-end.result ≤ length bytes) c.as_bytes.ensures.value c.ascii_end-end.ensures.within)
+    (subst (λ (bytes : List ℕ). (k : ℕ) → k < c.ascii_end-end.result → IsBlackByte (get_or bytes k 0)) c.as_bytes.ensures.value c.ascii_end-end.ensures.black)
+    c.split_at.ensures.front c.split_at.ensures.back
 
-pub loop-c-init : goal.loop-c-init
-loop-c-init c = subst (Passed c.args.text.now) (sym c.range_from-rest.ensures.value) (begun c.args.text.now c.as_bytes.result.now c.ascii_end.result c.as_bytes.ensures.value c.utf8.text c.ascii_end.ensures.within c.ascii_end.ensures.black)
+pub returns-then-stops_at-clause-black : goal.returns-then-stops_at-clause-black
+returns-then-stops_at-clause-black c = (halves c).black
 
-pub range_from-rest-requires : goal.range_from-rest-requires
-range_from-rest-requires c some =
-    let from = begun c.args.text.now c.as_bytes.result.now c.ascii_end.result c.as_bytes.ensures.value c.utf8.text c.ascii_end.ensures.within c.ascii_end.ensures.black in
-    let within : c.ascii_end.result ≤ length c.args.text.now = subst (λ (bytes : List ℕ). c.ascii_end.result ≤ length bytes) c.as_bytes.ensures.value c.ascii_end.ensures.within in
-    IsCharBoundary-from_drop c.args.text.now c.ascii_end.result within from.more
-
-pub split_at-requires : goal.split_at-requires
-split_at-requires c = passed_seam c.args.text.now c.loop-c.rest.now c.loop-c.invariant
-
-pub loop-c-preserved : goal.loop-c-preserved
-loop-c-preserved c =
-    let white : is_whitespace c.in-Some.c ≡ false = sym c.is_whitespace.ensures ∙ c.if-is_whitespace.false in
-    passed_more c.args.text.now c.loop-c.rest.now c.in-Some.more.now c.in-Some.c (search rules) c.in-Some.ensures.bytes c.in-Some.ensures.more white c.loop-c.invariant
+pub returns-then-stops_at-clause-stopped : goal.returns-then-stops_at-clause-stopped
+returns-then-stops_at-clause-stopped c =
+    let cut = halves c in
+    let white : c.ascii_end-end.result < length c.args.text.now → IsWhiteByte (get_or c.args.text.now c.ascii_end-end.result 0) =
+    subst (λ (bytes : List ℕ). c.ascii_end-end.result < length bytes → IsWhiteByte (get_or bytes c.ascii_end-end.result 0)) c.as_bytes-2.ensures.value (c.stops_at.ensures c.if-stops_at.true) in
+    ap (λ (xs : List ℕ). is_stopped (chars xs)) cut.same ∙ ascii_stopped c.args.text.now c.ascii_end-end.result (subst IsUtf8 cut.same cut.more) white

@@ -22,11 +22,11 @@ loop-line-preserved c =
     let next = next_line (goal.at.loop-line-preserved c).After-read_line in
     let more : length (c.loop-line.yielded ++ c.in-Some.line ∷ []) ≡ length c.loop-line.yielded + 1 = length_push c.loop-line.yielded c.in-Some.line in
     let pkg_is = c.loop-line.invariant.progress.pkg_is in
-    let progress = progress_more (lines_of c.args.text.now) (length c.loop-line.yielded) c.in-Some.line.now c.loop-line.gathered c.read_line.new.gathered c.loop-line.pkg.now c.in-Ok-read_line.value.now c.loop-line.ignored c.in-Ok-read_line.count next.less next.is (c.in-Ok-read_line.ensures.adds (take (length c.loop-line.yielded) (lines_of c.args.text.now)) pkg_is) c.in-Ok-read_line.ensures.few (c.in-Ok-read_line.ensures.pkg (take (length c.loop-line.yielded) (lines_of c.args.text.now)) pkg_is) c.loop-line.invariant.progress in
+    let progress = progress_more (lines_of c.args.text.now) (length c.loop-line.yielded) c.in-Some.line.now c.loop-line.gathered c.read_line.new.gathered c.loop-line.pkg.now c.in-Ok.value.now c.loop-line.ignored c.in-Ok.count next.less next.is (c.in-Ok.ensures.adds (take (length c.loop-line.yielded) (lines_of c.args.text.now)) pkg_is) c.in-Ok.ensures.few (c.in-Ok.ensures.pkg (take (length c.loop-line.yielded) (lines_of c.args.text.now)) pkg_is) c.loop-line.invariant.progress in
     record {
-      text = c.in-Ok-read_line.ensures.text;
+      text = c.in-Ok.ensures.text;
       number = omega (arith, more, c.loop-line.invariant.number);
-      progress = subst (λ (n : ℕ). Progress (lines_of c.args.text.now) n c.read_line.new.gathered c.in-Ok-read_line.value.now (c.loop-line.ignored + c.in-Ok-read_line.count)) (sym more) progress;
+      progress = subst (λ (n : ℕ). Progress (lines_of c.args.text.now) n c.read_line.new.gathered c.in-Ok.value.now (c.loop-line.ignored + c.in-Ok.count)) (sym more) progress;
     }
 
 pub returns-in-Err-OutOfRange-clause-fault : goal.returns-in-Err-OutOfRange-clause-fault

@@ -1,6 +1,6 @@
 use Rattle.std.proofs.Common.{length}
 use Rattle.std.specs.Str.{chars}
-use Rattle.go_bench_text.proofs.fields.split_black.Given as goal
+use Rattle.go_bench_text.proofs.fields.split_any.Given as goal
 use Rattle.go_bench_text.proofs.Passed.{Passed}
 
 abbrev pub invariant-loop-c : goal.invariant-loop-c
