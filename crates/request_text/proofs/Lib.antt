@@ -14,3 +14,4 @@ pub mod WrittenBack
 pub mod OneForm
 pub mod OneItem
 pub mod OneReading
+mod Examples
