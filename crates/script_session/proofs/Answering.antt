@@ -1,11 +1,10 @@
 -- The output of items one after another, and what a sink took of it.
-use Rattle.std.proofs.Common.{◌≡◌, ℕ, ◌+◌, ◌≤◌, inl, Err, List, [], ◌∷◌, ◌++◌, length, take, Option, None, Some, refl, sym, ap, ◌∙◌, arith, append_assoc, append-nil, length-append}
+use Rattle.std.proofs.Common.{◌≡◌, ℕ, ◌+◌, ◌≤◌, Err, List, [], ◌∷◌, ◌++◌, length, take, Option, None, Some, refl, sym, ap, subst, ◌∙◌, arith, append_assoc, append-nil, length-append}
 use Rattle.std.specs.Prelude.{option_to_list}
 use Rattle.std.specs.List.{flat_map}
 use Rattle.std.specs.Io.KnownBytes.{append_known}
 use Rattle.std.proofs.lemmas.Grind.{flat_map-append}
 use Rattle.std.proofs.Math.Seq.{take-append-add}
-use Rattle.std.proofs.lemmas.List.{take_all}
 use Rattle.track_outside.specs.declared.sink.Sink.{Ghosts}
 use Rattle.track_outside.specs.Calls.{Took, FailedIn, TookPart}
 use Rattle.request_model.specs.declared.requests.Request.{Request}
@@ -15,12 +14,9 @@ use Rattle.request_text.specs.Bodies.{Item}
 use Rattle.script_session.specs.Outputs.{AnswersItem, AreAnswers, IsOutput}
 use Rattle.request_text.specs.declared.stop.ReadStop.{ReadStop}
 use Rattle.request_text.specs.declared.stop.ReadStop.TheVariants as read
-use Rattle.script_session.specs.declared.stop.Stop.{Stop}
-use Rattle.script_session.specs.declared.stop.Stop.TheVariants as stop
-use Rattle.script_session.specs.declared.stop.Stop.TheVariants.{NoMemory}
 use Rattle.script_session.specs.Stops.{stop_of}
-use Rattle.script_session.specs.Endings.{HasWritten, Stands}
-use Rattle.script_session.specs.Turns.{WritesPart, StopsWriting}
+use Rattle.script_session.specs.Endings.{Stands}
+use Rattle.script_session.specs.Turns.{Gathers, WrittenBut}
 
 module _ {S : Type 0} (does : S → Request → Option Reply → S → Type 0) where
   pub answers_join : (before between after : S) (items more : List Item) (replies others : List Reply)
@@ -91,26 +87,33 @@ module _ {O : Type 0} (g : Ghosts O) where
       counts = omega (arith, took.counts, some.counts);
     }
 
-  pub part_none : (old : O) → TookPart g old old []
-  part_none old = record { part = (0, omega arith, append_known-nil (g.taken old)); counts = omega arith }
+  -- ---- what is gathered behind what a sink took
+  pub gathers_none : (old : O) (pending : List ℕ) → pending ≡ [] → Gathers g old old [] pending
+  gathers_none old pending none = record { handed = []; parts = sym none; took = took_none old old refl (omega arith) }
 
-  pub part_all : (old new : O) (text : List ℕ) → Took g old new text → TookPart g old new text
-  part_all old new text took = record {
-    part = (length text, omega arith, took.taken ∙ ap (append_known (g.taken old)) (sym (take_all (length text) text (omega arith))));
-    counts = took.counts;
+  pub gathers_more : (old new : O) (text pending more now : List ℕ) → Gathers g old new text pending → now ≡ pending ++ more → Gathers g old new (text ++ more) now
+  gathers_more old new text pending more now told is = record {
+    handed = told.handed;
+    parts = ap (λ t. t ++ more) told.parts ∙ append_assoc told.handed pending more ∙ ap (λ t. told.handed ++ t) (sym is);
+    took = told.took;
   }
 
-  -- nothing was answered, for want of memory
-  pub stops_none : {S : Type 0} (old : O) (does : S → Request → Option Reply → S → Type 0) (before now : S) (items : List Item) → StopsWriting g old old does before items now NoMemory
-  stops_none old does before now items = record {
-    answered = [];
-    these = inl refl;
-    text = [];
-    after = before;
-    output = output_none does before;
-    stands = tt;
-    wrote = part_none old;
-  }
+  module _ (old between new : O) (text pending : List ℕ) (told : Gathers g old between text pending) where
+    pub gathers_on : (rest : List ℕ) → Gathers g between new pending rest → Gathers g old new text rest
+    gathers_on rest next = record {
+      handed = told.handed ++ next.handed;
+      parts = told.parts ∙ ap (λ t. told.handed ++ t) next.parts ∙ sym (append_assoc told.handed next.handed rest);
+      took = took_more old between new told.handed next.handed told.took next.took;
+    }
+
+    pub took_all : Took g between new pending → Took g old new text
+    took_all next = subst (Took g old new) (sym told.parts) (took_more old between new told.handed pending told.took next)
+
+    pub failed_on : FailedIn g between new pending → FailedIn g old new text
+    failed_on failed = subst (FailedIn g old new) (sym told.parts) (failed_more old between new told.handed pending told.took failed)
+
+    pub part_of : TookPart g between new pending → TookPart g old new text
+    part_of some = subst (TookPart g old new) (sym told.parts) (part_more old between new told.handed pending told.took some)
 
   -- reading stopped, and all that was read is answered
   pub stands_read : {S : Type 0} (why : ReadStop) (now : S) → Stands now now (Err (stop_of why))
@@ -119,16 +122,8 @@ module _ {O : Type 0} (g : Ghosts O) where
   stands_read read.InputTooLong now = refl
   stands_read read.NoMemory now = tt
 
-  -- all was written before reading stopped
-  pub wrote_all : (why : ReadStop) (old new : O) (text : List ℕ) → Took g old new text → HasWritten g old new text (Err (stop_of why))
-  wrote_all read.ReadFault old new text took = took
-  wrote_all (read.CutOff offset) old new text took = took
-  wrote_all read.InputTooLong old new text took = took
-  wrote_all read.NoMemory old new text took = part_all old new text took
-
-  pub wrote_part : (stop : Stop) (old between new : O) (part more : List ℕ) → Took g old between part → WritesPart g between new more stop → HasWritten g old new (part ++ more) (Err stop)
-  wrote_part stop.WriteFault old between new part more took told = failed_more old between new part more took told
-  wrote_part stop.NoMemory old between new part more took told = part_more old between new part more took told
-  wrote_part stop.ReadFault old between new part more took told = absurd told
-  wrote_part (stop.CutOff offset) old between new part more took told = absurd told
-  wrote_part stop.InputTooLong old between new part more took told = absurd told
+  pub written_read : (why : ReadStop) (old new : O) (text pending : List ℕ) → Gathers g old new text pending → WrittenBut g old new text pending (Err (stop_of why))
+  written_read read.ReadFault old new text pending told = told
+  written_read (read.CutOff offset) old new text pending told = told
+  written_read read.InputTooLong old new text pending told = told
+  written_read read.NoMemory old new text pending told = told

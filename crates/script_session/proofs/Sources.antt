@@ -15,10 +15,7 @@ use Rattle.script_session.specs.Stops.{stop_of}
 use Rattle.script_session.specs.Outputs.{AsksFirst}
 use Rattle.script_session.specs.Endings.{GaveOpen, HasRead}
 use Rattle.track_outside.specs.Calls.{GaveAtMost}
-use Rattle.track_outside.specs.declared.sink.Sink as sink
-use Rattle.script_session.specs.declared.stop.Stop.{Stop}
-use Rattle.script_session.specs.declared.stop.Stop.TheVariants as ended
-use Rattle.script_session.specs.Turns.{HasTaken, WritesPart}
+use Rattle.script_session.specs.Turns.{HasTaken}
 use Rattle.script_session.proofs.Reading.{whole_join, whole_asks, script_ends, script_stops, gave_open}
 
 prepend_known-append : (given more : List ℕ) (known : Option (List ℕ)) → prepend_known given (prepend_known more known) ≡ prepend_known (given ++ more) known
@@ -182,12 +179,3 @@ module _ {I : Type 0} (g : Ghosts I) (start : I) where
       none : (known : Option (List ℕ)) → IfSome known (λ bytes. AsksFirst bytes [])
       none None = tt
       none (Some bytes) = inl ([], bytes, refl, omega arith, ([], (refl, refl)))
-
-  -- the items of a text that wasn't written whole
-  pub read_part : {O : Type 0} (h : sink.Ghosts O) (old new : O) (text : List ℕ) (why : Stop) (now : I) (items : List Item) → WritesPart h old new text why
-      → IfSome (g.left start) (λ bytes. AsksFirst bytes items) → HasRead g start now items (Err why)
-  read_part h old new text ended.WriteFault now items wrote told = told
-  read_part h old new text ended.NoMemory now items wrote told = told
-  read_part h old new text ended.ReadFault now items wrote told = absurd wrote
-  read_part h old new text (ended.CutOff offset) now items wrote told = absurd wrote
-  read_part h old new text ended.InputTooLong now items wrote told = absurd wrote

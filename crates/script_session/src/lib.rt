@@ -24,6 +24,7 @@
 mod desk;
 mod laws;
 mod machines;
+mod replies;
 mod script;
 mod session;
 mod stop;
