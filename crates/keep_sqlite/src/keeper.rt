@@ -3,7 +3,8 @@ ghost use Rattle.std.specs.Prelude.{◌≡◌, ℕ, ◌≤◌, OnErr, Option, No
 ghost use Rattle.track_outside.specs.Counts.{Rose, one_more};
 ghost use Rattle.track_outside.specs.declared.out_error.OutError.TheVariants as error;
 
-use crate::statements::{Store, append_rows, close, count_rows, find_store, open_store, read_row};
+use crate::ahead::Ahead;
+use crate::statements::{Store, append_rows, close, count_rows, find_store, open_store};
 use sqlite::{Error, ErrorCode};
 use std::alloc::Global;
 use std::marker::Model;
@@ -18,6 +19,8 @@ pub struct SqliteKeeper<'a> {
     name: Option<String>,
     // The file, while it is open. It isn't where there is none yet, and between an append and the next call.
     store: Option<Store>,
+    // Rows that were read from the open file before they are asked for.
+    ahead: Ahead,
     // How many rows it had when they were counted or added last. Another run may change the file while it isn't open.
     count: u64,
     faults: u64,
@@ -33,13 +36,14 @@ impl<'a> Model for SqliteKeeper<'a> {
 
 impl<'a> SqliteKeeper<'a> {
     /// A keeper that was not started.
-    pub fn new(rt: &'a HostRuntime, _alloc: Global) -> SqliteKeeper<'a>
+    pub fn new(rt: &'a HostRuntime, alloc: Global) -> SqliteKeeper<'a>
         ensures { result ≡ 0 }
     {
         SqliteKeeper {
             rt,
             name: None,
             store: None,
+            ahead: Ahead::new(alloc),
             count: 0,
             faults: 0,
         }
@@ -75,6 +79,7 @@ impl<'a> SqliteKeeper<'a> {
     {
         self.name = None;
         self.store = None;
+        self.ahead.clear();
         self.count = 0;
         self.store = find_store(self.rt, &name)?;
         self.name = Some(name);
@@ -89,6 +94,7 @@ impl<'a> SqliteKeeper<'a> {
             return Err(Error::InvalidQuery);
         };
         if self.store.is_none() {
+            self.ahead.clear();
             self.store = find_store(self.rt, name)?;
         }
         Ok(())
@@ -105,13 +111,27 @@ impl<'a> SqliteKeeper<'a> {
         Ok(self.count)
     }
 
+    // Row k. Rows that were read before are there only while the file is open.
     fn read_kept(&mut self, k: u64) -> Result<Vec<u8>, Error>
         ensures { self.new ≡ self.old }
     {
+        let Ok(k) = i64::try_from(k) else {
+            return Err(Error::QueryReturnedNoRows);
+        };
+        match self.ahead.next(k) {
+            Some(row) => Ok(row),
+            None => self.read_on(k),
+        }
+    }
+
+    // Row k from the file, and rows behind it.
+    fn read_on(&mut self, k: i64) -> Result<Vec<u8>, Error>
+        ensures { self.new ≡ self.old }
+    {
         self.open_again()?;
-        match (&mut self.store, i64::try_from(k)) {
-            (Some(store), Ok(k)) => read_row(store, k),
-            _ => Err(Error::QueryReturnedNoRows),
+        match &mut self.store {
+            Some(store) => self.ahead.read(store, k),
+            None => Err(Error::QueryReturnedNoRows),
         }
     }
 
@@ -119,6 +139,7 @@ impl<'a> SqliteKeeper<'a> {
     fn add(&mut self, rows: &[Vec<u8>]) -> Result<(), Error>
         ensures { self.new ≡ self.old }
     {
+        self.ahead.clear();
         let Some(name) = &self.name else {
             return Err(Error::InvalidQuery);
         };

@@ -1,5 +1,5 @@
 //! The statements on a store.
-use sqlite::{Connection, Error, ErrorCode, File, FileStore, params};
+use sqlite::{Connection, Error, ErrorCode, File, FileStore, Row, params};
 use std::fs;
 
 // An open store.
@@ -7,6 +7,11 @@ pub(crate) type Store = Connection<FileStore<File>>;
 
 // The one table of a store.
 const TABLE: &str = "CREATE TABLE kept (number INTEGER PRIMARY KEY, content BLOB NOT NULL) STRICT";
+
+// A row and rows behind it, in order. Those behind it have no bytes here where these are more than 4,096, so they take
+// little memory whatever the store holds.
+const ROWS: &str =
+    "SELECT number, CASE WHEN number = ?1 OR length(content) <= 4096 THEN content END FROM kept WHERE number BETWEEN ?1 AND ?2 ORDER BY number";
 
 // Opens the file of that name, if there is one and it has a table.
 pub(crate) fn find_store(rt: &HostRuntime, name: &str) -> Result<Option<Store>, Error> {
@@ -66,6 +71,11 @@ pub(crate) fn count_rows(store: &mut Store) -> Result<u64, Error> {
 pub(crate) fn read_row(store: &mut Store, k: i64) -> Result<Vec<u8>, Error> {
     let row = store.query_row("SELECT content FROM kept WHERE number = ?1", params![k])?;
     row.get(0)
+}
+
+// Row k and so many rows behind it, each with its number.
+pub(crate) fn read_rows(store: &mut Store, k: i64, more: i64) -> Result<Vec<Row>, Error> {
+    store.query_all(ROWS, params![k, k.saturating_add(more)])
 }
 
 // Adds all of the rows by one transaction, or none; answers how many there are then.

@@ -1,7 +1,7 @@
 //! Rows are there again when a store is opened again; files that are none are refused.
 use keep_sqlite::SqliteKeeper;
 use sqlite::Connection;
-use std::alloc::Global;
+use std::alloc::{AllocError, Global};
 use std::fs;
 use track_outside::Keeper;
 
@@ -34,6 +34,9 @@ const GAP: (&str, &str) = (
     "CREATE TABLE kept (number INTEGER PRIMARY KEY, content BLOB NOT NULL) STRICT; INSERT INTO kept VALUES (1, x'61'), (3, x'62')",
 );
 
+// A store of many rows, some of them short and one long.
+const MANY: &str = "many.db";
+
 #[test]
 fn rows_are_there_after_an_opening(rt: HostRuntime) {
     assert!(rt; makes(&rt, rt.alloc()), "made");
@@ -60,6 +63,15 @@ fn other_files_are_refused(rt: HostRuntime) {
         holds(&rt, GAP.0, GAP.1) && has_gap(&rt, rt.alloc()),
         "a gap"
     );
+}
+
+#[test]
+fn many_rows_are_read(rt: HostRuntime) {
+    assert!(rt;
+        makes_many(&rt, rt.alloc()) && holds(&rt, MANY, "DELETE FROM kept WHERE number = 600"),
+        "made"
+    );
+    assert!(rt; has_many(&rt, rt.alloc()), "many rows");
 }
 
 // Whether no call is answered before a start, no file is made before the first append, and then the row is there.
@@ -132,6 +144,62 @@ fn has_gap(rt: &HostRuntime, alloc: Global) -> bool {
         && keeper.count() == Ok(2)
         && keeper.row(alloc, 1).is_ok()
         && keeper.row(alloc, 2).is_err()
+}
+
+fn makes_many(rt: &HostRuntime, alloc: Global) -> bool {
+    let mut keeper = SqliteKeeper::new(rt, alloc);
+    match many_rows(alloc) {
+        Ok(rows) => {
+            keeper.start(alloc, MANY).is_ok()
+                && keeper.count() == Ok(0)
+                && keeper.append(alloc, &rows).is_ok()
+        }
+        Err(_) => false,
+    }
+}
+
+fn many_rows(alloc: Global) -> Result<Vec<Vec<u8>>, AllocError> {
+    let mut rows = Vec::new(alloc);
+    for k in 1..700usize {
+        let mut row = Vec::new(alloc);
+        row.resize(length_of(k), b'a')?;
+        rows.push(row)?;
+    }
+    Ok(rows)
+}
+
+// How many bytes row k has, so that no two have the same.
+fn length_of(k: usize) -> usize {
+    if k == 300 { 6_000 } else { k }
+}
+
+// Whether each row before the gap at 600 is there, the gap is a fault, and rows are also read out of their order.
+fn has_many(rt: &HostRuntime, alloc: Global) -> bool {
+    let mut keeper = SqliteKeeper::new(rt, alloc);
+    keeper.start(alloc, MANY).is_ok()
+        && first_missing(alloc, &mut keeper) == 600
+        && keeper.row(alloc, 600).is_err()
+        && has_row(alloc, &mut keeper, 601)
+        && has_row(alloc, &mut keeper, 300)
+        && has_row(alloc, &mut keeper, 300)
+        && has_row(alloc, &mut keeper, 1)
+}
+
+// The number of the first row that isn't there.
+fn first_missing(alloc: Global, keeper: &mut SqliteKeeper<'_>) -> usize {
+    for k in 1..700usize {
+        if !has_row(alloc, keeper, k) {
+            return k;
+        }
+    }
+    0
+}
+
+fn has_row(alloc: Global, keeper: &mut SqliteKeeper<'_>, k: usize) -> bool {
+    match keeper.row(alloc, k as u64) {
+        Ok(row) => row.len() == length_of(k),
+        Err(_) => false,
+    }
 }
 
 // Makes the file by these statements.
