@@ -25,6 +25,7 @@ pub(crate) fn go_asked(
         Ok(given) => given,
         Err(fault) => return go_refused(fault),
     };
+    let samples = samples.share(alloc)?;
     samples.limits();
     Ok(Ok(Request::Submit {
         machine,
@@ -54,6 +55,7 @@ pub(crate) fn lnt_asked(
         Ok(given) => given,
         Err(fault) => return lnt_refused(fault),
     };
+    let samples = samples.share(alloc)?;
     Ok(Ok(Request::Submit {
         machine,
         commit,

@@ -157,7 +157,7 @@ fn given_body(
         (λ body. IsReadAs commit.now samples.now (Some machine.now) body.items) }
 {
     let run = run_of(alloc, machine, commit, samples)?;
-    put_report(alloc, &run)
+    Ok(put_report(alloc, &run)?)
 }
 
 // The LNT run of the samples.

@@ -2,28 +2,42 @@
 ghost use Rattle.std.specs.Prelude.{◌≡◌, ◌<◌, ◌↔◌, IsTrue, [], ◌∷◌, ◌++◌, length, OnOk, OnErr, IfOk, slice_get, option_copied};
 ghost use Rattle.metric_table.specs.Limits.{most};
 ghost use Rattle.metric_table.specs.declared.limits.Limit.TheVariants.{RunSamples};
+ghost use Rattle.sample_model.specs.Listed.{listed};
 ghost use Rattle.sample_model.specs.Samples.{AreSamples};
 
 use crate::NoMemory;
 use crate::sample::Sample;
 use std::alloc::Global;
 use std::marker::Model;
+use std::sync::Arc;
+
+// Where samples stand.
+#[derive(Debug, Drop)]
+pub(crate) enum Items {
+    // In a list that one value owns.
+    Own(Vec<Sample>),
+    // In a list that several may own.
+    Shared(Arc<Vec<Sample>>),
+}
 
 /// The samples of a run, in order: at most 65,536, which the type keeps. Contracts see a list. It keeps its allocator.
+///
+/// Once a list is made it may be shared ([`Samples::share`]): then a copy counts one owner more.
 #[derive(Debug, Drop)]
 pub struct Samples {
-    items: Vec<Sample>,
+    items: Items,
 }
 
 impl Model for Samples {
     ghost use Rattle.std.specs.Prelude.{List};
     ghost use Rattle.sample_model.specs.Samples.{Measurement, AreSamples};
+    ghost use Rattle.sample_model.specs.Listed.{listed};
 
     ghost Value = { List Measurement };
 
-    ghost view = { λ s. s.items.items };
+    ghost view = { λ s. listed s.items };
 
-    ghost invariant = { λ s. AreSamples s.items.items };
+    ghost invariant = { λ s. AreSamples (listed s.items) };
 }
 
 impl Samples {
@@ -32,7 +46,7 @@ impl Samples {
         ensures { result ≡ [] }
     {
         Samples {
-            items: Vec::new(alloc),
+            items: Items::Own(Vec::new(alloc)),
         }
     }
 
@@ -43,53 +57,89 @@ impl Samples {
         let _ = &self.items;
     }
 
-    /// Adds a sample at the end; changes nothing where there is no memory. Constant time, but for growing.
+    /// Adds a sample at the end; changes nothing where there is no memory. Constant time, but for growing, and for a shared
+    /// list, of which it makes one of its own first.
     pub fn push(&mut self, item: Sample) -> Result<(), NoMemory>
         requires { length self.old < most RunSamples }
         ensures ok { OnOk result (self.new ≡ self.old ++ item ∷ []) }
         ensures err { OnErr result (self.new ≡ self.old) }
     {
         item.limits();
-        self.items.push(item)?;
+        match &mut self.items {
+            Items::Own(own) => own.push(item)?,
+            Items::Shared(shared) => {
+                let mut own = copy_of(*shared.allocator(), shared)?;
+                own.push(item)?;
+                self.items = Items::Own(own);
+            }
+        }
         Ok(())
+    }
+
+    /// The same list, such that a copy of it takes constant time and no memory. Constant time.
+    pub fn share(self, alloc: Global) -> Result<Samples, NoMemory>
+        ensures { IfOk result (λ made. made ≡ self) }
+    {
+        match self.items {
+            Items::Own(own) => Ok(Samples {
+                items: Items::Shared(Arc::new(alloc, own)?),
+            }),
+            Items::Shared(shared) => Ok(Samples {
+                items: Items::Shared(shared),
+            }),
+        }
     }
 
     /// The samples, in order.
     pub fn as_slice(&self) -> &[Sample]
         ensures { result.now ≡ self.now }
     {
-        &self.items
+        match &self.items {
+            Items::Own(own) => own,
+            Items::Shared(shared) => shared,
+        }
     }
 
     /// How many there are.
     pub fn len(&self) -> usize
         ensures { result ≡ length self.now }
     {
-        self.items.len()
+        self.as_slice().len()
     }
 
     /// Whether there is none.
     pub fn is_empty(&self) -> bool
         ensures { IsTrue result ↔ (self.now ≡ []) }
     {
-        self.items.is_empty()
+        self.as_slice().is_empty()
     }
 
     /// The sample at a place, from 0; none from the length on.
     pub fn get(&self, i: usize) -> Option<&Sample>
         ensures { option_copied result ≡ slice_get self.now i }
     {
-        self.items.get(i)
+        self.as_slice().get(i)
     }
 
-    /// An equal list of its own. Linear in the length.
+    /// An equal list of its own. Constant time for a list that is shared, else linear in the length.
     pub fn copy(&self, alloc: Global) -> Result<Samples, NoMemory>
         ensures { IfOk result (λ made. made ≡ self.now) }
     {
-        let mut made = Samples::new(alloc);
-        for item in &self.items {
-            made.push(item.copy(alloc)?)?;
-        }
-        Ok(made)
+        let items = match &self.items {
+            Items::Own(own) => Items::Own(copy_of(alloc, own)?),
+            Items::Shared(shared) => Items::Shared(shared.clone()?),
+        };
+        Ok(Samples { items })
     }
+}
+
+// An equal list.
+fn copy_of(alloc: Global, items: &[Sample]) -> Result<Vec<Sample>, NoMemory>
+    ensures { IfOk result (λ made. made.items ≡ items.now) }
+{
+    let mut made = Vec::with_capacity(alloc, items.len())?;
+    for item in items {
+        made.push(item.copy(alloc)?)?;
+    }
+    Ok(made)
 }
