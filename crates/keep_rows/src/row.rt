@@ -6,7 +6,7 @@ ghost use Rattle.keep_rows.specs.Rows.{Row, machine_row, entry_row, row_text, ro
 ghost use Rattle.keep_rows.specs.declared.row.RowFault.TheVariants as fault;
 
 use crate::NoMemory;
-use line_text::{Name, NameError, names_law, put_name, read_name};
+use line_text::{Name, NameError, Names, names_law, put_name};
 use std::alloc::Global;
 
 /// What a row begins with.
@@ -40,13 +40,13 @@ impl From<NoMemory> for RowFault {
 
 /// What the bytes of a row say: `machine M`, or `entry M TEXT`, with the canonical spelling of the machine and a single
 /// space before and behind it. Linear in the length of the row.
-pub fn read_row(alloc: Global, bytes: &[u8]) -> Result<Head, RowFault>
+pub fn read_row(alloc: Global, names: &mut Names, bytes: &[u8]) -> Result<Head, RowFault>
     ensures read { IfOk result (λ head.
         IsRowOf bytes.now (row_at bytes.now head.machine head.text)) }
     ensures bad { result ≡ Err fault.NotRow → (row : Row) → ¬ IsRowOf bytes.now row }
 {
     if let Some(word) = behind(bytes, b"machine ") {
-        let machine = read_spelling(alloc, word)?;
+        let machine = read_spelling(alloc, names, word)?;
         return Ok(Head {
             machine,
             text: None,
@@ -55,7 +55,7 @@ pub fn read_row(alloc: Global, bytes: &[u8]) -> Result<Head, RowFault>
     let Some(rest) = behind(bytes, b"entry ") else {
         return Err(RowFault::NotRow);
     };
-    let (machine, end) = read_first_word(alloc, rest)?;
+    let (machine, end) = read_first_word(alloc, names, rest)?;
     Ok(Head {
         machine,
         text: Some(end + 7),
@@ -83,7 +83,11 @@ pub fn put_entry_row(alloc: Global, machine: &Name, text: &[u8]) -> Result<Vec<u
 }
 
 // The name whose canonical spelling stands before the first space, and the place of that space.
-fn read_first_word(alloc: Global, bytes: &[u8]) -> Result<(Name, usize), RowFault>
+fn read_first_word(
+    alloc: Global,
+    names: &mut Names,
+    bytes: &[u8],
+) -> Result<(Name, usize), RowFault>
     ensures read { IfOk result (λ r.
         (bytes.now ≡ spelling r.0 ++ 32 ∷ drop (r.1 + 1) bytes.now) × IsName r.0) }
     ensures within { IfOk result (λ r. r.1 < length bytes.now) }
@@ -95,26 +99,26 @@ fn read_first_word(alloc: Global, bytes: &[u8]) -> Result<(Name, usize), RowFaul
         return Err(RowFault::NotRow);
     };
     let (word, _more) = bytes.split_at(end);
-    match read_spelling(alloc, word) {
+    match read_spelling(alloc, names, word) {
         Ok(name) => Ok((name, end)),
         Err(refusal) => Err(refusal),
     }
 }
 
 // The name that a word is the canonical spelling of.
-fn read_spelling(alloc: Global, word: &[u8]) -> Result<Name, RowFault>
+fn read_spelling(alloc: Global, names: &mut Names, word: &[u8]) -> Result<Name, RowFault>
     ensures read { IfOk result (λ name. (word.now ≡ spelling name) × IsName name) }
     ensures bad { result ≡ Err fault.NotRow →
         (name : List ℕ) → IsName name → word.now ≢ spelling name }
 {
     names_law();
-    let name = match read_name(alloc, word) {
+    let name = match names.read(alloc, word) {
         Ok(name) => name,
         Err(NameError::BadName) => return Err(RowFault::NotRow),
         Err(NameError::NoMemory) => return Err(RowFault::NoMemory),
     };
     name.bytes_law();
-    let mut spelt = Vec::new(alloc);
+    let mut spelt = Vec::with_capacity(alloc, word.len())?;
     put_name(alloc, &mut spelt, &name)?;
     if !is_same(&spelt, word) {
         return Err(RowFault::NotRow);

@@ -3,7 +3,7 @@ use crate::{
     AppendFault, LoadFault, NoMemory, Recorded, Restored, RowFault, append_each, load_into,
     put_entry_row, put_machine_row, read_row,
 };
-use line_text::Name;
+use line_text::{Name, Names};
 use std::alloc::Global;
 use std::test::Fail;
 use track_outside::MemKeeper;
@@ -104,7 +104,7 @@ fn each_call_of_a_keeper_may_fail(rt: HostRuntime) -> Result<(), Fail> {
 }
 
 fn reads(alloc: Global, row: &[u8], wanted: Option<Option<usize>>) -> bool {
-    match read_row(alloc, row) {
+    match read_row(alloc, &mut Names::new(alloc, 8), row) {
         Ok(head) => wanted == Some(head.text),
         Err(fault) => fault == RowFault::NotRow && wanted.is_none(),
     }

@@ -10,18 +10,23 @@ use crate::NoMemory;
 use crate::place::place_of;
 use history_model::Entry;
 use keep_rows::{Restored, RowFault, read_row, rows_law};
-use line_text::Name;
+use line_text::{Name, Names};
 use metric_table::Limit;
 use std::alloc::Global;
 use std::marker::Model;
 use track_entry::{EntryFault, entries_law, read_entry};
 use track_state::TrackState;
 
+// How many names are kept, so that they are shared where they come again.
+const NAMES: usize = 4_096;
+
 // The machines that rows made, in order.
 #[derive(Drop)]
 pub(crate) struct States {
     pub(crate) alloc: Global,
     pub(crate) machines: Vec<TrackState>,
+    // The names that have come.
+    names: Names,
 }
 
 impl Model for States {
@@ -43,6 +48,7 @@ impl States {
         States {
             alloc,
             machines: Vec::new(alloc),
+            names: Names::new(alloc, NAMES),
         }
     }
 
@@ -84,7 +90,7 @@ impl States {
         let Some(place) = place_of(&self.machines, machine) else {
             return Ok(false);
         };
-        let entry = match read_entry(self.alloc, text) {
+        let entry = match read_entry(self.alloc, &mut self.names, text) {
             Ok(entry) => entry,
             Err(EntryFault::NotEntry) => return Ok(false),
             Err(EntryFault::NoMemory) => return Err(NoMemory),
@@ -104,7 +110,7 @@ impl Restored for States {
 
     fn take(&mut self, alloc: Global, row: &[u8]) -> Result<bool, NoMemory> {
         rows_law();
-        let head = match read_row(alloc, row) {
+        let head = match read_row(alloc, &mut self.names, row) {
             Ok(head) => head,
             Err(RowFault::NotRow) => return Ok(false),
             Err(RowFault::NoMemory) => return Err(NoMemory),

@@ -1,10 +1,11 @@
 //! Texts that are entries, and texts that are none.
+use line_text::Names;
 use std::alloc::Global;
 use track_entry::{EntryFault, put_entry, read_entry};
 
 // Whether the text spells an entry, whose copy's spelling is the text.
 fn is_spelling(alloc: Global, text: &[u8]) -> bool {
-    let Ok(entry) = read_entry(alloc, text) else {
+    let Ok(entry) = read_entry(alloc, &mut Names::new(alloc, 8), text) else {
         return false;
     };
     let Ok(made) = entry.copy(alloc) else {
@@ -98,7 +99,10 @@ const NO_ENTRIES: [&str; 51] = [
 
 // Whether the text is refused.
 fn is_none(alloc: Global, text: &[u8]) -> bool {
-    matches!(read_entry(alloc, text), Err(EntryFault::NotEntry))
+    matches!(
+        read_entry(alloc, &mut Names::new(alloc, 8), text),
+        Err(EntryFault::NotEntry)
+    )
 }
 
 #[test]

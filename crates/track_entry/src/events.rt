@@ -8,15 +8,21 @@ ghost use Rattle.track_entry.specs.Decoded.{Reads, raise_of, move_of, begin_of, 
 use crate::fault::EntryFault;
 use crate::words::{end_at, number_at, series_at, state_at, status_at};
 use history_model::{Entry, JobEvent, Raised, RegressionEvent};
+use line_text::Names;
 use std::alloc::Global;
 
-pub fn read_raise(alloc: Global, text: &[u8], at: usize) -> Result<Entry, EntryFault>
+pub fn read_raise(
+    alloc: Global,
+    names: &mut Names,
+    text: &[u8],
+    at: usize,
+) -> Result<Entry, EntryFault>
     requires { at ≤ length text.now }
     ensures { (e : AnEntry) → IsEntry e → raise_of (words_of (drop at text.now)) ≡ Some e
         → codes "raise" ∷ words_of (drop at text.now) ≡ entry_words e
         → Reads result (λ read. read ≡ e) }
 {
-    let (test, metric, behind_metric) = series_at(alloc, text, at)?;
+    let (test, metric, behind_metric) = series_at(alloc, names, text, at)?;
     let (before, behind_before) = number_at(text, behind_metric)?;
     let (after, end) = number_at(text, behind_before)?;
     end_at(text, end)?;

@@ -17,12 +17,13 @@ pub fn put_entry(alloc: Global, out: &mut Vec<u8>, entry: &Entry) -> Result<(), 
     ensures err { OnErr result (out.new.items ≡ out.old.items) }
 {
     let mut text = Vec::new(alloc);
-    put_kind(alloc, &mut text, entry)?;
+    put_whole(alloc, &mut text, entry)?;
     out.extend_from_slice(&text)?;
     Ok(())
 }
 
-fn put_kind(alloc: Global, out: &mut Vec<u8>, entry: &Entry) -> Result<(), NoMemory>
+// Appends the text of an entry; where there is no memory, some of it.
+pub fn put_whole(alloc: Global, out: &mut Vec<u8>, entry: &Entry) -> Result<(), NoMemory>
     ensures { OnOk result (out.new.items ≡ out.old.items ++ entry_text entry.now) }
 {
     match entry {

@@ -11,29 +11,29 @@ use crate::events::{read_answer, read_begin, read_give_up, read_move, read_raise
 use crate::fault::EntryFault;
 use crate::fits::entry_law;
 use crate::kind::{Kind, read_kind};
-use crate::put::put_entry;
+use crate::put::put_whole;
 use crate::words::{METRIC_LIMIT, end_at, name_at, number_at, sample_at, series_at, signed_at};
 use history_model::{Entry, Publication, RegressionEvent, Run};
-use line_text::{Numbers, names_law, next_word, words_law};
+use line_text::{Names, Numbers, names_law, next_word, words_law};
 use metric_table::Limit;
 use sample_model::Samples;
 use std::alloc::Global;
 
-/// The entry that the text spells; `NotEntry` exactly where it spells none.
+/// The entry that the text spells; `NotEntry` exactly where it spells none. Names that are kept are shared.
 ///
 /// Linear in the text, and takes memory in proportion to it.
-pub fn read_entry(alloc: Global, text: &[u8]) -> Result<Entry, EntryFault>
+pub fn read_entry(alloc: Global, names: &mut Names, text: &[u8]) -> Result<Entry, EntryFault>
     ensures spelt { IfOk result (λ entry. SpellsEntry text.now entry) }
     ensures none { result ≡ Err EntryFault.NotEntry → (e : AnEntry) → ¬ SpellsEntry text.now e }
 {
     words_law();
     names_law();
-    let entry = read_words(alloc, text)?;
+    let entry = read_words(alloc, names, text)?;
     if !is_entry(&entry) {
         return Err(EntryFault::NotEntry);
     }
-    let mut spelt = Vec::new(alloc);
-    put_entry(alloc, &mut spelt, &entry)?;
+    let mut spelt = Vec::with_capacity(alloc, text.len())?;
+    put_whole(alloc, &mut spelt, &entry)?;
     // What isn't canonical is spelt otherwise.
     if spelt.as_slice() != text {
         return Err(EntryFault::NotEntry);
@@ -42,7 +42,7 @@ pub fn read_entry(alloc: Global, text: &[u8]) -> Result<Entry, EntryFault>
 }
 
 // The entry of the text's words. They need not be canonical.
-fn read_words(alloc: Global, text: &[u8]) -> Result<Entry, EntryFault>
+fn read_words(alloc: Global, names: &mut Names, text: &[u8]) -> Result<Entry, EntryFault>
     ensures { (e : AnEntry) → IsEntry e → words_of text.now ≡ entry_words e
         → Reads result (λ read. read ≡ e) }
 {
@@ -54,12 +54,12 @@ fn read_words(alloc: Global, text: &[u8]) -> Result<Entry, EntryFault>
         return Err(EntryFault::NotEntry);
     };
     match kind {
-        Kind::Commit => read_commit(alloc, text, to),
-        Kind::Accept => read_accept(alloc, text, to),
-        Kind::Retract => read_retract(alloc, text, to),
-        Kind::Tune => read_tune(alloc, text, to),
-        Kind::Publish => read_publish(alloc, text, to),
-        Kind::Raise => read_raise(alloc, text, to),
+        Kind::Commit => read_commit(alloc, names, text, to),
+        Kind::Accept => read_accept(alloc, names, text, to),
+        Kind::Retract => read_retract(alloc, names, text, to),
+        Kind::Tune => read_tune(alloc, names, text, to),
+        Kind::Publish => read_publish(alloc, names, text, to),
+        Kind::Raise => read_raise(alloc, names, text, to),
         Kind::Move => read_move(text, to),
         Kind::Begin => read_begin(text, to),
         Kind::Answer => read_answer(text, to),
@@ -67,28 +67,38 @@ fn read_words(alloc: Global, text: &[u8]) -> Result<Entry, EntryFault>
     }
 }
 
-fn read_commit(alloc: Global, text: &[u8], at: usize) -> Result<Entry, EntryFault>
+fn read_commit(
+    alloc: Global,
+    names: &mut Names,
+    text: &[u8],
+    at: usize,
+) -> Result<Entry, EntryFault>
     requires { at ≤ length text.now }
     ensures { (e : AnEntry) → IsEntry e → commit_of (words_of (drop at text.now)) ≡ Some e
         → codes "commit" ∷ words_of (drop at text.now) ≡ entry_words e
         → Reads result (λ read. read ≡ e) }
 {
     let (number, behind_number) = number_at(text, at)?;
-    let (name, end) = name_at(alloc, text, behind_number)?;
+    let (name, end) = name_at(alloc, names, text, behind_number)?;
     end_at(text, end)?;
     Ok(Entry::Commit { number, name })
 }
 
-fn read_accept(alloc: Global, text: &[u8], at: usize) -> Result<Entry, EntryFault>
+fn read_accept(
+    alloc: Global,
+    names: &mut Names,
+    text: &[u8],
+    at: usize,
+) -> Result<Entry, EntryFault>
     requires { at ≤ length text.now }
     ensures { (e : AnEntry) → IsEntry e → accept_of (words_of (drop at text.now)) ≡ Some e
         → codes "accept" ∷ words_of (drop at text.now) ≡ entry_words e
         → Reads result (λ read. read ≡ e) }
 {
-    let (run, behind_run) = name_at(alloc, text, at)?;
+    let (run, behind_run) = name_at(alloc, names, text, at)?;
     let (commit, behind_commit) = number_at(text, behind_run)?;
     let (_, behind_count) = number_at(text, behind_commit)?;
-    let samples = read_samples(alloc, text, behind_count)?;
+    let samples = read_samples(alloc, names, text, behind_count)?;
     let run = Run {
         run,
         commit,
@@ -97,36 +107,46 @@ fn read_accept(alloc: Global, text: &[u8], at: usize) -> Result<Entry, EntryFaul
     Ok(Entry::Accept { run })
 }
 
-fn read_retract(alloc: Global, text: &[u8], at: usize) -> Result<Entry, EntryFault>
+fn read_retract(
+    alloc: Global,
+    names: &mut Names,
+    text: &[u8],
+    at: usize,
+) -> Result<Entry, EntryFault>
     requires { at ≤ length text.now }
     ensures { (e : AnEntry) → IsEntry e → retract_of (words_of (drop at text.now)) ≡ Some e
         → codes "retract" ∷ words_of (drop at text.now) ≡ entry_words e
         → Reads result (λ read. read ≡ e) }
 {
-    let (run, end) = name_at(alloc, text, at)?;
+    let (run, end) = name_at(alloc, names, text, at)?;
     end_at(text, end)?;
     Ok(Entry::Retract { run })
 }
 
-fn read_tune(alloc: Global, text: &[u8], at: usize) -> Result<Entry, EntryFault>
+fn read_tune(alloc: Global, names: &mut Names, text: &[u8], at: usize) -> Result<Entry, EntryFault>
     requires { at ≤ length text.now }
     ensures { (e : AnEntry) → IsEntry e → tune_of (words_of (drop at text.now)) ≡ Some e
         → codes "tune" ∷ words_of (drop at text.now) ≡ entry_words e
         → Reads result (λ read. read ≡ e) }
 {
-    let (metric, behind_metric) = name_at(alloc, text, at)?;
+    let (metric, behind_metric) = name_at(alloc, names, text, at)?;
     let (penalty, end) = signed_at(text, behind_metric)?;
     end_at(text, end)?;
     Ok(Entry::Tune { metric, penalty })
 }
 
-fn read_publish(alloc: Global, text: &[u8], at: usize) -> Result<Entry, EntryFault>
+fn read_publish(
+    alloc: Global,
+    names: &mut Names,
+    text: &[u8],
+    at: usize,
+) -> Result<Entry, EntryFault>
     requires { at ≤ length text.now }
     ensures { (e : AnEntry) → IsEntry e → publish_of (words_of (drop at text.now)) ≡ Some e
         → codes "publish" ∷ words_of (drop at text.now) ≡ entry_words e
         → Reads result (λ read. read ≡ e) }
 {
-    let (test, metric, behind_metric) = series_at(alloc, text, at)?;
+    let (test, metric, behind_metric) = series_at(alloc, names, text, at)?;
     let (version, behind_version) = number_at(text, behind_metric)?;
     let (base, behind_base) = number_at(text, behind_version)?;
     let (total, behind_total) = signed_at(text, behind_base)?;
@@ -161,7 +181,12 @@ fn read_cuts(alloc: Global, text: &[u8], at: usize) -> Result<Numbers, EntryFaul
 }
 
 // The samples of all words from a place on.
-fn read_samples(alloc: Global, text: &[u8], at: usize) -> Result<Samples, EntryFault>
+fn read_samples(
+    alloc: Global,
+    names: &mut Names,
+    text: &[u8],
+    at: usize,
+) -> Result<Samples, EntryFault>
     requires { at ≤ length text.now }
     ensures { (samples : List Measurement) → AreSamples samples
         → words_of (drop at text.now) ≡ flat_map sample_words samples
@@ -173,11 +198,11 @@ fn read_samples(alloc: Global, text: &[u8], at: usize) -> Result<Samples, EntryF
         if samples.len() as u64 >= Limit::RunSamples.most() {
             return Err(EntryFault::NotEntry);
         }
-        let (sample, end) = sample_at(alloc, text, place)?;
+        let (sample, end) = sample_at(alloc, names, text, place)?;
         samples.push(sample)?;
         place = end;
     }
-    Ok(samples)
+    Ok(samples.share(alloc)?)
 }
 
 // Whether an entry has a text: the types keep all but the length of a metric.

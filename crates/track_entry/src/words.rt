@@ -11,7 +11,7 @@ ghost use Rattle.track_entry.specs.Texts.{sample_words};
 ghost use Rattle.track_entry.specs.Decoded.{Reads};
 
 use crate::fault::EntryFault;
-use line_text::{Name, names_law, next_word, read_i64, read_i128, read_name, read_u64};
+use line_text::{Name, Names, names_law, next_word, read_i64, read_i128, read_u64};
 use regression_state::{State, read_state};
 use sample_model::Sample;
 use std::alloc::Global;
@@ -26,7 +26,12 @@ const STATUS_LIMIT: u64 = 255;
 pub const METRIC_LIMIT: usize = 64;
 
 // The name of the next word, and where the word ends.
-pub fn name_at(alloc: Global, text: &[u8], at: usize) -> Result<(Name, usize), EntryFault>
+pub fn name_at(
+    alloc: Global,
+    names: &mut Names,
+    text: &[u8],
+    at: usize,
+) -> Result<(Name, usize), EntryFault>
     requires { at ≤ length text.now }
     ensures placed { IfOk result (λ read. (at < read.1) × (read.1 ≤ length text.now)) }
     ensures reads { (name : List ℕ) (more : List (List ℕ)) → IsName name
@@ -37,7 +42,7 @@ pub fn name_at(alloc: Global, text: &[u8], at: usize) -> Result<(Name, usize), E
         return Err(EntryFault::NotEntry);
     };
     names_law();
-    let name = read_name(alloc, &text[from..to])?;
+    let name = names.read(alloc, &text[from..to])?;
     Ok((name, to))
 }
 
@@ -129,7 +134,12 @@ pub fn signed_at(text: &[u8], at: usize) -> Result<(i128, usize), EntryFault>
 }
 
 // The test and the metric of the next two words, and where the second of them ends.
-pub fn series_at(alloc: Global, text: &[u8], at: usize) -> Result<(Name, Name, usize), EntryFault>
+pub fn series_at(
+    alloc: Global,
+    names: &mut Names,
+    text: &[u8],
+    at: usize,
+) -> Result<(Name, Name, usize), EntryFault>
     requires { at ≤ length text.now }
     ensures short { IfOk result (λ read. length read.1 ≤ 64) }
     ensures placed { IfOk result (λ read. (at < read.2) × (read.2 ≤ length text.now)) }
@@ -138,8 +148,8 @@ pub fn series_at(alloc: Global, text: &[u8], at: usize) -> Result<(Name, Name, u
         → Reads result (λ read. (read.0 ≡ test) × (read.1 ≡ metric)
         × (words_of (drop read.2 text.now) ≡ more)) }
 {
-    let (test, behind_test) = name_at(alloc, text, at)?;
-    let (metric, end) = name_at(alloc, text, behind_test)?;
+    let (test, behind_test) = name_at(alloc, names, text, at)?;
+    let (metric, end) = name_at(alloc, names, text, behind_test)?;
     if metric.as_str().len() > METRIC_LIMIT {
         return Err(EntryFault::NotEntry);
     }
@@ -147,14 +157,19 @@ pub fn series_at(alloc: Global, text: &[u8], at: usize) -> Result<(Name, Name, u
 }
 
 // The sample of the next three words, and where the last of them ends.
-pub fn sample_at(alloc: Global, text: &[u8], at: usize) -> Result<(Sample, usize), EntryFault>
+pub fn sample_at(
+    alloc: Global,
+    names: &mut Names,
+    text: &[u8],
+    at: usize,
+) -> Result<(Sample, usize), EntryFault>
     requires { at ≤ length text.now }
     ensures placed { IfOk result (λ read. (at < read.1) × (read.1 ≤ length text.now)) }
     ensures reads { (m : Measurement) (more : List (List ℕ)) → IsSample m
         → words_of (drop at text.now) ≡ sample_words m ++ more
         → Reads result (λ read. (read.0 ≡ m) × (words_of (drop read.1 text.now) ≡ more)) }
 {
-    let (test, metric, behind_metric) = series_at(alloc, text, at)?;
+    let (test, metric, behind_metric) = series_at(alloc, names, text, at)?;
     let (value, end) = value_at(text, behind_metric)?;
     let sample = Sample {
         test,

@@ -11,8 +11,8 @@ here c = first_is c.args.machine.now c.deref.result.now c.self.inside.machines.i
 plain : (c : goal.After-self-1) → is_kept c.in-Ok.entry ≡ true
 plain c = sym c.is_kept.ensures ∙ c.if-not-is_kept.false
 
-pub invariant_of-self : goal.invariant_of-self
-invariant_of-self c =
+pub invariant_of-self-2 : goal.invariant_of-self-2
+invariant_of-self-2 c =
     replayed_kept c.args.machine.now c.self.inside.machines.items c.in-Some.place c.index_mut.result.now c.replay.new.self c.in-Ok.entry (here c) (plain c)
     c.replay.result c.replay.ensures.replayed c.replay.ensures.same c.self.invariant
 
