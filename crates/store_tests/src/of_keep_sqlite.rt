@@ -34,6 +34,15 @@ const GAP: (&str, &str) = (
     "CREATE TABLE kept (number INTEGER PRIMARY KEY, content BLOB NOT NULL) STRICT; INSERT INTO kept VALUES (1, x'61'), (3, x'62')",
 );
 
+// A store whose rows don't begin with 1.
+const BEFORE: (&str, &str) = (
+    "before.db",
+    "CREATE TABLE kept (number INTEGER PRIMARY KEY, content BLOB NOT NULL) STRICT; INSERT INTO kept VALUES (0, x'61'), (1, x'62')",
+);
+
+// What SQLite takes for something other than a file's name.
+const NO_NAMES: [&str; 2] = [":memory:", "file:rows.db"];
+
 // A store of many rows, some of them short and one long.
 const MANY: &str = "many.db";
 
@@ -63,6 +72,13 @@ fn other_files_are_refused(rt: HostRuntime) {
         holds(&rt, GAP.0, GAP.1) && has_gap(&rt, rt.alloc()),
         "a gap"
     );
+    assert!(rt;
+        holds(&rt, BEFORE.0, BEFORE.1) && has_no_count(&rt, rt.alloc()),
+        "a row before the first"
+    );
+    for name in &NO_NAMES {
+        assert!(rt; is_never_made(&rt, rt.alloc(), name), "no file's name");
+    }
 }
 
 #[test]
@@ -137,11 +153,22 @@ fn is_refused(rt: &HostRuntime, alloc: Global, name: &str) -> bool {
     SqliteKeeper::new(rt, alloc).start(alloc, name).is_err()
 }
 
-// Whether the second row isn't there, though there are two.
+fn has_no_count(rt: &HostRuntime, alloc: Global) -> bool {
+    let mut keeper = SqliteKeeper::new(rt, alloc);
+    keeper.start(alloc, BEFORE.0).is_ok() && keeper.count().is_err()
+}
+
+// Whether no row can be added under a name.
+fn is_never_made(rt: &HostRuntime, alloc: Global, name: &str) -> bool {
+    let mut keeper = SqliteKeeper::new(rt, alloc);
+    keeper.start(alloc, name).is_ok() && keeper.count() == Ok(0) && !adds_row(alloc, &mut keeper)
+}
+
+// Whether the second row isn't there, though rows are counted to the third.
 fn has_gap(rt: &HostRuntime, alloc: Global) -> bool {
     let mut keeper = SqliteKeeper::new(rt, alloc);
     keeper.start(alloc, GAP.0).is_ok()
-        && keeper.count() == Ok(2)
+        && keeper.count() == Ok(3)
         && keeper.row(alloc, 1).is_ok()
         && keeper.row(alloc, 2).is_err()
 }
