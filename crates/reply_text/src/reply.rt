@@ -13,6 +13,9 @@ use report_pages::{put_json, put_text};
 use request_model::{Answer, NamedChange, Reply, RunLine};
 use std::alloc::Global;
 
+// So many bytes hold most replies of one line.
+const LINE: usize = 128;
+
 /// Appends the text of a reply: a line with `@`, the number of entries, and the words of the answer, and behind it the
 /// lines of a list, of a certificate or of a report. The forms are those of docs/FORMATS.md.
 ///
@@ -30,7 +33,7 @@ pub fn put_reply(alloc: Global, out: &mut Vec<u8>, reply: &Reply) -> Result<(), 
 fn reply_text(alloc: Global, reply: &Reply) -> Result<Vec<u8>, NoMemory>
     ensures { IfOk result (λ text. text.items ≡ text_of reply.now) }
 {
-    let mut text = Vec::new(alloc);
+    let mut text = Vec::with_capacity(alloc, LINE)?;
     put_at(alloc, &mut text, reply.step)?;
     put_answer(alloc, &mut text, &reply.answer)?;
     text.push(b'\n')?;

@@ -22,6 +22,7 @@ use script_session::{Session, Stop, Trial, answer_script, output_law, part_law};
 use segment_cost::Points;
 use series_gen::put_script;
 use std::alloc::Global;
+use std::mem::forget;
 use track_outside::{Files, Keeper, NoMemory, Sink, Source, SureSource, put_all};
 use track_state::TrackState;
 use trial_script::{accepted_law, script_law};
@@ -164,10 +165,17 @@ fn apply<I: Source, O: Sink>(alloc: Global, input: &mut I, out: &mut O) -> Statu
         × AnswersScript I.Source O.Sink (state_of []) now input.old input.new out.old out.new why }
 {
     let mut session = session_on(alloc, Vec::new(alloc));
-    match answer(alloc, &mut session, input, out) {
+    let answered = answer(alloc, &mut session, input, out);
+    leave(session);
+    match answered {
         Ok(()) => Status::Done,
         Err(stop) => Status::from(stop),
     }
+}
+
+// Leaves a session as it stands: the program ends next, so to take it apart, block by block, would be time for nothing.
+fn leave(session: Session) {
+    forget(session);
 }
 
 // Answers the script on the machines of a store, writes the replies, and adds the new rows.
@@ -191,7 +199,10 @@ fn apply_to<I: Source, O: Sink, K: Keeper>(
     }
     session.comes_back_law();
     match append_all(alloc, keeper, session.machines()) {
-        Ok(()) => Status::Done,
+        Ok(()) => {
+            leave(session);
+            Status::Done
+        }
         Err(fault) => Status::from(fault),
     }
 }
