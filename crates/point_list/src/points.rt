@@ -1,5 +1,5 @@
 //! The list of positions: values put in and taken out.
-ghost use Rattle.std.specs.Prelude.{◌≡◌, ◌≢◌, ◌+◌, ◌<◌, ◌≤◌, ◌↔◌, ℕ, List, [], ◌∷◌, length, OnOk, OnErr, IfOk, IsTrue, slice_index, Err, false, true, get_or, All};
+ghost use Rattle.std.specs.Prelude.{◌≡◌, ◌≢◌, ◌+◌, ◌<◌, ◌≤◌, ◌↔◌, ℕ, List, [], ◌∷◌, length, OnOk, OnErr, IfOk, IsTrue, slice_index, Err, false, true, get_or, nat_lt, All};
 ghost use Rattle.std.specs.List.Sorted.{IsStrictlyIncreasing};
 ghost use Rattle.segment_model.specs.Segments.{Position, segment, values_of};
 ghost use Rattle.segment_model.specs.Limits.{commits_of, HasValue, WithinLimits};
@@ -216,7 +216,7 @@ fn place_of(positions: &PositionList, commit: u64) -> usize
     ensures within { result ≤ length positions.now }
 {
     let mut low = from_the_end(positions, commit);
-    let mut high = positions.len();
+    let mut high = to_the_front(positions, commit);
     while low < high {
         let middle = low + (high - low) / 2;
         let position = positions.at(middle);
@@ -249,6 +249,26 @@ fn from_the_end(positions: &PositionList, commit: u64) -> usize
         return last;
     }
     last + 1
+}
+
+// A place from which on no commit is below this one: the first where this one is not above the first commit, so that
+// values that come backwards need no search; else the end.
+fn to_the_front(positions: &PositionList, commit: u64) -> usize
+    requires { IsStrictlyIncreasing (commits_of positions.now) }
+    ensures within { result ≤ length positions.now }
+    ensures rest { (k : ℕ) (d : Position) → result ≤ k → k < length positions.now
+        → nat_lt (get_or positions.now k d).commit commit ≡ false }
+{
+    let count = positions.len();
+    if count == 0 {
+        return 0;
+    }
+    let position = positions.at(0);
+    if commit <= position.commit() {
+        0
+    } else {
+        count
+    }
 }
 
 // Whether the commit's position stands at its place.

@@ -7,14 +7,15 @@ ghost use Rattle.point_list.specs.Slots.{AreBelow, AreOnce, renamed};
 use crate::NoMemory;
 use crate::stored::StoredPosition;
 use std::alloc::Global;
+use std::collections::VecDeque;
 use std::marker::Model;
 
 // A list of positions. Each stands in a slot, and beside the slots there is a list of them in order, so that a position that
-// comes or goes moves two bytes for each behind it.
+// comes or goes moves two bytes for each behind it, or for each before it where these are fewer.
 #[derive(Drop)]
 pub struct PositionList {
     slots: Vec<StoredPosition>,
-    order: Vec<u16>,
+    order: VecDeque<u16>,
 }
 
 impl Model for PositionList {
@@ -35,7 +36,7 @@ impl PositionList {
     {
         PositionList {
             slots: Vec::new(alloc),
-            order: Vec::new(alloc),
+            order: VecDeque::new(alloc),
         }
     }
 
@@ -107,9 +108,11 @@ impl PositionList {
         ensures { self.new ≡ remove self.old place }
     {
         let last = (self.slots.len() - 1) as u16;
-        let slot = self.order.remove(place);
+        let Some(slot) = self.order.remove(place) else {
+            unreachable!();
+        };
         let _ = self.slots.swap_remove(usize::from(slot));
-        rename(&mut self.order, last, slot);
+        rename(self.order.make_contiguous(), last, slot);
     }
 
     // Equal positions of their own.
@@ -117,7 +120,7 @@ impl PositionList {
         ensures { IfOk result (λ made. made ≡ self.now) }
     {
         let slots = copies(alloc, &self.slots)?;
-        let order = Vec::from_slice(alloc, &self.order)?;
+        let order = copy_of(alloc, &self.order)?;
         Ok(PositionList { slots, order })
     }
 }
@@ -131,6 +134,16 @@ fn copies(alloc: Global, slots: &[StoredPosition]) -> Result<Vec<StoredPosition>
         made.push(position.copy(alloc)?)?;
     }
     Ok(made)
+}
+
+// An equal order of its own.
+fn copy_of(alloc: Global, order: &VecDeque<u16>) -> Result<VecDeque<u16>, NoMemory>
+    ensures { IfOk result (λ made. made.items ≡ order.now.items) }
+{
+    let (front, back) = order.as_slices();
+    let mut slots = Vec::from_slice(alloc, front)?;
+    slots.extend_from_slice(back)?;
+    Ok(VecDeque::from_vec(slots))
 }
 
 // Writes one slot for another, wherever that stands.

@@ -1,4 +1,4 @@
-use Rattle.std.proofs.Common.{◌-◌, length, arith}
+use Rattle.std.proofs.Common.{◌-◌, arith}
 use Rattle.segment_model.specs.Segments.{Position}
 use Rattle.point_list.proofs.Places.{less-throughout, less-up-to}
 use Rattle.point_list.proofs.points.from_the_end.Goals as goal

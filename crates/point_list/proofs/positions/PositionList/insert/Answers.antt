@@ -1,4 +1,4 @@
-use Rattle.std.proofs.Common.{◌≡◌, ◌∙◌, ◌<◌, ◌≤◌, ◌++◌, ◌∷◌, [], ℕ, List, length, sym, ap, ap₂, arith}
+use Rattle.std.proofs.Common.{◌≡◌, ◌∙◌, ◌++◌, ◌∷◌, [], ℕ, List, length, ap, ap₂, arith}
 use Rattle.std.specs.Prelude.{insert}
 use Rattle.segment_model.specs.Segments.{Position}
 use Rattle.point_list.specs.Slots.{in_order}
