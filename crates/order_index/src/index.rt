@@ -146,8 +146,9 @@ impl OrderIndex {
         Ok(Declared::New)
     }
 
-    // Adds a pair of which neither is there.
-    fn add(&mut self, step: u64, number: u64, name: Name) -> Result<(), NoMemory>
+    /// Declares a pair that is new, as [`OrderIndex::declare`] does, without judging it again. Constant time, amortized,
+    /// but for the name's length.
+    pub fn add(&mut self, step: u64, number: u64, name: Name) -> Result<(), NoMemory>
         requires { judged self.old number name ≡ Declared.New }
         ensures ok { OnOk result
             (self.new ≡ self.old ++ record { step = step; number = number; name = name } ∷ []) }

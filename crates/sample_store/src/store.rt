@@ -151,8 +151,9 @@ impl SampleStore {
         Ok(Accepted::New)
     }
 
-    // Adds a run that is new.
-    fn add(&mut self, step: u64, run: Run) -> Result<(), NoMemory>
+    /// Adds a run that is new, as [`SampleStore::accept`] does, without judging it again. Constant time, amortized, but for
+    /// the name's length.
+    pub fn add(&mut self, step: u64, run: Run) -> Result<(), NoMemory>
         requires { judged self.old run ≡ Accepted.New }
         ensures ok { OnOk result
             (self.new ≡ self.old ++ record { step = step; run = run; retracted = None } ∷ []) }

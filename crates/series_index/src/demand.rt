@@ -62,7 +62,7 @@ impl SeriesIndex {
             (seen (record { test = test.now; metric = metric.now }) self.now).points) 16_384) }
     {
         match self.get(test, metric) {
-            Some(tracked) => tracked.points.has(commit) || tracked.points.len() < 16_384,
+            Some(tracked) => tracked.points.len() < 16_384 || tracked.points.has(commit),
             None => true,
         }
     }
@@ -139,7 +139,7 @@ impl SeriesIndex {
         tracked.points.limits();
         tracked.since.is_some()
             && tracked.points.count() + more <= 65_536
-            && (tracked.points.has(commit) || tracked.points.len() < 16_384)
+            && (tracked.points.len() < 16_384 || tracked.points.has(commit))
     }
 
     // Whether each series of the samples has plenty: room for all of them. Then no tally is needed.

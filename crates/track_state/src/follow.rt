@@ -50,7 +50,7 @@ pub fn follow(
         Entry::Commit { number, name } => {
             let number = *number;
             let name = name.copy(alloc)?;
-            commits.declare(step, number, name)?;
+            commits.add(step, number, name)?;
             Ok(())
         }
         Entry::Accept { run } => {
@@ -99,7 +99,7 @@ fn accept(
     undo_law();
     let kept = run.copy(alloc)?;
     series.take_in(run.commit, step, run.samples.as_slice())?;
-    if let Err(_) = runs.accept(step, kept) {
+    if let Err(_) = runs.add(step, kept) {
         series.undo_all(run.commit, step, run.samples.as_slice());
         return Err(NoMemory);
     }
