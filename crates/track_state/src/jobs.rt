@@ -140,7 +140,7 @@ impl TrackState {
     }
 
     // The number of the commit of a name.
-    fn number_of(&self, name: &Name) -> Option<u64>
+    pub(crate) fn number_of(&self, name: &Name) -> Option<u64>
         ensures { result ≡ number_of name.now (entries_of self.now.history) }
     {
         self.commits().number_of(name.as_str().as_bytes())

@@ -1,5 +1,6 @@
 //! Submissions of runs.
-ghost use Rattle.std.specs.Prelude.{◌≡◌, ◌≤◌, IfOk, OnErr, option_map, None, length};
+ghost use Rattle.std.specs.Prelude.{◌≡◌, ◌≤◌, ℕ, List, IfOk, OnErr, option_map, unwrap_or, None, length};
+ghost use Rattle.history_model.specs.Commits.{number_of};
 ghost use Rattle.history_model.specs.Entries.{entries_of};
 ghost use Rattle.history_model.specs.Allowed.{KeepsLimits, Legal};
 ghost use Rattle.track_model.specs.Forms as forms;
@@ -19,18 +20,17 @@ use sample_store::Accepted;
 use series_index::Demand;
 
 impl TrackState {
-    // The run that a submission would add.
-    fn submitted(&self, commit: &Name, run: &Name, samples: &Samples) -> Result<Run, NoMemory>
-        ensures { IfOk result (λ new. new
-            ≡ forms.submitted (entries_of self.now.history) commit.now run.now samples.now) }
+    // The run that a submission at a commit of that number would add; at 0 where the commit has none.
+    fn submitted(&self, number: Option<u64>, run: &Name, samples: &Samples) -> Result<Run, NoMemory>
+        ensures { IfOk result (λ new. new ≡ record {
+          run = run.now;
+          commit = unwrap_or number 0;
+          samples = samples.now;
+        }) }
     {
-        let number = match self.commits.number_of(commit.as_str().as_bytes()) {
-            Some(number) => number,
-            None => 0,
-        };
         Ok(Run {
             run: run.copy(self.alloc)?,
-            commit: number,
+            commit: number.unwrap_or(0),
             samples: samples.copy(self.alloc)?,
         })
     }
@@ -58,22 +58,23 @@ impl TrackState {
         }
     }
 
-    // What a submission is answered where it adds nothing and passes no limit.
+    // What a submission at a commit of that number is answered where it adds nothing and passes no limit.
     fn submit_refusal(
         &self,
-        commit: &Name,
+        number: Option<u64>,
         new: &Run,
         stated: &Option<Name>,
     ) -> Result<Option<Answer>, NoMemory>
-        ensures { IfOk result (λ answer. answer
+        ensures { (commit : List ℕ) → number ≡ number_of commit (entries_of self.now.history)
+            → IfOk result (λ answer. answer
             ≡ forms.submit_refusal (entries_of self.now.history) self.now.machine
-            commit.now new.now stated.now) }
+            commit new.now stated.now) }
     {
         if self.states_another(stated) {
             let member = Text::of(self.alloc, "machine.name")?;
             return Ok(Some(Answer::Refused(Refusal::NotReport { rule: 6, member })));
         }
-        if self.commits.number_of(commit.as_str().as_bytes()).is_none() {
+        if number.is_none() {
             return Ok(Some(Answer::Refused(Refusal::UnknownCommit)));
         }
         Ok(self.told_again(new))
@@ -169,8 +170,9 @@ impl TrackState {
         retraction_law();
         self.history_law();
         samples.limits();
-        let new = self.submitted(commit, run, samples)?;
-        if let Some(answer) = self.submit_refusal(commit, &new, stated)? {
+        let number = self.number_of(commit);
+        let new = self.submitted(number, run, samples)?;
+        if let Some(answer) = self.submit_refusal(number, &new, stated)? {
             return Ok(self.told(answer));
         }
         let more = match self.verdict(&new)? {

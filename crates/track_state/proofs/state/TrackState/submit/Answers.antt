@@ -1,5 +1,5 @@
-use Rattle.std.proofs.Common.{◌≡◌, List, sym, subst, ◌∙◌}
-use Rattle.std.specs.Prelude.{IsSome, None}
+use Rattle.std.proofs.Common.{◌≡◌, ℕ, List, ap, sym, subst, ◌∙◌}
+use Rattle.std.specs.Prelude.{Option, IsSome, None, unwrap_or}
 use Rattle.history_model.specs.declared.entries.Entry.{Entry}
 use Rattle.history_model.specs.declared.run.Run.{Run}
 use Rattle.history_model.specs.Commits.{name_of}
@@ -15,8 +15,9 @@ pub add-requires-clause-allowed : goal.add-requires-clause-allowed
 add-requires-clause-allowed c =
     let h : List Entry = entries_of c.args.self.now.history in
     let new : Run = c.in_ok-new.new in
-    let new_is : new ≡ forms.submitted h c.args.commit.now c.args.run.now c.args.samples.now = c.in_ok-new.ensures in
-    let free : forms.submit_refusal h c.args.self.now.machine c.args.commit.now new c.args.stated.now ≡ None = sym c.in_ok-answer.ensures ∙ c.in_default.is in
+    let new_is : new ≡ forms.submitted h c.args.commit.now c.args.run.now c.args.samples.now = c.in_ok-new.ensures
+    ∙ ap (λ (o : Option ℕ). record { run = c.args.run.now; commit = unwrap_or o 0; samples = c.args.samples.now }) c.number_of-number.ensures in
+    let free : forms.submit_refusal h c.args.self.now.machine c.args.commit.now new c.args.stated.now ≡ None = sym (c.in_ok-answer.ensures c.args.commit.now c.number_of-number.ensures) ∙ c.in_default.is in
     let both = free-submit h c.args.self.now.machine c.args.commit.now new c.args.stated.now free in
     let named : IsSome (name_of new.commit h) = let P : Run → Type 0 = λ run. IsSome (name_of run.commit h) in subst P (sym new_is) (number-is-named h c.args.commit.now both.0) in
     let are : AreSamples new.samples = let P : Run → Type 0 = λ run. AreSamples run.samples in subst P (sym new_is) c.limits.ensures in
