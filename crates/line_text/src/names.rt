@@ -3,9 +3,8 @@ ghost use Rattle.std.specs.Prelude.{◌≡◌, ℕ, List, IfOk, IfSome, OnOk};
 ghost use Rattle.line_text.specs.Names.{IsName, Spells};
 
 use crate::NoMemory;
-use crate::escapes::has_whole_escapes;
+use crate::escapes::decoded;
 use crate::name::{Name, NameError};
-use percent_encoding::percent_decode;
 use std::alloc::Global;
 use std::borrow::CowSlice;
 use std::hash::{FoldHasher, Hasher};
@@ -51,12 +50,10 @@ impl Names {
         ensures spelt { IfOk result (λ name. Spells word.now name) }
         ensures bad { result ≡ Err NameError.BadName → (name : List ℕ) → ¬ Spells word.now name }
     {
-        if !has_whole_escapes(word) {
-            return Err(NameError::BadName);
-        }
-        match percent_decode(word).into_cow(alloc)? {
-            CowSlice::Borrowed(bytes) => self.name_of_bytes(alloc, bytes),
-            CowSlice::Owned(bytes) => self.name_of_bytes(alloc, &bytes),
+        match decoded(alloc, word)? {
+            Some(CowSlice::Borrowed(bytes)) => self.name_of_bytes(alloc, bytes),
+            Some(CowSlice::Owned(bytes)) => self.name_of_bytes(alloc, &bytes),
+            None => Err(NameError::BadName),
         }
     }
 
