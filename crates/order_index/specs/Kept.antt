@@ -3,18 +3,17 @@ use Rattle.std.specs.Prelude.{◌≡◌, ℕ, List, [], ◌∷◌, find}
 use Rattle.std.specs.Ordering.{nat_cmp}
 use Rattle.std.specs.BTreeMap.{BTreeMap, get as at_number}
 use Rattle.indexmap.specs.IndexMap.{IndexMap, values}
-use Rattle.std.specs.Global.{Vec}
 use Rattle.history_model.specs.declared.entries.Declaration.{Declaration}
 use Rattle.history_model.specs.Commits.{has_number}
 use Rattle.order_index.specs.Judged.{AreApart}
 
 -- each declaration stands at its name
-abbrev pub StandAtNames : List (Vec ℕ × Declaration) → Type 0
+abbrev pub StandAtNames : List (List ℕ × Declaration) → Type 0
 StandAtNames [] = Unit {0}
-StandAtNames (e ∷ es) = (e.0.items ≡ e.1.name) × StandAtNames es
+StandAtNames (e ∷ es) = (e.0 ≡ e.1.name) × StandAtNames es
 
 -- the declarations are apart, each at its name and at its number
-pub record Keeps {S : Type 0} (by_name : IndexMap (Vec ℕ) Declaration S) (by_number : BTreeMap ℕ Declaration) : Type 0 where
+pub record Keeps {S : Type 0} (by_name : IndexMap (List ℕ) Declaration S) (by_number : BTreeMap ℕ Declaration) : Type 0 where
   pub names : StandAtNames by_name.entries
   pub numbers : (n : ℕ) → at_number nat_cmp by_number n ≡ find (has_number n) (values by_name)
   pub apart : AreApart (values by_name)

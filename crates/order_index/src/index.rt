@@ -1,5 +1,5 @@
 //! The index of commits: look-ups, declarations, and the numbers in a range.
-ghost use Rattle.std.specs.Prelude.{◌≡◌, ◌≢◌, ◌++◌, ◌∷◌, [], OnOk, OnErr, IfOk, length, find, option_copied, option_map, bytes_eq, ◌<◌, None};
+ghost use Rattle.std.specs.Prelude.{◌≡◌, ◌≢◌, ◌++◌, IsTrue, ◌∷◌, [], OnOk, OnErr, IfOk, length, find, option_copied, option_map, bytes_eq, ◌<◌, None};
 ghost use Rattle.indexmap.specs.IndexMap.{spare, get_by};
 ghost use Rattle.history_model.specs.Commits.{has_number, has_name, number_in, name_in, numbers_between};
 ghost use Rattle.std.specs.Prelude.{filter, ◌≤◌};
@@ -22,7 +22,7 @@ use std::marker::Model;
 #[derive(Drop)]
 pub struct OrderIndex {
     alloc: Global,
-    by_name: IndexMap<Vec<u8>, Declaration>,
+    by_name: IndexMap<Name, Declaration>,
     by_number: BTreeMap<u64, Declaration>,
 }
 
@@ -66,22 +66,35 @@ impl OrderIndex {
         self.by_name.len()
     }
 
+    // Whether the number is above each one. Constant time but for the depth of the map: commits mostly come in order.
+    fn is_above_all(&self, number: u64) -> bool
+        ensures { IsTrue result → find (has_number number) self.now ≡ None }
+    {
+        match self.by_number.last_key_value() {
+            Some((last, _)) => *last < number,
+            None => false,
+        }
+    }
+
     /// The declaration with this number. Logarithmic time; takes no memory.
     pub fn with_number(&self, number: u64) -> Option<&Declaration>
         ensures { option_copied result ≡ find (has_number number) self.now }
     {
+        if self.is_above_all(number) {
+            return None;
+        }
         self.by_number.get(&number)
     }
 
     /// The declaration with this name. Constant time, but for the name's length; takes no memory.
-    pub fn with_name(&self, name: &[u8]) -> Option<&Declaration>
+    pub fn with_name(&self, name: &Name) -> Option<&Declaration>
         ensures { option_copied result ≡ find (has_name name.now) self.now }
     {
         self.by_name.get(name)
     }
 
     /// The number of the commit of that name; none exactly where it isn't declared. Constant time; takes no memory.
-    pub fn number_of(&self, name: &[u8]) -> Option<u64>
+    pub fn number_of(&self, name: &Name) -> Option<u64>
         ensures { result ≡ number_in name.now self.now }
     {
         match self.with_name(name) {
@@ -120,7 +133,7 @@ impl OrderIndex {
             }
             return Declared::Taken(there.number);
         }
-        if let Some(there) = self.with_name(name.as_str().as_bytes()) {
+        if let Some(there) = self.with_name(name) {
             return Declared::Taken(there.number);
         }
         if self.by_name.len() as u64 >= Limit::Commits.most() {
@@ -154,7 +167,7 @@ impl OrderIndex {
             (self.new ≡ self.old ++ record { step = step; number = number; name = name } ∷ []) }
         ensures err { OnErr result (self.new ≡ self.old) }
     {
-        let key = Vec::from_slice(self.alloc, name.as_str().as_bytes())?;
+        let key = name.copy(self.alloc)?;
         let twin = Declaration {
             step,
             number,
@@ -168,9 +181,9 @@ impl OrderIndex {
 }
 
 // Puts a declaration at a new name, for which there is room.
-fn put(by_name: &mut IndexMap<Vec<u8>, Declaration>, key: Vec<u8>, declaration: Declaration)
+fn put(by_name: &mut IndexMap<Name, Declaration>, key: Name, declaration: Declaration)
     requires room { 0 < spare by_name.old }
-    requires new { get_by (λ k. bytes_eq key.items k.items) by_name.old ≡ None }
+    requires new { get_by (λ k. bytes_eq key k) by_name.old ≡ None }
     ensures { by_name.new.entries ≡ by_name.old.entries ++ (key, declaration) ∷ [] }
 {
     if let Err(_) = by_name.insert(key, declaration) {

@@ -143,7 +143,7 @@ impl TrackState {
     pub(crate) fn number_of(&self, name: &Name) -> Option<u64>
         ensures { result ≡ number_of name.now (entries_of self.now.history) }
     {
-        self.commits().number_of(name.as_str().as_bytes())
+        self.commits().number_of(name)
     }
 
     /// `bisect M LO HI`: begins a job over the commits declared from one to another, the first stated good and the last one

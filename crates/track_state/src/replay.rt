@@ -33,7 +33,7 @@ impl TrackState {
         ensures { result ≡ commit_fits (entries_of self.now.history) number name.now }
     {
         self.commits.name_of(number).is_none()
-            && self.commits.number_of(name.as_str().as_bytes()).is_none()
+            && self.commits.number_of(name).is_none()
             && (self.commits.len() as u64) < Limit::Commits.most()
             && self.len() < Limit::Steps.most()
     }

@@ -169,7 +169,7 @@ impl TrackState {
             }
             return Ok(Some(self.taken_by(same)?));
         }
-        if let Some(other) = self.commits.with_name(name.as_str().as_bytes()) {
+        if let Some(other) = self.commits.with_name(name) {
             return Ok(Some(self.taken_by(other)?));
         }
         Ok(None)
