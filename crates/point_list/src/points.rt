@@ -124,10 +124,34 @@ impl Points {
             ↔ ((length (values_of self.old) < 65_536) × (has_commit commit self.old ≡ false)
             × (16_384 ≤ length self.old)) }
     {
+        let mut near = usize::MAX;
+        self.insert_near(&mut near, commit, step, value)
+    }
+
+    /// Puts a value in as `insert` does. `near` is where to look first, and becomes the place of the commit: it makes no
+    /// difference to what is done. Where the commit's position stands there, no search is needed.
+    pub fn insert_near(
+        &mut self,
+        near: &mut usize,
+        commit: u64,
+        step: u64,
+        value: i64,
+    ) -> Result<(), PointFault>
+        requires { MayCome self.old commit step value }
+        ensures ok { OnOk result
+            (self.new ≡ inserted commit (record { step = step; value = value }) self.old) }
+        ensures err { OnErr result (self.new ≡ self.old) }
+        ensures samples_full { result ≡ Err PointFault.SamplesFull
+            ↔ (65_536 ≤ length (values_of self.old)) }
+        ensures positions_full { result ≡ Err PointFault.PositionsFull
+            ↔ ((length (values_of self.old) < 65_536) × (has_commit commit self.old ≡ false)
+            × (16_384 ≤ length self.old)) }
+    {
         if self.values >= MOST_VALUES {
             return Err(PointFault::SamplesFull);
         }
-        let place = place_of(&self.positions, commit);
+        let place = place_near(&self.positions, *near, commit);
+        *near = place;
         let there = is_at(&self.positions, place, commit);
         if !there && self.positions.len() >= MOST_POSITIONS {
             return Err(PointFault::PositionsFull);
@@ -207,6 +231,39 @@ fn take_out(positions: &mut PositionList, commit: u64, step: u64) -> usize
         positions.remove(place);
     }
     gone
+}
+
+// The first place whose commit is not below this one. Looks first whether it is this one.
+fn place_near(positions: &PositionList, near: usize, commit: u64) -> usize
+    requires { IsStrictlyIncreasing (commits_of positions.now) }
+    ensures stands { StandsAt commit positions.now result }
+    ensures within { result ≤ length positions.now }
+{
+    if is_first(positions, near, commit) {
+        near
+    } else {
+        place_of(positions, commit)
+    }
+}
+
+// Whether a position stands at a place, and the place is the first whose commit is not below this one.
+fn is_first(positions: &PositionList, place: usize, commit: u64) -> bool
+    requires { IsStrictlyIncreasing (commits_of positions.now) }
+    ensures stands { result ≡ true → StandsAt commit positions.now place }
+    ensures within { result ≡ true → place ≤ length positions.now }
+{
+    if place >= positions.len() {
+        return false;
+    }
+    let position = positions.at(place);
+    if position.commit() < commit {
+        return false;
+    }
+    if place == 0 {
+        return true;
+    }
+    let before = positions.at(place - 1);
+    before.commit() < commit
 }
 
 // The first place whose commit is not below this one.

@@ -77,7 +77,8 @@ impl SeriesIndex {
         !self.knows(test, metric) && !tally.knows(test, metric)
     }
 
-    // Puts the samples into a tally of their own, and counts the series that are new to this index.
+    // Puts the samples into a tally of their own, and counts the series that are new to this index. The place of the
+    // commit in one series of the tally is where the next is looked at first.
     fn count_new(
         &self,
         tally: &mut SeriesIndex,
@@ -93,9 +94,17 @@ impl SeriesIndex {
     {
         series_law();
         let mut new = 0;
+        let mut near = usize::MAX;
         for sample in samples {
             new = add_if(new, self.is_first(tally, &sample.test, &sample.metric));
-            tally.insert(&sample.test, &sample.metric, commit, 0, sample.value)?;
+            tally.insert(
+                &sample.test,
+                &sample.metric,
+                &mut near,
+                commit,
+                0,
+                sample.value,
+            )?;
         }
         Ok(new)
     }

@@ -26,14 +26,21 @@ impl Tracked {
         }
     }
 
-    // Puts a sample in; changes nothing where there is no memory.
-    pub(crate) fn insert(&mut self, commit: u64, step: u64, value: i64) -> Result<(), NoMemory>
+    // Puts a sample in; changes nothing where there is no memory. `near` is where to look first among the positions, and
+    // becomes the place of the commit: it makes no difference to what is done.
+    pub(crate) fn insert(
+        &mut self,
+        near: &mut usize,
+        commit: u64,
+        step: u64,
+        value: i64,
+    ) -> Result<(), NoMemory>
         requires { HasRoom self.old commit step value }
         ensures ok { OnOk result
             (self.new ≡ with_sample commit (record { step = step; value = value }) self.old) }
         ensures err { OnErr result (self.new ≡ self.old) }
     {
-        match self.points.insert(commit, step, value) {
+        match self.points.insert_near(near, commit, step, value) {
             Ok(()) => {}
             Err(PointFault::NoMemory) => return Err(NoMemory),
             Err(PointFault::SamplesFull) | Err(PointFault::PositionsFull) => unreachable!(),

@@ -1,4 +1,4 @@
-use Rattle.std.proofs.Common.{◌≡◌, ℕ, ◌<◌, length, take}
+use Rattle.std.proofs.Common.{◌≡◌, ◌<◌, length, take}
 use Rattle.history_model.specs.Runs.{Series}
 use Rattle.series_index.specs.Seen.{seen}
 use Rattle.series_index.specs.Taken.{of_series}
