@@ -84,7 +84,7 @@ pub(crate) fn put_answer(alloc: Global, out: &mut Vec<u8>, answer: &Answer) -> R
         }
         Answer::Report { pages } => {
             put_word(out, "report")?;
-            put_line_count(alloc, out, pages)
+            put_line_count(alloc, out, pages.get())
         }
         Answer::Refused(refusal) => put_refusal(alloc, out, refusal),
     }

@@ -13,32 +13,34 @@ use report_pages::{put_json, put_text};
 use request_model::{Answer, NamedChange, Reply, RunLine};
 use std::alloc::Global;
 
-// So many bytes hold most replies of one line.
-const LINE: usize = 128;
-
 /// Appends the text of a reply: a line with `@`, the number of entries, and the words of the answer, and behind it the
 /// lines of a list, of a certificate or of a report. The forms are those of docs/FORMATS.md.
 ///
-/// Linear in the text, which it takes memory for; changes nothing where there is no memory.
-pub fn put_reply(alloc: Global, out: &mut Vec<u8>, reply: &Reply) -> Result<(), NoMemory>
+/// The text is made in `room`, whose bytes make no difference and are lost: one vector serves many replies. Linear in the
+/// text; where there is no memory, `out` is as it was.
+pub fn put_reply(
+    alloc: Global,
+    room: &mut Vec<u8>,
+    out: &mut Vec<u8>,
+    reply: &Reply,
+) -> Result<(), NoMemory>
     ensures ok { OnOk result (out.new.items ≡ out.old.items ++ text_of reply.now) }
     ensures err { OnErr result (out.new.items ≡ out.old.items) }
 {
-    let text = reply_text(alloc, reply)?;
-    out.extend_from_slice(&text)?;
+    room.clear();
+    put_text_of(alloc, room, reply)?;
+    out.extend_from_slice(room)?;
     Ok(())
 }
 
-// The text of a reply.
-fn reply_text(alloc: Global, reply: &Reply) -> Result<Vec<u8>, NoMemory>
-    ensures { IfOk result (λ text. text.items ≡ text_of reply.now) }
+// Appends the text of a reply, or a part of it where there is no memory.
+fn put_text_of(alloc: Global, out: &mut Vec<u8>, reply: &Reply) -> Result<(), NoMemory>
+    ensures { OnOk result (out.new.items ≡ out.old.items ++ text_of reply.now) }
 {
-    let mut text = Vec::with_capacity(alloc, LINE)?;
-    put_at(alloc, &mut text, reply.step)?;
-    put_answer(alloc, &mut text, &reply.answer)?;
-    text.push(b'\n')?;
-    put_lines(alloc, &mut text, &reply.answer)?;
-    Ok(text)
+    put_at(alloc, out, reply.step)?;
+    put_answer(alloc, out, &reply.answer)?;
+    out.push(b'\n')?;
+    put_lines(alloc, out, &reply.answer)
 }
 
 // Appends the lines behind the first.
@@ -52,9 +54,9 @@ fn put_lines(alloc: Global, out: &mut Vec<u8>, answer: &Answer) -> Result<(), No
             metric.as_str().as_bytes(),
             items.as_slice(),
         ),
-        Answer::Verified { cert, .. } => put_cert(alloc, out, cert),
+        Answer::Verified { cert, .. } => put_cert(alloc, out, cert.get()),
         Answer::Runs { runs } => put_runs(alloc, out, runs.as_slice()),
-        Answer::Report { pages } => put_pages(alloc, out, pages),
+        Answer::Report { pages } => put_pages(alloc, out, pages.get()),
         _ => Ok(()),
     }
 }

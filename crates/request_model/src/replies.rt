@@ -1,6 +1,7 @@
 //! What a request is answered: the answer itself, why it is refused, and the reply that has it.
 ghost use Rattle.std.specs.Prelude.{◌≡◌, IfOk};
 
+use crate::boxed::Boxed;
 use crate::changes::{NamedChanges, copy_changes};
 use crate::runs::{Runs, copy_runs};
 use line_text::{Name, Text};
@@ -260,7 +261,7 @@ pub enum Answer {
         /// How many entries of the history it was made from.
         version: u64,
         /// The cuts, with the tables that show them to be the best.
-        cert: Cert,
+        cert: Boxed<Cert>,
     },
     /// The change was raised.
     Raised {
@@ -295,7 +296,7 @@ pub enum Answer {
     /// The report on the machine.
     Report {
         /// What it says.
-        pages: Pages,
+        pages: Boxed<Pages>,
     },
     /// The request was refused.
     Refused(Refusal),
@@ -374,7 +375,7 @@ impl Answer {
             }
             Answer::Verified { version, cert } => {
                 let version = *version;
-                let cert = cert.copy(alloc)?;
+                let cert = Boxed::new(alloc, cert.get().copy(alloc)?)?;
                 Ok(Answer::Verified { version, cert })
             }
             Answer::Raised { regression } => {
@@ -412,7 +413,7 @@ impl Answer {
                 Ok(Answer::Runs { runs })
             }
             Answer::Report { pages } => {
-                let pages = pages.copy(alloc)?;
+                let pages = Boxed::new(alloc, pages.get().copy(alloc)?)?;
                 Ok(Answer::Report { pages })
             }
             Answer::Refused(refusal) => Ok(Answer::Refused(refusal.copy(alloc)?)),

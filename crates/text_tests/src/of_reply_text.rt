@@ -3,7 +3,7 @@ use line_text::Name;
 use regression_state::State;
 use reply_text::put_reply;
 use report_model::{JobLines, Pages, RegressionLines, SeriesLines, Told};
-use request_model::{Answer, Refusal, Reply};
+use request_model::{Answer, Boxed, Refusal, Reply};
 use std::alloc::Global;
 
 fn named(alloc: Global, text: &str) -> Option<Name> {
@@ -55,22 +55,22 @@ const ANSWERED: [(u64, &str); 5] = [
 ];
 
 // A report of nothing.
-fn pages(alloc: Global, machine: Name, json: bool) -> Answer {
-    Answer::Report {
-        pages: Pages {
-            machine,
-            step: 3,
-            json,
-            series: SeriesLines::new(alloc),
-            regressions: RegressionLines::new(alloc),
-            jobs: JobLines::new(alloc),
-        },
-    }
+fn pages(alloc: Global, machine: Name, json: bool) -> Option<Answer> {
+    let pages = Pages {
+        machine,
+        step: 3,
+        json,
+        series: SeriesLines::new(alloc),
+        regressions: RegressionLines::new(alloc),
+        jobs: JobLines::new(alloc),
+    };
+    let pages = Boxed::new(alloc, pages).ok()?;
+    Some(Answer::Report { pages })
 }
 
 // The answer at a place of the table.
-fn answer(alloc: Global, name: Name, place: u64) -> Answer {
-    match place {
+fn answer(alloc: Global, name: Name, place: u64) -> Option<Answer> {
+    let told = match place {
         0 => Answer::Raised { regression: 4 },
         1 => Answer::Moved {
             regression: 4,
@@ -83,16 +83,18 @@ fn answer(alloc: Global, name: Name, place: u64) -> Answer {
             questions: 2,
             outcome: Told::Faulted(name),
         },
-        3 => pages(alloc, name, false),
-        _ => pages(alloc, name, true),
-    }
+        3 => return pages(alloc, name, false),
+        _ => return pages(alloc, name, true),
+    };
+    Some(told)
 }
 
 // Whether an answer is told so, behind three entries.
 fn is_told(alloc: Global, answer: Answer, wanted: &str) -> bool {
     let reply = Reply { step: 3, answer };
     let mut out = Vec::new(alloc);
-    put_reply(alloc, &mut out, &reply).is_ok() && out.as_slice() == wanted.as_bytes()
+    put_reply(alloc, &mut Vec::new(alloc), &mut out, &reply).is_ok()
+        && out.as_slice() == wanted.as_bytes()
 }
 
 fn is_refused(alloc: Global, number: u64, wanted: &str) -> bool {
@@ -103,8 +105,11 @@ fn is_refused(alloc: Global, number: u64, wanted: &str) -> bool {
 }
 
 fn is_answered(alloc: Global, place: u64, wanted: &str) -> bool {
-    match named(alloc, "c 5") {
-        Some(name) => is_told(alloc, answer(alloc, name, place), wanted),
+    let Some(name) = named(alloc, "c 5") else {
+        return false;
+    };
+    match answer(alloc, name, place) {
+        Some(answer) => is_told(alloc, answer, wanted),
         None => false,
     }
 }

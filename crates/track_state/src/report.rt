@@ -12,7 +12,7 @@ use crate::state::TrackState;
 use history_model::{Author, jobs_law, publication_law, regressions_law};
 use report_lines::{job_lines, regression_lines, series_lines};
 use report_model::{JobLines, Pages, RegressionLines, SeriesLines};
-use request_model::{Answer, Reply};
+use request_model::{Answer, Boxed, Reply};
 
 impl TrackState {
     // A line for each known series.
@@ -65,6 +65,7 @@ impl TrackState {
             regressions,
             jobs,
         };
+        let pages = Boxed::new(self.alloc, pages)?;
         Ok(self.told(Answer::Report { pages }))
     }
 }

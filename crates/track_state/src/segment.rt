@@ -16,7 +16,7 @@ use crate::state::TrackState;
 use history_model::{Author, publication_law};
 use line_text::Name;
 use pelt_core::segmentation;
-use request_model::{Answer, Refusal, Reply};
+use request_model::{Answer, Boxed, Refusal, Reply};
 use segment_cost::Done;
 use std::alloc::Global;
 
@@ -133,6 +133,7 @@ impl TrackState {
         };
         let version = done.version;
         let cert = done.cert.copy(self.alloc)?;
+        let cert = Boxed::new(self.alloc, cert)?;
         Ok(self.told(Answer::Verified { version, cert }))
     }
 }

@@ -1,4 +1,4 @@
-use Rattle.std.proofs.Common.{◌≡◌, List, length, refl, sym, ◌∙◌}
+use Rattle.std.proofs.Common.{◌≡◌, List, length, refl, sym, subst, ◌∙◌}
 use Rattle.std.proofs.lemmas.List.{length-map}
 use Rattle.history_model.specs.declared.entries.Entry.{Entry}
 use Rattle.history_model.specs.declared.entries.Placed.{Placed}
@@ -30,4 +30,5 @@ returns c =
       of_regressions = c.in_ok-regressions.ensures;
       of_jobs = c.in_ok-jobs.ensures;
     } in
-    tells-it (ReportComesTo h machine c.args.json) c.args.self.now c.args.author (answer.Report pages) c.told.result (pages, is, refl) c.told.ensures
+    tells-it (ReportComesTo h machine c.args.json) c.args.self.now c.args.author (answer.Report c.in_ok-pages.pages) c.told.result
+    (c.in_ok-pages.pages, subst (IsReport h machine c.args.json) (sym c.in_ok-pages.ensures) is, refl) c.told.ensures

@@ -53,8 +53,8 @@ returns c =
     let both = something h (last_publication s h) done (subst (λ (d : Option Done). IsKept h (last_publication s h) d) some kept_are) in
     let same = of-series c.publication_law.ensures.last_stands h s done c.history_law.ensures.legal both.0 in
     let then = OfPublished (last_publication s h) (TellsCertificate h s) in
-    let told = tells (answer.Verified done.version c.in_ok-cert.cert) in
-    tells-it (VerifyComesTo h s) c.args.self.now c.args.author (answer.Verified done.version c.in_ok-cert.cert) c.told-2.result
+    let told = tells (answer.Verified done.version c.in_ok-cert-2.cert) in
+    tells-it (VerifyComesTo h s) c.args.self.now c.args.author (answer.Verified done.version c.in_ok-cert-2.cert) c.told-2.result
     (known then told (is_known s h) one
-    (published-one (TellsCertificate h s) told (last_publication s h) (publication_from done) both.0 (certified h s done both.1 same c.in_ok-cert.cert c.in_ok-cert.ensures)))
+    (published-one (TellsCertificate h s) told (last_publication s h) (publication_from done) both.0 (certified h s done both.1 same c.in_ok-cert-2.cert (c.in_ok-cert-2.ensures ∙ c.in_ok-cert.ensures))))
     c.told-2.ensures

@@ -1,0 +1,36 @@
+//! A value in memory of its own.
+ghost use Rattle.std.specs.Prelude.{◌≡◌, IfOk};
+
+use std::alloc::{AllocError, Global};
+use std::marker::Model;
+
+/// A value in memory of its own, so that what has it is small and cheap to hand on. Contracts see the value.
+#[derive(Debug, Drop)]
+pub struct Boxed<T> {
+    value: Box<T>,
+}
+
+impl<T> Model for Boxed<T> {
+    ghost Value = { T };
+
+    ghost view = { λ b. b.value.value };
+}
+
+impl<T: Drop> Boxed<T> {
+    /// The value, in memory of its own.
+    pub fn new(alloc: Global, value: T) -> Result<Boxed<T>, AllocError>
+        ensures { IfOk result (λ made. made ≡ value) }
+    {
+        match Box::new(alloc, value) {
+            Ok(value) => Ok(Boxed { value }),
+            Err(_) => Err(AllocError),
+        }
+    }
+
+    /// The value.
+    pub fn get(&self) -> &T
+        ensures { result.now ≡ self.now }
+    {
+        self.value.as_ref()
+    }
+}
