@@ -1,5 +1,6 @@
 pub mod Cutting
 pub mod Digits
+pub mod FirstLine
 pub mod LineParts
 pub mod OneReading
 pub mod Passed

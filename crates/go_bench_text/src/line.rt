@@ -1,6 +1,7 @@
-//! What kind of line a line of benchmark output is.
-ghost use Rattle.std.specs.Prelude.{◌≡◌, ◌++◌, ◌↔◌, ◌<◌, true, length, codes, IfSome, IfNone, IsTrue, List, ℕ};
+//! The first line of a text, and what kind of line a line of benchmark output is.
+ghost use Rattle.std.specs.Prelude.{◌≡◌, ◌∷◌, ◌++◌, ◌↔◌, ◌<◌, [], true, length, codes, IfSome, IfNone, IsTrue, List, ℕ};
 ghost use Rattle.std.specs.Str.{IsUtf8};
+ghost use Rattle.line_text.specs.Lines.{lines_of};
 ghost use Rattle.go_bench_text.specs.Fields.{fields_of};
 ghost use Rattle.go_bench_text.specs.Lines.{begins, ArePairs, IsResultLine, IsKind};
 ghost use Rattle.go_bench_text.specs.Pairs.{IsHead};
@@ -8,6 +9,7 @@ ghost use Rattle.go_bench_text.specs.Pairs.{IsHead};
 use crate::characters::is_name;
 use crate::config::setting_of;
 use crate::fields::{are_digits, are_pairs, next_field};
+use memchr::memchr;
 
 /// What a line of benchmark output is.
 #[derive(Clone, Copy, Debug, PartialEq, Eq)]
@@ -27,6 +29,21 @@ pub(crate) fn begins(line: &str) -> bool
     ensures { result ≡ begins line.now }
 {
     line.starts_with("Benchmark")
+}
+
+// The first line of a text, and what stands behind its line feed, if it has one.
+pub(crate) fn first_line(text: &str) -> (&str, Option<&str>)
+    ensures more { IfSome result.1
+        (λ behind. lines_of text.now ≡ result.0.now ∷ lines_of behind.now) }
+    ensures last { IfNone result.1 (lines_of text.now ≡ result.0.now ∷ []) }
+    ensures line { IsUtf8 result.0.now }
+    ensures behind { IfSome result.1 (λ behind. IsUtf8 behind.now) }
+    ensures shorter { IfSome result.1 (λ behind. length behind.now < length text.now) }
+{
+    match memchr(b'\n', text.as_bytes()) {
+        Some(end) => (&text[..end], Some(&text[end + 1..])),
+        None => (text, None),
+    }
 }
 
 // What stands behind `Benchmark` in a field that begins with it.

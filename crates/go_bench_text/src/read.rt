@@ -12,7 +12,7 @@ ghost use Rattle.go_bench_text.specs.Readings.{sets_pkg, pkg_of, IsOver, IsRead,
 use crate::config::setting_of;
 use crate::fault::LineFault;
 use crate::gather::{Gathered, add_measured};
-use crate::line::begins;
+use crate::line::{begins, first_line};
 use crate::pairs::Pair;
 use line_text::Names;
 use metric_table::Limit;
@@ -113,7 +113,9 @@ fn gather(alloc: Global, names: &mut Names, text: &str) -> Result<(Gathered, u64
     let mut pkg = "";
     let mut number = 0u64;
     let mut ignored = 0u64;
-    for line in text.split('\n') {
+    let mut rest = text;
+    loop {
+        let (line, behind) = first_line(rest);
         number += 1;
         match read_line(alloc, names, &mut gathered, &mut pairs, pkg, line) {
             Ok((value, count)) => {
@@ -123,8 +125,11 @@ fn gather(alloc: Global, names: &mut Names, text: &str) -> Result<(Gathered, u64
             Err(LineFault::OutOfRange) => return Err(GoFault::OutOfRange(number)),
             Err(LineFault::NoMemory) => return Err(GoFault::NoMemory),
         }
+        let Some(more) = behind else {
+            return Ok((gathered, ignored));
+        };
+        rest = more;
     }
-    Ok((gathered, ignored))
 }
 
 // The answer of `read_go`, by its causes.
