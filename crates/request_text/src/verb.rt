@@ -37,17 +37,17 @@ pub(crate) enum Verb {
     Report,
 }
 
-// The verb that a word is.
+// The verb that a word is: first those that most lines begin with.
 pub(crate) fn read_verb(word: &[u8]) -> Option<Verb>
     ensures some { IfSome result (λ verb. word.now ≡ word_of verb) }
     ensures none { IfNone result ((verb : Verb) → word.now ≢ word_of verb) }
 {
-    if word == b"machine".as_slice() {
-        Some(Verb::Machine)
+    if word == b"submit".as_slice() {
+        Some(Verb::Submit)
     } else if word == b"commit".as_slice() {
         Some(Verb::Commit)
-    } else if word == b"submit".as_slice() {
-        Some(Verb::Submit)
+    } else if word == b"machine".as_slice() {
+        Some(Verb::Machine)
     } else if word == b"retract".as_slice() {
         Some(Verb::Retract)
     } else if word == b"tune".as_slice() {
