@@ -1,6 +1,6 @@
 -- What a reader has of an input that is read in pieces. Private: no public contract cites this.
-use Rattle.std.specs.Prelude.{◌≡◌, ℕ, ◌+◌, ◌^◌, ◌≤◌, List, ◌++◌, length}
-use Rattle.std.specs.Io.KnownBytes.{prepend_known}
+use Rattle.std.specs.Prelude.{◌≡◌, ℕ, ◌+◌, ◌-◌, ◌^◌, ◌≤◌, List, ◌++◌, length}
+use Rattle.std.specs.Io.KnownBytes.{prepend_known, IsAtEnd}
 use Rattle.track_outside.specs.declared.source.Source.{Ghosts}
 use Rattle.track_outside.specs.Calls.{GaveAtMost}
 use Rattle.cut_lines.specs.declared.reader.Reader.{Reader}
@@ -40,6 +40,12 @@ MoreHasCause bytes allowed old stop =
 abbrev pub GivesMore : {I : Type 0} → Ghosts I → I → I → Reader → Reader → ℕ → ℕ → Type 0
 GivesMore {I} g old new before after allowed left =
     (first : I) → Gave g first old before allowed → Gave g first new after left
+
+-- the reader took the bytes that the input gave next, this many and no more than are allowed: none only at the end
+pub record TakesPiece {I : Type 0} (g : Ghosts I) (old new : I) (before after : Reader) (allowed count : ℕ) : Type 0 where
+  pub more : GivesMore g old new before after allowed (allowed - count)
+  pub few : count ≤ allowed
+  pub end : count ≡ 0 → IsAtEnd (g.left new)
 
 -- whatever it gave since a first state, it stopped for this
 abbrev pub GivesStop : {I : Type 0} → Ghosts I → I → I → Reader → ℕ → Stop → Type 0

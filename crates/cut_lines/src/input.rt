@@ -4,7 +4,7 @@ ghost use Rattle.std.specs.Prelude.{◌≡◌, ℕ, ◌+◌, ◌-◌, ◌^◌, �
 ghost use Rattle.track_outside.specs.Calls.{GaveAtMost};
 ghost use Rattle.cut_lines.specs.Reading.{ArePointsOfInput};
 ghost use Rattle.cut_lines.specs.Stops.{OneStop, NoStopOfPoints, StopsFor};
-ghost use Rattle.cut_lines.specs.Pieces.{GivesMore, GivesStop, GivesFew};
+ghost use Rattle.cut_lines.specs.Pieces.{TakesPiece, GivesStop, GivesFew};
 
 use crate::reader::Reader;
 use crate::stop::Stop;
@@ -55,10 +55,8 @@ fn take_piece<I: Source>(
     requires some { 0 < length buffer.old }
     requires few { allowed ≤ 2 ^ 30 }
     requires lines { reader.old.whole_lines ≤ 2 ^ 30 }
-    ensures ok { IfOk result (λ count.
-        GivesMore I.Source input.old input.new reader.old reader.new allowed (allowed - count)) }
-    ensures count { IfOk result (λ count. count ≤ allowed) }
-    ensures end { IfOk result (λ count. count ≡ 0 → IsAtEnd (I.left input.new)) }
+    ensures ok { IfOk result
+        (TakesPiece I.Source input.old input.new reader.old reader.new allowed) }
     ensures err { IfErr result (GivesStop I.Source input.old input.new reader.old allowed) }
     ensures few { GivesFew I.Source input.old input.new reader.old allowed }
     ensures counts { I.faults input.old ≤ I.faults input.new }

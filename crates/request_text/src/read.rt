@@ -1,5 +1,5 @@
 //! The next request of a script.
-ghost use Rattle.std.specs.Prelude.{◌≡◌, ◌≤◌, false, true, Ok, MatchResult, IfOk, IfErr, OnOk, OnErr};
+ghost use Rattle.std.specs.Prelude.{◌≡◌, ◌≤◌, false, true, Ok, MatchResult, IfOk, IfErr};
 ghost use Rattle.request_text.specs.Next.{ReadsFrom, TellsEnd, GaveFrom, GaveFewFrom};
 ghost use Rattle.request_text.specs.Reading.{StopsFrom};
 ghost use Rattle.request_text.specs.Parts.{TakesFrom, Fails};
@@ -31,9 +31,10 @@ pub fn read_request<S: Source>(
     ensures over { lines.old.ended ≡ true
         → (result ≡ Ok Asked.End) × (lines.new ≡ lines.old) × (source.new ≡ source.old) }
     ensures end { IfOk result (TellsEnd lines.new) }
-    ensures gave { OnOk result (GaveFrom S.Source lines.old lines.new source.old source.new) }
+    ensures gave { MatchResult result
+        (λ _. GaveFrom S.Source lines.old lines.new source.old source.new)
+        (λ _. GaveFewFrom S.Source lines.old source.old source.new) }
     ensures stops { IfErr result (StopsFrom S.Source lines.old source.old source.new) }
-    ensures few { OnErr result (GaveFewFrom S.Source lines.old source.old source.new) }
     ensures stopped { MatchResult result
         (λ _. lines.new.stopped ≡ false) (λ _. lines.new.stopped ≡ true) }
     ensures counts { S.faults source.old ≤ S.faults source.new }

@@ -46,7 +46,7 @@ returns-in_err-asked-clause-ends g c =
 pub returns-in_err-asked-clause-few : goal.returns-in_err-asked-clause-few
 returns-in_err-asked-clause-few g c =
     let inv = c.loop-lines.invariant in
-    few_stop g.I.Source c.args.input.now c.loop-lines.input c.read_request.new.source c.loop-lines.lines c.loop-lines.lines inv.items inv.taken c.in_err-asked.ensures.few
+    few_stop g.I.Source c.args.input.now c.loop-lines.input c.read_request.new.source c.loop-lines.lines c.loop-lines.lines inv.items inv.taken c.in_err-asked.ensures.gave
 
 pub returns-in_err-answer_next-clause-ends : goal.returns-in_err-answer_next-clause-ends
 returns-in_err-answer_next-clause-ends g c =
