@@ -11,11 +11,12 @@ pub const GREATEST: i64 = 10_000_000_000_000_000;
 pub fn points_of(alloc: Global, lines: &[(u64, i64)]) -> Option<Points> {
     let mut points = Points::new(alloc);
     steps_law();
+    let mut near = usize::MAX;
     for (i, (commit, value)) in lines.iter().enumerate() {
         if value.unsigned_abs() > GREATEST as u64 {
             return None;
         }
-        if points.insert(*commit, i as u64, *value).is_err() {
+        if points.insert(&mut near, *commit, i as u64, *value).is_err() {
             return None;
         }
     }

@@ -36,7 +36,8 @@ fn add(points: &mut Points, number: u64, order: u64, value: i64) -> Result<(), S
     ensures steps { CameUpTo number points.new }
 {
     steps_law();
-    match points.insert(order, number, value) {
+    let mut near = usize::MAX;
+    match points.insert(&mut near, order, number, value) {
         Ok(()) => {
             points.limits();
             Ok(())

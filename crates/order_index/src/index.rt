@@ -159,8 +159,8 @@ impl OrderIndex {
         Ok(Declared::New)
     }
 
-    /// Declares a pair that is new, as [`OrderIndex::declare`] does, without judging it again. Constant time, amortized,
-    /// but for the name's length.
+    /// Declares a pair that is new, as [`OrderIndex::declare`] does, without judging it again. Logarithmic time, but for
+    /// growing and for the name's length.
     pub fn add(&mut self, step: u64, number: u64, name: Name) -> Result<(), NoMemory>
         requires { judged self.old number name ≡ Declared.New }
         ensures ok { OnOk result

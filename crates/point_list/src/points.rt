@@ -111,26 +111,11 @@ impl Points {
     /// Puts a value into its commit's position, as the last one, or into a new position in its place.
     ///
     /// Changes nothing where it fails. `SamplesFull` comes exactly where there are 65,536 values, `PositionsFull` exactly
-    /// where else the commit has no position and there are 16,384. Constant time, amortized, where no commit is greater;
-    /// else logarithmic time, but for growing and for moving the positions behind a new one.
-    pub fn insert(&mut self, commit: u64, step: u64, value: i64) -> Result<(), PointFault>
-        requires { MayCome self.old commit step value }
-        ensures ok { OnOk result
-            (self.new ≡ inserted commit (record { step = step; value = value }) self.old) }
-        ensures err { OnErr result (self.new ≡ self.old) }
-        ensures samples_full { result ≡ Err PointFault.SamplesFull
-            ↔ (65_536 ≤ length (values_of self.old)) }
-        ensures positions_full { result ≡ Err PointFault.PositionsFull
-            ↔ ((length (values_of self.old) < 65_536) × (has_commit commit self.old ≡ false)
-            × (16_384 ≤ length self.old)) }
-    {
-        let mut near = usize::MAX;
-        self.insert_near(&mut near, commit, step, value)
-    }
-
-    /// Puts a value in as `insert` does. `near` is where to look first, and becomes the place of the commit: it makes no
-    /// difference to what is done. Where the commit's position stands there, no search is needed.
-    pub fn insert_near(
+    /// where else the commit has no position and there are 16,384. `near` is where to look first, and becomes the place of
+    /// the commit: it makes no difference to what is done, and `usize::MAX` looks nowhere. Constant time, amortized, where
+    /// no commit is greater, and no search where the commit's position stands at `near`; else logarithmic time, but for
+    /// growing and for moving the positions on the shorter side of a new one.
+    pub fn insert(
         &mut self,
         near: &mut usize,
         commit: u64,
@@ -163,7 +148,7 @@ impl Points {
 
     /// Takes away all values of a step at a commit, and the position where none is left. Takes no memory.
     ///
-    /// Logarithmic time, but for the values of the position and for moving the positions behind one that goes.
+    /// Logarithmic time, but for the values of the position and for moving the positions on the shorter side of one that goes.
     pub fn remove(&mut self, commit: u64, step: u64)
         ensures { self.new ≡ removed commit step self.old }
     {

@@ -40,7 +40,7 @@ impl Tracked {
             (self.new ≡ with_sample commit (record { step = step; value = value }) self.old) }
         ensures err { OnErr result (self.new ≡ self.old) }
     {
-        match self.points.insert_near(near, commit, step, value) {
+        match self.points.insert(near, commit, step, value) {
             Ok(()) => {}
             Err(PointFault::NoMemory) => return Err(NoMemory),
             Err(PointFault::SamplesFull) | Err(PointFault::PositionsFull) => unreachable!(),
