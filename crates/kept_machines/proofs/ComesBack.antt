@@ -19,8 +19,8 @@ use Rattle.track_entry.specs.Texts.{IsEntry, entry_text}
 use Rattle.track_model.specs.Tracks.{Track, with_entry}
 use Rattle.kept_machines.specs.Machines.{is_track, changed}
 use Rattle.kept_machines.specs.Machines.{IsOther, AreDifferent, names_of}
-use Rattle.kept_machines.specs.Growth.{AreOfSession, GoOn, GoesOn, IsNewTrack, MayBeKept, kept_entries}
-use Rattle.kept_machines.specs.Kept.{is_kept, kept, kept_of, AreKept}
+use Rattle.kept_machines.specs.Growth.{AreOfSession, GoOn, GoesOn, IsNewTrack, MayBeKept}
+use Rattle.kept_machines.specs.Kept.{is_kept, kept, kept_of, AreKept, kept_entries}
 use Rattle.kept_machines.specs.Laws.{KeptComesBack, LoadedAreKept}
 use Rattle.kept_machines.specs.Loading.{stored_track, AddsRow}
 use Rattle.kept_machines.specs.Rows.{is_new, row_of, track_rows, new_rows}
@@ -151,7 +151,7 @@ module _ (s u : Track) (added : List Placed) (stored : s ≡ kept_of s) (history
   before_are : filter is_kept (entries_of s.history) ≡ entries_of s.history
   before_are = sym entries_are ∙ sym (ap (λ (t : Track). entries_of t.history) stored)
 
-  all_are : kept_entries u ≡ entries_of s.history ++ entries_of (filter is_new added)
+  all_are : kept_entries (entries_of u.history) ≡ entries_of s.history ++ entries_of (filter is_new added)
   all_are =
       ap (λ h. filter is_kept (entries_of h)) history
       ∙ ap (filter is_kept) (map-append (λ (p : Placed). p.entry) s.history added)

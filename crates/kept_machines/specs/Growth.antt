@@ -1,5 +1,5 @@
 -- How machines go on from those that were loaded.
-use Rattle.std.specs.Prelude.{◌≡◌, ◌≤◌, true, false, List, [], ◌∷◌, ◌++◌, filter, length}
+use Rattle.std.specs.Prelude.{◌≡◌, ◌≤◌, true, false, List, [], ◌∷◌, ◌++◌, length}
 use Rattle.std.specs.List.{AllByRecursion}
 use Rattle.metric_table.specs.Limits.{most}
 use Rattle.metric_table.specs.declared.limits.Limit.TheVariants.{Machines}
@@ -11,7 +11,7 @@ use Rattle.line_text.specs.Names.{IsName}
 use Rattle.track_entry.specs.Texts.{HasShortMetric, IsEntry}
 use Rattle.track_model.specs.Tracks.{Track}
 use Rattle.kept_machines.specs.Machines.{AreDifferent, names_of}
-use Rattle.kept_machines.specs.Kept.{is_kept}
+use Rattle.kept_machines.specs.Kept.{kept_entries}
 use Rattle.kept_machines.specs.Rows.{is_of_session}
 
 -- entries that this session made
@@ -36,10 +36,6 @@ GoOn [] new = AllByRecursion IsNewTrack new
 GoOn (t ∷ old) [] = ⊥
 GoOn (t ∷ old) (u ∷ new) = GoesOn t u × GoOn old new
 
--- the entries that are kept
-abbrev pub kept_entries : Track → List Entry
-kept_entries t = filter is_kept (entries_of t.history)
-
 -- the entry has a text, if the metric that it names is short
 abbrev pub HasTextIfShort : Placed → Type 0
 HasTextIfShort p = HasShortMetric p.entry → IsEntry p.entry
@@ -47,8 +43,8 @@ HasTextIfShort p = HasShortMetric p.entry → IsEntry p.entry
 -- a machine can be kept: it has a name, its kept entries have texts, and they are allowed one after another
 pub record MayBeKept (t : Track) : Type 0 where
   pub named : IsName t.machine
-  pub spelled : AllByRecursion IsEntry (kept_entries t)
-  pub legal : Legal (kept_entries t)
+  pub spelled : AllByRecursion IsEntry (kept_entries (entries_of t.history))
+  pub legal : Legal (kept_entries (entries_of t.history))
 
 -- machines went on from others, each may be kept, they differ, and are no more than there may be
 pub record WentOn (old new : List Track) : Type 0 where

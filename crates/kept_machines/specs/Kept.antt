@@ -16,13 +16,17 @@ abbrev pub is_kept : Entry → Bool
 is_kept (Publish p) = false
 is_kept e = true
 
+-- the entries other than publications
+abbrev pub kept_entries : List Entry → List Entry
+kept_entries h = filter is_kept h
+
 -- an entry as a store keeps it
 abbrev pub kept : Entry → Placed
 kept e = record { author = author.Kept; entry = e }
 
 -- a machine as a store keeps it
 abbrev pub kept_of : Track → Track
-kept_of t = record { machine = t.machine; kept = true; history = map kept (filter is_kept (entries_of t.history)) }
+kept_of t = record { machine = t.machine; kept = true; history = map kept (kept_entries (entries_of t.history)) }
 
 -- the tracks are as a store keeps them: each as it is kept, of different machines, no more than there may be
 pub record AreKept (tracks : List Track) : Type 0 where

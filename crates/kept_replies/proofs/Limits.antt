@@ -8,10 +8,9 @@ use Rattle.metric_table.specs.declared.limits.Limit.{Limit}
 use Rattle.metric_table.specs.declared.limits.Limit.TheVariants as limit
 use Rattle.history_model.specs.declared.entries.Entry.{Entry}
 use Rattle.history_model.specs.Allowed.{count_of, first_passed}
-use Rattle.kept_machines.specs.Kept.{is_kept}
+use Rattle.kept_machines.specs.Kept.{is_kept, kept_entries}
 use Rattle.kept_machines.proofs.Choices.{shorter}
 use Rattle.kept_machines.proofs.Unpublished.{IsUnpublished, count_equal}
-use Rattle.kept_replies.specs.Replies.{kept_entries}
 
 -- limits on anything but cuts
 abbrev pub AreUncut : List Limit → Type 0

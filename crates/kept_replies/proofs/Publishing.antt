@@ -18,8 +18,8 @@ use Rattle.history_model.specs.Runs.{Series, is_known}
 use Rattle.track_model.specs.Forms.{tune}
 use Rattle.track_model.specs.Outcomes.{Outcome, added_unless}
 use Rattle.track_model.specs.Publishing.{OfKnown, publication, publish, segmented, IsPublished, SegmentComesTo, is_factor, OfFactor, OfMany, IsCalibrated, CalibrateComesTo}
-use Rattle.kept_machines.specs.Kept.{is_kept}
-use Rattle.kept_replies.specs.Replies.{kept_entries, kept_outcome, HasRoom, is_refused, TellSameCuts, PublishSameCuts}
+use Rattle.kept_machines.specs.Kept.{is_kept, kept_entries}
+use Rattle.kept_replies.specs.Replies.{kept_outcome, HasRoom, is_refused, TellSameCuts, PublishSameCuts}
 use Rattle.kept_machines.proofs.Choices.{same_plain}
 use Rattle.kept_replies.proofs.Outcomes.{IsKept}
 use Rattle.kept_replies.proofs.Positions.{same_values, same_length}

@@ -1,5 +1,5 @@
 -- What a machine's history without its publications answers: as the history does, but for the numbers of steps.
-use Rattle.std.specs.Prelude.{◌≡◌, ◌≢◌, ℕ, ℤ, Bool, true, false, List, ◌++◌, length, take, filter, option_to_list, Option, Some}
+use Rattle.std.specs.Prelude.{◌≡◌, ◌≢◌, ℕ, ℤ, Bool, true, false, List, ◌++◌, length, take, option_to_list, Option, Some}
 use Rattle.metric_table.specs.declared.limits.Limit.TheVariants.{Steps}
 use Rattle.history_model.specs.declared.entries.Entry.{Entry}
 use Rattle.history_model.specs.declared.entries.Entry.TheVariants as entry
@@ -14,11 +14,7 @@ use Rattle.request_model.specs.declared.requests.Request.TheVariants as request
 use Rattle.track_model.specs.Outcomes.{Outcome}
 use Rattle.track_model.specs.Replies.{reply_of}
 use Rattle.track_model.specs.Tracks.{ComesTo, Track}
-use Rattle.kept_machines.specs.Kept.{is_kept, kept_of}
-
--- the entries other than publications
-abbrev pub kept_entries : List Entry → List Entry
-kept_entries h = filter is_kept h
+use Rattle.kept_machines.specs.Kept.{kept_of, kept_entries}
 
 -- they are those of the machine as a store keeps it
 abbrev pub StoreKeepsEntries : Type 0

@@ -16,29 +16,12 @@ use Rattle.request_text.specs.Items.{formed, named, body_limit}
 use Rattle.request_text.specs.Scripts.{ArePieces}
 use Rattle.request_text.proofs.Skipped.{skipped_formless}
 use Rattle.request_text.proofs.WholePieces.{one_piece}
-use Rattle.request_text.proofs.WrittenBack.{written_back}
+use Rattle.request_text.proofs.WrittenBack.{IsWritable, written_back}
 use Rattle.request_text.proofs.WrittenLines.{IsShortWord, words_back, line_back, number_word, a_word, machine_word, commit_word, submit_word, go_word, retract_word, tune_word}
 use Rattle.series_gen.specs.Script.{line, place, commit_line, submit_line, body_line, segment_line, retract_line}
 use Rattle.trial_script.specs.Requests as asked
 use Rattle.trial_script.proofs.PlainWords.{IsOwnWord, plain_name, own_word, numbered}
 use Rattle.trial_script.proofs.GoBody.{body_read}
-
--- a form whose words can be written, with its body
-record IsWritable (form : Form) (first : List ℕ) (words : List (List ℕ)) (body : List ℕ) (item : Item) : Type 0 where
-  is : words_in form ≡ first ∷ words
-  first_word : IsShortWord first
-  few : length first ≤ 9
-  words_short : AllByRecursion IsShortWord words
-  five : length words ≤ 5
-  numbers : AllByRecursion (λ n. n < 2 ^ 64) (numbers_in form)
-  amounts : AllByRecursion IsNumber (amounts_in form)
-  status : HasStatus form
-  counted : body_length form ≡ length body
-  within : body_length form ≤ body_limit
-  names : AllByRecursion SpellsName (names_in form)
-  metric : HasShortMetric form
-  range : IsInRange form
-  asks : AsksNamed form body item
 
 written_piece : WordsGoOn → AreOneWord → (form : Form) (first : List ℕ) (words : List (List ℕ)) (body used : List ℕ) (item : Item)
     → used ≡ (first ++ spaced words) ++ 10 ∷ body → IsWritable form first words body item → ArePieces used (item ∷ [])
