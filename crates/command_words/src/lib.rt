@@ -13,8 +13,6 @@
 
 mod command;
 mod simple;
-#[cfg(test)]
-mod tests;
 
 pub use command::{Command, StoreName, command_of, one_command_law, plain_words_law};
 pub use std::alloc::AllocError as NoMemory;

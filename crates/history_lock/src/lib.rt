@@ -23,8 +23,6 @@ mod historied;
 mod law;
 mod lock;
 mod plays;
-#[cfg(test)]
-mod tests;
 mod turns;
 mod view;
 

@@ -16,8 +16,6 @@ mod append;
 mod load;
 mod restored;
 mod row;
-#[cfg(test)]
-mod tests;
 
 pub use append::{AppendFault, Recorded, append_each};
 pub use load::{LoadFault, load_into, loading_law};

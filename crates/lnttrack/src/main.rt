@@ -1,22 +1,13 @@
 //! The program `lnttrack`: its words, standard input, output and error, files and a store, handed to `tracker_top`.
 //!
 //! What a command does, and when each status comes, is the contract of `tracker_top::alone`, which this program calls
-//! with the real objects of `track_outside`; it ends with the status' number.
+//! with the real objects of `track_outside`; it ends with the status' number (`tracker_top::Status::exit_code`).
 #![tactic(auto)]
-
-ghost use Rattle.std.specs.Prelude.{◌≡◌};
-ghost use Rattle.std.specs.Process.{exit_status};
-ghost use Rattle.tracker_top.specs.Statuses.{number_of};
-
-#[cfg(test)]
-mod tests;
-mod words;
 
 use keep_sqlite::SqliteKeeper;
 use std::process::ExitCode;
 use track_outside::{RealFiles, RealSink, RealSource};
-use tracker_top::{Status, alone, put_status};
-use words::words_of;
+use tracker_top::{alone, put_status, words_of};
 
 fn main(rt: HostRuntime) -> ExitCode {
     let mut input = RealSource::input(&rt);
@@ -38,12 +29,5 @@ fn main(rt: HostRuntime) -> ExitCode {
             status
         }
     };
-    exit_code(status)
-}
-
-// What the process ends with.
-fn exit_code(status: Status) -> ExitCode
-    ensures exit_status { exit_status result ≡ number_of status }
-{
-    ExitCode::from(status.number())
+    status.exit_code()
 }

@@ -25,8 +25,6 @@ mod sink;
 mod source;
 mod sure_sink;
 mod sure_source;
-#[cfg(test)]
-mod tests;
 
 pub use files::Files;
 pub use keeper::Keeper;

@@ -1,11 +1,13 @@
 //! How a command ends.
 ghost use Rattle.std.specs.Prelude.{◌≡◌};
+ghost use Rattle.std.specs.Process.{exit_status};
 ghost use Rattle.tracker_top.specs.Statuses.{number_of};
 
 use cut_lines::{Refusal, Stop as CutStop};
 use kept_machines::{AppendFault, LoadFault};
 use script_session::Stop as ScriptStop;
 use std::alloc::AllocError;
+use std::process::ExitCode;
 
 /// How a command ends. A line is named by its number, from 1, and an input by its script's number, where standard
 /// input is 0.
@@ -53,6 +55,13 @@ impl Status {
             Status::BadLine(_) => 10,
             Status::Full(_) => 11,
         }
+    }
+
+    /// What the program's process ends with: the status' number.
+    pub fn exit_code(&self) -> ExitCode
+        ensures exit_status { exit_status result ≡ number_of self.now }
+    {
+        ExitCode::from(self.number())
     }
 }
 

@@ -1,5 +1,5 @@
 //! Rows that are read and written, and runs over a keeper in memory.
-use crate::{
+use keep_rows::{
     AppendFault, LoadFault, NoMemory, Recorded, Restored, RowFault, append_each, load_into,
     put_entry_row, put_machine_row, read_row,
 };

@@ -2,13 +2,14 @@
 ghost use Rattle.std.specs.Prelude.{◌≡◌, ◌⊎◌, Err, IsUtf8, string_bytes, IfOk, IfErr};
 ghost use Rattle.tracker_top.specs.declared.status.Status.{Status};
 
+use crate::status::Status;
 use std::alloc::{AllocError, Global};
 use std::env::{Env, FillError};
 use std::str;
-use tracker_top::Status;
 
-/// The words behind the program's name. One that is no text makes them no command; the name itself may be none.
-pub(crate) fn words_of<E: Env>(env: &E, alloc: Global) -> Result<Vec<String>, Status>
+/// The words behind the program's name: `BadWords` where one is no text, since then they are no command; the name itself
+/// may be none. Linear in the bytes of the words.
+pub fn words_of<E: Env>(env: &E, alloc: Global) -> Result<Vec<String>, Status>
     ensures only { IfErr result (λ status. (status ≡ Status.BadWords)
         ⊎ (status ≡ Status.NoMemory)) }
 {

@@ -1,5 +1,5 @@
 //! Words that are a command, and words that are none, with ample memory.
-use crate::{Command, NoMemory, command_of};
+use command_words::{Command, NoMemory, command_of};
 use std::alloc::Global;
 
 // Words, and how the command that they are is told.

@@ -2,7 +2,7 @@
 ghost use Rattle.std.specs.Prelude.{◌≡◌, ◌+◌, ◌⊎◌, [], ◌∷◌, ◌++◌, IfOk, IfErr, OnErr, OnOk};
 ghost use Rattle.history_lock.specs.Passes.{seen, mark, given, joined, label, own_marks, IsFirst, IsWhole, IsPassOf, IsOutside, IsInside, IsSame};
 
-use crate::{Historied, HistoryLock, Pass};
+use history_lock::{Historied, HistoryLock, Pass};
 use std::alloc::{AllocError, Global};
 use std::sync::atomic::{AtomicU64, Ordering};
 use std::sync::{Arc, Wait};

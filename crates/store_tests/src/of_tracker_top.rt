@@ -10,7 +10,7 @@ type Run = (&'static str, &'static str);
 // Runs one after another over the file of a name.
 const STORED: [(&str, &[Run]); 2] = [
     (
-        "rows.db",
+        "scripts.db",
         &[
             (
                 "machine m1\ncommit m1 10 a\ntune m1 B/op 50\n",

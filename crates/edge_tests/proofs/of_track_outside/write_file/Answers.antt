@@ -2,7 +2,7 @@ use Rattle.std.proofs.Common.{rules, ◌≡◌, ◌∙◌, List, [], ℕ, ap}
 use Rattle.track_outside.specs.Memory.{Output}
 use Rattle.track_outside.specs.Named.{Folder, with_bytes}
 use Rattle.track_outside.proofs.Places.{bytes_at-with_bytes}
-use Rattle.track_outside.proofs.tests.write_file.Goals as goal
+use Rattle.edge_tests.proofs.of_track_outside.write_file.Goals as goal
 
 pub close_output-requires : goal.close_output-requires
 close_output-requires c =
