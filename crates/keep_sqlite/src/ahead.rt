@@ -1,6 +1,7 @@
 //! Rows of a store that are read before they are asked for.
-use crate::statements::{Store, read_row, read_rows};
-use sqlite::{Error, Row};
+use crate::calls::{bytes_at, number_at};
+use crate::statements::{read_row, read_rows};
+use sqlite::{Alter, Connection, Error, Row};
 use std::alloc::Global;
 
 // Short rows behind the one that was asked for last. Rows are mostly asked for in order, and a statement for each takes
@@ -32,15 +33,19 @@ impl Ahead {
 
     // Takes the bytes of row k, if it is the next of the rows.
     pub(crate) fn next(&mut self, k: i64) -> Option<Vec<u8>> {
-        if self.rows.last()?.get(0) != Ok(k) {
-            return None;
+        match number_at(self.rows.last()?, 0) {
+            Ok(number) if number == k => bytes_at(&self.rows.pop()?, 1).ok(),
+            _ => None,
         }
-        self.rows.pop()?.get(1).ok()
     }
 
     // The bytes of row k, which isn't the next: by a statement for it and rows behind it, or by one of its own, where rows
     // behind it are read already, where it is long, and where one of them can't be read: so a fault is met at its row.
-    pub(crate) fn read(&mut self, store: &mut Store, k: i64) -> Result<Vec<u8>, Error> {
+    pub(crate) fn read<S: Alter>(
+        &mut self,
+        store: &mut Connection<S>,
+        k: i64,
+    ) -> Result<Vec<u8>, Error> {
         if self.rows.is_empty() {
             self.fill(store, k);
         }
@@ -57,7 +62,7 @@ impl Ahead {
     }
 
     // Reads those of row k and rows behind it that are short, or none where one of them can't be read.
-    fn fill(&mut self, store: &mut Store, k: i64) {
+    fn fill<S: Alter>(&mut self, store: &mut Connection<S>, k: i64) {
         if let Ok(mut rows) = read_rows(store, k, self.more) {
             rows.reverse();
             self.rows = rows;

@@ -4,7 +4,8 @@ ghost use Rattle.track_outside.specs.Counts.{Rose, one_more};
 ghost use Rattle.track_outside.specs.declared.out_error.OutError.TheVariants as error;
 
 use crate::ahead::Ahead;
-use crate::statements::{Store, append_rows, close, count_rows, find_store, open_store};
+use crate::opening::{Store, append_last, find_store, open_store};
+use crate::statements::count_rows;
 use sqlite::{Error, ErrorCode};
 use std::alloc::Global;
 use std::marker::Model;
@@ -78,10 +79,10 @@ impl<'a> SqliteKeeper<'a> {
         ensures { self.new ≡ self.old }
     {
         self.name = None;
-        self.store = None;
+        replace(&mut self.store, None);
         self.ahead.clear();
         self.count = 0;
-        self.store = find_store(self.rt, &name)?;
+        replace(&mut self.store, find_store(self.rt, &name)?);
         self.name = Some(name);
         Ok(())
     }
@@ -95,7 +96,7 @@ impl<'a> SqliteKeeper<'a> {
         };
         if self.store.is_none() {
             self.ahead.clear();
-            self.store = find_store(self.rt, name)?;
+            replace(&mut self.store, find_store(self.rt, name)?);
         }
         Ok(())
     }
@@ -146,14 +147,18 @@ impl<'a> SqliteKeeper<'a> {
         if rows.is_empty() {
             return Ok(());
         }
-        let mut store = match self.store.take() {
+        let store = match self.store.take() {
             Some(store) => store,
             None => open_store(self.rt, name, self.count)?,
         };
-        self.count = append_rows(&mut store, rows)?;
-        close(store);
+        self.count = append_last(store, rows)?;
         Ok(())
     }
+}
+
+// Lets go of a value for another. What a store owns is much, so it is let go here, where its type isn't known.
+fn replace<T: Drop>(place: &mut T, value: T) {
+    *place = value;
 }
 
 impl<'a> Keeper for SqliteKeeper<'a> {

@@ -9,11 +9,13 @@
 //! Proved against the trait of keepers: a call answers `Failed` only where its count rose. It tells neither rows nor names:
 //! what a database holds no contract here can say, so tests show it (`store_tests`).
 //!
-//! Stands on `track_outside`, on `sqlite`, and on `sqlite_std_file` for opening a file with few pages in memory.
+//! Stands on `track_outside`, on `sqlite`, and on `sqlite_disk` and `sqlite_std_file` for opening a file with few pages in memory.
 #![tactic(auto)]
 
 mod ahead;
+mod calls;
 mod keeper;
+mod opening;
 mod statements;
 
 pub use keeper::SqliteKeeper;

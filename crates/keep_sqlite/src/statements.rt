@@ -1,12 +1,6 @@
-//! The statements on a store.
-use sqlite::{Connection, Error, ErrorCode, File, FileStore, Options, Row, Unknown, params};
-use sqlite_std_file::OpenError;
-use std::fs;
-use std::hash::{BuildHasher, RandomState};
-use std::io::ErrorKind;
-
-// An open store.
-pub(crate) type Store = Connection<FileStore<File>>;
+//! The statements on a store, of whatever kind it is.
+use crate::calls::{bytes_at, find_rows, number_at, run, text_at};
+use sqlite::{Alter, Connection, Error, ErrorCode, Row, params};
 
 // The one table of a store.
 const TABLE: &str = "CREATE TABLE kept (number INTEGER PRIMARY KEY, content BLOB NOT NULL) STRICT";
@@ -15,71 +9,8 @@ const TABLE: &str = "CREATE TABLE kept (number INTEGER PRIMARY KEY, content BLOB
 const ROWS: &str =
     "SELECT number, content FROM kept WHERE number >= ?1 AND number <= ?2 AND length(content) <= 4096 ORDER BY number";
 
-// How many pages of a file are kept in memory. Rows are read once and in order, so few are asked for again, and a cache takes
-// time to make.
-const PAGES: usize = 64;
-
-// Opens the file of that name, if there is one and it has a table.
-pub(crate) fn find_store(rt: &HostRuntime, name: &str) -> Result<Option<Store>, Error> {
-    match fs::exists(rt, name) {
-        Ok(true) => {}
-        Ok(false) => return Ok(None),
-        Err(_) => return Err(Error::SqliteFailure(ErrorCode::CannotOpen)),
-    }
-    let mut store = open(rt, name)?;
-    if has_table(&mut store)? {
-        Ok(Some(store))
-    } else {
-        Ok(None)
-    }
-}
-
-// Opens the file of that name, or makes it. Where it has not so many rows, another run changed it meanwhile.
-pub(crate) fn open_store(rt: &HostRuntime, name: &str, count: u64) -> Result<Store, Error> {
-    let mut store = open(rt, name)?;
-    if rows_in(&mut store)? == count {
-        Ok(store)
-    } else {
-        Err(Error::SqliteFailure(ErrorCode::DatabaseBusy))
-    }
-}
-
-// Opens the file of that name, or makes it. Refuses what SQLite takes for another thing than a file's name.
-fn open(rt: &HostRuntime, name: &str) -> Result<Store, Error> {
-    if name == ":memory:" || name.starts_with("file:") {
-        return Err(Error::SqliteFailure(ErrorCode::CannotOpen));
-    }
-    let options = options(rt)?;
-    let files = match sqlite_std_file::open(rt, name, Unknown) {
-        Ok(files) => files,
-        Err(fault) => return Err(Error::SqliteFailure(code_of(fault))),
-    };
-    match Connection::open_files(rt.alloc(), files, options) {
-        Ok(store) => Ok(store),
-        Err((error, _)) => Err(error),
-    }
-}
-
-fn options(rt: &HostRuntime) -> Result<Options, Error> {
-    let Ok(state) = RandomState::new(rt) else {
-        return Err(Error::SqliteFailure(ErrorCode::CannotOpen));
-    };
-    let mut options = Options::new(state.hash_one(&0u8));
-    options.cache_pages = PAGES;
-    Ok(options)
-}
-
-fn code_of(fault: OpenError) -> ErrorCode {
-    match fault {
-        OpenError::OutOfMemory => ErrorCode::OutOfMemory,
-        OpenError::Io(error) if error.kind() == ErrorKind::OutOfMemory => ErrorCode::OutOfMemory,
-        OpenError::Busy => ErrorCode::DatabaseBusy,
-        OpenError::Io(_) | OpenError::HotJournal => ErrorCode::CannotOpen,
-    }
-}
-
 // How many rows there are; none where there is no table yet.
-fn rows_in(store: &mut Store) -> Result<u64, Error> {
+pub(crate) fn rows_in<S: Alter>(store: &mut Connection<S>) -> Result<u64, Error> {
     if has_table(store)? {
         count_rows(store)
     } else {
@@ -88,13 +19,18 @@ fn rows_in(store: &mut Store) -> Result<u64, Error> {
 }
 
 // Whether there is the table; any other is an error.
-fn has_table(store: &mut Store) -> Result<bool, Error> {
-    let tables = store.query_all("SELECT sql FROM sqlite_schema", &[])?;
-    if tables.is_empty() {
-        return Ok(false);
+pub(crate) fn has_table<S: Alter>(store: &mut Connection<S>) -> Result<bool, Error> {
+    let tables = find_rows(store, "SELECT sql FROM sqlite_schema", &[])?;
+    match tables.first() {
+        Some(table) if tables.len() == 1 => is_table(table),
+        Some(_) => Err(Error::SqliteFailure(ErrorCode::NotADatabase)),
+        None => Ok(false),
     }
-    let sql: String = tables[0].get(0)?;
-    if tables.len() == 1 && sql.as_str() == TABLE {
+}
+
+fn is_table(table: &Row) -> Result<bool, Error> {
+    let sql = text_at(table, 0)?;
+    if sql.as_str() == TABLE {
         Ok(true)
     } else {
         Err(Error::SqliteFailure(ErrorCode::NotADatabase))
@@ -102,7 +38,7 @@ fn has_table(store: &mut Store) -> Result<bool, Error> {
 }
 
 // How many rows there are: the first is 1, and the last counts them. One that is missing between them is met where it is read.
-pub(crate) fn count_rows(store: &mut Store) -> Result<u64, Error> {
+pub(crate) fn count_rows<S: Alter>(store: &mut Connection<S>) -> Result<u64, Error> {
     let Some(first) = find_number(store, "SELECT number FROM kept ORDER BY number LIMIT 1")? else {
         return Ok(0);
     };
@@ -117,43 +53,57 @@ pub(crate) fn count_rows(store: &mut Store) -> Result<u64, Error> {
 }
 
 // The number that a statement finds, if it finds one.
-fn find_number(store: &mut Store, statement: &str) -> Result<Option<i64>, Error> {
-    let rows = store.query_all(statement, &[])?;
+fn find_number<S: Alter>(store: &mut Connection<S>, statement: &str) -> Result<Option<i64>, Error> {
+    let rows = find_rows(store, statement, &[])?;
     match rows.first() {
-        Some(row) => Ok(Some(row.get(0)?)),
+        Some(row) => Ok(Some(number_at(row, 0)?)),
         None => Ok(None),
     }
 }
 
 // The bytes of row k.
-pub(crate) fn read_row(store: &mut Store, k: i64) -> Result<Vec<u8>, Error> {
-    let row = store.query_row("SELECT content FROM kept WHERE number = ?1", params![k])?;
-    row.get(0)
+pub(crate) fn read_row<S: Alter>(store: &mut Connection<S>, k: i64) -> Result<Vec<u8>, Error> {
+    let rows = find_rows(
+        store,
+        "SELECT content FROM kept WHERE number = ?1",
+        params![k],
+    )?;
+    match rows.first() {
+        Some(row) => bytes_at(row, 0),
+        None => Err(Error::QueryReturnedNoRows),
+    }
 }
 
 // Those of row k and so many rows behind it that are short, each with its number.
-pub(crate) fn read_rows(store: &mut Store, k: i64, more: i64) -> Result<Vec<Row>, Error> {
-    store.query_all(ROWS, params![k, k.saturating_add(more)])
+pub(crate) fn read_rows<S: Alter>(
+    store: &mut Connection<S>,
+    k: i64,
+    more: i64,
+) -> Result<Vec<Row>, Error> {
+    find_rows(store, ROWS, params![k, k.saturating_add(more)])
 }
 
 // Adds all of the rows by one transaction, or none; answers how many there are then.
-pub(crate) fn append_rows(store: &mut Store, rows: &[Vec<u8>]) -> Result<u64, Error> {
-    begin(store)?;
+pub(crate) fn append_rows<S: Alter>(
+    store: &mut Connection<S>,
+    rows: &[Vec<u8>],
+) -> Result<u64, Error> {
+    run(store, "BEGIN", &[])?;
     match add_rows(store, rows) {
         Ok(count) => {
-            commit(store)?;
+            run(store, "COMMIT", &[])?;
             Ok(count)
         }
         Err(error) => {
-            let _ = roll_back(store);
+            let _ = run(store, "ROLLBACK", &[]);
             Err(error)
         }
     }
 }
 
-fn add_rows(store: &mut Store, rows: &[Vec<u8>]) -> Result<u64, Error> {
+fn add_rows<S: Alter>(store: &mut Connection<S>, rows: &[Vec<u8>]) -> Result<u64, Error> {
     if !has_table(store)? {
-        make_table(store)?;
+        run(store, TABLE, &[])?;
     }
     let mut number = count_rows(store)?;
     for row in rows {
@@ -164,34 +114,13 @@ fn add_rows(store: &mut Store, rows: &[Vec<u8>]) -> Result<u64, Error> {
 }
 
 // Adds a row of that number, which no other has.
-fn add_row(store: &mut Store, number: u64, content: &[u8]) -> Result<(), Error> {
+fn add_row<S: Alter>(store: &mut Connection<S>, number: u64, content: &[u8]) -> Result<(), Error> {
     let Ok(number) = i64::try_from(number) else {
         return Err(Error::SqliteFailure(ErrorCode::NoRowid));
     };
-    let _ = store.execute(
+    run(
+        store,
         "INSERT INTO kept (number, content) VALUES (?1, ?2)",
         params![number, content],
-    )?;
-    Ok(())
-}
-
-fn make_table(store: &mut Store) -> Result<(), Error> {
-    store.execute_batch(TABLE)
-}
-
-fn begin(store: &mut Store) -> Result<(), Error> {
-    store.execute_batch("BEGIN")
-}
-
-fn commit(store: &mut Store) -> Result<(), Error> {
-    store.execute_batch("COMMIT")
-}
-
-fn roll_back(store: &mut Store) -> Result<(), Error> {
-    store.execute_batch("ROLLBACK")
-}
-
-// Moves all rows from the log into the file, and closes it. The rows are there even where that fails.
-pub(crate) fn close(store: Store) {
-    let _ = store.close();
+    )
 }
