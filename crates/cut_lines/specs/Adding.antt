@@ -1,4 +1,5 @@
--- What the end of a line does to the points, and why it is refused. Private: no public contract cites this.
+-- What the end of a line does to the points, and why it is refused. Private: no public contract
+-- cites this.
 use Rattle.std.specs.Prelude.{◌≡◌, ℕ, ℤ, ◌<◌, ◌≤◌, ◌⊎◌, List, length}
 use Rattle.segment_model.specs.Segments.{Position, values_of}
 use Rattle.segment_model.specs.Limits.{WithinLimits}
@@ -17,12 +18,14 @@ OnRefused Holds stop = ⊥
 
 -- the points with the value of a line more
 abbrev pub with_value_of : List Position → ℕ → ℕ → ℤ → List Position
-with_value_of points number order value = inserted order (record { step = number; value = value }) points
+with_value_of points number order value =
+    inserted order (record { step = number; value = value }) points
 
 -- there are all values of a series already, or one more makes too many positions
 abbrev pub PassesLimit : List Position → ℕ → ℕ → ℤ → Type 0
 PassesLimit points number order value =
-    (65_536 ≤ length (values_of points)) ⊎ (16_384 < length (with_value_of points number order value))
+    (65_536 ≤ length (values_of points))
+    ⊎ (16_384 < length (with_value_of points number order value))
 
 -- behind these points, the line of this number is refused, and this is why
 abbrev pub BreaksPoints : Refusal → List Position → ℕ → List ℕ → Type 0
@@ -32,7 +35,10 @@ BreaksPoints Full points number line =
 
 -- the line of this number is refused
 abbrev pub RefusesLine : List ℕ → ℕ → List Position → Stop → Type 0
-RefusesLine line number old stop = OnRefused (λ why k. (k ≡ number) × (length line ≤ 4_096) × BreaksPoints why old number line) stop
+RefusesLine line number old stop =
+    OnRefused
+    (λ why k. (k ≡ number) × (length line ≤ 4_096) × BreaksPoints why old number line)
+    stop
 
 -- the value came in, within the limits
 pub record AddsValue (number order : ℕ) (value : ℤ) (old new : List Position) : Type 0 where
@@ -43,4 +49,5 @@ pub record AddsValue (number order : ℕ) (value : ℤ) (old new : List Position
 abbrev pub TakesLine : List ℕ → ℕ → List Position → List Position → Type 0
 TakesLine line number old new =
     ((length line ≤ 4_096 → IsSkipped line) × (new ≡ old))
-    ⊎ ((order : ℕ) × (value : ℤ) × IsCutLine line order value × AddsValue number order value old new)
+    ⊎ ((order : ℕ) × (value : ℤ) × IsCutLine line order value
+    × AddsValue number order value old new)

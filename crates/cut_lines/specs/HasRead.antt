@@ -9,7 +9,8 @@ use Rattle.cut_lines.specs.Points.{points_of}
 use Rattle.cut_lines.specs.Reading.{AreAccepted, IsFirstRefused, MayGoOn}
 use Rattle.cut_lines.specs.Adding.{OnRefused}
 
--- what is kept of bytes: the points of their whole lines, how many those are, and the first bytes of the line that has begun
+-- what is kept of bytes: the points of their whole lines, how many those are, and the first bytes
+-- of the line that has begun
 pub record Kept : Type 0 where
   pub points : List Position
   pub whole_lines : ℕ
@@ -29,7 +30,8 @@ pub record HasKept (bytes : List ℕ) (kept : Kept) : Type 0 where
 
 -- what a reader keeps
 abbrev pub kept_by : Reader → Kept
-kept_by reader = record { points = reader.points; whole_lines = reader.whole_lines; line = reader.line.items }
+kept_by reader =
+    record { points = reader.points; whole_lines = reader.whole_lines; line = reader.line.items }
 
 -- the reader has read the bytes
 abbrev pub HasRead : List ℕ → Reader → Type 0
@@ -37,11 +39,13 @@ HasRead bytes reader = HasKept bytes (kept_by reader)
 
 -- all lines of the bytes are accepted, and these are their points
 abbrev pub AreLinesPoints : List ℕ → List Position → Type 0
-AreLinesPoints bytes points = (cuts : List CutLine) × AreAccepted (lines_of bytes) cuts × (points ≡ points_of cuts)
+AreLinesPoints bytes points =
+    (cuts : List CutLine) × AreAccepted (lines_of bytes) cuts × (points ≡ points_of cuts)
 
 -- the bytes show that a line is refused, whatever comes behind them
 abbrev pub ShowsRefused : List ℕ → Stop → Type 0
-ShowsRefused bytes stop = OnRefused (λ why k. (more : List ℕ) → IsFirstRefused why (lines_of (bytes ++ more)) k) stop
+ShowsRefused bytes stop =
+    OnRefused (λ why k. (more : List ℕ) → IsFirstRefused why (lines_of (bytes ++ more)) k) stop
 
 -- the bytes are all, and their last line is refused
 abbrev pub EndsRefused : List ℕ → Stop → Type 0
@@ -63,7 +67,8 @@ IsRefused old stop = (read : List ℕ) → HasRead read old → ShowsRefused rea
 
 -- its last line is refused, where the bytes end and where a line feed comes
 abbrev pub LastRefused : Reader → Stop → Type 0
-LastRefused old stop = (read : List ℕ) → HasRead read old → EndsRefused read stop × ShowsRefused (read ++ 10 ∷ []) stop
+LastRefused old stop =
+    (read : List ℕ) → HasRead read old → EndsRefused read stop × ShowsRefused (read ++ 10 ∷ []) stop
 
 -- its last line is refused, where the bytes end
 abbrev pub EndRefused : Reader → Stop → Type 0

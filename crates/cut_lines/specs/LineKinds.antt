@@ -1,5 +1,5 @@
--- What a line's kind says of it, and how a line that is longer than a line may be is skipped. Private: no public contract
--- cites this.
+-- What a line's kind says of it, and how a line that is longer than a line may be is skipped.
+-- Private: no public contract cites this.
 use Rattle.std.specs.Prelude.{◌≡◌, ◌≢◌, ℕ, ℤ, ◌<◌, ◌⊎◌, List, [], ◌∷◌, ◌++◌, decimal, slice_index}
 use Rattle.std.specs.Fmt.{signed_decimal}
 use Rattle.line_text.specs.Lines.{words_of}
@@ -13,11 +13,12 @@ IsKind line Skipped = IsSkipped line
 IsKind line (Cut order value) = IsCutLine line order value
 IsKind line Bad = ¬ IsGood line
 
--- why a line that is longer than a line may be is skipped: its first byte is #, or no word comes in its first bytes, as
--- many of them as are new, nor in the bytes behind them
+-- why a line that is longer than a line may be is skipped: its first byte is #, or no word comes in
+-- its first bytes, as many of them as are new, nor in the bytes behind them
 abbrev pub StaysSkipped : List ℕ → ℕ → List ℕ → Type 0
 StaysSkipped line room behind =
-    (slice_index line 0 ≡ 35) ⊎ ((slice_index line 0 ≢ 35) × (0 < room → words_of line ≡ []) × (words_of behind ≡ []))
+    (slice_index line 0 ≡ 35)
+    ⊎ ((slice_index line 0 ≢ 35) × (0 < room → words_of line ≡ []) × (words_of behind ≡ []))
 
 -- its first byte is no #, and there is a word
 abbrev pub HasWord : List ℕ → List ℕ → Type 0

@@ -4,7 +4,8 @@ use Rattle.segment_model.specs.Segments.{Position}
 use Rattle.segment_model.specs.Brought.{Brought, positions_of}
 use Rattle.cut_lines.specs.Lines.{CutLine}
 
--- what a line brings: its value, at its order, which is the commit, and by its number, which is the step
+-- what a line brings: its value, at its order, which is the commit, and by its number, which is the
+-- step
 abbrev pub brought_by : CutLine → Brought
 brought_by cut = record { commit = cut.order; step = cut.number; value = cut.value }
 

@@ -1,4 +1,5 @@
--- How the lines of an input read: they are accepted as a whole, or a line is the first that is refused.
+-- How the lines of an input read: they are accepted as a whole, or a line is the first that is
+-- refused.
 use Rattle.std.specs.Prelude.{◌≡◌, ℕ, ℤ, ◌+◌, ◌^◌, ◌<◌, ◌≤◌, List, [], ◌∷◌, ◌++◌, Option, IfSome, length, take}
 use Rattle.segment_model.specs.Segments.{Position}
 use Rattle.line_text.specs.Lines.{lines_of}
@@ -14,14 +15,16 @@ pub record AreAccepted (lines : List (List ℕ)) (cuts : List CutLine) : Type 0 
 
 -- the cut lines so far, and then this one
 abbrev pub with_line : List CutLine → ℕ → ℕ → ℤ → List CutLine
-with_line cuts number order value = cuts ++ record { number = number; order = order; value = value } ∷ []
+with_line cuts number order value =
+    cuts ++ record { number = number; order = order; value = value } ∷ []
 
--- behind these cut lines, the line of this number is refused, and this is why: it is neither skipped nor a cut line, or
--- it is a cut line that would pass a limit
+-- behind these cut lines, the line of this number is refused, and this is why: it is neither
+-- skipped nor a cut line, or it is a cut line that would pass a limit
 abbrev pub Breaks : Refusal → List CutLine → ℕ → List ℕ → Type 0
 Breaks Bad cuts number line = ¬ IsGood line
 Breaks Full cuts number line =
-    (order : ℕ) × (value : ℤ) × IsCutLine line order value × (¬ FitsSeries (with_line cuts number order value))
+    (order : ℕ) × (value : ℤ) × IsCutLine line order value
+    × (¬ FitsSeries (with_line cuts number order value))
 
 -- line k, counted from 1, is the first that isn't accepted, and this is why
 pub record IsFirstRefused (why : Refusal) (lines : List (List ℕ)) (k : ℕ) : Type 0 where
@@ -38,10 +41,12 @@ pub record IsFirstRefused (why : Refusal) (lines : List (List ℕ)) (k : ℕ) : 
 abbrev pub within_limit : List ℕ → List ℕ
 within_limit bytes = take (2 ^ 30) bytes
 
--- line k is the first that is refused, whatever comes behind the first 2^30 bytes where there are more
+-- line k is the first that is refused, whatever comes behind the first 2^30 bytes where there are
+-- more
 abbrev pub Refuses : Refusal → List ℕ → ℕ → Type 0
 Refuses why bytes k =
-    (more : List ℕ) → (length bytes ≤ 2 ^ 30 → more ≡ []) → IsFirstRefused why (lines_of (within_limit bytes ++ more)) k
+    (more : List ℕ) → (length bytes ≤ 2 ^ 30 → more ≡ [])
+    → IsFirstRefused why (lines_of (within_limit bytes ++ more)) k
 
 -- the whole lines are accepted, and the line that has begun may become good
 pub record MayGoOn (bytes : List ℕ) : Type 0 where
@@ -63,7 +68,8 @@ pub record AreCutLinesOf (bytes : List ℕ) (cuts : List CutLine) : Type 0 where
 
 -- all of the bytes are accepted, and these are their points
 abbrev pub ArePointsOf : List ℕ → List Position → Type 0
-ArePointsOf bytes points = (cuts : List CutLine) × AreCutLinesOf bytes cuts × (points ≡ points_of cuts)
+ArePointsOf bytes points =
+    (cuts : List CutLine) × AreCutLinesOf bytes cuts × (points ≡ points_of cuts)
 
 -- they are the points of the bytes that an input had left, where it tells them
 abbrev pub ArePointsOfInput : Option (List ℕ) → List Position → Type 0

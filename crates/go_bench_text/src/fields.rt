@@ -11,16 +11,23 @@ ghost use Rattle.go_bench_text.specs.Parts.{is_stopped, IsBlackByte, IsWhiteByte
 use crate::characters::split_first;
 use fixed_value::Numeral;
 
-// Where the first byte is that is white space or no ASCII character.
-fn ascii_end(bytes: &[u8]) -> usize
+// Where the first byte is that no graphic ASCII character has.
+fn graphic_end(bytes: &[u8]) -> usize
     ensures within { result ≤ length bytes.now }
     ensures black { (k : ℕ) → k < result → IsBlackByte (slice_index bytes.now k) }
 {
     let mut end = 0;
-    while end < bytes.len() && is_black_byte(bytes[end]) {
+    while end < bytes.len() && is_graphic(bytes[end]) {
         end += 1;
     }
     end
+}
+
+// Whether the byte is a graphic ASCII character, as most are; other bytes may be black too.
+fn is_graphic(byte: u8) -> bool
+    ensures { IsTrue result → IsBlackByte byte }
+{
+    b'!' <= byte && byte <= b'~'
 }
 
 // Whether the byte is an ASCII character other than white space.
@@ -79,7 +86,7 @@ fn split_any(text: &str) -> (&str, &str)
     ensures front { IsUtf8 result.0.now }
     ensures back { IsUtf8 result.1.now }
 {
-    let mut rest = &text[ascii_end(text.as_bytes())..];
+    let mut rest = &text[graphic_end(text.as_bytes())..];
     while let Some((c, more)) = split_first(rest) {
         if c.is_whitespace() {
             return text.split_at(text.len() - rest.len());
@@ -97,7 +104,7 @@ fn split_black(text: &str) -> (&str, &str)
     ensures front { IsUtf8 result.0.now }
     ensures back { IsUtf8 result.1.now }
 {
-    let end = ascii_end(text.as_bytes());
+    let end = graphic_end(text.as_bytes());
     if stops_at(text.as_bytes(), end) {
         return text.split_at(end);
     }

@@ -6,7 +6,7 @@ ghost use Rattle.go_bench_text.specs.Readings.{IsOver, pkg_of};
 
 use crate::fault::LineFault;
 use crate::line::head_of;
-use crate::pairs::{Pair, read_pairs};
+use crate::pairs::{Pair, Pairs, read_pairs};
 use crate::sample::{shared_name, test_fits, test_name};
 use line_text::{Name, Names};
 use metric_table::Limit;
@@ -120,7 +120,7 @@ pub(crate) fn add_measured<'a>(
     alloc: Global,
     names: &mut Names,
     gathered: &mut Gathered,
-    pairs: &mut Vec<Pair<'a>>,
+    pairs: &mut Pairs<'a>,
     pkg: &str,
     line: &'a str,
 ) -> Result<u64, LineFault>
@@ -137,6 +137,6 @@ pub(crate) fn add_measured<'a>(
     if !read_pairs(behind, pairs)? {
         return Ok(1);
     }
-    gathered.add_pairs(alloc, names, pkg, name, pairs)?;
+    gathered.add_pairs(alloc, names, pkg, name, pairs.as_slice())?;
     Ok(0)
 }

@@ -10,7 +10,7 @@
 //! The definitions are in `specs/`: `Bytes`, `Characters`, `Fields`, `Lines` (the kinds of lines),
 //! `Readings` (the samples of a text), `Spellings` (how samples are written). Stands on `sample_model`
 //! for samples, `metric_value` for values, `line_text` for names and lines, `memchr` for where a line ends,
-//! and `unicode` for upper and lower case.
+//! `smallvec` for the pairs of a line, and `unicode` for upper and lower case.
 #![tactic(auto)]
 
 mod characters;

@@ -7,13 +7,17 @@ ghost use Rattle.go_bench_text.specs.Pairs.{IsReadAs, ReadsPairs, HasLargePair};
 use crate::fault::LineFault;
 use crate::fields::{are_pairs, next_field};
 use metric_value::{ValueFault, value_of};
+use smallvec::SmallVec;
 
 // A unit, and a value by it.
-#[derive(Clone, Copy)]
+#[derive(Clone, Copy, Default)]
 pub(crate) struct Pair<'a> {
     pub(crate) unit: &'a str,
     pub(crate) value: i64,
 }
+
+// The pairs of a line: few enough, they take no memory.
+pub(crate) type Pairs<'a> = SmallVec<Pair<'a>, 4>;
 
 // What a value and a unit are.
 enum PairRead<'a> {
@@ -41,7 +45,7 @@ fn read_pair<'a>(value: &str, unit: &'a str) -> PairRead<'a>
 }
 
 // Reads the fields behind a count. Whether they are one or more pairs; if so, and if all are in range, these are the pairs.
-pub(crate) fn read_pairs<'a>(text: &'a str, pairs: &mut Vec<Pair<'a>>) -> Result<bool, LineFault>
+pub(crate) fn read_pairs<'a>(text: &'a str, pairs: &mut Pairs<'a>) -> Result<bool, LineFault>
     ensures read { IfOk result (λ paired. IsTrue paired
         → ReadsPairs (fields_of text.now) pairs.new.items) }
     ensures none { IfOk result (λ paired. paired ≡ false

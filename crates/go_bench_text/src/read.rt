@@ -13,7 +13,7 @@ use crate::config::setting_of;
 use crate::fault::LineFault;
 use crate::gather::{Gathered, add_measured};
 use crate::line::{begins, first_line};
-use crate::pairs::Pair;
+use crate::pairs::Pairs;
 use line_text::Names;
 use metric_table::Limit;
 use metric_value::value_law;
@@ -79,7 +79,7 @@ fn read_line<'a>(
     alloc: Global,
     names: &mut Names,
     gathered: &mut Gathered,
-    pairs: &mut Vec<Pair<'a>>,
+    pairs: &mut Pairs<'a>,
     pkg: &'a str,
     line: &'a str,
 ) -> Result<(&'a str, u64), LineFault>
@@ -109,7 +109,7 @@ fn gather(alloc: Global, names: &mut Names, text: &str) -> Result<(Gathered, u64
     ensures fault { IfErr result (λ fault. IsFault text.now fault) }
 {
     let mut gathered = Gathered::new(alloc);
-    let mut pairs = Vec::new(alloc);
+    let mut pairs = Pairs::new(alloc);
     let mut pkg = "";
     let mut number = 0u64;
     let mut ignored = 0u64;
@@ -166,8 +166,8 @@ pub fn one_reading_law()
 /// of the benchmark; its metric is the unit, and its value is scaled by the metric's decimals. Lines that begin with
 /// `Benchmark` and are no result lines are ignored and counted. The rules are those of docs/FORMATS.md.
 ///
-/// Linear in the length of the text; takes memory for the samples and, while it reads, for the pairs of a line and for at most
-/// 4,096 places of names.
+/// Linear in the length of the text; takes memory for the samples and, while it reads, for the pairs of a line that has more than
+/// four, and for at most 4,096 places of names.
 pub fn read_go(alloc: Global, bytes: &[u8]) -> Result<GoRun, GoFault>
     // What is given are the text's samples, and where a text has samples within the limit they are
     // given, unless memory runs out.

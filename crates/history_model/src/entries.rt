@@ -5,7 +5,7 @@ use crate::NoMemory;
 use crate::events::{JobEvent, RegressionEvent};
 use crate::publication::Publication;
 use crate::run::Run;
-use line_text::Name;
+use line_text::{Boxed, Name};
 use std::alloc::Global;
 
 /// Who made an entry.
@@ -31,9 +31,9 @@ pub enum Entry {
     /// The run of that name was taken back.
     Retract { run: Name },
     /// The penalty of a metric was set, in squared units of its last decimal.
-    Tune { metric: Name, penalty: i128 },
+    Tune { metric: Name, penalty: Boxed<i128> },
     /// A segmentation of a series was published.
-    Publish { publication: Publication },
+    Publish { publication: Boxed<Publication> },
     /// A regression was raised, or moved to another state.
     Regression { event: RegressionEvent },
     /// A bisection was begun, answered or given up.
@@ -61,11 +61,11 @@ impl Entry {
             }
             Entry::Tune { metric, penalty } => {
                 let metric = metric.copy(alloc)?;
-                let penalty = *penalty;
+                let penalty = Boxed::new(alloc, *penalty.get())?;
                 Ok(Entry::Tune { metric, penalty })
             }
             Entry::Publish { publication } => {
-                let publication = publication.copy(alloc)?;
+                let publication = Boxed::new(alloc, publication.get().copy(alloc)?)?;
                 Ok(Entry::Publish { publication })
             }
             Entry::Regression { event } => {

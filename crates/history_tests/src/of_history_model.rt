@@ -1,18 +1,16 @@
 //! Entries and what is read from a history, copied with ample memory. `submit` copies runs.
 use history_model::{Acceptance, Author, Declaration, Entry, Placed, Run};
-use line_text::Name;
+use line_text::{Boxed, Name};
 use sample_model::Samples;
 use std::alloc::Global;
 
 // A tuning; none where there is no memory.
 fn tuning(alloc: Global) -> Option<Placed> {
     let metric = Name::of_text(alloc, b"B/op").ok()?;
+    let penalty = Boxed::new(alloc, 50).ok()?;
     Some(Placed {
         author: Author::Script(1),
-        entry: Entry::Tune {
-            metric,
-            penalty: 50,
-        },
+        entry: Entry::Tune { metric, penalty },
     })
 }
 
@@ -26,7 +24,7 @@ fn is_placed(alloc: Global) -> bool {
     match placed(alloc) {
         Some(made) => {
             made.author == Author::Script(1)
-                && matches!(made.entry, Entry::Tune { penalty: 50, .. })
+                && matches!(&made.entry, Entry::Tune { penalty, .. } if *penalty.get() == 50)
         }
         None => false,
     }

@@ -17,7 +17,7 @@ use std::alloc::Global;
 
 /// Why bytes are not read, and at which place, from 0. Where several reasons hold, the one that reading meets first is given, but bytes
 /// that are not UTF-8 come before all else.
-#[derive(Clone, Copy, Debug, Drop, PartialEq, Eq)]
+#[derive(Clone, Copy)]
 pub enum JsonFault {
     /// The bytes are UTF-8 up to here, and no further.
     NotText(u64),

@@ -4,7 +4,6 @@ ghost use Rattle.std.specs.Str.{IsUtf8, IsCharBoundary};
 
 use crate::NoMemory;
 use std::alloc::Global;
-use std::fmt;
 use std::marker::Model;
 use std::rc::RcStr;
 
@@ -100,12 +99,6 @@ impl Model for SharedText {
     ghost view = { λ t. slice_range t.whole t.start t.end };
 
     ghost invariant = { λ t. (t.start ≤ t.end) × IsCharBoundary t.whole t.start × IsCharBoundary t.whole t.end };
-}
-
-impl fmt::Debug for SharedText {
-    fn fmt<W: fmt::Write>(&self, f: &mut fmt::Formatter<W>) -> fmt::Result {
-        fmt::Debug::fmt(self.as_str(), f)
-    }
 }
 
 impl SharedText {

@@ -14,7 +14,7 @@ pub(crate) enum Open {
 }
 
 /// A place in a number, named by what stands before it.
-#[derive(Clone, Copy, Drop)]
+#[derive(Clone, Copy)]
 pub(crate) enum Digits {
     AfterMinus,
     AfterZero,
@@ -27,7 +27,7 @@ pub(crate) enum Digits {
 }
 
 /// A place in a text. The numbers are the hex digits so far, and before them the high surrogate that waits for its low one.
-#[derive(Clone, Copy, Drop)]
+#[derive(Clone, Copy)]
 pub(crate) enum Within {
     Plain,
     AfterBackslash,
@@ -44,7 +44,7 @@ pub(crate) enum Within {
 }
 
 /// What a byte does in a text: it leads to another place, it adds a byte or a character, it ends the text, or it cannot stand there.
-#[derive(Clone, Copy, Drop)]
+#[derive(Clone, Copy)]
 pub(crate) enum Move {
     Goes(Within),
     Adds(u8),
@@ -65,7 +65,7 @@ pub(crate) enum Awaits {
 }
 
 /// Why reading stops at a byte.
-#[derive(Clone, Copy, Debug, Drop)]
+#[derive(Clone, Copy)]
 pub(crate) enum Stop {
     Refused,
     TooDeep,

@@ -9,7 +9,7 @@ use crate::shared::SharedText;
 use std::alloc::Global;
 
 /// A JSON value. A number keeps its spelling, and an object its members in order, also those whose key comes again.
-#[derive(Debug, Drop)]
+#[derive(Drop)]
 #[cycle(tree)]
 pub enum Json {
     /// The word `null`.
@@ -27,21 +27,21 @@ pub enum Json {
 }
 
 /// The items of a list, in order.
-#[derive(Debug, Drop)]
+#[derive(Drop)]
 #[cycle(tree)]
 pub struct JsonList {
     pub(crate) items: Vec<Json>,
 }
 
 /// The members of an object, in order.
-#[derive(Debug, Drop)]
+#[derive(Drop)]
 #[cycle(tree)]
 pub struct JsonMembers {
     pub(crate) members: Vec<Member>,
 }
 
 /// A key and its value.
-#[derive(Debug, Drop)]
+#[derive(Drop)]
 #[cycle(tree)]
 pub struct Member {
     /// The key, without its quotes and escapes.

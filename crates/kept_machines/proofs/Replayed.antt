@@ -11,7 +11,7 @@ use Rattle.keep_rows.specs.Rows.{Row, IsRowOf}
 use Rattle.track_entry.specs.Texts.{SpellsEntry, IsOneEntry}
 use Rattle.track_model.specs.Tracks.{Track, with_entry}
 use Rattle.track_state.specs.Made.{IsPlain}
-use Rattle.track_state.specs.Replays.{IsReplayed}
+use Rattle.track_replay.specs.Replays.{IsReplayed}
 use Rattle.kept_machines.specs.Kept.{is_kept, AreKept}
 use Rattle.kept_machines.specs.Loading.{AddsEntry, Adds, AddsRow}
 use Rattle.kept_machines.specs.Machines.{is_track}

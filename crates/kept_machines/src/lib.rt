@@ -11,8 +11,8 @@
 //!
 //! [`place_of`] finds a machine among others (`specs/Machines.antt`, `specs/Places.antt`).
 //!
-//! Stands on `keep_rows` for the rows of any values, on `track_state` for histories, and on `track_entry` for the texts of
-//! entries.
+//! Stands on `keep_rows` for the rows of any values, on `track_state` and `track_replay` for histories, and on
+//! `track_entry` for the texts of entries.
 #![tactic(auto)]
 
 mod append;

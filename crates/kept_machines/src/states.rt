@@ -15,6 +15,7 @@ use metric_table::Limit;
 use std::alloc::Global;
 use std::marker::Model;
 use track_entry::{EntryFault, entries_law, read_entry};
+use track_replay::replay;
 use track_state::TrackState;
 
 // How many names are kept, so that they are shared where they come again.
@@ -98,7 +99,7 @@ impl States {
         if !is_kept(&entry) {
             return Ok(false);
         }
-        self.machines[place].replay(entry)
+        replay(&mut self.machines[place], entry)
     }
 }
 

@@ -4,6 +4,7 @@ ghost use Rattle.line_text.specs.Names.{IsName, Spells};
 
 use crate::NoMemory;
 use crate::escapes::decoded;
+use crate::kept::Kept;
 use crate::name::{Name, NameError};
 use std::alloc::Global;
 use std::borrow::CowSlice;
@@ -15,9 +16,11 @@ use std::hash::{FoldHasher, Hasher};
 /// to nothing. What is kept makes no difference to any answer, and contracts don't see it.
 #[derive(Drop)]
 pub struct Names {
-    // Each with its hash; made for the first name.
-    places: Vec<Option<(u64, Name)>>,
+    // Made for the first name.
+    places: Vec<Option<Kept>>,
     count: usize,
+    // For each length modulo 16, the hash of the last text of such a length that a word stood for.
+    last: [u64; 16],
 }
 
 impl Names {
@@ -26,6 +29,7 @@ impl Names {
         Names {
             places: Vec::new(alloc),
             count,
+            last: [0; 16],
         }
     }
 
@@ -35,7 +39,58 @@ impl Names {
         ensures named { OnOk result (IsName text.now) }
         ensures bad { result ≡ Err NameError.BadName → ¬ IsName text.now }
     {
-        let hash = hash_of(text);
+        self.name_with(alloc, hash_of(text), text)
+    }
+
+    /// The name that a word spells, as [`read_name`](crate::read_name) says. Linear in the length of the word; takes no
+    /// memory for a name that is kept, where no byte is escaped. Such a word is only compared where it comes again before
+    /// another of its length.
+    pub fn read(&mut self, alloc: Global, word: &[u8]) -> Result<Name, NameError>
+        ensures spelt { IfOk result (λ name. Spells word.now name) }
+        ensures bad { result ≡ Err NameError.BadName → (name : List ℕ) → ¬ Spells word.now name }
+    {
+        if let Some(name) = self.again(alloc, word)? {
+            return Ok(name);
+        }
+        match decoded(alloc, word)? {
+            Some(CowSlice::Borrowed(bytes)) => self.name_of_bytes(alloc, bytes),
+            Some(CowSlice::Owned(bytes)) => self.name_of_bytes(alloc, &bytes),
+            None => Err(NameError::BadName),
+        }
+    }
+
+    // The name that was read last of a word of this length, if the word is its own bytes, which spell it.
+    fn again(&self, alloc: Global, word: &[u8]) -> Result<Option<Name>, NoMemory>
+        ensures { IfOk result (λ found. IfSome found (λ name. Spells word.now name)) }
+    {
+        match self.at(self.last[word.len() % 16]) {
+            Some(kept) if kept.is_word(word) => Ok(Some(kept.name().copy(alloc)?)),
+            _ => Ok(None),
+        }
+    }
+
+    // The name that the bytes are, which a word spells.
+    fn name_of_bytes(&mut self, alloc: Global, bytes: &[u8]) -> Result<Name, NameError>
+        ensures same { IfOk result (λ name. name ≡ bytes.now) }
+        ensures named { OnOk result (IsName bytes.now) }
+        ensures bad { result ≡ Err NameError.BadName → ¬ IsName bytes.now }
+    {
+        match str::from_utf8(bytes) {
+            Ok(text) => {
+                let hash = hash_of(text);
+                self.last[text.len() % 16] = hash;
+                self.name_with(alloc, hash, text)
+            }
+            Err(_) => Err(NameError::BadName),
+        }
+    }
+
+    // The name that a text with this hash is.
+    fn name_with(&mut self, alloc: Global, hash: u64, text: &str) -> Result<Name, NameError>
+        ensures same { IfOk result (λ name. name ≡ text.now) }
+        ensures named { OnOk result (IsName text.now) }
+        ensures bad { result ≡ Err NameError.BadName → ¬ IsName text.now }
+    {
         if let Some(name) = self.kept(alloc, hash, text)? {
             return Ok(name);
         }
@@ -44,34 +99,17 @@ impl Names {
         Ok(name)
     }
 
-    /// The name that a word spells, as [`read_name`](crate::read_name) says. Linear in the length of the word; takes no
-    /// memory for a name that is kept, where no byte is escaped.
-    pub fn read(&mut self, alloc: Global, word: &[u8]) -> Result<Name, NameError>
-        ensures spelt { IfOk result (λ name. Spells word.now name) }
-        ensures bad { result ≡ Err NameError.BadName → (name : List ℕ) → ¬ Spells word.now name }
-    {
-        match decoded(alloc, word)? {
-            Some(CowSlice::Borrowed(bytes)) => self.name_of_bytes(alloc, bytes),
-            Some(CowSlice::Owned(bytes)) => self.name_of_bytes(alloc, &bytes),
-            None => Err(NameError::BadName),
-        }
-    }
-
-    // The name that the bytes are.
-    fn name_of_bytes(&mut self, alloc: Global, bytes: &[u8]) -> Result<Name, NameError>
-        ensures same { IfOk result (λ name. name ≡ bytes.now) }
-        ensures named { OnOk result (IsName bytes.now) }
-        ensures bad { result ≡ Err NameError.BadName → ¬ IsName bytes.now }
-    {
-        match str::from_utf8(bytes) {
-            Ok(text) => self.name_of(alloc, text),
-            Err(_) => Err(NameError::BadName),
-        }
-    }
-
     // The place of a hash.
     fn place_of(&self, hash: u64) -> usize {
         hash as usize & self.places.len().wrapping_sub(1)
+    }
+
+    // What is kept at the place of a hash.
+    fn at(&self, hash: u64) -> Option<&Kept> {
+        match self.places.get(self.place_of(hash)) {
+            Some(Some(kept)) => Some(kept),
+            _ => None,
+        }
     }
 
     // The name of a text with this hash, if it is kept.
@@ -79,10 +117,10 @@ impl Names {
         ensures same { IfOk result (λ kept. IfSome kept (λ name. name ≡ text.now)) }
         ensures named { IfOk result (λ kept. IfSome kept (λ name. IsName text.now)) }
     {
-        match self.places.get(self.place_of(hash)) {
-            Some(Some((known, name))) if *known == hash && name.as_str() == text => {
-                name.bytes_law();
-                Ok(Some(name.copy(alloc)?))
+        match self.at(hash) {
+            Some(kept) if kept.is_text(hash, text) => {
+                kept.name().bytes_law();
+                Ok(Some(kept.name().copy(alloc)?))
             }
             _ => Ok(None),
         }
@@ -94,7 +132,7 @@ impl Names {
         let place = self.place_of(hash);
         if let Some(free) = self.places.get_mut(place) {
             if free.is_none() {
-                *free = Some((hash, name.copy(alloc)?));
+                *free = Some(Kept::new(name.copy(alloc)?, hash));
             }
         }
         Ok(())

@@ -23,7 +23,8 @@ use std::marker::Model;
 pub struct OrderIndex {
     alloc: Global,
     by_name: IndexMap<Name, Declaration>,
-    by_number: BTreeMap<u64, Declaration>,
+    // Where in `by_name` the declaration of a number stands.
+    by_number: BTreeMap<u64, usize>,
 }
 
 impl Model for OrderIndex {
@@ -83,7 +84,9 @@ impl OrderIndex {
         if self.is_above_all(number) {
             return None;
         }
-        self.by_number.get(&number)
+        let place = self.by_number.get(&number)?;
+        let (_, declaration) = self.by_name.get_index(*place)?;
+        Some(declaration)
     }
 
     /// The declaration with this name. Constant time, but for the name's length; takes no memory.
@@ -168,13 +171,9 @@ impl OrderIndex {
         ensures err { OnErr result (self.new ≡ self.old) }
     {
         let key = name.copy(self.alloc)?;
-        let twin = Declaration {
-            step,
-            number,
-            name: name.copy(self.alloc)?,
-        };
         self.by_name.reserve(1)?;
-        self.by_number.insert(number, twin)?;
+        let place = self.by_name.len();
+        self.by_number.insert(number, place)?;
         put(&mut self.by_name, key, Declaration { step, number, name });
         Ok(())
     }
@@ -194,7 +193,7 @@ fn put(by_name: &mut IndexMap<Name, Declaration>, key: Name, declaration: Declar
 // The numbers of a map from one to another, in order.
 fn keys_between(
     alloc: Global,
-    by_number: &BTreeMap<u64, Declaration>,
+    by_number: &BTreeMap<u64, usize>,
     lo: u64,
     hi: u64,
 ) -> Result<Numbers, NoMemory>

@@ -1,10 +1,11 @@
 //! The words of an answer, and the lines of a list.
-ghost use Rattle.std.specs.Prelude.{◌≡◌, ◌+◌, ◌<◌, ◌^◌, ◌++◌, ◌∷◌, [], length, OnOk, codes, decimal};
+ghost use Rattle.std.specs.Prelude.{◌≡◌, ◌+◌, ◌<◌, ◌^◌, ◌∷◌, [], length, codes, decimal};
 ghost use Rattle.std.specs.Fmt.{signed_decimal};
 ghost use Rattle.line_text.specs.Names.{spelling};
 ghost use Rattle.request_model.specs.Lines.{spaced, line_of};
 ghost use Rattle.reply_text.specs.Replies.{answer_words, change_words, lines_in, listed_words, run_words, version_words};
 ghost use Rattle.request_model.specs.declared.replies.Answer.TheVariants as answer;
+ghost use Rattle.reply_text.specs.Puts.{Puts};
 
 use crate::NoMemory;
 use crate::refusal::put_refusal;
@@ -18,7 +19,7 @@ use std::alloc::Global;
 
 // Appends the words of an answer on the first line, each behind a space.
 pub(crate) fn put_answer(alloc: Global, out: &mut Vec<u8>, answer: &Answer) -> Result<(), NoMemory>
-    ensures { OnOk result (out.new.items ≡ out.old.items ++ spaced (answer_words answer.now)) }
+    ensures { Puts result out.old.items out.new.items (spaced (answer_words answer.now)) }
 {
     match answer {
         Answer::Machine { machine } => put_named(alloc, out, "machine", machine),
@@ -92,8 +93,7 @@ pub(crate) fn put_answer(alloc: Global, out: &mut Vec<u8>, answer: &Answer) -> R
 
 // Appends a word and a name.
 fn put_named(alloc: Global, out: &mut Vec<u8>, kind: &str, name: &Name) -> Result<(), NoMemory>
-    ensures { OnOk result
-        (out.new.items ≡ out.old.items ++ spaced (kind.now ∷ spelling name.now ∷ [])) }
+    ensures { Puts result out.old.items out.new.items (spaced (kind.now ∷ spelling name.now ∷ [])) }
 {
     put_word(out, kind)?;
     put_spelled(alloc, out, name)
@@ -101,7 +101,7 @@ fn put_named(alloc: Global, out: &mut Vec<u8>, kind: &str, name: &Name) -> Resul
 
 // Appends a word and a number.
 fn put_counted(alloc: Global, out: &mut Vec<u8>, what: &str, n: u64) -> Result<(), NoMemory>
-    ensures { OnOk result (out.new.items ≡ out.old.items ++ spaced (what.now ∷ decimal n ∷ [])) }
+    ensures { Puts result out.old.items out.new.items (spaced (what.now ∷ decimal n ∷ [])) }
 {
     put_word(out, what)?;
     put_number(alloc, out, n)
@@ -109,8 +109,7 @@ fn put_counted(alloc: Global, out: &mut Vec<u8>, what: &str, n: u64) -> Result<(
 
 // Appends a word, and the number of entries that the answer speaks of.
 fn put_version(alloc: Global, out: &mut Vec<u8>, kind: &str, version: u64) -> Result<(), NoMemory>
-    ensures { OnOk result
-        (out.new.items ≡ out.old.items ++ spaced (version_words kind.now version)) }
+    ensures { Puts result out.old.items out.new.items (spaced (version_words kind.now version)) }
 {
     put_word(out, kind)?;
     put_counted(alloc, out, "version", version)
@@ -124,8 +123,8 @@ fn put_listed(
     version: u64,
     lines: u64,
 ) -> Result<(), NoMemory>
-    ensures { OnOk result
-        (out.new.items ≡ out.old.items ++ spaced (listed_words kind.now version lines)) }
+    ensures { Puts result out.old.items out.new.items
+        (spaced (listed_words kind.now version lines)) }
 {
     put_version(alloc, out, kind, version)?;
     put_counted(alloc, out, "lines", lines)
@@ -139,8 +138,9 @@ fn put_sizes(
     points: u64,
     cuts: u64,
 ) -> Result<(), NoMemory>
-    ensures { OnOk result (out.new.items ≡ out.old.items ++ spaced (codes "base" ∷ decimal base
-        ∷ codes "points" ∷ decimal points ∷ codes "cuts" ∷ decimal cuts ∷ [])) }
+    ensures { Puts result out.old.items out.new.items
+        (spaced (codes "base" ∷ decimal base ∷ codes "points" ∷ decimal points
+        ∷ codes "cuts" ∷ decimal cuts ∷ [])) }
 {
     put_counted(alloc, out, "base", base)?;
     put_counted(alloc, out, "points", points)?;
@@ -149,8 +149,8 @@ fn put_sizes(
 
 // Appends how many positions were looked at anew, and the total.
 fn put_effort(alloc: Global, out: &mut Vec<u8>, redone: u64, total: i128) -> Result<(), NoMemory>
-    ensures { OnOk result (out.new.items ≡ out.old.items ++ spaced (codes "redone"
-        ∷ decimal redone ∷ codes "total" ∷ signed_decimal total ∷ [])) }
+    ensures { Puts result out.old.items out.new.items
+        (spaced (codes "redone" ∷ decimal redone ∷ codes "total" ∷ signed_decimal total ∷ [])) }
 {
     put_counted(alloc, out, "redone", redone)?;
     put_word(out, "total")?;
@@ -165,8 +165,9 @@ fn put_job(
     range: u64,
     questions: u64,
 ) -> Result<(), NoMemory>
-    ensures { OnOk result (out.new.items ≡ out.old.items ++ spaced (codes "job" ∷ decimal job
-        ∷ codes "range" ∷ decimal range ∷ codes "questions" ∷ decimal questions ∷ [])) }
+    ensures { Puts result out.old.items out.new.items
+        (spaced (codes "job" ∷ decimal job ∷ codes "range" ∷ decimal range
+        ∷ codes "questions" ∷ decimal questions ∷ [])) }
 {
     put_counted(alloc, out, "job", job)?;
     put_counted(alloc, out, "range", range)?;
@@ -175,8 +176,8 @@ fn put_job(
 
 // Appends how many lines a report has.
 fn put_line_count(alloc: Global, out: &mut Vec<u8>, pages: &Pages) -> Result<(), NoMemory>
-    ensures { OnOk result (out.new.items ≡ out.old.items
-        ++ spaced (codes "lines" ∷ decimal (lines_in pages.now) ∷ [])) }
+    ensures { Puts result out.old.items out.new.items
+        (spaced (codes "lines" ∷ decimal (lines_in pages.now) ∷ [])) }
 {
     if pages.json {
         return put_counted(alloc, out, "lines", 1);
@@ -202,8 +203,8 @@ fn put_accepted(
     samples: u64,
     ignored: u64,
 ) -> Result<(), NoMemory>
-    ensures { OnOk result (out.new.items ≡ out.old.items
-        ++ spaced (answer_words (answer.Accepted run.now samples ignored))) }
+    ensures { Puts result out.old.items out.new.items
+        (spaced (answer_words (answer.Accepted run.now samples ignored))) }
 {
     put_word(out, "accepted")?;
     put_spelled(alloc, out, run)?;
@@ -220,8 +221,8 @@ pub(crate) fn put_change(
     metric: &[u8],
     change: &NamedChange,
 ) -> Result<(), NoMemory>
-    ensures { OnOk result
-        (out.new.items ≡ out.old.items ++ line_of (change_words metric.now change.now)) }
+    ensures { Puts result out.old.items out.new.items
+        (line_of (change_words metric.now change.now)) }
 {
     put_name(alloc, out, &change.before)?;
     put_spelled(alloc, out, &change.after)?;
@@ -241,7 +242,7 @@ pub(crate) fn put_change(
 
 // Appends the line of a run.
 pub(crate) fn put_run(alloc: Global, out: &mut Vec<u8>, line: &RunLine) -> Result<(), NoMemory>
-    ensures { OnOk result (out.new.items ≡ out.old.items ++ line_of (run_words line.now)) }
+    ensures { Puts result out.old.items out.new.items (line_of (run_words line.now)) }
 {
     put_name(alloc, out, &line.run)?;
     put_spelled(alloc, out, &line.commit)?;

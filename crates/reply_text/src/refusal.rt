@@ -1,9 +1,10 @@
 //! The words of a refusal.
-ghost use Rattle.std.specs.Prelude.{◌≡◌, ◌∷◌, ◌++◌, [], OnOk, decimal};
+ghost use Rattle.std.specs.Prelude.{◌∷◌, ◌++◌, [], decimal};
 ghost use Rattle.line_text.specs.Names.{spelling};
 ghost use Rattle.request_model.specs.Lines.{spaced};
 ghost use Rattle.reply_text.specs.Replies.{at, place_words, refusal_words};
 ghost use Rattle.request_model.specs.declared.replies.Refusal.TheVariants as refusal;
+ghost use Rattle.reply_text.specs.Puts.{Puts};
 
 use crate::NoMemory;
 use crate::words::{put_move, put_number, put_outcome, put_spelled, put_step, put_text, put_word};
@@ -17,7 +18,7 @@ pub(crate) fn put_refusal(
     out: &mut Vec<u8>,
     refusal: &Refusal,
 ) -> Result<(), NoMemory>
-    ensures { OnOk result (out.new.items ≡ out.old.items ++ spaced (refusal_words refusal.now)) }
+    ensures { Puts result out.old.items out.new.items (spaced (refusal_words refusal.now)) }
 {
     match refusal {
         Refusal::BadRequest => put_kind(out, "E01", "BadRequest"),
@@ -29,7 +30,8 @@ pub(crate) fn put_refusal(
         Refusal::NotJson(offset) => put_numbered(alloc, out, "E07", "NotJson", *offset),
         Refusal::NotReport { rule, member } => {
             put_numbered(alloc, out, "E08", "NotReport", u64::from(*rule))?;
-            put_text(alloc, out, member.as_str())
+            put_text(alloc, out, member.as_str())?;
+            Ok(())
         }
         Refusal::OutOfRange(place) => put_out_of_range(alloc, out, place),
         Refusal::IdentityClash(step) => put_stepped(alloc, out, "E10", "IdentityClash", *step),
@@ -70,8 +72,7 @@ pub(crate) fn put_refusal(
 
 // Appends the number and the word of a kind of refusal.
 fn put_kind(out: &mut Vec<u8>, number: &str, word: &str) -> Result<(), NoMemory>
-    ensures { OnOk result
-        (out.new.items ≡ out.old.items ++ ((32 ∷ number.now) ++ (32 ∷ word.now))) }
+    ensures { Puts result out.old.items out.new.items ((32 ∷ number.now) ++ (32 ∷ word.now)) }
 {
     put_word(out, number)?;
     put_word(out, word)
@@ -85,8 +86,8 @@ fn put_numbered(
     word: &str,
     told: u64,
 ) -> Result<(), NoMemory>
-    ensures { OnOk result (out.new.items ≡ out.old.items
-        ++ spaced (number.now ∷ word.now ∷ decimal told ∷ [])) }
+    ensures { Puts result out.old.items out.new.items
+        (spaced (number.now ∷ word.now ∷ decimal told ∷ [])) }
 {
     put_kind(out, number, word)?;
     put_number(alloc, out, told)
@@ -100,8 +101,8 @@ fn put_stepped(
     word: &str,
     step: u64,
 ) -> Result<(), NoMemory>
-    ensures { OnOk result (out.new.items ≡ out.old.items
-        ++ spaced (number.now ∷ word.now ∷ at step ∷ [])) }
+    ensures { Puts result out.old.items out.new.items
+        (spaced (number.now ∷ word.now ∷ at step ∷ [])) }
 {
     put_kind(out, number, word)?;
     put_step(alloc, out, step)
@@ -115,8 +116,8 @@ fn put_of_commit(
     word: &str,
     commit: &Name,
 ) -> Result<(), NoMemory>
-    ensures { OnOk result (out.new.items ≡ out.old.items
-        ++ spaced (number.now ∷ word.now ∷ spelling commit.now ∷ [])) }
+    ensures { Puts result out.old.items out.new.items
+        (spaced (number.now ∷ word.now ∷ spelling commit.now ∷ [])) }
 {
     put_kind(out, number, word)?;
     put_spelled(alloc, out, commit)
@@ -124,8 +125,8 @@ fn put_of_commit(
 
 // Appends the refusal of a commit that is taken, with the pair that takes it.
 fn put_taken(alloc: Global, out: &mut Vec<u8>, number: u64, name: &Name) -> Result<(), NoMemory>
-    ensures { OnOk result (out.new.items ≡ out.old.items
-        ++ spaced (refusal_words (refusal.CommitTaken number name.now))) }
+    ensures { Puts result out.old.items out.new.items
+        (spaced (refusal_words (refusal.CommitTaken number name.now))) }
 {
     put_numbered(alloc, out, "E05", "CommitTaken", number)?;
     put_spelled(alloc, out, name)?;
@@ -134,8 +135,8 @@ fn put_taken(alloc: Global, out: &mut Vec<u8>, number: u64, name: &Name) -> Resu
 
 // Appends the refusal of a value that is out of range.
 fn put_out_of_range(alloc: Global, out: &mut Vec<u8>, place: &RangePlace) -> Result<(), NoMemory>
-    ensures { OnOk result (out.new.items ≡ out.old.items
-        ++ spaced (refusal_words (refusal.OutOfRange place.now))) }
+    ensures { Puts result out.old.items out.new.items
+        (spaced (refusal_words (refusal.OutOfRange place.now))) }
 {
     put_kind(out, "E09", "OutOfRange")?;
     put_place(alloc, out, place)
@@ -143,7 +144,7 @@ fn put_out_of_range(alloc: Global, out: &mut Vec<u8>, place: &RangePlace) -> Res
 
 // Appends where a value is out of range.
 fn put_place(alloc: Global, out: &mut Vec<u8>, place: &RangePlace) -> Result<(), NoMemory>
-    ensures { OnOk result (out.new.items ≡ out.old.items ++ spaced (place_words place.now)) }
+    ensures { Puts result out.old.items out.new.items (spaced (place_words place.now)) }
 {
     match place {
         RangePlace::Line(number) => put_number(alloc, out, *number),

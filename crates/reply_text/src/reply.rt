@@ -1,8 +1,10 @@
 //! A reply, written.
-ghost use Rattle.std.specs.Prelude.{◌≡◌, ◌++◌, ◌∷◌, [], map, OnOk, OnErr, IfOk};
+ghost use Rattle.std.specs.Prelude.{◌≡◌, ◌++◌, map, OnOk, OnErr};
 ghost use Rattle.std.specs.List.{flat_map};
 ghost use Rattle.request_model.specs.Lines.{line_of};
 ghost use Rattle.reply_text.specs.Replies.{text_behind, change_words, report_text, run_words, text_of};
+ghost use Rattle.cost_certificate.specs.Text as certificate;
+ghost use Rattle.reply_text.specs.Puts.{Puts};
 
 use crate::NoMemory;
 use crate::answer::{put_answer, put_change, put_run};
@@ -11,13 +13,14 @@ use cost_certificate::put_cert;
 use report_model::Pages;
 use report_pages::{put_json, put_text};
 use request_model::{Answer, NamedChange, Reply, RunLine};
+use segment_cost::Cert;
 use std::alloc::Global;
 
 /// Appends the text of a reply: a line with `@`, the number of entries, and the words of the answer, and behind it the
 /// lines of a list, of a certificate or of a report. The forms are those of docs/FORMATS.md.
 ///
-/// The text is made in `room`, whose bytes make no difference and are lost: one vector serves many replies. Linear in the
-/// text; where there is no memory, `out` is as it was.
+/// The text of a certificate is made in `room`, whose bytes make no difference and are lost: one vector serves many replies. Linear
+/// in the text; where there is no memory, `out` is as it was.
 pub fn put_reply(
     alloc: Global,
     room: &mut Vec<u8>,
@@ -27,25 +30,37 @@ pub fn put_reply(
     ensures ok { OnOk result (out.new.items ≡ out.old.items ++ text_of reply.now) }
     ensures err { OnErr result (out.new.items ≡ out.old.items) }
 {
-    room.clear();
-    put_text_of(alloc, room, reply)?;
-    out.extend_from_slice(room)?;
+    let before = out.len();
+    if let Err(fault) = put_text_of(alloc, room, out, reply) {
+        out.truncate(before);
+        return Err(fault);
+    }
     Ok(())
 }
 
 // Appends the text of a reply, or a part of it where there is no memory.
-fn put_text_of(alloc: Global, out: &mut Vec<u8>, reply: &Reply) -> Result<(), NoMemory>
-    ensures { OnOk result (out.new.items ≡ out.old.items ++ text_of reply.now) }
+fn put_text_of(
+    alloc: Global,
+    room: &mut Vec<u8>,
+    out: &mut Vec<u8>,
+    reply: &Reply,
+) -> Result<(), NoMemory>
+    ensures { Puts result out.old.items out.new.items (text_of reply.now) }
 {
     put_at(alloc, out, reply.step)?;
     put_answer(alloc, out, &reply.answer)?;
     out.push(b'\n')?;
-    put_lines(alloc, out, &reply.answer)
+    put_lines(alloc, room, out, &reply.answer)
 }
 
 // Appends the lines behind the first.
-fn put_lines(alloc: Global, out: &mut Vec<u8>, answer: &Answer) -> Result<(), NoMemory>
-    ensures { OnOk result (out.new.items ≡ out.old.items ++ text_behind answer.now) }
+fn put_lines(
+    alloc: Global,
+    room: &mut Vec<u8>,
+    out: &mut Vec<u8>,
+    answer: &Answer,
+) -> Result<(), NoMemory>
+    ensures { Puts result out.old.items out.new.items (text_behind answer.now) }
 {
     match answer {
         Answer::Changes { metric, items, .. } => put_changes(
@@ -54,11 +69,26 @@ fn put_lines(alloc: Global, out: &mut Vec<u8>, answer: &Answer) -> Result<(), No
             metric.as_str().as_bytes(),
             items.as_slice(),
         ),
-        Answer::Verified { cert, .. } => put_cert(alloc, out, cert.get()),
+        Answer::Verified { cert, .. } => put_whole_cert(alloc, room, out, cert.get()),
         Answer::Runs { runs } => put_runs(alloc, out, runs.as_slice()),
         Answer::Report { pages } => put_pages(alloc, out, pages.get()),
         _ => Ok(()),
     }
+}
+
+// Appends the lines of a certificate, by way of the room: what lies in it is lost.
+fn put_whole_cert(
+    alloc: Global,
+    room: &mut Vec<u8>,
+    out: &mut Vec<u8>,
+    cert: &Cert,
+) -> Result<(), NoMemory>
+    ensures { Puts result out.old.items out.new.items (certificate.text_of cert.now) }
+{
+    room.clear();
+    put_cert(alloc, room, cert)?;
+    out.extend_from_slice(room)?;
+    Ok(())
 }
 
 // Appends the lines of changes in this metric.
@@ -68,8 +98,8 @@ fn put_changes(
     metric: &[u8],
     changes: &[NamedChange],
 ) -> Result<(), NoMemory>
-    ensures { OnOk result (out.new.items ≡ out.old.items
-        ++ flat_map line_of (map (change_words metric.now) changes.now)) }
+    ensures { Puts result out.old.items out.new.items
+        (flat_map line_of (map (change_words metric.now) changes.now)) }
 {
     for change in changes {
         put_change(alloc, out, metric, change)?;
@@ -79,7 +109,7 @@ fn put_changes(
 
 // Appends the lines of a report.
 fn put_pages(alloc: Global, out: &mut Vec<u8>, pages: &Pages) -> Result<(), NoMemory>
-    ensures { OnOk result (out.new.items ≡ out.old.items ++ report_text pages.now) }
+    ensures { Puts result out.old.items out.new.items (report_text pages.now) }
 {
     if pages.json {
         return put_json(alloc, out, pages);
@@ -89,8 +119,7 @@ fn put_pages(alloc: Global, out: &mut Vec<u8>, pages: &Pages) -> Result<(), NoMe
 
 // Appends the lines of runs.
 fn put_runs(alloc: Global, out: &mut Vec<u8>, runs: &[RunLine]) -> Result<(), NoMemory>
-    ensures { OnOk result
-        (out.new.items ≡ out.old.items ++ flat_map line_of (map run_words runs.now)) }
+    ensures { Puts result out.old.items out.new.items (flat_map line_of (map run_words runs.now)) }
 {
     for line in runs {
         put_run(alloc, out, line)?;

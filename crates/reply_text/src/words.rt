@@ -1,5 +1,5 @@
 //! Words of a line, each behind a space.
-ghost use Rattle.std.specs.Prelude.{◌≡◌, ◌∷◌, ◌++◌, [], OnOk, decimal};
+ghost use Rattle.std.specs.Prelude.{◌∷◌, [], decimal};
 ghost use Rattle.std.specs.Fmt.{signed_decimal};
 ghost use Rattle.line_text.specs.Names.{spelling};
 ghost use Rattle.metric_value.specs.Values.{value_text};
@@ -7,6 +7,7 @@ ghost use Rattle.request_model.specs.Lines.{spaced};
 ghost use Rattle.regression_state.specs.Moves as state;
 ghost use Rattle.report_model.specs.Outcomes.{outcome_text};
 ghost use Rattle.reply_text.specs.Replies.{at};
+ghost use Rattle.reply_text.specs.Puts.{Puts};
 
 use crate::NoMemory;
 use line_text::{Name, put_escaped, put_i128, put_name, put_u64};
@@ -17,7 +18,7 @@ use std::alloc::Global;
 
 // Appends a space and a word.
 pub(crate) fn put_word(out: &mut Vec<u8>, word: &str) -> Result<(), NoMemory>
-    ensures { OnOk result (out.new.items ≡ out.old.items ++ (32 ∷ word.now)) }
+    ensures { Puts result out.old.items out.new.items (32 ∷ word.now) }
 {
     out.push(b' ')?;
     out.extend_from_slice(word.as_bytes())?;
@@ -26,7 +27,7 @@ pub(crate) fn put_word(out: &mut Vec<u8>, word: &str) -> Result<(), NoMemory>
 
 // Appends a space and a name.
 pub(crate) fn put_spelled(alloc: Global, out: &mut Vec<u8>, name: &Name) -> Result<(), NoMemory>
-    ensures { OnOk result (out.new.items ≡ out.old.items ++ (32 ∷ spelling name.now)) }
+    ensures { Puts result out.old.items out.new.items (32 ∷ spelling name.now) }
 {
     out.push(b' ')?;
     put_name(alloc, out, name)?;
@@ -35,7 +36,7 @@ pub(crate) fn put_spelled(alloc: Global, out: &mut Vec<u8>, name: &Name) -> Resu
 
 // Appends a space and a text as names are spelled.
 pub(crate) fn put_text(alloc: Global, out: &mut Vec<u8>, text: &str) -> Result<(), NoMemory>
-    ensures { OnOk result (out.new.items ≡ out.old.items ++ (32 ∷ spelling text.now)) }
+    ensures { Puts result out.old.items out.new.items (32 ∷ spelling text.now) }
 {
     out.push(b' ')?;
     put_escaped(alloc, out, text.as_bytes())?;
@@ -44,7 +45,7 @@ pub(crate) fn put_text(alloc: Global, out: &mut Vec<u8>, text: &str) -> Result<(
 
 // Appends a space and a number.
 pub(crate) fn put_number(alloc: Global, out: &mut Vec<u8>, n: u64) -> Result<(), NoMemory>
-    ensures { OnOk result (out.new.items ≡ out.old.items ++ (32 ∷ decimal n)) }
+    ensures { Puts result out.old.items out.new.items (32 ∷ decimal n) }
 {
     out.push(b' ')?;
     put_u64(alloc, out, n)?;
@@ -53,7 +54,7 @@ pub(crate) fn put_number(alloc: Global, out: &mut Vec<u8>, n: u64) -> Result<(),
 
 // Appends a space and a signed number.
 pub(crate) fn put_amount(alloc: Global, out: &mut Vec<u8>, n: i128) -> Result<(), NoMemory>
-    ensures { OnOk result (out.new.items ≡ out.old.items ++ (32 ∷ signed_decimal n)) }
+    ensures { Puts result out.old.items out.new.items (32 ∷ signed_decimal n) }
 {
     out.push(b' ')?;
     put_i128(alloc, out, n)?;
@@ -67,7 +68,7 @@ pub(crate) fn put_worth(
     metric: &[u8],
     value: i64,
 ) -> Result<(), NoMemory>
-    ensures { OnOk result (out.new.items ≡ out.old.items ++ (32 ∷ value_text metric.now value)) }
+    ensures { Puts result out.old.items out.new.items (32 ∷ value_text metric.now value) }
 {
     out.push(b' ')?;
     put_value(alloc, out, metric, value)
@@ -75,7 +76,7 @@ pub(crate) fn put_worth(
 
 // Appends a step.
 pub(crate) fn put_at(alloc: Global, out: &mut Vec<u8>, step: u64) -> Result<(), NoMemory>
-    ensures { OnOk result (out.new.items ≡ out.old.items ++ at step) }
+    ensures { Puts result out.old.items out.new.items (at step) }
 {
     out.push(b'@')?;
     put_u64(alloc, out, step)?;
@@ -84,7 +85,7 @@ pub(crate) fn put_at(alloc: Global, out: &mut Vec<u8>, step: u64) -> Result<(), 
 
 // Appends a space and a step.
 pub(crate) fn put_step(alloc: Global, out: &mut Vec<u8>, step: u64) -> Result<(), NoMemory>
-    ensures { OnOk result (out.new.items ≡ out.old.items ++ (32 ∷ at step)) }
+    ensures { Puts result out.old.items out.new.items (32 ∷ at step) }
 {
     out.push(b' ')?;
     put_at(alloc, out, step)
@@ -92,8 +93,8 @@ pub(crate) fn put_step(alloc: Global, out: &mut Vec<u8>, step: u64) -> Result<()
 
 // Appends the words of two states, each behind a space.
 pub(crate) fn put_move(out: &mut Vec<u8>, before: State, after: State) -> Result<(), NoMemory>
-    ensures { OnOk result (out.new.items ≡ out.old.items
-        ++ spaced (state.word before ∷ state.word after ∷ [])) }
+    ensures { Puts result out.old.items out.new.items
+        (spaced (state.word before ∷ state.word after ∷ [])) }
 {
     put_word(out, before.word())?;
     put_word(out, after.word())
@@ -101,7 +102,7 @@ pub(crate) fn put_move(out: &mut Vec<u8>, before: State, after: State) -> Result
 
 // Appends a space, and where a bisection stands.
 pub(crate) fn put_outcome(alloc: Global, out: &mut Vec<u8>, told: &Told) -> Result<(), NoMemory>
-    ensures { OnOk result (out.new.items ≡ out.old.items ++ spaced (outcome_text told.now ∷ [])) }
+    ensures { Puts result out.old.items out.new.items (spaced (outcome_text told.now ∷ [])) }
 {
     out.push(b' ')?;
     put_told(alloc, out, told)?;

@@ -1,6 +1,7 @@
 //! The lines of series.
 ghost use Rattle.std.specs.Prelude.{◌≡◌, IfOk, length};
 ghost use Rattle.segment_model.specs.Segments.{values_of};
+ghost use Rattle.history_model.specs.Runs.{Series};
 ghost use Rattle.publication_index.specs.Kept.{kept};
 ghost use Rattle.series_index.specs.Seen.{seen};
 ghost use Rattle.track_model.specs.Reports.{series_in};
@@ -13,14 +14,16 @@ use report_model::{SeriesLine, SeriesLines};
 use series_index::{SeriesIndex, SeriesName};
 use std::alloc::Global;
 
-/// A line for each series that ever had a sample, by the bytes of test, then metric. Linear in the known series and in the
-/// values of the last segmentation of each, but for look-ups.
+/// A line for each series that ever had a sample, by the bytes of test, then metric. Places the samples that wait in the
+/// series, which changes nothing that is seen of them. Linear in the known series and in the values of the last
+/// segmentation of each, but for look-ups and for what is placed.
 pub fn series_lines(
     alloc: Global,
-    series: &SeriesIndex,
+    series: &mut SeriesIndex,
     published: &PublicationIndex,
 ) -> Result<SeriesLines, NoMemory>
-    ensures { IfOk result (λ lines. AreLines series.now published.now lines) }
+    ensures lines { IfOk result (λ lines. AreLines series.old published.now lines) }
+    ensures same { (s : Series) → seen s series.new ≡ seen s series.old }
 {
     let known = series.known()?;
     let names = known.as_slice();
@@ -34,14 +37,16 @@ pub fn series_lines(
 // The line of a series.
 fn line(
     alloc: Global,
-    series: &SeriesIndex,
+    series: &mut SeriesIndex,
     published: &PublicationIndex,
     name: &SeriesName,
 ) -> Result<SeriesLine, NoMemory>
     ensures named { IfOk result (λ line. series_in line ≡ name.now) }
-    ensures is { IfOk result (λ line. IsLine series.now published.now line) }
+    ensures is { IfOk result (λ line. IsLine series.old published.now line) }
+    ensures same { (s : Series) → seen s series.new ≡ seen s series.old }
 {
-    let (samples, positions) = counts(series, name);
+    series.settle(name.test(), name.metric())?;
+    let (samples, positions) = counts(series, name)?;
     let (changes, centre) = last(alloc, published, name)?;
     Ok(SeriesLine {
         test: name.test().copy(alloc)?,
@@ -53,15 +58,20 @@ fn line(
     })
 }
 
-// How many live samples a series has, and how many positions.
-fn counts(series: &SeriesIndex, name: &SeriesName) -> (u64, u64)
-    ensures samples { result.0 ≡ length (values_of (seen name.now series.now).points) }
-    ensures positions { result.1 ≡ length (seen name.now series.now).points }
+// How many live samples a series has, and how many positions, where no sample waits for its place.
+fn counts(series: &SeriesIndex, name: &SeriesName) -> Result<(u64, u64), NoMemory>
+    ensures samples { IfOk result
+        (λ counts. counts.0 ≡ length (values_of (seen name.now series.now).points)) }
+    ensures positions { IfOk result
+        (λ counts. counts.1 ≡ length (seen name.now series.now).points) }
 {
-    match series.get(name.test(), name.metric()) {
-        Some(tracked) => (tracked.points.count() as u64, tracked.points.len() as u64),
-        None => (0, 0),
-    }
+    let Some(tracked) = series.get(name.test(), name.metric()) else {
+        return Ok((0, 0));
+    };
+    let Some(points) = tracked.points.settled() else {
+        return Err(NoMemory);
+    };
+    Ok((points.count() as u64, points.len() as u64))
 }
 
 // How many cuts a series' last segmentation has, and the centre of its last segment.

@@ -9,14 +9,13 @@
 //! `metric_table` for limits.
 #![tactic(auto)]
 
-mod boxed;
 mod changes;
 mod replies;
 mod requests;
 mod runs;
 
-pub use boxed::Boxed;
 pub use changes::{NamedChange, NamedChanges, copy_changes};
+pub use line_text::Boxed;
 pub use replies::{Answer, RangePlace, Refusal, Reply};
 pub use requests::Request;
 pub use runs::{RunLine, Runs, copy_runs};

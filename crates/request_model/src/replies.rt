@@ -1,10 +1,9 @@
 //! What a request is answered: the answer itself, why it is refused, and the reply that has it.
 ghost use Rattle.std.specs.Prelude.{◌≡◌, IfOk};
 
-use crate::boxed::Boxed;
 use crate::changes::{NamedChanges, copy_changes};
 use crate::runs::{Runs, copy_runs};
-use line_text::{Name, Text};
+use line_text::{Boxed, Name, Text};
 use metric_table::Limit;
 use regression_state::State;
 use report_model::{Pages, Told};
@@ -12,7 +11,7 @@ use segment_cost::Cert;
 use std::alloc::{AllocError, Global};
 
 /// Where a value is out of range.
-#[derive(Debug, Drop)]
+#[derive(Drop)]
 pub enum RangePlace {
     /// On this line of Go benchmark text, from 1.
     Line(u64),
@@ -45,7 +44,7 @@ impl RangePlace {
 }
 
 /// Why a request is refused, in the order of the refusals' numbers.
-#[derive(Debug, Drop)]
+#[derive(Drop)]
 pub enum Refusal {
     /// The line has no form of a request.
     BadRequest,
@@ -351,14 +350,22 @@ impl Answer {
                 cuts,
                 redone,
                 total,
-            } => Ok(Answer::Segmented {
-                version: *version,
-                base: *base,
-                points: *points,
-                cuts: *cuts,
-                redone: *redone,
-                total: *total,
-            }),
+            } => {
+                let version = *version;
+                let base = *base;
+                let points = *points;
+                let cuts = *cuts;
+                let redone = *redone;
+                let total = *total;
+                Ok(Answer::Segmented {
+                    version,
+                    base,
+                    points,
+                    cuts,
+                    redone,
+                    total,
+                })
+            }
             Answer::Changes {
                 version,
                 metric,
@@ -375,7 +382,7 @@ impl Answer {
             }
             Answer::Verified { version, cert } => {
                 let version = *version;
-                let cert = Boxed::new(alloc, cert.get().copy(alloc)?)?;
+                let cert = copy_cert(alloc, cert)?;
                 Ok(Answer::Verified { version, cert })
             }
             Answer::Raised { regression } => {
@@ -413,12 +420,30 @@ impl Answer {
                 Ok(Answer::Runs { runs })
             }
             Answer::Report { pages } => {
-                let pages = Boxed::new(alloc, pages.get().copy(alloc)?)?;
+                let pages = copy_pages(alloc, pages)?;
                 Ok(Answer::Report { pages })
             }
             Answer::Refused(refusal) => Ok(Answer::Refused(refusal.copy(alloc)?)),
         }
     }
+}
+
+// An equal certificate of its own.
+fn copy_cert(alloc: Global, cert: &Boxed<Cert>) -> Result<Boxed<Cert>, AllocError>
+    ensures { IfOk result (λ made. made ≡ cert.now) }
+{
+    let made = cert.get().copy(alloc)?;
+    let boxed = Boxed::new(alloc, made)?;
+    Ok(boxed)
+}
+
+// Equal pages of their own.
+fn copy_pages(alloc: Global, pages: &Boxed<Pages>) -> Result<Boxed<Pages>, AllocError>
+    ensures { IfOk result (λ made. made ≡ pages.now) }
+{
+    let made = pages.get().copy(alloc)?;
+    let boxed = Boxed::new(alloc, made)?;
+    Ok(boxed)
 }
 
 /// An answer, with the number of entries of the machine's history behind the request.

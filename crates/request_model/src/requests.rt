@@ -7,7 +7,7 @@ use sample_model::Samples;
 use std::alloc::{AllocError, Global};
 
 /// A request of a script, read.
-#[derive(Debug, Drop)]
+#[derive(Drop)]
 pub enum Request {
     /// Declares a machine.
     Machine {
@@ -175,9 +175,8 @@ impl Request {
                 number,
                 name,
             } => {
-                let machine = machine.copy(alloc)?;
+                let (machine, name) = copy_two(alloc, machine, name)?;
                 let number = *number;
-                let name = name.copy(alloc)?;
                 Ok(Request::Commit {
                     machine,
                     number,
@@ -192,9 +191,7 @@ impl Request {
                 ignored,
                 stated,
             } => {
-                let machine = machine.copy(alloc)?;
-                let commit = commit.copy(alloc)?;
-                let run = run.copy(alloc)?;
+                let (machine, commit, run) = copy_three(alloc, machine, commit, run)?;
                 let samples = samples.copy(alloc)?;
                 let ignored = *ignored;
                 let stated = copy_name(alloc, stated)?;
@@ -208,8 +205,7 @@ impl Request {
                 })
             }
             Request::Retract { machine, run } => {
-                let machine = machine.copy(alloc)?;
-                let run = run.copy(alloc)?;
+                let (machine, run) = copy_two(alloc, machine, run)?;
                 Ok(Request::Retract { machine, run })
             }
             Request::Tune {
@@ -217,8 +213,7 @@ impl Request {
                 metric,
                 penalty,
             } => {
-                let machine = machine.copy(alloc)?;
-                let metric = metric.copy(alloc)?;
+                let (machine, metric) = copy_two(alloc, machine, metric)?;
                 let penalty = *penalty;
                 Ok(Request::Tune {
                     machine,
@@ -232,9 +227,7 @@ impl Request {
                 metric,
                 factor,
             } => {
-                let machine = machine.copy(alloc)?;
-                let test = test.copy(alloc)?;
-                let metric = metric.copy(alloc)?;
+                let (machine, test, metric) = copy_three(alloc, machine, test, metric)?;
                 let factor = *factor;
                 Ok(Request::Calibrate {
                     machine,
@@ -248,9 +241,7 @@ impl Request {
                 test,
                 metric,
             } => {
-                let machine = machine.copy(alloc)?;
-                let test = test.copy(alloc)?;
-                let metric = metric.copy(alloc)?;
+                let (machine, test, metric) = copy_three(alloc, machine, test, metric)?;
                 Ok(Request::Segment {
                     machine,
                     test,
@@ -262,9 +253,7 @@ impl Request {
                 test,
                 metric,
             } => {
-                let machine = machine.copy(alloc)?;
-                let test = test.copy(alloc)?;
-                let metric = metric.copy(alloc)?;
+                let (machine, test, metric) = copy_three(alloc, machine, test, metric)?;
                 Ok(Request::Changes {
                     machine,
                     test,
@@ -276,9 +265,7 @@ impl Request {
                 test,
                 metric,
             } => {
-                let machine = machine.copy(alloc)?;
-                let test = test.copy(alloc)?;
-                let metric = metric.copy(alloc)?;
+                let (machine, test, metric) = copy_three(alloc, machine, test, metric)?;
                 Ok(Request::Verify {
                     machine,
                     test,
@@ -291,9 +278,7 @@ impl Request {
                 metric,
                 change,
             } => {
-                let machine = machine.copy(alloc)?;
-                let test = test.copy(alloc)?;
-                let metric = metric.copy(alloc)?;
+                let (machine, test, metric) = copy_three(alloc, machine, test, metric)?;
                 let change = *change;
                 Ok(Request::Regress {
                     machine,
@@ -317,9 +302,7 @@ impl Request {
                 })
             }
             Request::Bisect { machine, lo, hi } => {
-                let machine = machine.copy(alloc)?;
-                let lo = lo.copy(alloc)?;
-                let hi = hi.copy(alloc)?;
+                let (machine, lo, hi) = copy_three(alloc, machine, lo, hi)?;
                 Ok(Request::Bisect { machine, lo, hi })
             }
             Request::Answer {
@@ -328,9 +311,8 @@ impl Request {
                 commit,
                 status,
             } => {
-                let machine = machine.copy(alloc)?;
+                let (machine, commit) = copy_two(alloc, machine, commit)?;
                 let job = *job;
-                let commit = commit.copy(alloc)?;
                 let status = *status;
                 Ok(Request::Answer {
                     machine,
@@ -360,6 +342,31 @@ impl Request {
             }
         }
     }
+}
+
+// Equal names of their own.
+fn copy_two(alloc: Global, one: &Name, two: &Name) -> Result<(Name, Name), AllocError>
+    ensures { IfOk result (λ made. (made.0 ≡ one.now) × (made.1 ≡ two.now)) }
+{
+    let one = one.copy(alloc)?;
+    let two = two.copy(alloc)?;
+    Ok((one, two))
+}
+
+// Equal names of their own.
+fn copy_three(
+    alloc: Global,
+    one: &Name,
+    two: &Name,
+    three: &Name,
+) -> Result<(Name, Name, Name), AllocError>
+    ensures { IfOk result (λ made.
+        (made.0 ≡ one.now) × (made.1 ≡ two.now) × (made.2 ≡ three.now)) }
+{
+    let one = one.copy(alloc)?;
+    let two = two.copy(alloc)?;
+    let three = three.copy(alloc)?;
+    Ok((one, two, three))
 }
 
 // An equal name of its own, where there is one.

@@ -5,7 +5,7 @@ use line_text::{Items, Name};
 use std::alloc::{AllocError, Global};
 
 /// A run, as a list of runs has it.
-#[derive(Debug, Drop)]
+#[derive(Drop)]
 pub struct RunLine {
     /// The run.
     pub run: Name,

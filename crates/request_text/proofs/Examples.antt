@@ -13,11 +13,11 @@ use Rattle.std.proofs.Math.Seq.{take-append_seam}
 use Rattle.percent_encoding.specs.Percent.{percent_decode}
 use Rattle.line_text.specs.Names.{HasWholeEscapes}
 use Rattle.request_model.specs.declared.requests.Request.TheVariants as request
-use Rattle.request_text.specs.Forms.{Form, machine, commit, submit_go, body_length, IsOfForm, IsNamed, SpellsName, IsInRange}
-use Rattle.request_text.specs.Bodies.{Item, AsksNamed}
-use Rattle.request_text.specs.Items.{IsSkipped, formed, named}
+use Rattle.request_words.specs.Forms.{Form, machine, commit, submit_go, body_length, IsOfForm, IsNamed, SpellsName, IsInRange}
+use Rattle.request_words.specs.Bodies.{Item, AsksNamed}
+use Rattle.request_words.specs.Items.{IsSkipped, formed, named}
 use Rattle.request_text.specs.Scripts.{line_limit, input_limit, IsLine, Piece, IsPiece, ArePieces, IsInside, cut_off, unfinished, inside, more, IsScript}
-use Rattle.request_text.proofs.Skipped.{skipped_formless, skipped_counts}
+use Rattle.request_words.proofs.Skipped.{skipped_formless, skipped_counts}
 use Rattle.request_text.proofs.PieceLists.{pieces_join}
 use Rattle.request_text.proofs.WholePieces.{one_piece}
 

@@ -1,7 +1,7 @@
 -- The last line of an input, which has no line feed.
 use Rattle.std.proofs.Common.{◌≡◌, ℕ, ◌+◌, ◌<◌, ◌≤◌, Bool, true, false, List, [], ◌∷◌, ◌++◌, length, refl, sym, ap, ◌∙◌, arith, inl, inr, append-nil, length-append, Option, Some, None}
-use Rattle.request_text.specs.Bodies.{Item}
-use Rattle.request_text.specs.Items.{IsSkipped, Asks, Counts, Gives}
+use Rattle.request_words.specs.Bodies.{Item}
+use Rattle.request_words.specs.Items.{IsSkipped, Asks, Counts, Gives}
 use Rattle.request_text.specs.Scripts.{input_limit, IsLine, IsBefore, end, cut_off, last, inside, Reads}
 use Rattle.track_outside.specs.declared.source.Source.{Ghosts}
 use Rattle.request_text.specs.declared.asked.Asked.{Asked}
@@ -16,7 +16,7 @@ use Rattle.request_text.specs.Parts.{TakesNext, Fails}
 use Rattle.request_text.specs.LineEnds.{FindsEnd}
 use Rattle.request_text.specs.LastLines.{HasEnded, AsksLast, StopsLast}
 use Rattle.request_text.proofs.Stops.{some_same, none_some, few_kept}
-use Rattle.request_text.proofs.Skipped.{skipped_counts}
+use Rattle.request_words.proofs.Skipped.{skipped_counts}
 
 last_reads : (at : ℕ) (bytes : List ℕ) (items : List Item) → IsLine bytes → Counts bytes 0 → Gives bytes [] items → Reads true at bytes items end
 last_reads at bytes items line counts gives =

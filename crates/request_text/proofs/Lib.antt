@@ -1,17 +1,9 @@
-pub mod FormWords
-pub mod HeadLines
-mod Digits
-pub mod Stops
-pub mod Looks
+mod Stops
+mod Looks
 pub mod PieceLists
-pub mod Skipped
-pub mod LastLines
+mod LastLines
 pub mod WholePieces
-pub mod Moving
-pub mod Passing
-pub mod WrittenLines
-pub mod WrittenBack
-pub mod OneForm
-pub mod OneItem
-pub mod OneReading
+mod Moving
+mod Passing
+mod OneReading
 mod Examples

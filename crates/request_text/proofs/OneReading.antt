@@ -4,12 +4,11 @@ use Rattle.std.proofs.Math.Seq.{take-append_seam, take-append-add}
 use Rattle.std.proofs.lemmas.List.{append_cancel_left}
 use Rattle.std.proofs.lemmas.List.Elements.{All-head, All-tail}
 use Rattle.line_text.specs.Lines.{lines_of, LinesEnd}
-use Rattle.request_text.specs.Bodies.{Item}
-use Rattle.request_text.specs.Items.{Counts, Gives}
+use Rattle.request_words.specs.Bodies.{Item}
+use Rattle.request_words.specs.Items.{Counts, Gives, OneItem}
 use Rattle.request_text.specs.Scripts.{line_limit, IsLine, Piece, text_of, ArePiecesOf, IsTooLong, IsInside, Ending, Ends, long, last, inside, more, Reads}
 use Rattle.request_text.specs.Reading.{OneReading, PiecesAreFirst}
-use Rattle.request_text.proofs.OneForm.{one_count}
-use Rattle.request_text.proofs.OneItem.{OneItem}
+use Rattle.request_words.proofs.OneForm.{one_count}
 
 -- ---- the first line
 

@@ -8,7 +8,7 @@ use Rattle.request_model.specs.declared.replies.Refusal.TheVariants.{BodyTooLong
 use Rattle.request_text.specs.declared.asked.Asked.TheVariants as asked
 use Rattle.request_text.specs.declared.stop.ReadStop.{ReadStop}
 use Rattle.request_text.specs.declared.stop.ReadStop.TheVariants.{ReadFault, CutOff, InputTooLong, NoMemory}
-use Rattle.request_text.specs.Items.{IsSkipped, Asks, formed, long, Counts, body_limit}
+use Rattle.request_words.specs.Items.{IsSkipped, Asks, formed, long, Counts, body_limit}
 use Rattle.request_text.specs.Scripts.{input_limit, Piece, IsPiece, text_of}
 use Rattle.request_text.specs.Unread.{Unread}
 use Rattle.request_text.specs.Filling.{Gains, StopsFilling}
@@ -20,7 +20,7 @@ use Rattle.request_text.specs.LineEnds.{BeginsWithLine}
 use Rattle.request_text.specs.Begun.{HasLine}
 use Rattle.request_text.specs.Passes.{Moves, Passes, PassesFrom, StopsPassing, StopsPassingFrom, seen, PassesPieces}
 use Rattle.request_text.proofs.Stops.{stops_filling, stops_gain, needs_more, needs_now, few_same}
-use Rattle.request_text.proofs.Skipped.{skipped_counts}
+use Rattle.request_words.proofs.Skipped.{skipped_counts}
 use Rattle.request_text.proofs.WholePieces.{needs_body, stops_inside, next_piece}
 use Rattle.request_text.proofs.Moving.{moves_use, moves_join, moves_size, few_passed}
 

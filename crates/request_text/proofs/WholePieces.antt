@@ -5,8 +5,8 @@ use Rattle.std.proofs.Math.Seq.{take-append-add, drop-append-add}
 use Rattle.std.proofs.lemmas.List.{take-append-drop, length-take-le}
 use Rattle.request_text.specs.declared.asked.Asked.{Asked}
 use Rattle.request_text.specs.declared.stop.ReadStop.TheVariants.{CutOff}
-use Rattle.request_text.specs.Bodies.{Item}
-use Rattle.request_text.specs.Items.{IsSkipped, Asks, Counts}
+use Rattle.request_words.specs.Bodies.{Item}
+use Rattle.request_words.specs.Items.{IsSkipped, Asks, Counts}
 use Rattle.request_text.specs.Scripts.{input_limit, IsLine, IsInside, cut_off, inside, more, Reads, Piece, IsPiece, ArePieces}
 use Rattle.request_text.specs.Unread.{Unread}
 use Rattle.request_text.specs.Next.{items_of, TellsEnd, TakesWhole, ReadsNext, Gave}

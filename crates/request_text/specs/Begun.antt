@@ -1,8 +1,8 @@
 -- Private: no public contract cites this. A line that has come with its line feed.
 use Rattle.std.specs.Prelude.{◌≡◌, ℕ, ◌+◌, ◌<◌, List, ◌∷◌, ◌++◌, length}
-use Rattle.request_text.specs.declared.head.Head.{Head}
-use Rattle.request_text.specs.Heads.{IsHead}
-use Rattle.request_text.specs.Items.{IsSkipped, Counts, body_limit}
+use Rattle.request_words.specs.declared.head.Head.{Head}
+use Rattle.request_words.specs.Heads.{IsHead}
+use Rattle.request_words.specs.Items.{IsSkipped, Counts, body_limit}
 use Rattle.request_text.specs.Scripts.{IsLine}
 
 -- the bytes begin with the line, which takes so many of them with its line feed

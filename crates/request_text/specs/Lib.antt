@@ -1,14 +1,7 @@
-pub mod Forms
-pub mod Bodies
-pub mod Items
 pub mod Scripts
 pub mod Unread
 pub mod Next
 pub mod Reading
-pub mod Written
-pub mod Verbs
-pub mod Heads
-pub mod Refused
 pub mod Filling
 pub mod Parts
 pub mod LineEnds

@@ -4,7 +4,7 @@ use Rattle.std.specs.Io.KnownBytes.{prepend_known}
 use Rattle.track_outside.specs.declared.source.Source.{Ghosts}
 use Rattle.request_text.specs.declared.asked.Asked.{Asked}
 use Rattle.request_text.specs.declared.asked.Asked.TheVariants as asked
-use Rattle.request_text.specs.Bodies.{Item}
+use Rattle.request_words.specs.Bodies.{Item}
 use Rattle.request_text.specs.Scripts.{ArePieces, end, Reads, input_limit}
 use Rattle.request_text.specs.Unread.{Unread}
 

@@ -2,12 +2,12 @@
 use Rattle.std.specs.Prelude.{◌≡◌, ℕ, ◌+◌, List, [], ◌∷◌, Option, drop, slice_range}
 use Rattle.track_outside.specs.declared.source.Source.{Ghosts}
 use Rattle.request_text.specs.declared.asked.Asked.{Asked}
-use Rattle.request_text.specs.declared.head.Head.{Head}
+use Rattle.request_words.specs.declared.head.Head.{Head}
 use Rattle.request_text.specs.declared.stop.ReadStop.{ReadStop}
 use Rattle.request_text.specs.Unread.{Unread}
-use Rattle.request_text.specs.Bodies.{Item}
-use Rattle.request_text.specs.Items.{Asks}
-use Rattle.request_text.specs.Heads.{IsHead}
+use Rattle.request_words.specs.Bodies.{Item}
+use Rattle.request_words.specs.Items.{Asks}
+use Rattle.request_words.specs.Heads.{IsHead}
 use Rattle.request_text.specs.Next.{ReadsNext, TellsEnd, Gave, GaveFewFrom, items_of}
 use Rattle.request_text.specs.Reading.{StopsFrom}
 

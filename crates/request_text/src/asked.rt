@@ -2,7 +2,7 @@
 use request_model::{Refusal, Request};
 
 /// What comes next in a script.
-#[derive(Debug, Drop)]
+#[derive(Drop)]
 pub enum Asked {
     /// A request.
     Request(Request),

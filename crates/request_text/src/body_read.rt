@@ -4,11 +4,11 @@ ghost use Rattle.request_text.specs.Begun.{BeginsWithHead};
 ghost use Rattle.request_text.specs.Parts.{AsksKept, TakesFrom, Fails};
 
 use crate::asked::Asked;
-use crate::head::Head;
 use crate::last::asked_of;
 use crate::lines::Lines;
 use crate::need::need;
 use crate::stop::ReadStop;
+use request_words::Head;
 use std::alloc::Global;
 use track_outside::Source;
 

@@ -6,11 +6,11 @@ ghost use Rattle.request_text.specs.Scripts.{IsLine};
 ghost use Rattle.request_text.specs.Unread.{Unread};
 
 use crate::asked::Asked;
-use crate::head::body_count;
 use crate::line::is_skipped;
 use crate::lines::Lines;
 use crate::stop::ReadStop;
 use request_model::{Refusal, Request};
+use request_words::body_count;
 use std::alloc::Global;
 
 // Reads the last line, which is all that is kept and left, and has no line feed.

@@ -1,9 +1,8 @@
 //! Laws of scripts. The functions do nothing: their contracts are what they are for.
 ghost use Rattle.request_text.specs.Reading.{OneReading, PiecesComeFirst, PiecesJoin, PiecesAreFirst};
 
-use go_bench_text::one_reading_law;
 use line_text::lines_law;
-use lnt_report::one_due_law;
+use request_words::one_item_law;
 
 /// Whole pieces in front of bytes are read before them, whatever the bytes; and whole pieces join.
 pub fn pieces_law()
@@ -17,6 +16,5 @@ pub fn reading_law()
     ensures first { PiecesAreFirst }
 {
     lines_law();
-    one_reading_law();
-    one_due_law();
+    one_item_law();
 }

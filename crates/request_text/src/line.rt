@@ -1,6 +1,6 @@
 //! Where the next line of an input ends.
 ghost use Rattle.std.specs.Prelude.{◌≤◌, IfOk, IfErr, IsTrue};
-ghost use Rattle.request_text.specs.Items.{IsSkipped};
+ghost use Rattle.request_words.specs.Items.{IsSkipped};
 ghost use Rattle.request_text.specs.LineEnds.{Shows, FindsFrom, Turns};
 ghost use Rattle.request_text.specs.Parts.{Fails};
 

@@ -1,18 +1,18 @@
 //! What was read of an input and not used yet.
 ghost use Rattle.std.specs.Prelude.{◌≡◌, ◌+◌, ◌≤◌, ◌<◌, ◌^◌, ◌≢◌, ℕ, List, true, false, All, SomeIndex, IsTrue, take, drop, length, slice_index, slice_range, IfOk, IfErr, OnErr};
-ghost use Rattle.request_text.specs.Heads.{IsHead};
-ghost use Rattle.request_text.specs.Items.{Asks};
+ghost use Rattle.request_words.specs.Heads.{IsHead};
+ghost use Rattle.request_words.specs.Items.{Asks};
 ghost use Rattle.request_text.specs.Filling.{Fills, StopsFillingFrom, IsReadOnto, StopsReadingOnto, GaveAtMost};
 ghost use Rattle.request_text.specs.LastLines.{HasEnded};
 ghost use Rattle.request_text.specs.Next.{GaveFewFrom};
 ghost use Rattle.request_text.specs.Unread.{nothing_read};
 
 use crate::NoMemory;
-use crate::head::{Head, item_of, read_head};
 use crate::stop::ReadStop;
 use line_text::Names;
 use memchr::memchr;
 use request_model::{Refusal, Request};
+use request_words::{Head, item_of, read_head};
 use std::alloc::Global;
 use std::marker::Model;
 use track_outside::Source;
@@ -188,16 +188,11 @@ impl Lines {
         }
         self.forget_used();
         let want = room.min(PIECE as u64) as usize;
-        self.fill_at_most(alloc, source, want)
+        self.fill_at_most(source, want)
     }
 
     // Reads so many bytes at most.
-    fn fill_at_most<S: Source>(
-        &mut self,
-        alloc: Global,
-        source: &mut S,
-        want: usize,
-    ) -> Result<usize, ReadStop>
+    fn fill_at_most<S: Source>(&mut self, source: &mut S, want: usize) -> Result<usize, ReadStop>
         requires some { 0 < want }
         requires room { self.old.before + length self.old.kept + want ≤ 2 ^ 30 }
         ensures ok { IfOk result (Fills self.old self.new (S.left source.old) (S.left source.new)) }
@@ -205,7 +200,7 @@ impl Lines {
         ensures few { OnErr result (GaveFewFrom S.Source self.old source.old source.new) }
         ensures counts { S.faults source.old ≤ S.faults source.new }
     {
-        read_onto(alloc, source, want, &mut self.bytes)
+        read_onto(source, want, &mut self.bytes)
     }
 
     // Looks whether a byte comes past the most that are read.
@@ -249,12 +244,7 @@ fn behind(bytes: &[u8], start: usize) -> &[u8]
 }
 
 // Reads bytes behind others, so many at most, and answers how many: none at the end.
-fn read_onto<S: Source>(
-    alloc: Global,
-    source: &mut S,
-    want: usize,
-    bytes: &mut Vec<u8>,
-) -> Result<usize, ReadStop>
+fn read_onto<S: Source>(source: &mut S, want: usize, bytes: &mut Vec<u8>) -> Result<usize, ReadStop>
     requires { 0 < want }
     ensures ok { IfOk result
         (IsReadOnto bytes.old.items bytes.new.items (S.left source.old) (S.left source.new) want) }
@@ -265,10 +255,13 @@ fn read_onto<S: Source>(
     ensures kept { length bytes.old.items ≤ length bytes.new.items }
     ensures few { length bytes.new.items ≤ length bytes.old.items + want }
 {
-    let mut piece = vec![in alloc; 0u8; want]?;
-    let Ok(count) = source.read(&mut piece) else {
+    bytes.reserve(want)?;
+    let old = bytes.len();
+    bytes.resize(old + want, 0u8)?;
+    let Ok(count) = source.read(&mut bytes[old..]) else {
+        bytes.truncate(old);
         return Err(ReadStop::ReadFault);
     };
-    bytes.extend_from_slice(&piece[..count])?;
+    bytes.truncate(old + count);
     Ok(count)
 }

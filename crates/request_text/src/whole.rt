@@ -7,12 +7,12 @@ ghost use Rattle.request_text.specs.Passes.{PieceFrom};
 
 use crate::asked::Asked;
 use crate::body_read::read_short;
-use crate::head::{BODY_LIMIT, Head, body_count};
 use crate::line::is_skipped;
 use crate::lines::Lines;
 use crate::pass::pass_bytes;
 use crate::stop::ReadStop;
 use request_model::Refusal;
+use request_words::{BODY_LIMIT, Head, body_count};
 use std::alloc::Global;
 use track_outside::Source;
 

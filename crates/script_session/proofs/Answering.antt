@@ -10,7 +10,7 @@ use Rattle.track_outside.specs.Calls.{Took, FailedIn, TookPart}
 use Rattle.request_model.specs.declared.requests.Request.{Request}
 use Rattle.request_model.specs.declared.replies.Reply.{Reply}
 use Rattle.reply_text.specs.Replies.{text_of}
-use Rattle.request_text.specs.Bodies.{Item}
+use Rattle.request_words.specs.Bodies.{Item}
 use Rattle.script_session.specs.Outputs.{AnswersItem, AreAnswers, IsOutput}
 use Rattle.request_text.specs.declared.stop.ReadStop.{ReadStop}
 use Rattle.request_text.specs.declared.stop.ReadStop.TheVariants as read

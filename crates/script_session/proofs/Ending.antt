@@ -6,7 +6,7 @@ use Rattle.track_outside.specs.declared.sink.Sink as sink
 use Rattle.track_outside.specs.Calls.{Took}
 use Rattle.request_model.specs.declared.requests.Request.{Request}
 use Rattle.request_model.specs.declared.replies.Reply.{Reply}
-use Rattle.request_text.specs.Bodies.{Item}
+use Rattle.request_words.specs.Bodies.{Item}
 use Rattle.script_session.specs.declared.stop.Stop.{Stop}
 use Rattle.script_session.specs.declared.stop.Stop.TheVariants as stop
 use Rattle.script_session.specs.Outputs.{AsksFirst, IsOutput}

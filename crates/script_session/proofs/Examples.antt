@@ -12,7 +12,7 @@ use Rattle.request_model.specs.declared.runs.RunLine.{RunLine}
 use Rattle.metric_table.specs.declared.limits.Limit.TheVariants.{Machines}
 use Rattle.reply_text.specs.Replies.{text_of}
 use Rattle.sample_model.specs.Samples.{Measurement}
-use Rattle.request_text.specs.Bodies.{Item}
+use Rattle.request_words.specs.Bodies.{Item}
 use Rattle.history_model.specs.declared.entries.Author.TheVariants as author
 use Rattle.history_model.specs.declared.entries.Entry.TheVariants as entry
 use Rattle.track_model.specs.Tracks.{Track}

@@ -1,6 +1,6 @@
 -- What was read before a fault of the input is asked first.
 use Rattle.std.proofs.Common.{◌≡◌, ℕ, ◌+◌, inl, false, List, [], ◌++◌, length, sym, ap, subst, ◌∙◌, arith, append_assoc, append-nil, length-append}
-use Rattle.request_text.specs.Bodies.{Item}
+use Rattle.request_words.specs.Bodies.{Item}
 use Rattle.request_text.specs.Scripts.{ArePieces, Ends, long, last, inside, more, unfinished}
 use Rattle.script_session.specs.Laws.{OpenIsFirst}
 

@@ -1,7 +1,7 @@
 -- What was read of a script, call by call, and how it ends.
 use Rattle.std.proofs.Common.{◌≡◌, ℕ, ◌+◌, ◌-◌, ◌<◌, ◌≤◌, inl, inr, Bool, true, false, List, [], ◌++◌, length, take, Some, refl, sym, ap, subst, ◌∙◌, arith, append_assoc, append-nil, length-append}
 use Rattle.std.proofs.Math.Seq.{take-append-add}
-use Rattle.request_text.specs.Bodies.{Item}
+use Rattle.request_words.specs.Bodies.{Item}
 use Rattle.request_text.specs.Scripts.{Ending, Reads, ReadsLeft, IsScript, input_limit, unfinished}
 use Rattle.request_text.specs.Next.{TakesWhole}
 use Rattle.request_text.specs.Reading.{PiecesComeFirst, PiecesJoin}

@@ -6,7 +6,7 @@ use Rattle.track_outside.specs.declared.source.Source.{Ghosts}
 use Rattle.request_text.specs.declared.asked.Asked.{Asked}
 use Rattle.request_text.specs.declared.stop.ReadStop.{ReadStop}
 use Rattle.request_text.specs.declared.stop.ReadStop.TheVariants as stop
-use Rattle.request_text.specs.Bodies.{Item}
+use Rattle.request_words.specs.Bodies.{Item}
 use Rattle.request_text.specs.Scripts.{end, cut_off, unfinished, Reads, IsScript, input_limit}
 use Rattle.request_text.specs.Unread.{Unread, nothing_read, GivesOpen}
 use Rattle.request_text.specs.Next.{items_of, Takes, TakesWhole, TakesLast, ReadsNext, Gave, GaveFew}

@@ -3,7 +3,7 @@ use Rattle.std.specs.Prelude.{◌≡◌, ℕ, ◌≤◌, true, false, List, [], 
 use Rattle.std.specs.List.{AllByRecursion}
 use Rattle.metric_table.specs.Limits.{most}
 use Rattle.metric_table.specs.declared.limits.Limit.TheVariants.{Machines}
-use Rattle.request_text.specs.Bodies.{Item}
+use Rattle.request_words.specs.Bodies.{Item}
 use Rattle.history_model.specs.declared.entries.Author.{Author}
 use Rattle.history_model.specs.declared.entries.Placed.{Placed}
 use Rattle.track_model.specs.Tracks.{Track}

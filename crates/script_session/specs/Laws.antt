@@ -4,7 +4,7 @@ use Rattle.std.specs.List.{AllByRecursion}
 use Rattle.request_model.specs.declared.requests.Request.{Request}
 use Rattle.request_model.specs.declared.requests.Request.TheVariants as request
 use Rattle.request_model.specs.declared.replies.Reply.{Reply}
-use Rattle.request_text.specs.Bodies.{Item}
+use Rattle.request_words.specs.Bodies.{Item}
 use Rattle.request_text.specs.Scripts.{Ending, IsScript}
 use Rattle.script_session.specs.Outputs.{IsOutput, Out, AsksFirst}
 use Rattle.script_session.specs.Endings.{GaveOpen}

@@ -3,7 +3,7 @@ use Rattle.std.specs.Prelude.{◌≡◌, ◌↔◌, ℕ, Bool, true, if◌then�
 use Rattle.std.specs.List.{flat_map}
 use Rattle.request_model.specs.declared.replies.Reply.{Reply}
 use Rattle.reply_text.specs.Replies.{text_of}
-use Rattle.request_text.specs.Bodies.{Item}
+use Rattle.request_words.specs.Bodies.{Item}
 use Rattle.request_text.specs.Scripts.{Ending, IsScript}
 use Rattle.script_session.specs.Sessions.{State, AnswersFor, AnswersSome, is_of_segmentations}
 use Rattle.script_session.specs.Outputs.{AreAnswers, Out}

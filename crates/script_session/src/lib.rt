@@ -16,8 +16,8 @@
 //! is, `specs/Part.antt` what a part of one is, `specs/Endings.antt` how its answering ends, `specs/Growth.antt` and
 //! `specs/Laws.antt` the laws. What stands between two requests (`specs/Turns.antt`) no public contract cites.
 //!
-//! Stands on `request_text` and `reply_text` for the texts of requests and replies, on `track_state` and `track_model`
-//! for a machine's answers, on `kept_machines`, which finds a machine among others, and on `track_outside` for sources
+//! Stands on `request_text` and `reply_text` for the texts of requests and replies, on `track_step`, `track_state` and
+//! `track_model` for a machine's answers, on `kept_machines`, which finds a machine among others, and on `track_outside` for sources
 //! and sinks.
 #![tactic(auto)]
 

@@ -11,6 +11,7 @@ use metric_table::Limit;
 use request_model::{Answer, Refusal, Reply, Request};
 use std::alloc::Global;
 use track_state::TrackState;
+use track_step::step;
 
 // Answers a request of a script, and adds what it adds: a machine, or an entry of one. Where there is no memory nothing
 // changes.
@@ -25,7 +26,7 @@ pub(crate) fn answer_request(
     ensures err { OnErr result (machines.new.items ≡ machines.old.items) }
 {
     match place_of(machines, machine_of(request)) {
-        Some(i) => machines[i].step(author, request),
+        Some(i) => step(&mut machines[i], author, request),
         None => answer_unknown(alloc, machines, request),
     }
 }

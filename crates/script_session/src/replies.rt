@@ -19,7 +19,7 @@ const MANY: usize = 0x1_0000;
 #[derive(Drop)]
 pub(crate) struct Replies {
     text: Vec<u8>,
-    // Where the text of the next one is made.
+    // Where the text of a certificate is made.
     room: Vec<u8>,
 }
 

@@ -1,7 +1,7 @@
 //! A script, answered from the bytes in to the bytes out.
 ghost use Rattle.std.specs.Prelude.{◌≡◌, ◌≢◌, ◌+◌, ◌<◌, ◌≤◌, ℕ, List, [], All, length, OnOk, OnErr, IfOk, IfErr, option_to_list};
 ghost use Rattle.track_outside.specs.Calls.{GaveAtMost};
-ghost use Rattle.request_text.specs.Bodies.{Item};
+ghost use Rattle.request_words.specs.Bodies.{Item};
 ghost use Rattle.request_text.specs.Next.{items_of};
 ghost use Rattle.request_text.specs.Scripts.{input_limit};
 ghost use Rattle.script_session.specs.Outputs.{AreAnswers};

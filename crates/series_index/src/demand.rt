@@ -62,7 +62,7 @@ impl SeriesIndex {
             (seen (record { test = test.now; metric = metric.now }) self.now).points) 16_384) }
     {
         match self.get(test, metric) {
-            Some(tracked) => tracked.points.len() < 16_384 || tracked.points.has(commit),
+            Some(tracked) => tracked.points.takes(commit),
             None => true,
         }
     }
@@ -77,8 +77,7 @@ impl SeriesIndex {
         !self.knows(test, metric) && !tally.knows(test, metric)
     }
 
-    // Puts the samples into a tally of their own, and counts the series that are new to this index. The place of the
-    // commit in one series of the tally is where the next is looked at first.
+    // Puts the samples into a tally of their own, and counts the series that are new to this index.
     fn count_new(
         &self,
         tally: &mut SeriesIndex,
@@ -94,17 +93,9 @@ impl SeriesIndex {
     {
         series_law();
         let mut new = 0;
-        let mut near = usize::MAX;
         for sample in samples {
             new = add_if(new, self.is_first(tally, &sample.test, &sample.metric));
-            tally.insert(
-                &sample.test,
-                &sample.metric,
-                &mut near,
-                commit,
-                0,
-                sample.value,
-            )?;
+            tally.insert(&sample.test, &sample.metric, commit, 0, sample.value)?;
         }
         Ok(new)
     }
@@ -148,7 +139,7 @@ impl SeriesIndex {
         tracked.points.limits();
         tracked.since.is_some()
             && tracked.points.count() + more <= 65_536
-            && (tracked.points.len() < 16_384 || tracked.points.has(commit))
+            && tracked.points.takes(commit)
     }
 
     // Whether each series of the samples has plenty: room for all of them. Then no tally is needed.

@@ -43,12 +43,10 @@ impl MetricIndex {
         self.entries.get(metric)
     }
 
-    // Puts a sample in; changes nothing where there is no memory. `near` is where to look first among the positions, and
-    // becomes the place of the commit: it makes no difference to what is done.
+    // Puts a sample in; changes nothing where there is no memory.
     pub fn insert(
         &mut self,
         metric: &Name,
-        near: &mut usize,
         commit: u64,
         step: u64,
         value: i64,
@@ -61,13 +59,23 @@ impl MetricIndex {
         ensures err { OnErr result ((m : List ℕ) → seen_of m self.new ≡ seen_of m self.old) }
     {
         if let Some(tracked) = self.entries.get_mut(metric) {
-            tracked.insert(near, commit, step, value)?;
+            tracked.insert(commit, step, value)?;
             return Ok(());
         }
         let mut tracked = Tracked::new(self.alloc);
-        tracked.insert(near, commit, step, value)?;
+        tracked.insert(commit, step, value)?;
         let key = metric.copy(self.alloc)?;
         self.entries.insert(key, tracked)?;
+        Ok(())
+    }
+
+    // Places what waits in the series of a metric; changes nothing that is seen.
+    pub fn settle(&mut self, metric: &Name) -> Result<(), NoMemory>
+        ensures { (m : List ℕ) → seen_of m self.new ≡ seen_of m self.old }
+    {
+        if let Some(tracked) = self.entries.get_mut(metric) {
+            return tracked.settle();
+        }
         Ok(())
     }
 

@@ -54,15 +54,12 @@ impl SeriesIndex {
         }
     }
 
-    /// Puts a sample in at a commit; changes nothing that is seen where there is no memory. Logarithmic time, but for
-    /// what the positions take. `near` is where to look first among the positions of the series, and becomes the place
-    /// of the commit: it makes no difference to what is done. The series of a machine mostly have the same commits, so
-    /// the place in one saves the search in the next.
+    /// Puts a sample in at a commit; changes nothing that is seen where there is no memory. Logarithmic time to find the
+    /// series; the sample waits there until the positions are asked for.
     pub fn insert(
         &mut self,
         test: &Name,
         metric: &Name,
-        near: &mut usize,
         commit: u64,
         step: u64,
         value: i64,
@@ -76,13 +73,24 @@ impl SeriesIndex {
         ensures err { OnErr result ((s : Series) → seen s self.new ≡ seen s self.old) }
     {
         if let Some(metrics) = self.tests.get_mut(test) {
-            metrics.insert(metric, near, commit, step, value)?;
+            metrics.insert(metric, commit, step, value)?;
             return Ok(());
         }
         let mut metrics = MetricIndex::new(self.alloc);
-        metrics.insert(metric, near, commit, step, value)?;
+        metrics.insert(metric, commit, step, value)?;
         let key = test.copy(self.alloc)?;
         self.tests.insert(key, metrics)?;
+        Ok(())
+    }
+
+    /// Places the samples that wait in a series, so that its positions can be read. Changes nothing that is seen, whether
+    /// there is memory or not.
+    pub fn settle(&mut self, test: &Name, metric: &Name) -> Result<(), NoMemory>
+        ensures { (s : Series) → seen s self.new ≡ seen s self.old }
+    {
+        if let Some(metrics) = self.tests.get_mut(test) {
+            return metrics.settle(metric);
+        }
         Ok(())
     }
 
@@ -111,7 +119,7 @@ impl SeriesIndex {
     }
 
     /// Puts all samples of a run in at a commit, each into its series; where there is no memory for one of them, what is
-    /// seen of each series stays as it was. The place of the commit in one series is where the next is looked at first.
+    /// seen of each series stays as it was.
     pub fn take_in(&mut self, commit: u64, step: u64, samples: &[Sample]) -> Result<(), NoMemory>
         requires small { All (λ (x : Measurement). IsSmall x.value) samples.now }
         requires room { (s : Series) → HasRoomFor (seen s self.old) commit step
@@ -121,16 +129,8 @@ impl SeriesIndex {
             ≡ with_samples commit step (of_series s samples.now) (seen s self.old)) }
         ensures err { OnErr result ((s : Series) → seen s self.new ≡ seen s self.old) }
     {
-        let mut near = usize::MAX;
         for sample in samples {
-            if let Err(_) = self.insert(
-                &sample.test,
-                &sample.metric,
-                &mut near,
-                commit,
-                step,
-                sample.value,
-            ) {
+            if let Err(_) = self.insert(&sample.test, &sample.metric, commit, step, sample.value) {
                 self.undo_all(commit, step, samples);
                 return Err(NoMemory);
             }

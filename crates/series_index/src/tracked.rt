@@ -3,7 +3,7 @@ ghost use Rattle.std.specs.Prelude.{◌≡◌, OnOk, OnErr};
 ghost use Rattle.series_index.specs.Seen.{unseen, with_sample, without, undone, HasRoom};
 
 use crate::NoMemory;
-use point_list::{PointFault, Points};
+use crate::log::PointLog;
 use std::alloc::Global;
 
 /// What is kept of a series.
@@ -12,7 +12,7 @@ pub struct Tracked {
     /// The step whose run first had a sample of it.
     pub since: Option<u64>,
     /// Its positions.
-    pub points: Points,
+    pub points: PointLog,
 }
 
 impl Tracked {
@@ -22,33 +22,29 @@ impl Tracked {
     {
         Tracked {
             since: None,
-            points: Points::new(alloc),
+            points: PointLog::new(alloc),
         }
     }
 
-    // Puts a sample in; changes nothing where there is no memory. `near` is where to look first among the positions, and
-    // becomes the place of the commit: it makes no difference to what is done.
-    pub(crate) fn insert(
-        &mut self,
-        near: &mut usize,
-        commit: u64,
-        step: u64,
-        value: i64,
-    ) -> Result<(), NoMemory>
+    // Puts a sample in; changes nothing where there is no memory.
+    pub(crate) fn insert(&mut self, commit: u64, step: u64, value: i64) -> Result<(), NoMemory>
         requires { HasRoom self.old commit step value }
         ensures ok { OnOk result
             (self.new ≡ with_sample commit (record { step = step; value = value }) self.old) }
         ensures err { OnErr result (self.new ≡ self.old) }
     {
-        match self.points.insert(near, commit, step, value) {
-            Ok(()) => {}
-            Err(PointFault::NoMemory) => return Err(NoMemory),
-            Err(PointFault::SamplesFull) | Err(PointFault::PositionsFull) => unreachable!(),
-        }
+        self.points.insert(commit, step, value)?;
         if self.since.is_none() {
             self.since = Some(step);
         }
         Ok(())
+    }
+
+    // Places what waits; changes nothing that is seen.
+    pub(crate) fn settle(&mut self) -> Result<(), NoMemory>
+        ensures { self.new ≡ self.old }
+    {
+        self.points.settle()
     }
 
     // Takes out the samples of a step.

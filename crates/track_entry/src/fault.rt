@@ -3,7 +3,7 @@ use crate::NoMemory;
 use line_text::NameError;
 
 /// Why no entry was read.
-#[derive(Clone, Copy, Debug, PartialEq, Eq)]
+#[derive(Clone, Copy)]
 pub enum EntryFault {
     /// The text spells no entry.
     NotEntry,

@@ -23,10 +23,10 @@ pub fn entry_law(entry: &Entry)
         }
         Entry::Retract { run } => run.bytes_law(),
         Entry::Tune { metric, penalty } => {
-            let _penalty = *penalty;
+            let _penalty = *penalty.get();
             metric.bytes_law();
         }
-        Entry::Publish { publication } => publication_fits(publication),
+        Entry::Publish { publication } => publication_fits(publication.get()),
         Entry::Regression { event } => regression_fits(event),
         Entry::Job { event } => job_fits(event),
     }

@@ -43,11 +43,11 @@ pub fn put_whole(alloc: Global, out: &mut Vec<u8>, entry: &Entry) -> Result<(), 
         Entry::Tune { metric, penalty } => {
             out.extend_from_slice(b"tune")?;
             put_word(alloc, out, metric)?;
-            put_signed(alloc, out, *penalty)
+            put_signed(alloc, out, *penalty.get())
         }
         Entry::Publish { publication } => {
             out.extend_from_slice(b"publish")?;
-            put_publication(alloc, out, publication)
+            put_publication(alloc, out, publication.get())
         }
         Entry::Regression { event } => put_regression(alloc, out, event),
         Entry::Job { event } => put_job(alloc, out, event),

@@ -14,7 +14,7 @@ use crate::kind::{Kind, read_kind};
 use crate::put::put_whole;
 use crate::words::{METRIC_LIMIT, end_at, name_at, number_at, sample_at, series_at, signed_at};
 use history_model::{Entry, Publication, RegressionEvent, Run};
-use line_text::{Names, Numbers, names_law, next_word, words_law};
+use line_text::{Boxed, Names, Numbers, names_law, next_word, words_law};
 use metric_table::Limit;
 use sample_model::Samples;
 use std::alloc::Global;
@@ -132,6 +132,7 @@ fn read_tune(alloc: Global, names: &mut Names, text: &[u8], at: usize) -> Result
     let (metric, behind_metric) = name_at(alloc, names, text, at)?;
     let (penalty, end) = signed_at(text, behind_metric)?;
     end_at(text, end)?;
+    let penalty = Boxed::new(alloc, penalty)?;
     Ok(Entry::Tune { metric, penalty })
 }
 
@@ -160,6 +161,7 @@ fn read_publish(
         total,
         cuts,
     };
+    let publication = Boxed::new(alloc, publication)?;
     Ok(Entry::Publish { publication })
 }
 
@@ -221,7 +223,7 @@ fn has_short_metric(entry: &Entry) -> bool
 {
     match entry {
         Entry::Tune { metric, .. } => metric.as_str().len() <= METRIC_LIMIT,
-        Entry::Publish { publication } => publication.metric.as_str().len() <= METRIC_LIMIT,
+        Entry::Publish { publication } => publication.get().metric.as_str().len() <= METRIC_LIMIT,
         Entry::Regression {
             event: RegressionEvent::Raise { raised },
         } => raised.metric.as_str().len() <= METRIC_LIMIT,

@@ -21,9 +21,11 @@ pub record IsPlace (name : List ℕ) (files : List NamedBytes) (i : ℕ) : Type 
   pub within : i < length files
   pub named : (other : NamedBytes) → (slice_index_or files i other).name ≡ name
   pub bytes : (other : NamedBytes) → bytes_at name files ≡ Some (slice_index_or files i other).bytes
-  pub set : (bytes : List ℕ) → with_bytes name bytes files ≡ slice_set files i (record { name = name; bytes = bytes })
+  pub set : (bytes : List ℕ) → with_bytes name bytes files
+      ≡ slice_set files i (record { name = name; bytes = bytes })
 
 -- the name is not there
 pub record IsAbsent (name : List ℕ) (files : List NamedBytes) : Type 0 where
   pub none : bytes_at name files ≡ None
-  pub added : (bytes : List ℕ) → with_bytes name bytes files ≡ files ++ record { name = name; bytes = bytes } ∷ []
+  pub added : (bytes : List ℕ) → with_bytes name bytes files
+      ≡ files ++ record { name = name; bytes = bytes } ∷ []

@@ -15,13 +15,14 @@ abbrev pub with_more : Option (List (List ℕ)) → List (List ℕ) → Option (
 with_more told more = option_map (λ rows. rows ++ more) told
 
 -- what is told, with a name behind it where the call answered, if only that it failed
-abbrev pub with_name : {A : Type 0} → Result A OutError → List ℕ → Option (List (List ℕ)) → Option (List (List ℕ))
+abbrev pub with_name : {A : Type 0} → Result A OutError → List ℕ → Option (List (List ℕ))
+    → Option (List (List ℕ))
 with_name (Ok done) name told = with_more told (name ∷ [])
 with_name (Err Failed) name told = with_more told (name ∷ [])
 with_name (Err NoMemory) name told = told
 
--- a keeper in memory: its rows, the names started, the numbers of the calls that fail, counted from 1, how many calls
--- there were, and how many faults
+-- a keeper in memory: its rows, the names started, the numbers of the calls that fail, counted from
+-- 1, how many calls there were, and how many faults
 pub record Store : Type 0 where
   pub kept : List (List ℕ)
   pub started : List (List ℕ)
@@ -37,12 +38,14 @@ new_store fails = record { kept = []; started = []; fails = fails; calls = 0; fa
 abbrev pub IsPlanned : Store → Type 0
 IsPlanned store = Contains store.fails (one_more store.calls)
 
--- what a call makes of a keeper in memory: it fails exactly where it is planned to, which leaves `failed`; else it leaves
--- `done`; either way it is counted. Want of memory changes nothing
+-- what a call makes of a keeper in memory: it fails exactly where it is planned to, which leaves
+-- `failed`; else it leaves `done`; either way it is counted. Want of memory changes nothing
 abbrev pub Answers : {A : Type 0} → Store → Store → Store → Store → Result A OutError → Type 0
-Answers old new failed done (Ok answer) = (¬ IsPlanned old) × (new ≡ record done { calls = one_more old.calls })
+Answers old new failed done (Ok answer) =
+    (¬ IsPlanned old) × (new ≡ record done { calls = one_more old.calls })
 Answers old new failed done (Err Failed) =
-    IsPlanned old × (new ≡ record failed { calls = one_more old.calls; faults = one_more old.faults })
+    IsPlanned old
+    × (new ≡ record failed { calls = one_more old.calls; faults = one_more old.faults })
 Answers old new failed done (Err NoMemory) = new ≡ old
 
 -- what `count` makes of a keeper in memory

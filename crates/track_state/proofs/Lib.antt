@@ -1,18 +1,12 @@
-mod Followed
-mod Allowances
-mod Raising
-mod Steps
-mod Marks
-mod Publishing
-mod Told
-mod Segmenting
-mod Declared
+pub mod Followed
+pub mod Steps
+pub mod Marks
+pub mod Publishing
+pub mod Published
+pub mod Told
+pub mod Named
 mod OneMore
 mod Ready
-mod Series
-mod Verdicts
-mod Submits
-mod Bisecting
-mod Listing
-mod Replaying
+pub mod Series
+mod Asked
 mod Reporting

@@ -21,7 +21,7 @@ use Rattle.track_state.specs.Indexes.{Kept, Penalties, stored, stored_runs, runs
 use Rattle.history_model.specs.Laws.{PublicationIsLast, PublicationStays, VersionsStay, CutsGrow}
 use Rattle.history_model.specs.Runs.{same_series}
 use Rattle.publication_index.specs.Kept.{series_of}
-use Rattle.track_state.specs.Publications.{entry_of}
+use Rattle.track_state.specs.Made.{entry_of}
 use Rattle.track_state.specs.Made.{Segmentations, IsMadeFrom}
 use Rattle.history_model.specs.Followed.{RegressionsGrow, StateStays, JobsStay}
 use Rattle.track_state.specs.declared.following.Following.{Following}

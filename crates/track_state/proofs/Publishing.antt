@@ -14,7 +14,7 @@ use Rattle.history_model.specs.Positions.{positions}
 use Rattle.segment_model.specs.Segments.{Position}
 use Rattle.segment_cost.specs.Certificate.{StandsFor}
 use Rattle.history_model.specs.Publications.{publication_of, last_publication, cut_count, cuts_in, IsUpTo, MayPublish}
-use Rattle.track_state.specs.Publications.{entry_of}
+use Rattle.track_state.specs.Made.{entry_of}
 use Rattle.history_model.specs.Runs.{Series, is_known, same_series}
 use Rattle.segment_cost.specs.declared.done.Done.{Done}
 use Rattle.publication_index.specs.Kept.{kept, series_of}

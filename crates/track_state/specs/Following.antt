@@ -1,4 +1,4 @@
--- Private: no public contract cites this. What is followed of a machine, as it follows from its history.
+-- What is followed of a machine, as it follows from its history.
 use Rattle.std.specs.Prelude.{◌≡◌, ℕ, ◌≤◌, true, if◌then◌else◌, List, [], ◌∷◌, ◌++◌, length, Option, Some, None}
 use Rattle.bisect_core.specs.Bisections.{Bisection, bisection}
 use Rattle.bisect_core.specs.Turns.{tested, given_up}

@@ -1,4 +1,4 @@
--- Private: no public contract cites this. The indexes of a state, as they follow from its history.
+-- The indexes of a state, as they follow from its history.
 use Rattle.std.specs.Prelude.{◌≡◌, ℕ, ℤ, bytes_eq, if◌then◌else◌, List, [], ◌∷◌, ◌++◌, All, length, map, option_map, find, Option, Some, None}
 use Rattle.std.specs.List.{list_any}
 use Rattle.segment_model.specs.Limits.{IsSmall}

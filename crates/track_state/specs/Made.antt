@@ -19,6 +19,10 @@ abbrev pub publication_from : Done → Publication
 publication_from done =
     record { test = done.test; metric = done.metric; version = done.version; base = done.base; total = done.cert.total; cuts = done.cert.cuts }
 
+-- the entry of a finished segmentation
+abbrev pub entry_of : Done → Entry
+entry_of done = Publish (publication_from done)
+
 -- it was made from a version of the history at which its series was known: from the positions and the penalty that the
 -- version gives it, with no table before
 pub record IsMadeFrom (h : List Entry) (done : Done) : Type 0 where

@@ -1,4 +1,4 @@
--- Private: no public contract cites this. What the indexes of a state keep to.
+-- What the indexes of a state keep to.
 use Rattle.std.specs.Prelude.{◌≡◌, ◌≤◌, ℕ, true, false, List, length, Option, Some, None, is_some}
 use Rattle.segment_model.specs.Segments.{Position}
 use Rattle.history_model.specs.declared.entries.Declaration.{Declaration}

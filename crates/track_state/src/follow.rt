@@ -63,7 +63,7 @@ pub fn follow(
             Ok(())
         }
         Entry::Tune { metric, penalty } => {
-            let penalty = *penalty;
+            let penalty = *penalty.get();
             penalties.set(metric, penalty)?;
             Ok(())
         }

@@ -1,31 +1,22 @@
-//! The state of one machine: its history, with the indexes that answer requests.
+//! The state of one machine: its history, with the indexes that are found in it fast.
 //!
 //! Contracts see the machine's name, whether the store had it, and the history, a list of entries with their authors.
-//! What is answered, and which entry is added, is defined by the history alone; the indexes only find it fast.
+//! Whatever is asked of a state is defined by the history alone. An entry is added only where it is allowed after those
+//! before it, so each history keeps its limits and is legal.
 //!
 //! What was published of a series is kept as it was made, with its certificate and its positions, so nothing that comes
 //! later changes what is told of it.
+//!
+//! Stands on `order_index`, `sample_store`, `series_index`, `publication_index` and `follow_index` for what is kept of a
+//! history, and on `history_model` and `track_model` for what histories and tracks are.
 #![tactic(auto)]
 
-mod calibrate;
-mod changes;
-mod events;
 mod follow;
 mod following;
-mod jobs;
+mod of_history;
+mod of_series;
 mod publish;
-mod regressions;
-mod replay;
-mod report;
-mod runs;
-mod segment;
-mod snapshot;
 mod state;
-mod submit;
-mod tune;
-mod verdict;
 
-pub use publish::Published;
-pub use snapshot::Snapshot;
 pub use state::TrackState;
 pub use std::alloc::AllocError as NoMemory;

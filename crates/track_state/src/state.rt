@@ -1,32 +1,28 @@
-//! The state of a machine: its entries, and the forms of commit and retraction.
-ghost use Rattle.std.specs.Prelude.{◌≡◌, ◌+◌, ◌-◌, ◌<◌, List, [], ◌∷◌, ◌++◌, IfOk, OnOk, OnErr, IsTrue, length, slice_get, option_copied, None};
+//! The state of a machine: its entries, and how one is added.
+ghost use Rattle.std.specs.Prelude.{◌≡◌, ◌+◌, ◌-◌, ◌<◌, [], ◌∷◌, ◌++◌, IfOk, OnOk, OnErr, length, slice_get, option_copied, None};
 ghost use Rattle.history_model.specs.Entries.{entries_of};
-ghost use Rattle.history_model.specs.Commits.{declarations};
-ghost use Rattle.history_model.specs.Allowed.{Allowed};
+ghost use Rattle.history_model.specs.Allowed.{Allowed, KeepsLimits, Legal};
 ghost use Rattle.history_model.specs.Runs.{known_series};
-ghost use Rattle.track_model.specs.Forms as forms;
 ghost use Rattle.track_model.specs.Outcomes.{tells};
 ghost use Rattle.track_model.specs.Replies.{reply_of};
-ghost use Rattle.track_model.specs.Tracks.{IsStep, with_entry};
+ghost use Rattle.track_model.specs.Tracks.{with_entry};
 ghost use Rattle.track_state.specs.Made.{IsPlain};
 
 use crate::NoMemory;
 use crate::follow::follow;
 use crate::following::Following;
 use history_model::{
-    Author, Declaration, Entry, Placed, between_law, growth_law, jobs_law, limits_law, penalty_law,
+    Author, Entry, Placed, between_law, growth_law, jobs_law, limits_law, penalty_law,
     positions_law, publication_law, regressions_law, retraction_law,
 };
 use line_text::Name;
-use metric_table::Limit;
 use order_index::OrderIndex;
 use publication_index::{PenaltyIndex, PublicationIndex};
-use request_model::{Answer, Refusal, Reply};
+use request_model::{Answer, Reply};
 use sample_store::SampleStore;
 use series_index::SeriesIndex;
 use std::alloc::Global;
 use std::marker::Model;
-use track_model::{commit_law, retract_law};
 
 /// A machine with its history.
 #[derive(Drop)]
@@ -80,6 +76,19 @@ impl TrackState {
         }
     }
 
+    /// The history keeps its limits and is legal. Changes nothing: its contract is what it is for.
+    pub fn history_law(&self)
+        ensures limits { KeepsLimits (entries_of self.now.history) }
+        ensures legal { Legal (entries_of self.now.history) }
+    {
+        let _ = &self.history;
+    }
+
+    /// Where its memory comes from.
+    pub fn alloc(&self) -> Global {
+        self.alloc
+    }
+
     /// The machine's name. Takes no memory.
     pub fn machine(&self) -> &Name
         ensures { result.now ≡ self.now.machine }
@@ -112,8 +121,8 @@ impl TrackState {
         self.history.get((k - 1) as usize)
     }
 
-    // An answer that adds nothing.
-    pub(crate) fn told(&self, answer: Answer) -> Reply
+    /// The reply of an answer that adds nothing.
+    pub fn told(&self, answer: Answer) -> Reply
         ensures { result ≡ reply_of (entries_of self.now.history) (tells answer) }
     {
         Reply {
@@ -122,8 +131,9 @@ impl TrackState {
         }
     }
 
-    // Adds an entry that is no publication, is allowed and makes so many series known, and gives its step.
-    pub(crate) fn add(&mut self, author: Author, entry: Entry, more: u64) -> Result<u64, NoMemory>
+    /// Adds an entry that is no publication, is allowed and makes so many series known, and gives its step. Where there is
+    /// no memory, nothing changes. Takes the time of its indexes: linear in the samples of a run.
+    pub fn add(&mut self, author: Author, entry: Entry, more: u64) -> Result<u64, NoMemory>
         requires allowed { Allowed (entries_of self.old.history) entry }
         requires plain { IsPlain entry }
         requires more { length (known_series (entries_of self.old.history ++ entry ∷ []))
@@ -156,90 +166,5 @@ impl TrackState {
         self.history.push_reserved(Placed { author, entry });
         self.known += more;
         Ok(step)
-    }
-
-    // What a commit is answered where it adds nothing.
-    fn commit_refusal(&self, number: u64, name: &Name) -> Result<Option<Answer>, NoMemory>
-        ensures { IfOk result (λ answer. answer
-            ≡ forms.commit_refusal (declarations (entries_of self.now.history)) number name.now) }
-    {
-        if let Some(same) = self.commits.with_number(number) {
-            if same.name == *name {
-                return Ok(Some(Answer::Duplicate { step: same.step }));
-            }
-            return Ok(Some(self.taken_by(same)?));
-        }
-        if let Some(other) = self.commits.with_name(name) {
-            return Ok(Some(self.taken_by(other)?));
-        }
-        Ok(None)
-    }
-
-    fn taken_by(&self, other: &Declaration) -> Result<Answer, NoMemory>
-        ensures { IfOk result (λ answer. answer ≡ forms.taken_by other.now) }
-    {
-        Ok(Answer::Refused(Refusal::CommitTaken {
-            number: other.number,
-            name: other.name.copy(self.alloc)?,
-        }))
-    }
-
-    /// `commit M NUMBER NAME`
-    pub fn commit(&mut self, author: Author, number: u64, name: &Name) -> Result<Reply, NoMemory>
-        ensures step { IfOk result (λ reply. IsStep self.old author
-            (forms.commit (entries_of self.old.history) number name.now) self.new reply) }
-        ensures same { OnErr result (self.new ≡ self.old) }
-    {
-        commit_law();
-        if let Some(answer) = self.commit_refusal(number, name)? {
-            return Ok(self.told(answer));
-        }
-        if self.commits.len() as u64 >= Limit::Commits.most() {
-            return Ok(self.told(Answer::Refused(Refusal::Full(Limit::Commits))));
-        }
-        if self.len() >= Limit::Steps.most() {
-            return Ok(self.told(Answer::Refused(Refusal::Full(Limit::Steps))));
-        }
-        let answer = Answer::Commit {
-            number,
-            name: name.copy(self.alloc)?,
-        };
-        let name = name.copy(self.alloc)?;
-        let step = self.add(author, Entry::Commit { number, name }, 0)?;
-        Ok(Reply { step, answer })
-    }
-
-    // What a retraction is answered where it adds nothing.
-    pub(crate) fn retract_refusal(&self, run: &Name) -> Option<Answer>
-        ensures { result ≡ forms.retract_refusal (entries_of self.now.history) run.now }
-    {
-        let Some(stored) = self.runs.of_name(run) else {
-            return Some(Answer::Refused(Refusal::UnknownRun));
-        };
-        if let Some(step) = stored.retracted {
-            return Some(Answer::Refused(Refusal::AlreadyRetracted(step)));
-        }
-        None
-    }
-
-    /// `retract M RUN`
-    pub fn retract(&mut self, author: Author, run: &Name) -> Result<Reply, NoMemory>
-        ensures step { IfOk result (λ reply. IsStep self.old author
-            (forms.retract (entries_of self.old.history) run.now) self.new reply) }
-        ensures same { OnErr result (self.new ≡ self.old) }
-    {
-        retract_law();
-        if let Some(answer) = self.retract_refusal(run) {
-            return Ok(self.told(answer));
-        }
-        if self.len() >= Limit::Steps.most() {
-            return Ok(self.told(Answer::Refused(Refusal::Full(Limit::Steps))));
-        }
-        let answer = Answer::Retracted {
-            run: run.copy(self.alloc)?,
-        };
-        let run = run.copy(self.alloc)?;
-        let step = self.add(author, Entry::Retract { run }, 0)?;
-        Ok(Reply { step, answer })
     }
 }

@@ -18,9 +18,11 @@ pub record IsTextOf (points : List Position) (penalty : ℕ) (text : List ℕ) :
   pub stands : StandsFor points (pos penalty) cert
   pub spelled : text ≡ text_of cert
 
--- the text of the best segmentation of the input's points, which are known where the input tells its bytes
+-- the text of the best segmentation of the input's points, which are known where the input tells
+-- its bytes
 abbrev pub IsCertificateText : ℕ → Option (List ℕ) → List ℕ → Type 0
-IsCertificateText penalty input text = (points : List Position) × ArePointsOfInput input points × IsTextOf points penalty text
+IsCertificateText penalty input text =
+    (points : List Position) × ArePointsOfInput input points × IsTextOf points penalty text
 
 -- the session of the one script, on these machines
 abbrev pub state_of : List Track → State
@@ -30,16 +32,16 @@ state_of tracks = record { author = author.Script 1; tracks = tracks }
 abbrev pub new_state : State
 new_state = state_of []
 
--- each published segmentation of a machine names a version of its history, and is the best of exactly that version's
--- positions at its penalty
+-- each published segmentation of a machine names a version of its history, and is the best of
+-- exactly that version's positions at its penalty
 abbrev pub PublishesWell : Track → Type 0
 PublishesWell t = All (Stands (entries_of t.history)) (publications (entries_of t.history))
 
 abbrev pub AllPublishWell : State → Type 0
 AllPublishWell state = All PublishesWell state.tracks
 
--- each finished bisection of a machine names neighbouring commits, the lower one stated or answered good and the higher one
--- bad, within its bound of questions
+-- each finished bisection of a machine names neighbouring commits, the lower one stated or answered
+-- good and the higher one bad, within its bound of questions
 abbrev pub BisectsWell : Track → Type 0
 BisectsWell t = AllFinishWell (entries_of t.history)
 

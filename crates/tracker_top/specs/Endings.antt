@@ -14,7 +14,7 @@ use Rattle.kept_machines.specs.Loading.{LeadTo, IsFirstBad}
 use Rattle.kept_machines.specs.Rows.{new_rows}
 use Rattle.track_outside.specs.Calls.{Took, FailedIn, IsUntouched, GaveAtMost}
 use Rattle.cut_lines.specs.Stops.{GaveMayGoOn}
-use Rattle.request_text.specs.Bodies.{Item}
+use Rattle.request_words.specs.Bodies.{Item}
 use Rattle.request_text.specs.Scripts.{Ending, end, IsScript}
 use Rattle.script_session.specs.declared.stop.Stop.{Stop}
 use Rattle.script_session.specs.declared.stop.Stop.TheVariants as stop
@@ -33,10 +33,12 @@ use Rattle.tracker_top.specs.Text.{line_of}
 
 -- ---- cut
 
--- why `cut` ends so, as far as its input tells: at a fault of the input its count rose, and what it gave may go on;
--- of the output's fault and of want of memory nothing is said; else the bytes show the status, where the input tells them
+-- why `cut` ends so, as far as its input tells: at a fault of the input its count rose, and what it
+-- gave may go on; of the output's fault and of want of memory nothing is said; else the bytes show
+-- the status, where the input tells them
 abbrev pub HasCause : {I : Type 0} → source.Ghosts I → I → I → Status → Type 0
-HasCause g old new ReadFault = Rose (g.faults old) (g.faults new) × GaveMayGoOn (g.left old) (g.left new)
+HasCause g old new ReadFault =
+    Rose (g.faults old) (g.faults new) × GaveMayGoOn (g.left old) (g.left new)
 HasCause g old new WriteFault = Unit {0}
 HasCause g old new NoMemory = Unit {0}
 HasCause g old new BadWords = ⊥
@@ -45,28 +47,34 @@ HasCause g old new (BadStore row) = ⊥
 HasCause g old new status = IfSome (g.left old) (λ bytes. CutShows bytes status)
 
 -- the input, at this status of `cut`
-pub record EndsInput {I : Type 0} (g : source.Ghosts I) (old new : I) (status : Status) : Type 0 where
+pub record EndsInput {I : Type 0} (g : source.Ghosts I) (old new : I) (status : Status)
+    : Type 0 where
   pub cause : HasCause g old new status
   pub whole : status ≡ Done → IsAtEnd (g.left new)
   pub few : GaveAtMost (2 ^ 30 + 1) (g.left old) (g.left new)
   pub counts : g.faults old ≤ g.faults new
 
--- the output, at this status of `cut`, where these are the texts that answer: all of one, a first part of one, or nothing
+-- the output, at this status of `cut`, where these are the texts that answer: all of one, a first
+-- part of one, or nothing
 abbrev pub EndsOutput : {O : Type 0} → sink.Ghosts O → (List ℕ → Type 0) → O → O → Status → Type 0
 EndsOutput g Answers old new Done = (text : List ℕ) × Answers text × Took g old new text
 EndsOutput g Answers old new WriteFault = (text : List ℕ) × Answers text × FailedIn g old new text
 EndsOutput g Answers old new status = IsUntouched g old new
 
 -- the input and the output, at this status of `cut`
-pub record EndsCut {I O : Type 0} (g : source.Ghosts I) (h : sink.Ghosts O) (penalty : ℕ) (old new : I) (before after : O) (status : Status) : Type 0 where
+pub record EndsCut {I O : Type 0} (g : source.Ghosts I) (h : sink.Ghosts O) (penalty : ℕ)
+    (old new : I) (before after : O) (status : Status) : Type 0 where
   pub input : EndsInput g old new status
   pub output : EndsOutput h (IsCertificateText penalty (g.left old)) before after status
 
 -- ---- apply
 
--- the script was answered by a session: some items were read, with the result's cause, and answered by a text, the output
--- took of the text what the result says, all that the machines published stands, and what they bisected finished well
-pub record AnswersScript {I O : Type 0} (g : source.Ghosts I) (h : sink.Ghosts O) (begun now : State) (old new : I) (before after : O) (result : Result (Unit {0}) Stop) : Type 0 where
+-- the script was answered by a session: some items were read, with the result's cause, and answered
+-- by a text, the output took of the text what the result says, all that the machines published
+-- stands, and what they bisected finished well
+pub record AnswersScript {I O : Type 0} (g : source.Ghosts I) (h : sink.Ghosts O)
+    (begun now : State) (old new : I) (before after : O) (result : Result (Unit {0}) Stop)
+    : Type 0 where
   pub items : List Item
   pub text : List ℕ
   pub read : HasRead g old new items result
@@ -77,33 +85,41 @@ pub record AnswersScript {I O : Type 0} (g : source.Ghosts I) (h : sink.Ghosts O
   pub few : GaveAtMost (2 ^ 30 + 1) (g.left old) (g.left new)
   pub counts : g.faults old ≤ g.faults new
 
--- the output took exactly what this whole script is answered, beginning with these machines, which end so
+-- the output took exactly what this whole script is answered, beginning with these machines, which
+-- end so
 abbrev pub Prints : {O : Type 0} → sink.Ghosts O → List Track → List ℕ → State → O → O → Type 0
-Prints h machines bytes now before after = (text : List ℕ) × Out AnswersFor (state_of machines) bytes text now end × Took h before after text
+Prints h machines bytes now before after =
+    (text : List ℕ) × Out AnswersFor (state_of machines) bytes text now end
+    × Took h before after text
 
 -- the machines that the script begins with: none without a store, else those that its rows lead to
 abbrev pub Begins : {K : Type 0} → keeper.Ghosts K → Option (List ℕ) → K → List Track → Type 0
 Begins k None store machines = machines ≡ []
-Begins k (Some name) store machines = AreKept machines × IfSome (k.kept store) (λ rows. LeadTo rows machines)
+Begins k (Some name) store machines =
+    AreKept machines × IfSome (k.kept store) (λ rows. LeadTo rows machines)
 
 -- the keeper was started once, by this name
-pub record WasStarted {K : Type 0} (k : keeper.Ghosts K) (name : List ℕ) (first last : K) : Type 0 where
+pub record WasStarted {K : Type 0} (k : keeper.Ghosts K) (name : List ℕ) (first last : K)
+    : Type 0 where
   pub named : k.started last ≡ with_more (k.started first) (name ∷ [])
   pub counts : k.faults first ≤ k.faults last
 
--- the keeper was started, and has the new rows of these machines behind its own; where it tells its rows, they lead to each of
--- the machines as a store keeps it
-pub record HasAdded {K : Type 0} (k : keeper.Ghosts K) (name : List ℕ) (machines : List Track) (first last : K) : Type 0 where
+-- the keeper was started, and has the new rows of these machines behind its own; where it tells its
+-- rows, they lead to each of the machines as a store keeps it
+pub record HasAdded {K : Type 0} (k : keeper.Ghosts K) (name : List ℕ) (machines : List Track)
+    (first last : K) : Type 0 where
   pub started : WasStarted k name first last
   pub added : k.kept last ≡ with_more (k.kept first) (new_rows machines)
   pub comes_back : IfSome (k.kept last) (λ rows. LeadTo rows (map kept_of machines))
 
--- what became of the keeper: without a store it had no call; else it was started, and has the new rows of these machines
--- behind its own where all is done, and its own at any other status
-abbrev pub Keeps : {K : Type 0} → keeper.Ghosts K → Option (List ℕ) → List Track → K → K → Status → Type 0
+-- what became of the keeper: without a store it had no call; else it was started, and has the new
+-- rows of these machines behind its own where all is done, and its own at any other status
+abbrev pub Keeps : {K : Type 0} → keeper.Ghosts K → Option (List ℕ) → List Track → K → K → Status
+    → Type 0
 Keeps k None machines first last status = last ≡ first
 Keeps k (Some name) machines first last Done = HasAdded k name machines first last
-Keeps k (Some name) machines first last status = WasStarted k name first last × (k.kept last ≡ k.kept first)
+Keeps k (Some name) machines first last status =
+    WasStarted k name first last × (k.kept last ≡ k.kept first)
 
 -- why the rows were not appended
 abbrev pub AppendCause : {K : Type 0} → keeper.Ghosts K → K → K → Status → Type 0
@@ -111,14 +127,18 @@ AppendCause k first last StoreFault = Rose (k.faults first) (k.faults last)
 AppendCause k first last NoMemory = Unit {0}
 AppendCause k first last status = ⊥
 
--- why it ends so: the script stopped, or all is done, or only the new rows of the store were not appended
-abbrev pub EndsSo : {K : Type 0} → keeper.Ghosts K → Option (List ℕ) → K → K → Result (Unit {0}) Stop → Status → Type 0
+-- why it ends so: the script stopped, or all is done, or only the new rows of the store were not
+-- appended
+abbrev pub EndsSo : {K : Type 0} → keeper.Ghosts K → Option (List ℕ) → K → K
+    → Result (Unit {0}) Stop → Status → Type 0
 EndsSo k store first last (Err stop) status = status ≡ script_status_of stop
 EndsSo k None first last (Ok done) status = status ≡ Done
 EndsSo k (Some name) first last (Ok done) status = (status ≡ Done) ⊎ AppendCause k first last status
 
 -- the script was answered
-pub record EndsScript {I O K : Type 0} (g : source.Ghosts I) (h : sink.Ghosts O) (k : keeper.Ghosts K) (store : Option (List ℕ)) (old new : I) (before after : O) (first last : K) (status : Status) : Type 0 where
+pub record EndsScript {I O K : Type 0} (g : source.Ghosts I) (h : sink.Ghosts O)
+    (k : keeper.Ghosts K) (store : Option (List ℕ)) (old new : I) (before after : O)
+    (first last : K) (status : Status) : Type 0 where
   pub machines : List Track
   pub begins : Begins k store first machines
   pub now : State
@@ -126,7 +146,8 @@ pub record EndsScript {I O K : Type 0} (g : source.Ghosts I) (h : sink.Ghosts O)
   pub answers : AnswersScript g h (state_of machines) now old new before after result
   pub ends : EndsSo k store first last result status
   pub keeps : Keeps k store now.tracks first last status
-  pub whole : status ≡ Done → IfSome (g.left old) (λ bytes. Prints h machines bytes now before after)
+  pub whole : status ≡ Done
+      → IfSome (g.left old) (λ bytes. Prints h machines bytes now before after)
 
 -- why the rows of the store were not loaded
 abbrev pub LoadCause : {K : Type 0} → keeper.Ghosts K → K → K → Status → Type 0
@@ -136,7 +157,8 @@ LoadCause k first last NoMemory = Unit {0}
 LoadCause k first last status = ⊥
 
 -- the rows were not loaded, so nothing was read or written
-pub record EndsUnread {I O K : Type 0} (k : keeper.Ghosts K) (name : List ℕ) (old new : I) (before after : O) (first last : K) (status : Status) : Type 0 where
+pub record EndsUnread {I O K : Type 0} (k : keeper.Ghosts K) (name : List ℕ) (old new : I)
+    (before after : O) (first last : K) (status : Status) : Type 0 where
   pub unread : new ≡ old
   pub unwritten : after ≡ before
   pub cause : LoadCause k first last status
@@ -145,10 +167,13 @@ pub record EndsUnread {I O K : Type 0} (k : keeper.Ghosts K) (name : List ℕ) (
   pub counts : k.faults first ≤ k.faults last
 
 -- the input, the output and the keeper, at this status of `apply`
-abbrev pub EndsApply : {I O K : Type 0} → source.Ghosts I → sink.Ghosts O → keeper.Ghosts K → Option (List ℕ) → I → I → O → O → K → K → Status → Type 0
-EndsApply g h k None old new before after first last status = EndsScript g h k None old new before after first last status
+abbrev pub EndsApply : {I O K : Type 0} → source.Ghosts I → sink.Ghosts O → keeper.Ghosts K
+    → Option (List ℕ) → I → I → O → O → K → K → Status → Type 0
+EndsApply g h k None old new before after first last status =
+    EndsScript g h k None old new before after first last status
 EndsApply g h k (Some name) old new before after first last status =
-    EndsUnread k name old new before after first last status ⊎ EndsScript g h k (Some name) old new before after first last status
+    EndsUnread k name old new before after first last status
+    ⊎ EndsScript g h k (Some name) old new before after first last status
 
 -- ---- gen
 
@@ -160,7 +185,8 @@ IsOfOutput NoMemory = Unit {0}
 IsOfOutput status = ⊥
 
 -- the input and the output, at this status of `gen`
-pub record EndsGen {I O : Type 0} (h : sink.Ghosts O) (number : ℕ) (old new : I) (before after : O) (status : Status) : Type 0 where
+pub record EndsGen {I O : Type 0} (h : sink.Ghosts O) (number : ℕ) (old new : I) (before after : O)
+    (status : Status) : Type 0 where
   pub unread : new ≡ old
   pub cause : IsOfOutput status
   pub output : EndsOutput h (λ text. text ≡ script_of number) before after status
@@ -171,7 +197,8 @@ pub record EndsGen {I O : Type 0} (h : sink.Ghosts O) (number : ℕ) (old new : 
 abbrev pub EndsWell : List ℕ → Type 0
 EndsWell bytes = (items : List Item) (ending : Ending) → IsScript bytes items ending → ending ≡ end
 
--- these items of a script that ends well, and can't fail to be read, were read, at this result; its cause
+-- these items of a script that ends well, and can't fail to be read, were read, at this result; its
+-- cause
 abbrev pub HasAsked : List ℕ → List Item → Result (Unit {0}) Stop → Type 0
 HasAsked bytes items (Ok done) = IsScript bytes items end
 HasAsked bytes items (Err stop.WriteFault) = AsksFirst bytes items
@@ -180,11 +207,15 @@ HasAsked bytes items result = ⊥
 
 -- nor does a session without machines refuse any request of it
 abbrev pub RefusesNone : List ℕ → Type 0
-RefusesNone bytes = (text : List ℕ) (last : State) (ending : Ending) (out : Out AnswersFor new_state bytes text last ending) → AllByRecursion IsAccepted out.output.replies
+RefusesNone bytes =
+    (text : List ℕ) (last : State) (ending : Ending)
+    (out : Out AnswersFor new_state bytes text last ending)
+    → AllByRecursion IsAccepted out.output.replies
 
--- the output took exactly the part about segmentations of what a session without machines answers this whole script, of which
--- no reply is a refusal
-pub record PrintsPart {O : Type 0} (h : sink.Ghosts O) (bytes : List ℕ) (before after : O) : Type 0 where
+-- the output took exactly the part about segmentations of what a session without machines answers
+-- this whole script, of which no reply is a refusal
+pub record PrintsPart {O : Type 0} (h : sink.Ghosts O) (bytes : List ℕ) (before after : O)
+    : Type 0 where
   pub whole : List ℕ
   pub text : List ℕ
   pub last : State
@@ -192,10 +223,11 @@ pub record PrintsPart {O : Type 0} (h : sink.Ghosts O) (bytes : List ℕ) (befor
   pub accepted : AllByRecursion IsAccepted part.replies
   pub took : Took h before after text
 
--- the output, at this status of `trial` on a script: some items were read, with the status' cause, and answered, beginning with
--- no machine; a text is what is told of the answers, of which the output took what the status says; at the end it is the part
--- of all that is answered
-pub record RunsScript {O : Type 0} (h : sink.Ghosts O) (bytes : List ℕ) (before after : O) (status : Status) : Type 0 where
+-- the output, at this status of `trial` on a script: some items were read, with the status' cause,
+-- and answered, beginning with no machine; a text is what is told of the answers, of which the
+-- output took what the status says; at the end it is the part of all that is answered
+pub record RunsScript {O : Type 0} (h : sink.Ghosts O) (bytes : List ℕ) (before after : O)
+    (status : Status) : Type 0 where
   pub result : Result (Unit {0}) Stop
   pub told : status ≡ script_status result
   pub items : List Item
@@ -209,21 +241,29 @@ pub record RunsScript {O : Type 0} (h : sink.Ghosts O) (bytes : List ℕ) (befor
   pub whole : status ≡ Done → PrintsPart h bytes before after
 
 -- the input and the output, at this status of `trial`
-pub record EndsTrial {I O : Type 0} (h : sink.Ghosts O) (number : ℕ) (old new : I) (before after : O) (status : Status) : Type 0 where
+pub record EndsTrial {I O : Type 0} (h : sink.Ghosts O) (number : ℕ) (old new : I)
+    (before after : O) (status : Status) : Type 0 where
   pub unread : new ≡ old
   pub run : RunsScript h (script_of number) before after status
 
 -- ---- any command
 
--- the input, the output and the keeper, at this status of the command; only `apply` calls the keeper
-abbrev pub Ends : {I O K : Type 0} → source.Ghosts I → sink.Ghosts O → keeper.Ghosts K → Command → I → I → O → O → K → K → Status → Type 0
-Ends g h k (Cut penalty) old new before after first last status = EndsCut g h penalty old new before after status × (last ≡ first)
-Ends g h k (Apply store) old new before after first last status = EndsApply g h k store old new before after first last status
-Ends g h k (Gen number) old new before after first last status = EndsGen h number old new before after status × (last ≡ first)
-Ends g h k (Trial number) old new before after first last status = EndsTrial h number old new before after status × (last ≡ first)
+-- the input, the output and the keeper, at this status of the command; only `apply` calls the
+-- keeper
+abbrev pub Ends : {I O K : Type 0} → source.Ghosts I → sink.Ghosts O → keeper.Ghosts K → Command → I
+    → I → O → O → K → K → Status → Type 0
+Ends g h k (Cut penalty) old new before after first last status =
+    EndsCut g h penalty old new before after status × (last ≡ first)
+Ends g h k (Apply store) old new before after first last status =
+    EndsApply g h k store old new before after first last status
+Ends g h k (Gen number) old new before after first last status =
+    EndsGen h number old new before after status × (last ≡ first)
+Ends g h k (Trial number) old new before after first last status =
+    EndsTrial h number old new before after status × (last ≡ first)
 
 -- memory was wanting to read the words, so no command was begun: nothing was read, written or kept
-pub record EndsUnbegun {I O K : Type 0} (old new : I) (before after : O) (first last : K) (status : Status) : Type 0 where
+pub record EndsUnbegun {I O K : Type 0} (old new : I) (before after : O) (first last : K)
+    (status : Status) : Type 0 where
   pub wanting : status ≡ NoMemory
   pub unread : new ≡ old
   pub unwritten : after ≡ before

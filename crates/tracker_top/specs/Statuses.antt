@@ -1,7 +1,7 @@
 -- Which status is due, by the words, the rows of a store and the input's bytes.
 use Rattle.std.specs.Prelude.{◌≡◌, ℕ, ◌⊎◌, List, Option, Some, None, Result, Ok, Err}
 use Rattle.segment_model.specs.Segments.{Position}
-use Rattle.request_text.specs.Bodies.{Item}
+use Rattle.request_words.specs.Bodies.{Item}
 use Rattle.request_text.specs.Scripts.{Ending, end, cut_off, unfinished, IsScript}
 use Rattle.script_session.specs.declared.stop.Stop.{Stop as ScriptStop}
 use Rattle.script_session.specs.declared.stop.Stop.TheVariants as script
@@ -42,7 +42,8 @@ abbrev pub script_status : Result (Unit {0}) ScriptStop → Status
 script_status (Ok done) = Done
 script_status (Err stop) = script_status_of stop
 
--- the status at which a command ends where the rows of its store are not loaded, or the new ones not appended
+-- the status at which a command ends where the rows of its store are not loaded, or the new ones
+-- not appended
 abbrev pub load_status_of : LoadFault → Status
 load_status_of load.KeepFault = StoreFault
 load_status_of (load.BadRow row) = BadStore row
@@ -52,14 +53,15 @@ abbrev pub append_status_of : AppendFault → Status
 append_status_of append.KeepFault = StoreFault
 append_status_of append.NoMemory = NoMemory
 
--- the bytes show this status of `cut`: it is Done and they have points, or they show the stop that it is the status of
+-- the bytes show this status of `cut`: it is Done and they have points, or they show the stop that
+-- it is the status of
 abbrev pub CutShows : List ℕ → Status → Type 0
 CutShows bytes status =
     ((status ≡ Done) × ((points : List Position) × ArePointsOf bytes points))
     ⊎ ((stop : Stop) × (status ≡ status_of stop) × BytesShow bytes stop)
 
--- the status at which a command ends where the script on standard input ends so; it takes a byte past the most that are
--- read where the script is unfinished
+-- the status at which a command ends where the script on standard input ends so; it takes a byte
+-- past the most that are read where the script is unfinished
 abbrev pub ended : Ending → Status
 ended end = Done
 ended (cut_off offset) = CutOff 0 offset
@@ -67,17 +69,19 @@ ended unfinished = InputTooLong 0
 
 -- the bytes of a script show this status: they are a script that ends so
 abbrev pub ScriptShows : List ℕ → Status → Type 0
-ScriptShows bytes status = (items : List Item) × (ending : Ending) × IsScript bytes items ending × (status ≡ ended ending)
+ScriptShows bytes status =
+    (items : List Item) × (ending : Ending) × IsScript bytes items ending × (status ≡ ended ending)
 
--- the rows of a store, where it tells them, and the bytes show this status of `apply`: the rows have a first bad one, or
--- lead to machines and the bytes are a script that ends so
+-- the rows of a store, where it tells them, and the bytes show this status of `apply`: the rows
+-- have a first bad one, or lead to machines and the bytes are a script that ends so
 abbrev pub StoreShows : Option (List (List ℕ)) → List ℕ → Status → Type 0
 StoreShows None bytes status = ⊥
 StoreShows (Some rows) bytes status =
-    ((row : ℕ) × IsFirstBad rows row × (status ≡ BadStore row)) ⊎ ((tracks : List Track) × LeadTo rows tracks × ScriptShows bytes status)
+    ((row : ℕ) × IsFirstBad rows row × (status ≡ BadStore row))
+    ⊎ ((tracks : List Track) × LeadTo rows tracks × ScriptShows bytes status)
 
--- the rows of the keeper, where it tells them, and the input's bytes show this status of the command; a number shows that
--- all is done; they never show a fault or want of memory
+-- the rows of the keeper, where it tells them, and the input's bytes show this status of the
+-- command; a number shows that all is done; they never show a fault or want of memory
 abbrev pub Shows : Command → Option (List (List ℕ)) → List ℕ → Status → Type 0
 Shows (Cut penalty) rows bytes status = CutShows bytes status
 Shows (Apply None) rows bytes status = ScriptShows bytes status
@@ -85,7 +89,8 @@ Shows (Apply (Some name)) rows bytes status = StoreShows rows bytes status
 Shows (Gen number) rows bytes status = status ≡ Done
 Shows (Trial number) rows bytes status = status ≡ Done
 
--- the words, the rows and the bytes show this status: the words are no command, or one of which the others show it
+-- the words, the rows and the bytes show this status: the words are no command, or one of which the
+-- others show it
 abbrev pub IsDue : List (List ℕ) → Option (List (List ℕ)) → List ℕ → Status → Type 0
 IsDue words rows bytes status =
     ((status ≡ BadWords) × AreNoCommand words)

@@ -54,7 +54,7 @@ pub fn one_status_law()
 ///
 /// Linear in the bytes read. `cut` is quadratic in the positions, and linear in the values for each position; its memory
 /// is linear in the values. `apply` takes what each request and each kept entry takes of its machine's state
-/// (`TrackState::step`, `TrackState::replay`), and keeps the histories, one line and one body.
+/// (`track_step::step`, `track_replay::replay`), and keeps the histories, one line and one body.
 pub fn alone<F: Files, K: Keeper>(
     alloc: Global,
     words: &[String],

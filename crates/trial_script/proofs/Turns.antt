@@ -3,7 +3,7 @@ use Rattle.std.proofs.Common.{ℕ, zero, suc, ◌*◌, ◌<◌, ◌≤◌, List,
 use Rattle.std.specs.Prelude.{map}
 use Rattle.std.proofs.lemmas.List.{map-append}
 use Rattle.request_model.specs.declared.requests.Request.{Request}
-use Rattle.request_text.specs.Bodies.{Item}
+use Rattle.request_words.specs.Bodies.{Item}
 use Rattle.request_text.specs.Scripts.{ArePieces}
 use Rattle.series_gen.specs.Script.{in_turn}
 use Rattle.trial_script.specs.Requests.{asked_in_turn}

@@ -4,7 +4,7 @@ use Rattle.std.specs.Prelude.{ℕ, zero, suc, pos, ◌+◌, ◌*◌, ◌%◌, Li
 use Rattle.sample_model.specs.Samples.{Measurement}
 use Rattle.request_model.specs.declared.requests.Request.{Request}
 use Rattle.request_model.specs.declared.requests.Request.TheVariants as request
-use Rattle.request_text.specs.Bodies.{Item}
+use Rattle.request_words.specs.Bodies.{Item}
 use Rattle.series_gen.specs.Script.{state_after, place, value}
 
 -- the names of the one machine, of the one test and of its metric

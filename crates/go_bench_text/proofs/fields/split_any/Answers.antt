@@ -11,13 +11,13 @@ begun text bytes n same is within black =
     subst (λ (xs : List ℕ). n ≤ length xs → ((k : ℕ) → k < n → IsBlackByte (get_or xs k 0)) → Passed text (drop n text)) (sym same) (passed_ascii text n is) within black
 
 pub loop-c-init : goal.loop-c-init
-loop-c-init c = subst (Passed c.args.text.now) (sym c.range_from-rest.ensures.value) (begun c.args.text.now c.as_bytes.result.now c.ascii_end.result c.as_bytes.ensures.value c.utf8.text c.ascii_end.ensures.within c.ascii_end.ensures.black)
+loop-c-init c = subst (Passed c.args.text.now) (sym c.range_from-rest.ensures.value) (begun c.args.text.now c.as_bytes.result.now c.graphic_end.result c.as_bytes.ensures.value c.utf8.text c.graphic_end.ensures.within c.graphic_end.ensures.black)
 
 pub range_from-rest-requires : goal.range_from-rest-requires
 range_from-rest-requires c some =
-    let from = begun c.args.text.now c.as_bytes.result.now c.ascii_end.result c.as_bytes.ensures.value c.utf8.text c.ascii_end.ensures.within c.ascii_end.ensures.black in
-    let within : c.ascii_end.result ≤ length c.args.text.now = subst (λ (bytes : List ℕ). c.ascii_end.result ≤ length bytes) c.as_bytes.ensures.value c.ascii_end.ensures.within in
-    IsCharBoundary-from_drop c.args.text.now c.ascii_end.result within from.more
+    let from = begun c.args.text.now c.as_bytes.result.now c.graphic_end.result c.as_bytes.ensures.value c.utf8.text c.graphic_end.ensures.within c.graphic_end.ensures.black in
+    let within : c.graphic_end.result ≤ length c.args.text.now = subst (λ (bytes : List ℕ). c.graphic_end.result ≤ length bytes) c.as_bytes.ensures.value c.graphic_end.ensures.within in
+    IsCharBoundary-from_drop c.args.text.now c.graphic_end.result within from.more
 
 pub split_at-requires : goal.split_at-requires
 split_at-requires c = passed_seam c.args.text.now c.loop-c.rest.now c.loop-c.invariant

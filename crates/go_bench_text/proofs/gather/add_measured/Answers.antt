@@ -17,4 +17,4 @@ returns-clause-ok c before e =
     let test = test_of c.args.pkg.now c.in-Some.name.now in
     adds_measured c.args.gathered.now c.add_pairs.new.self before c.args.line.now c.in-Some.name.now c.args.pkg.now (fields_of c.in-Some.behind.now) c.read_pairs.new.pairs.items c.in-Some.ensures.some
     (c.in_ok-read_pairs.ensures.read c.if-not-branch.false) e c.in_ok-add_pairs.ensures.short
-    (subst (λ (pairs : List Pair). Gains c.args.gathered.now c.add_pairs.new.self (samples_of test pairs)) c.deref.ensures.value c.in_ok-add_pairs.ensures.ok)
+    (subst (λ (pairs : List Pair). Gains c.args.gathered.now c.add_pairs.new.self (samples_of test pairs)) c.as_slice.ensures c.in_ok-add_pairs.ensures.ok)

@@ -2,11 +2,10 @@ use Rattle.std.proofs.Common.{ℕ, List, [], ◌∷◌, ◌++◌, codes, decimal
 use Rattle.std.specs.Fmt.{signed_decimal}
 use Rattle.std.specs.Int.{w128}
 use Rattle.std.proofs.lemmas.Int.{to_z-of_z}
-use Rattle.std.proofs.lemmas.Result.{MatchResult-weaker}
 use Rattle.regression_state.specs.Moves.{word}
 use Rattle.report_model.specs.Outcomes.{outcome_text}
 use Rattle.reply_text.specs.Replies.{version_words}
-use Rattle.reply_text.proofs.WordsBehind.{more_words}
+use Rattle.reply_text.proofs.WordsBehind.{more_words, puts_more}
 use Rattle.reply_text.proofs.answer.put_answer.Goals as goal
 
 pub returns-in_ok-put_sizes-in-Segmented : goal.returns-in_ok-put_sizes-in-Segmented
@@ -16,17 +15,14 @@ returns-in_ok-put_sizes-in-Segmented c =
     let sizes : List (List ℕ) = codes "base" ∷ decimal c.in-Segmented.base ∷ codes "points" ∷ decimal c.in-Segmented.points ∷ codes "cuts" ∷ decimal c.in-Segmented.cuts ∷ [] in
     let effort : List (List ℕ) = codes "redone" ∷ decimal c.in-Segmented.redone ∷ codes "total" ∷ signed_decimal c.in-Segmented.total ∷ [] in
     let both = more_words _ _ _ head sizes c.in_ok-put_version-in-Segmented.ensures c.in_ok-put_sizes-in-Segmented.ensures in
-    rw c.in-Segmented.is (MatchResult-weaker c.put_effort.result (rw (to_z-of_z w128 c.in-Segmented.total fits) at c.put_effort.ensures)
-    (λ done told. more_words _ _ _ (head ++ sizes) effort both told) (λ fault told. told))
+    rw c.in-Segmented.is (puts_more c.put_effort.result _ _ _ (head ++ sizes) effort both (rw (to_z-of_z w128 c.in-Segmented.total fits) at c.put_effort.ensures))
 
 pub returns-in_ok-put_counted-in-Moved : goal.returns-in_ok-put_counted-in-Moved
 returns-in_ok-put_counted-in-Moved c =
-    rw c.in-Moved.is (MatchResult-weaker c.put_move.result c.put_move.ensures
-    (λ done told. more_words _ _ _ (codes "regression" ∷ decimal c.in-Moved.regression ∷ []) (word c.in-Moved.from ∷ word c.in-Moved.to ∷ []) c.in_ok-put_counted-in-Moved.ensures told)
-    (λ fault told. told))
+    rw c.in-Moved.is (puts_more c.put_move.result _ _ _ (codes "regression" ∷ decimal c.in-Moved.regression ∷ []) (word c.in-Moved.from ∷ word c.in-Moved.to ∷ [])
+    c.in_ok-put_counted-in-Moved.ensures c.put_move.ensures)
 
 pub returns-in_ok-put_job-in-Job : goal.returns-in_ok-put_job-in-Job
 returns-in_ok-put_job-in-Job c =
     let job : List (List ℕ) = codes "job" ∷ decimal c.in-Job.job ∷ codes "range" ∷ decimal c.in-Job.range ∷ codes "questions" ∷ decimal c.in-Job.questions ∷ [] in
-    rw c.in-Job.is (MatchResult-weaker c.put_outcome.result c.put_outcome.ensures
-    (λ done told. more_words _ _ _ job (outcome_text c.in-Job.outcome ∷ []) c.in_ok-put_job-in-Job.ensures told) (λ fault told. told))
+    rw c.in-Job.is (puts_more c.put_outcome.result _ _ _ job (outcome_text c.in-Job.outcome ∷ []) c.in_ok-put_job-in-Job.ensures c.put_outcome.ensures)

@@ -1,8 +1,8 @@
 use Rattle.std.proofs.Common.{rules, arith, ◌≡◌, ℕ, ◌-◌, List, [], length, take, drop, slice_range, sym, ap, subst}
 use Rattle.std.proofs.lemmas.List.{take_all}
-use Rattle.request_text.specs.Bodies.{Item}
-use Rattle.request_text.specs.Heads.{IsHead}
-use Rattle.request_text.specs.Items.{IsSkipped, Counts, Asks}
+use Rattle.request_words.specs.Bodies.{Item}
+use Rattle.request_words.specs.Heads.{IsHead}
+use Rattle.request_words.specs.Items.{IsSkipped, Counts, Asks}
 use Rattle.request_text.proofs.LastLines.{last_end, last_item, last_cut}
 use Rattle.request_text.proofs.last.read_last.Goals as goal
 

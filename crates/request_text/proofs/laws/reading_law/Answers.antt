@@ -1,9 +1,8 @@
-use Rattle.request_text.proofs.OneItem.{one_item}
 use Rattle.request_text.proofs.OneReading.{one_reading, pieces_are_first}
 use Rattle.request_text.proofs.laws.reading_law.Goals as goal
 
 pub returns-clause-one : goal.returns-clause-one
-returns-clause-one c = one_reading c.lines_law.ensures.end (one_item c.one_reading_law.ensures c.one_due_law.ensures)
+returns-clause-one c = one_reading c.lines_law.ensures.end c.one_item_law.ensures
 
 pub returns-clause-first : goal.returns-clause-first
-returns-clause-first c = pieces_are_first c.lines_law.ensures.end (one_item c.one_reading_law.ensures c.one_due_law.ensures)
+returns-clause-first c = pieces_are_first c.lines_law.ensures.end c.one_item_law.ensures

@@ -1,5 +1,5 @@
 use Rattle.std.proofs.Common.{rules, ◌<◌}
-use Rattle.request_text.specs.Items.{body_limit}
+use Rattle.request_words.specs.Items.{body_limit}
 use Rattle.request_text.proofs.whole.read_body.Goals as goal
 
 pub read_short-requires-clause-begins : goal.read_short-requires-clause-begins

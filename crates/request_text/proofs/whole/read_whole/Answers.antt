@@ -1,6 +1,6 @@
 use Rattle.std.proofs.Common.{rules, take}
 use Rattle.std.proofs.lemmas.Result.{err_from_is_err_and}
-use Rattle.request_text.specs.Items.{IsSkipped}
+use Rattle.request_words.specs.Items.{IsSkipped}
 use Rattle.request_text.proofs.Stops.{few_none}
 use Rattle.request_text.proofs.Passing.{skips_piece, line_taken}
 use Rattle.request_text.proofs.whole.read_whole.Goals as goal

@@ -1,6 +1,7 @@
-use Rattle.std.proofs.Common.{length, FitsSigned, subst, sym, ◌∙◌}
+use Rattle.std.proofs.Common.{length, FitsSigned, subst, sym, ap, ◌∙◌}
 use Rattle.std.specs.Int.{w128}
 use Rattle.std.proofs.lemmas.Int.{to_z-of_z}
+use Rattle.history_model.specs.declared.entries.Entry.TheVariants.{Publish}
 use Rattle.track_entry.proofs.Readers.{kept_err}
 use Rattle.track_entry.proofs.OfKind.{publish_is, same_publication}
 use Rattle.track_entry.proofs.read.read_publish.Goals as goal
@@ -66,4 +67,4 @@ returns c e entry is words =
     let count = c.in_ok-behind_count.ensures.reads (length o.p.cuts) _ o.bounds.few total.1 in
     let cuts = c.in_ok-cuts.ensures o.p.cuts o.bounds.each count.1 in
     let fits : FitsSigned w128 c.in_ok-total.total = subst (FitsSigned w128) (sym total.0) o.bounds.total in
-    same_publication o.p series.0 series.1 version.0 base.0 (to_z-of_z w128 c.in_ok-total.total fits ∙ total.0) cuts ∙ o.is
+    ap Publish c.in_ok-publication.ensures ∙ same_publication o.p series.0 series.1 version.0 base.0 (to_z-of_z w128 c.in_ok-total.total fits ∙ total.0) cuts ∙ o.is

@@ -26,4 +26,4 @@ returns c e entry is words =
     let metric = c.in_ok-metric.ensures.reads o.metric (signed_decimal o.penalty ∷ []) o.named o.are in
     let penalty = c.in_ok-penalty.ensures.reads o.penalty [] o.fits metric.1 in
     let fits : FitsSigned w128 c.in_ok-penalty.penalty = subst (FitsSigned w128) (sym penalty.0) o.fits in
-    ap₂ Tune metric.0 (to_z-of_z w128 c.in_ok-penalty.penalty fits ∙ penalty.0) ∙ o.is
+    ap₂ Tune metric.0 (c.in_ok-penalty-2.ensures ∙ to_z-of_z w128 c.in_ok-penalty.penalty fits ∙ penalty.0) ∙ o.is

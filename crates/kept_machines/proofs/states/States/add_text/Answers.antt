@@ -13,15 +13,15 @@ plain c = sym c.is_kept.ensures ∙ c.if-not-is_kept.false
 
 pub invariant_of-self-2 : goal.invariant_of-self-2
 invariant_of-self-2 c =
-    replayed_kept c.args.machine.now c.self.inside.machines.items c.in-Some.place c.index_mut.result.now c.replay.new.self c.in-Ok.entry (here c) (plain c)
+    replayed_kept c.args.machine.now c.self.inside.machines.items c.in-Some.place c.index_mut.result.now c.replay.new.track c.in-Ok.entry (here c) (plain c)
     c.replay.result c.replay.ensures.replayed c.replay.ensures.same c.self.invariant
 
 pub returns-clause-added : goal.returns-clause-added
 returns-clause-added c =
-    replayed_adds c.args.machine.now c.self.inside.machines.items c.in-Some.place c.index_mut.result.now c.replay.new.self c.in-Ok.entry (here c) (plain c)
+    replayed_adds c.args.machine.now c.self.inside.machines.items c.in-Some.place c.index_mut.result.now c.replay.new.track c.in-Ok.entry (here c) (plain c)
     c.args.self.now (sym c.self.view_is) c.args.text.now c.in-Ok.ensures.spelt c.replay.result c.replay.ensures.replayed
 
 pub returns-clause-refused : goal.returns-clause-refused
 returns-clause-refused c =
-    replayed_refuses c.args.machine.now c.self.inside.machines.items c.in-Some.place c.index_mut.result.now c.replay.new.self c.in-Ok.entry (here c) (plain c)
+    replayed_refuses c.args.machine.now c.self.inside.machines.items c.in-Some.place c.index_mut.result.now c.replay.new.track c.in-Ok.entry (here c) (plain c)
     c.args.self.now (sym c.self.view_is) c.args.text.now c.in-Ok.ensures.spelt c.entries_law.ensures c.replay.result c.replay.ensures.replayed

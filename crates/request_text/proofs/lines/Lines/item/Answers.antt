@@ -1,6 +1,6 @@
 use Rattle.std.proofs.Common.{◌≡◌, ℕ, List, drop, slice_range, IfOk, ap, ◌∙◌, subst}
-use Rattle.request_text.specs.Heads.{IsHead}
-use Rattle.request_text.specs.Items.{Asks}
+use Rattle.request_words.specs.Heads.{IsHead}
+use Rattle.request_words.specs.Items.{Asks}
 use Rattle.request_text.specs.Unread.{Unread}
 use Rattle.request_text.proofs.lines.Lines.item.Goals as goal
 

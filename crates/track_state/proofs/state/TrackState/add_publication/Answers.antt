@@ -10,7 +10,7 @@ use Rattle.history_model.specs.Publications.{cut_count}
 use Rattle.history_model.proofs.Chosen.{entries-push}
 use Rattle.track_model.specs.Tracks.{Track}
 use Rattle.track_state.specs.Made.{IsMadeFrom}
-use Rattle.track_state.specs.Publications.{entry_of}
+use Rattle.track_state.specs.Made.{entry_of}
 use Rattle.track_state.proofs.OneMore.{publishes, stays}
 use Rattle.track_state.proofs.state.TrackState.add_publication.Goals as goal
 
@@ -36,11 +36,13 @@ invariant_of-self-2 c =
     let e : Entry = entry.Publish c.args.publication in
     let h_is : entries_of c.args.self.now.history ≡ h = ap (λ (t : Track). entries_of t.history) (sym c.self.view_is) in
     let e_is : e ≡ entry_of c.args.done = ap (λ (p : Publication). entry.Publish p) c.requires.is in
+    let kept : Entry = entry.Publish c.in_ok-publication.publication in
+    let kept_is : kept ≡ entry_of c.args.done = ap (λ (p : Publication). entry.Publish p) (c.in_ok-publication.ensures ∙ c.requires.is) in
     let allowed : Allowed h (entry_of c.args.done) = subst (λ (f : Entry). Allowed h f) e_is (subst (λ (before : List Entry). Allowed before e) h_is c.requires.allowed) in
     let made : IsMadeFrom h c.args.done = subst (λ (before : List Entry). IsMadeFrom before c.args.done) h_is c.requires.made in
     let entries_are : entries_of c.push_reserved.new.self.items ≡ h ++ entry_of c.args.done ∷ [] =
-    ap entries_of (rw (← c.in_ok-reserve.ensures.items) c.push_reserved.ensures.items) ∙ entries-push x.history.items (record { author = c.args.author; entry = e })
-    ∙ ap (λ (f : Entry). h ++ f ∷ []) e_is in
+    ap entries_of (rw (← c.in_ok-reserve.ensures.items) c.push_reserved.ensures.items) ∙ entries-push x.history.items (record { author = c.args.author; entry = kept })
+    ∙ ap (λ (f : Entry). h ++ f ∷ []) kept_is in
     let all = publishes c.growth_law.ensures.legal c.positions_law.ensures.accept c.positions_law.ensures.retract c.positions_law.ensures.untouched c.retraction_law.ensures
     c.penalty_law.ensures.set c.penalty_law.ensures.stays
     c.publication_law.ensures.last c.publication_law.ensures.stays c.publication_law.ensures.versions c.publication_law.ensures.cuts

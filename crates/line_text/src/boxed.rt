@@ -1,0 +1,37 @@
+//! Values in memory of their own, which contracts see as the values.
+ghost use Rattle.std.specs.Prelude.{◌≡◌, IfOk};
+
+use crate::NoMemory;
+use std::alloc::Global;
+use std::marker::Model;
+
+/// A value in memory of its own, so that what has it is small and cheap to hand on. Contracts see the value.
+#[derive(Debug, Drop)]
+pub struct Boxed<T> {
+    value: Box<T>,
+}
+
+impl<T> Model for Boxed<T> {
+    ghost Value = { T };
+
+    ghost view = { λ b. b.value.value };
+}
+
+impl<T: Drop> Boxed<T> {
+    /// The value, in memory of its own.
+    pub fn new(alloc: Global, value: T) -> Result<Boxed<T>, NoMemory>
+        ensures { IfOk result (λ made. made ≡ value) }
+    {
+        match Box::new(alloc, value) {
+            Ok(value) => Ok(Boxed { value }),
+            Err(_) => Err(NoMemory),
+        }
+    }
+
+    /// The value.
+    pub fn get(&self) -> &T
+        ensures { result.now ≡ self.now }
+    {
+        self.value.as_ref()
+    }
+}

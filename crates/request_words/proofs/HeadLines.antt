@@ -1,0 +1,97 @@
+-- What a line of a form asks before its body is read.
+use Rattle.std.proofs.Common.{◌≡◌, ◌≢◌, ℕ, ◌<◌, ◌≤◌, Bool, true, false, inl, inr, List, [], ◌∷◌, length, refl, sym, ap, ◌∙◌, arith, codes}
+use Rattle.std.specs.List.{AllByRecursion}
+use Rattle.request_words.specs.declared.head.LineFault.TheVariants.{BadRequest, BadName, BadPenalty, BodyTooLong}
+use Rattle.request_words.specs.declared.head.Head.TheVariants.{Refused}
+use Rattle.request_words.specs.Forms.{Form, machine, commit, submit_go, submit_lnt, retract, tune, calibrate, of_series, regress, set_state, bisect, answer, of_job, runs, report, series_word, job_word, IsOfForm, HasNoForm, names_in, body_length, SpellsName, HasShortMetric, IsNamed, IsInRange}
+use Rattle.request_words.specs.Bodies.{Item, AsksNamed}
+use Rattle.request_words.specs.Items.{long, unnamed, wide, named, formless, formed, Counts, body_limit}
+use Rattle.line_text.specs.Lines.{words_of}
+use Rattle.request_words.specs.Verbs.{word_of}
+use Rattle.request_words.specs.declared.verb.Verb.{Verb}
+use Rattle.request_words.specs.declared.verb.Verb.TheVariants as verb
+use Rattle.request_words.specs.Heads.{IsHeadOf, IsHead}
+use Rattle.request_words.specs.declared.verb.SeriesVerb.{SeriesVerb}
+use Rattle.request_words.specs.declared.verb.SeriesVerb.TheVariants.{Segment, Changes, Verify}
+use Rattle.request_words.specs.declared.verb.JobVerb.{JobVerb}
+use Rattle.request_words.specs.declared.verb.JobVerb.TheVariants.{Resume, Job}
+use Rattle.request_words.proofs.FormWords.{first_of, behind, first, second, third, value, submission_of, form_in, the_form}
+
+pub counts_form : (line : List ℕ) (form : Form) (count : ℕ) → IsOfForm line form → count ≡ body_length form → Counts line count
+counts_form line form count is counted = inl (form, is, counted)
+
+pub formless_head : (line : List ℕ) → HasNoForm line → IsHead line (Refused BadRequest 0)
+formless_head line none = record { counted = inr (none, refl); asks = λ body item is. formless none is }
+
+pub long_head : (line : List ℕ) (form : Form) (count : ℕ) → IsOfForm line form → count ≡ body_length form
+    → body_limit < count → IsHead line (Refused BodyTooLong count)
+long_head line form count is counted above =
+    record { counted = counts_form line form count is counted; asks = λ body item told. formed form is (long (omega (arith, above, counted)) told) }
+
+pub unnamed_head : (line : List ℕ) (form : Form) (count : ℕ) → IsOfForm line form → count ≡ body_length form
+    → count ≤ body_limit → (¬ AllByRecursion SpellsName (names_in form)) → IsHead line (Refused BadName count)
+unnamed_head line form count is counted within bad =
+    record { counted = counts_form line form count is counted; asks = λ body item told. formed form is (unnamed (omega (arith, within, counted)) (λ are. bad are.names) told) }
+
+pub named_head : (line : List ℕ) (form : Form) (count : ℕ) (OfBody : List ℕ → Item → Type 0) → IsOfForm line form → HasShortMetric form → IsInRange form → count ≡ body_length form
+    → count ≤ body_limit → AllByRecursion SpellsName (names_in form) → ((body : List ℕ) (item : Item) → OfBody body item → AsksNamed form body item)
+    → IsHeadOf line count OfBody
+named_head line form count OfBody is metric range counted within names asks =
+    record { counted = counts_form line form count is counted; asks = λ body item told. formed form is (named (omega (arith, within, counted)) (record { names = names; metric = metric }) range (asks body item told)) }
+
+pub long_metric : (line : List ℕ) (form : Form) (count : ℕ) → IsOfForm line form → count ≡ body_length form
+    → count ≤ body_limit → (¬ IsNamed form) → IsHead line (Refused BadName count)
+long_metric line form count is counted within bad =
+    record { counted = counts_form line form count is counted; asks = λ body item told. formed form is (unnamed (omega (arith, within, counted)) bad told) }
+
+pub wide_head : (line : List ℕ) (form : Form) (count : ℕ) → IsOfForm line form → count ≡ body_length form
+    → count ≤ body_limit → IsNamed form → (¬ IsInRange form) → IsHead line (Refused BadPenalty count)
+wide_head line form count is counted within are out =
+    record { counted = counts_form line form count is counted; asks = λ body item told. formed form is (wide (omega (arith, within, counted)) are out told) }
+
+-- a line has no form where it hasn't that of its words
+pub formless_behind : {line : List ℕ} {words : List (List ℕ)} → words_of line ≡ words → (¬ IsOfForm line (form_in words)) → IsHead line (Refused BadRequest 0)
+formless_behind {line} is none = formless_head line (λ form of_form. none (the_form form is of_form))
+
+-- a submission is of Go benchmark text or of an LNT run
+pub no_submission : {line kind : List ℕ} {words : List (List ℕ)} → words_of line ≡ codes "submit" ∷ kind ∷ words → kind ≢ codes "go" → kind ≢ codes "lnt"
+    → IsHead line (Refused BadRequest 0)
+no_submission {line} {kind} {words} is no_go no_lnt = formless_behind is (λ of_form. apart _ of_form)
+  where
+    apart : (go : Bool) → IsOfForm line (submission_of go (kind ∷ words)) → ⊥
+    apart true of_form = no_go (first_of (behind (sym is ∙ of_form.words)))
+    apart false of_form = no_lnt (first_of (behind (sym is ∙ of_form.words)))
+
+-- the word alone is no submission
+pub no_more : {line : List ℕ} → words_of line ≡ codes "submit" ∷ [] → IsHead line (Refused BadRequest 0)
+no_more {line} is = formless_behind is (λ of_form. absurd (omega (arith, ap length (sym is ∙ of_form.words))))
+
+-- what is asked of a series, or of a bisection, by each of its words
+pub series_form : {line : List ℕ} {words : List (List ℕ)} (asked : SeriesVerb) (form : Form) → words_of line ≡ series_word asked ∷ words → IsOfForm line form
+    → IsOfForm line (of_series asked (first words) (second words) (third words))
+series_form Segment form is of_form = the_form form is of_form
+series_form Changes form is of_form = the_form form is of_form
+series_form Verify form is of_form = the_form form is of_form
+
+pub job_form : {line : List ℕ} {words : List (List ℕ)} (asked : JobVerb) (form : Form) → words_of line ≡ job_word asked ∷ words → IsOfForm line form
+    → IsOfForm line (of_job asked (first words) (value (second words)))
+job_form Resume form is of_form = the_form form is of_form
+job_form Job form is of_form = the_form form is of_form
+
+-- a line whose first word is no verb has no form
+pub no_verb : (line word : List ℕ) (words : List (List ℕ)) → words_of line ≡ word ∷ words → ((verb : Verb) → word ≢ word_of verb) → HasNoForm line
+no_verb line word words is none (machine m) of_form = none verb.Machine (first_of (sym is ∙ of_form.words))
+no_verb line word words is none (commit m number name) of_form = none verb.Commit (first_of (sym is ∙ of_form.words))
+no_verb line word words is none (submit_go m c r len) of_form = none verb.Submit (first_of (sym is ∙ of_form.words))
+no_verb line word words is none (submit_lnt m r len) of_form = none verb.Submit (first_of (sym is ∙ of_form.words))
+no_verb line word words is none (retract m r) of_form = none verb.Retract (first_of (sym is ∙ of_form.words))
+no_verb line word words is none (tune m metric penalty) of_form = none verb.Tune (first_of (sym is ∙ of_form.words))
+no_verb line word words is none (calibrate m test metric factor) of_form = none verb.Calibrate (first_of (sym is ∙ of_form.words))
+no_verb line word words is none (of_series asked m test metric) of_form = none (verb.Series asked) (first_of (sym is ∙ of_form.words))
+no_verb line word words is none (regress m test metric change) of_form = none verb.Regress (first_of (sym is ∙ of_form.words))
+no_verb line word words is none (set_state m regression state) of_form = none verb.State (first_of (sym is ∙ of_form.words))
+no_verb line word words is none (bisect m lo hi) of_form = none verb.Bisect (first_of (sym is ∙ of_form.words))
+no_verb line word words is none (answer m job c status) of_form = none verb.Answer (first_of (sym is ∙ of_form.words))
+no_verb line word words is none (of_job asked m job) of_form = none (verb.Job asked) (first_of (sym is ∙ of_form.words))
+no_verb line word words is none (runs m) of_form = none verb.Runs (first_of (sym is ∙ of_form.words))
+no_verb line word words is none (report m json) of_form = none verb.Report (first_of (sym is ∙ of_form.words))

@@ -1,0 +1,28 @@
+use Rattle.std.proofs.Common.{rules, ◌≡◌, ℕ, List, [], ◌∷◌, Bool, codes, refl, sym, ap, ◌∙◌, arith}
+use Rattle.request_words.specs.Forms.{report, report_word, SpellsName, name_of, IsOfForm}
+use Rattle.request_words.proofs.HeadLines.{unnamed_head, named_head, formless_behind}
+use Rattle.request_words.proofs.FormWords.{behind}
+use Rattle.request_words.proofs.found_head.report_head.Goals as goal
+
+pub returns-in_default : goal.returns-in_default
+returns-in_default c line verb =
+    rw c.formless.ensures (formless_behind verb (λ of_form. c.in_default.ensures.none _ _ (behind (sym verb ∙ of_form.words))))
+
+pub returns-in_default-2 : goal.returns-in_default-2
+returns-in_default-2 c line verb =
+    let m : List ℕ = c.in-Some.m.now in
+    let json : Bool = c.in-Some.json in
+    let bad : ¬ (SpellsName m) = search rules in
+    let words : c.args.words ≡ m ∷ report_word json ∷ [] = search rules in
+    let is : IsOfForm line (report m json) = record { words = verb ∙ ap (λ xs. codes "report" ∷ xs) words; numbers = tt; amounts = tt; status = tt } in
+    rw c.unnamed.ensures (unnamed_head line (report m json) 0 is refl (omega arith) (λ named. bad named.0))
+
+pub returns : goal.returns
+returns c line verb =
+    let m : List ℕ = c.in-Some.m.now in
+    let json : Bool = c.in-Some.json in
+    let spelled : SpellsName m = search rules in
+    let named : c.in-Some-2.machine ≡ name_of m = search rules in
+    let words : c.args.words ≡ m ∷ report_word json ∷ [] = search rules in
+    let is : IsOfForm line (report m json) = record { words = verb ∙ ap (λ xs. codes "report" ∷ xs) words; numbers = tt; amounts = tt; status = tt } in
+    rw (named) (named_head line (report m json) 0 _ is tt tt refl (omega arith) (spelled, tt) (λ body item told. told))

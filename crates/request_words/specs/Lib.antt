@@ -1,0 +1,6 @@
+pub mod Forms
+pub mod Bodies
+pub mod Items
+pub mod Verbs
+pub mod Heads
+pub mod Refused

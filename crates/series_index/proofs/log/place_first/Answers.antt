@@ -1,0 +1,31 @@
+use Rattle.std.proofs.Common.{◌≡◌, ◌+◌, ◌-◌, ◌∙◌, List, ◌∷◌, length, drop, sym, ap, subst, pos, slice_index_or, arith}
+use Rattle.std.proofs.lemmas.List.{drop_more, length-drop}
+use Rattle.segment_model.specs.Limits.{WithinLimits}
+use Rattle.point_list.proofs.Kept.{size-inserted}
+use Rattle.series_index.specs.declared.coming.Coming.{Coming}
+use Rattle.series_index.specs.Log.{observed, all_placed, MayBePlaced}
+use Rattle.series_index.proofs.Placing.{room-first}
+use Rattle.series_index.proofs.log.place_first.Goals as goal
+
+pub place-requires : goal.place-requires
+place-requires c =
+    let coming : List Coming = c.args.coming.now in
+    let x : Coming = slice_index_or coming c.loop-i.i (record { commit = 0; step = 0; value = pos 0 }) in
+    let step : drop c.loop-i.i coming ≡ x ∷ drop (c.loop-i.i + 1) coming = drop_more coming c.loop-i.i (record { commit = 0; step = 0; value = pos 0 }) c.loop-i-test.true in
+    let left : length (x ∷ drop (c.loop-i.i + 1) coming) ≡ length coming - c.loop-i.i = ap length (sym step) ∙ length-drop c.loop-i.i coming in
+    let may : MayBePlaced (x ∷ drop (c.loop-i.i + 1) coming) c.loop-i.placed = record {
+      within = subst WithinLimits (sym c.loop-i.invariant.same ∙ ap (λ ys. all_placed ys c.loop-i.placed) step) c.requires.within;
+      few = λ some. let few = c.requires.few (omega (arith, c.loop-i-test.true)) in omega (arith, few, left, c.loop-i.invariant.fewer, c.loop-i-test.true);
+    } in
+    room-first x (drop (c.loop-i.i + 1) coming) c.loop-i.placed may c.limits.ensures
+
+pub loop-i-preserved : goal.loop-i-preserved
+loop-i-preserved c =
+    let coming : List Coming = c.args.coming.now in
+    let x : Coming = slice_index_or coming c.loop-i.i (record { commit = 0; step = 0; value = pos 0 }) in
+    let step : drop c.loop-i.i coming ≡ x ∷ drop (c.loop-i.i + 1) coming = drop_more coming c.loop-i.i (record { commit = 0; step = 0; value = pos 0 }) c.loop-i-test.true in
+    let more = size-inserted x.commit (observed x) c.loop-i.placed in
+    record {
+      same = ap (all_placed (drop (c.loop-i.i + 1) coming)) c.in_default.ensures.ok ∙ sym (ap (λ ys. all_placed ys c.loop-i.placed) step) ∙ c.loop-i.invariant.same;
+      fewer = omega (arith, ap length c.in_default.ensures.ok, more, c.loop-i.invariant.fewer);
+    }

@@ -1,0 +1,4 @@
+mod Allowances
+mod Verdicts
+pub mod Retractions
+mod Replaying

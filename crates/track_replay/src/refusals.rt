@@ -1,0 +1,47 @@
+//! Why a run can't be retracted, and a penalty can't be set.
+ghost use Rattle.std.specs.Prelude.{◌≡◌};
+ghost use Rattle.history_model.specs.Entries.{entries_of};
+ghost use Rattle.track_model.specs.Forms as forms;
+
+use line_text::Name;
+use request_model::{Answer, Refusal};
+use track_state::TrackState;
+
+// The most bytes of a metric's name.
+const METRIC_LIMIT: usize = 64;
+
+// The greatest penalty.
+const PENALTY_LIMIT: i128 = 1_000_000_000_000_000_000_000_000_000_000_000_000;
+
+// Whether a penalty is in range.
+fn is_penalty(penalty: i128) -> bool
+    ensures { result ≡ forms.is_penalty penalty }
+{
+    penalty >= 0 && penalty <= PENALTY_LIMIT
+}
+
+/// Why a penalty can't be set.
+pub fn tune_refusal(metric: &Name, penalty: i128) -> Option<Answer>
+    ensures { result ≡ forms.tune_refusal metric.now penalty }
+{
+    if metric.as_str().len() > METRIC_LIMIT {
+        return Some(Answer::Refused(Refusal::BadName));
+    }
+    if !is_penalty(penalty) {
+        return Some(Answer::Refused(Refusal::BadPenalty));
+    }
+    None
+}
+
+/// What a retraction is answered where it adds nothing.
+pub fn retract_refusal(track: &TrackState, run: &Name) -> Option<Answer>
+    ensures { result ≡ forms.retract_refusal (entries_of track.now.history) run.now }
+{
+    let Some(stored) = track.stored_runs().of_name(run) else {
+        return Some(Answer::Refused(Refusal::UnknownRun));
+    };
+    if let Some(step) = stored.retracted {
+        return Some(Answer::Refused(Refusal::AlreadyRetracted(step)));
+    }
+    None
+}

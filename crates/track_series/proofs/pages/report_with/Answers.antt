@@ -1,0 +1,34 @@
+use Rattle.std.proofs.Common.{◌≡◌, List, length, refl, sym, subst, ◌∙◌}
+use Rattle.std.proofs.lemmas.List.{length-map}
+use Rattle.history_model.specs.declared.entries.Entry.{Entry}
+use Rattle.history_model.specs.declared.entries.Placed.{Placed}
+use Rattle.history_model.specs.Entries.{entries_of}
+use Rattle.report_model.specs.declared.pages.Pages.{Pages}
+use Rattle.request_model.specs.declared.replies.Answer.TheVariants as answer
+use Rattle.track_model.specs.Reports.{IsReport, ReportComesTo}
+use Rattle.track_state.proofs.Told.{tells-it}
+use Rattle.track_series.proofs.pages.report_with.Goals as goal
+
+pub returns : goal.returns
+returns c =
+    let h : List Entry = entries_of c.args.track.now.history in
+    let machine = c.args.track.now.machine in
+    let pages : Pages = record {
+      machine = c.in_ok-machine.machine;
+      step = c.len.result;
+      json = c.args.json;
+      series = c.args.series;
+      regressions = c.in_ok-regressions.regressions;
+      jobs = c.in_ok-jobs.jobs;
+    } in
+    let steps : c.len.result ≡ length h = c.len.ensures ∙ sym (length-map c.args.track.now.history (λ (p : Placed). p.entry)) in
+    let is : IsReport h machine c.args.json pages = record {
+      of_machine = c.in_ok-machine.ensures ∙ c.machine.ensures;
+      at_step = steps;
+      form = refl;
+      of_series = c.requires;
+      of_regressions = c.in_ok-regressions.ensures;
+      of_jobs = c.in_ok-jobs.ensures;
+    } in
+    tells-it (ReportComesTo h machine c.args.json) c.args.track.now c.args.author (answer.Report c.in_ok-pages.pages) c.told.result
+    (c.in_ok-pages.pages, subst (IsReport h machine c.args.json) (sym c.in_ok-pages.ensures) is, refl) c.told.ensures

@@ -1,0 +1,39 @@
+-- What becomes of a finished segmentation that is handed in.
+use Rattle.std.specs.Prelude.{◌≡◌, ℕ, ◌+◌, nat_lt, if◌then◌else◌, List, [], ◌∷◌, length, Option, Some, None}
+use Rattle.metric_table.specs.declared.limits.Limit.{Limit}
+use Rattle.metric_table.specs.declared.limits.Limit.TheVariants.{Steps, Cuts}
+use Rattle.segment_cost.specs.declared.done.Done.{Done}
+use Rattle.history_model.specs.declared.entries.Author.{Author}
+use Rattle.history_model.specs.declared.entries.Entry.{Entry}
+use Rattle.history_model.specs.declared.publication.Publication.{Publication}
+use Rattle.history_model.specs.Allowed.{first_passed}
+use Rattle.history_model.specs.Entries.{entries_of}
+use Rattle.history_model.specs.Publications.{last_publication}
+use Rattle.publication_index.specs.Kept.{series_of}
+use Rattle.track_model.specs.Tracks.{Track, with_entry}
+use Rattle.track_series.specs.declared.publishing.Published.{Published}
+use Rattle.track_series.specs.declared.publishing.Published.TheVariants as published
+use Rattle.track_state.specs.Made.{entry_of}
+
+-- the version of a publication, where it is above this one
+abbrev pub later : ℕ → Option Publication → Option ℕ
+later version None = None
+later version (Some p) = if nat_lt version p.version then Some p.version else None
+
+-- where it passes a limit that is told and nothing changes, else it is added
+abbrev pub IsAdded : Option Limit → Track → Author → Done → Published → Track → Type 0
+IsAdded (Some limit) old author done told new = (told ≡ published.Full limit) × (new ≡ old)
+IsAdded None old author done told new = (told ≡ published.Ok (length (entries_of old.history) + 1)) × (new ≡ with_entry author old (entry_of done))
+
+-- the first limit that the history passes with it
+abbrev pub passed : List Entry → Done → Option Limit
+passed h done = first_passed (Steps ∷ Cuts ∷ []) h (entry_of done)
+
+-- where a later version of the series was published that is told and nothing changes
+abbrev pub IsTaken : Option ℕ → Track → Author → Done → Published → Track → Type 0
+IsTaken (Some version) old author done told new = (told ≡ published.Stale version) × (new ≡ old)
+IsTaken None old author done told new = IsAdded (passed (entries_of old.history) done) old author done told new
+
+-- what becomes of it
+abbrev pub IsPublished : Track → Author → Done → Published → Track → Type 0
+IsPublished old author done told new = IsTaken (later done.version (last_publication (series_of done) (entries_of old.history))) old author done told new

@@ -1,0 +1,75 @@
+//! The pages of a machine.
+ghost use Rattle.std.specs.Prelude.{◌≡◌, IfOk};
+ghost use Rattle.history_model.specs.Entries.{entries_of};
+ghost use Rattle.history_model.specs.Jobs.{jobs};
+ghost use Rattle.history_model.specs.Regressions.{regressions};
+ghost use Rattle.track_model.specs.Outcomes.{Outcome};
+ghost use Rattle.track_model.specs.Reports.{AreSeriesLines, ReportComesTo, job_line, numbered, regression_line};
+ghost use Rattle.track_model.specs.Tracks.{IsStep};
+
+use crate::NoMemory;
+use history_model::{Author, jobs_law, regressions_law};
+use report_model::{JobLines, Pages, RegressionLines, SeriesLines};
+use request_model::{Answer, Boxed, Reply};
+use track_state::TrackState;
+
+// A line for each regression.
+fn regression_lines(track: &TrackState) -> Result<RegressionLines, NoMemory>
+    ensures { IfOk result (λ lines. lines
+        ≡ numbered (regression_line (entries_of track.now.history)) 1
+        (regressions (entries_of track.now.history))) }
+{
+    regressions_law();
+    track.history_law();
+    report_lines::regression_lines(track.alloc(), track.commits(), track.regressions())
+}
+
+// A line for each bisection.
+fn job_lines(track: &TrackState) -> Result<JobLines, NoMemory>
+    ensures { IfOk result (λ lines. lines
+        ≡ numbered (job_line (entries_of track.now.history)) 1
+        (jobs (entries_of track.now.history))) }
+{
+    jobs_law();
+    track.history_law();
+    report_lines::job_lines(track.alloc(), track.commits(), track.jobs())
+}
+
+// The pages of the machine with these lines of series.
+fn report_with(
+    track: &TrackState,
+    author: Author,
+    json: bool,
+    series: SeriesLines,
+) -> Result<Reply, NoMemory>
+    requires { AreSeriesLines (entries_of track.now.history) series }
+    ensures { IfOk result (λ reply. (o : Outcome)
+        × ReportComesTo (entries_of track.now.history) track.now.machine json o
+        × IsStep track.now author o track.now reply) }
+{
+    let machine = track.machine().copy(track.alloc())?;
+    let regressions = regression_lines(track)?;
+    let jobs = job_lines(track)?;
+    let pages = Pages {
+        machine,
+        step: track.len(),
+        json,
+        series,
+        regressions,
+        jobs,
+    };
+    let pages = Boxed::new(track.alloc(), pages)?;
+    Ok(track.told(Answer::Report { pages }))
+}
+
+/// `report M`: the pages of the machine; adds nothing. Linear in the lines and in the values of what was published last,
+/// but for look-ups and for samples that came since their series was last read.
+pub fn report(track: &mut TrackState, author: Author, json: bool) -> Result<Reply, NoMemory>
+    ensures step { IfOk result (λ reply. (o : Outcome)
+        × ReportComesTo (entries_of track.old.history) track.old.machine json o
+        × IsStep track.old author o track.new reply) }
+    ensures same { track.new ≡ track.old }
+{
+    let series = track.series_lines()?;
+    report_with(track, author, json, series)
+}

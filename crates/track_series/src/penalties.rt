@@ -1,0 +1,117 @@
+//! The penalties of metrics: as they are given, or from the noise of a series.
+ghost use Rattle.std.specs.Prelude.{◌≡◌, ◌*◌, ◌^◌, ◌≤◌, max, pos, IfOk, OnErr};
+ghost use Rattle.history_model.specs.Entries.{entries_of};
+ghost use Rattle.track_model.specs.Forms as forms;
+ghost use Rattle.track_model.specs.Outcomes.{Outcome};
+ghost use Rattle.track_model.specs.Publishing.{CalibrateComesTo};
+ghost use Rattle.track_model.specs.Tracks.{IsStep};
+
+use crate::NoMemory;
+use history_model::{Author, Entry, limits_law};
+use line_text::{Boxed, Name};
+use metric_table::Limit;
+use request_model::{Answer, Refusal, Reply};
+use series_noise::noise;
+use track_model::tune_law;
+use track_replay::tune_refusal;
+use track_state::TrackState;
+
+/// `tune M METRIC PENALTY`: the metric has this penalty from here on. Constant time.
+///
+/// Where the metric is too long or the penalty out of range it is refused as reading a request refuses it.
+pub fn tune(
+    track: &mut TrackState,
+    author: Author,
+    metric: &Name,
+    penalty: i128,
+) -> Result<Reply, NoMemory>
+    ensures step { IfOk result (λ reply. IsStep track.old author
+        (forms.tune (entries_of track.old.history) metric.now penalty) track.new reply) }
+    ensures same { OnErr result (track.new ≡ track.old) }
+{
+    limits_law();
+    tune_law();
+    track.history_law();
+    if let Some(answer) = tune_refusal(metric, penalty) {
+        return Ok(track.told(answer));
+    }
+    if track.len() >= Limit::Steps.most() {
+        return Ok(track.told(Answer::Refused(Refusal::Full(Limit::Steps))));
+    }
+    let answer = Answer::Tuned {
+        metric: metric.copy(track.alloc())?,
+        penalty,
+    };
+    let metric = metric.copy(track.alloc())?;
+    let penalty = Boxed::new(track.alloc(), penalty)?;
+    let step = track.add(author, Entry::Tune { metric, penalty }, 0)?;
+    Ok(Reply { step, answer })
+}
+
+// The square of the noise, or 1 where that is 0.
+fn square_of(noise: u64) -> i128
+    requires { noise ≤ 2 * 10 ^ 16 }
+    ensures { result ≡ pos (max 1 (noise * noise)) }
+{
+    if noise == 0 {
+        return 1;
+    }
+    let noise = i128::from(noise);
+    noise * noise
+}
+
+// So many squares of the noise, of 1 at least.
+fn penalty_by(factor: u64, noise: u64) -> i128
+    requires factor { factor ≤ 1_000 }
+    requires noise { noise ≤ 2 * 10 ^ 16 }
+    ensures { result ≡ pos (factor * max 1 (noise * noise)) }
+{
+    i128::from(factor) * square_of(noise)
+}
+
+// `calibrate`, where no sample waits in the series.
+fn calibrate_settled(
+    track: &mut TrackState,
+    author: Author,
+    test: &Name,
+    metric: &Name,
+    factor: u64,
+) -> Result<Reply, NoMemory>
+    ensures step { IfOk result (λ reply. (o : Outcome)
+        × CalibrateComesTo (entries_of track.old.history)
+        (record { test = test.now; metric = metric.now }) factor o
+        × IsStep track.old author o track.new reply) }
+    ensures same { OnErr result (track.new ≡ track.old) }
+{
+    if factor < 1 || factor > 1_000 {
+        return Ok(track.told(Answer::Refused(Refusal::BadPenalty)));
+    }
+    let Some(points) = track.points_of(test, metric)? else {
+        return Ok(track.told(Answer::Refused(Refusal::UnknownSeries)));
+    };
+    let n = points.len();
+    if n < 3 {
+        return Ok(track.told(Answer::Refused(Refusal::TooFewPoints(n as u64))));
+    }
+    let noise = noise(track.alloc(), points)?;
+    tune(track, author, metric, penalty_by(factor, noise))
+}
+
+/// `calibrate M TEST METRIC FACTOR`: the metric has the factor times the square of the series' noise as its penalty
+/// from here on. O(n log n + v) time for n positions with v values.
+pub fn calibrate(
+    track: &mut TrackState,
+    author: Author,
+    test: &Name,
+    metric: &Name,
+    factor: u64,
+) -> Result<Reply, NoMemory>
+    ensures step { IfOk result (λ reply. (o : Outcome)
+        × CalibrateComesTo (entries_of track.old.history)
+        (record { test = test.now; metric = metric.now }) factor o
+        × IsStep track.old author o track.new reply) }
+    ensures same { OnErr result (track.new ≡ track.old) }
+{
+    track.settle(test, metric)?;
+    calibrate_settled(track, author, test, metric, factor)
+}

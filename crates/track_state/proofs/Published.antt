@@ -1,0 +1,35 @@
+-- What is kept of the last publication of a series, and what a form comes to by it.
+use Rattle.std.proofs.Common.{◌≡◌, List, refl, sym, ap, subst, Option, Some, None}
+use Rattle.segment_cost.specs.declared.done.Done.{Done}
+use Rattle.history_model.specs.declared.entries.Entry.{Entry}
+use Rattle.history_model.specs.declared.publication.Publication.{Publication}
+use Rattle.history_model.specs.Allowed.{Legal}
+use Rattle.history_model.specs.Laws.{LastStands}
+use Rattle.history_model.specs.Publications.{last_publication}
+use Rattle.history_model.specs.Runs.{Series}
+use Rattle.request_model.specs.declared.replies.Answer.TheVariants as answer
+use Rattle.request_model.specs.declared.replies.Refusal.TheVariants as refusal
+use Rattle.publication_index.specs.Kept.{series_of}
+use Rattle.track_model.specs.Outcomes.{Outcome, tells}
+use Rattle.track_model.specs.Publishing.{OfPublished}
+use Rattle.track_state.specs.Made.{publication_from, IsMadeFrom}
+use Rattle.track_state.specs.State.{IsKept}
+
+pub nothing : (h : List Entry) (o : Option Publication) (d : Option Done) → IsKept h o d → d ≡ None → o ≡ None
+nothing h None d is none = refl
+nothing h (Some p) None is none = absurd is
+nothing h (Some p) (Some done) is none = absurd (let no : Some done ≡ None = none in cc)
+
+pub something : (h : List Entry) (o : Option Publication) (done : Done) → IsKept h o (Some done) → (o ≡ Some (publication_from done)) × IsMadeFrom h done
+something h None done is = absurd is
+something h (Some p) done is = (ap (λ (q : Publication). Some q) is.0, is.1)
+
+-- a publication of the series
+pub of-series : LastStands → (h : List Entry) (s : Series) (done : Done) → Legal h → last_publication s h ≡ Some (publication_from done) → series_of done ≡ s
+of-series last h s done legal is = (last h s (publication_from done) legal is).0
+
+pub published-one : (Comes : Publication → Outcome → Type 0) (o : Outcome) (l : Option Publication) (p : Publication) → l ≡ Some p → Comes p o → OfPublished l Comes o
+published-one Comes o l p is comes = subst (λ (m : Option Publication). OfPublished m Comes o) (sym is) comes
+
+pub published-none : (Comes : Publication → Outcome → Type 0) (l : Option Publication) → l ≡ None → OfPublished l Comes (tells (answer.Refused refusal.NothingPublished))
+published-none Comes l is = subst (λ (m : Option Publication). OfPublished m Comes (tells (answer.Refused refusal.NothingPublished))) (sym is) refl

@@ -1,7 +1,0 @@
-use Rattle.std.proofs.Common.{◌≡◌, map, take}
-use Rattle.track_state.specs.Lines.{named_by}
-use Rattle.track_state.proofs.changes.all_named.Given as goal
-
--- the changes so far
-abbrev pub invariant-loop-change : goal.invariant-loop-change
-invariant-loop-change l = l.made ≡ map (named_by l.commits) (take l.change-index l.changes)

@@ -1,9 +1,0 @@
-use Rattle.std.proofs.Common.{refl}
-use Rattle.history_model.specs.declared.entries.Entry.TheVariants as entry
-use Rattle.history_model.specs.declared.events.RegressionEvent.TheVariants.{Move}
-use Rattle.history_model.specs.Entries.{entries_of}
-use Rattle.track_state.proofs.Series.{no-more}
-use Rattle.track_state.proofs.state.TrackState.set_state.Goals as goal
-
-pub add-requires-clause-more : goal.add-requires-clause-more
-add-requires-clause-more c = no-more (entries_of c.args.self.now.history) (entry.Regression (Move c.args.regression c.args.to)) refl

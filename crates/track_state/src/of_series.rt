@@ -1,0 +1,83 @@
+//! What the indexes tell of a series.
+ghost use Rattle.std.specs.Prelude.{◌≡◌, IfOk, option_copied};
+ghost use Rattle.metric_table.specs.Table.{IsPenalty};
+ghost use Rattle.history_model.specs.Entries.{entries_of};
+ghost use Rattle.history_model.specs.Penalties.{penalty_of};
+ghost use Rattle.history_model.specs.Publications.{last_publication};
+ghost use Rattle.history_model.specs.Runs.{is_known};
+ghost use Rattle.track_model.specs.Reports.{AreSeriesLines};
+ghost use Rattle.track_state.specs.State.{IsFound, IsKept};
+
+use crate::NoMemory;
+use crate::state::TrackState;
+use history_model::publication_law;
+use line_text::Name;
+use point_list::Points;
+use report_lines::series_lines;
+use report_model::SeriesLines;
+use segment_cost::Done;
+
+impl TrackState {
+    /// Whether the series ever had a sample.
+    pub fn is_known(&self, test: &Name, metric: &Name) -> bool
+        ensures { result
+            ≡ is_known (record { test = test.now; metric = metric.now }) (entries_of self.now.history) }
+    {
+        match self.series.get(test, metric) {
+            Some(tracked) => tracked.since.is_some(),
+            None => false,
+        }
+    }
+
+    /// The penalty of a metric.
+    pub fn penalty(&self, metric: &Name) -> i128
+        ensures given { result ≡ penalty_of metric.now (entries_of self.now.history) }
+        ensures fits { IsPenalty result }
+    {
+        let _ = &self.history;
+        self.penalties.get(metric)
+    }
+
+    /// Places the samples that wait in a series, so that its positions can be read.
+    pub fn settle(&mut self, test: &Name, metric: &Name) -> Result<(), NoMemory>
+        ensures { self.new ≡ self.old }
+    {
+        self.series.settle(test, metric)
+    }
+
+    /// The positions of a series that is known, where no sample waits in it.
+    pub fn points_of(&self, test: &Name, metric: &Name) -> Result<Option<&Points>, NoMemory>
+        ensures { IfOk result (λ found. IsFound (entries_of self.now.history)
+            (record { test = test.now; metric = metric.now }) (option_copied found)) }
+    {
+        let Some(tracked) = self.series.get(test, metric) else {
+            return Ok(None);
+        };
+        if tracked.since.is_none() {
+            return Ok(None);
+        }
+        let Some(points) = tracked.points.settled() else {
+            return Err(NoMemory);
+        };
+        Ok(Some(points))
+    }
+
+    /// The segmentation that a series' last publication was made from; none exactly where nothing was published of it.
+    pub fn published(&self, test: &Name, metric: &Name) -> Option<&Done>
+        ensures { IsKept (entries_of self.now.history) (last_publication
+            (record { test = test.now; metric = metric.now }) (entries_of self.now.history))
+            (option_copied result) }
+    {
+        self.published.get(test, metric)
+    }
+
+    /// A line for each known series. Changes nothing that is seen.
+    pub fn series_lines(&mut self) -> Result<SeriesLines, NoMemory>
+        ensures lines { IfOk result (λ lines. AreSeriesLines (entries_of self.old.history) lines) }
+        ensures same { self.new ≡ self.old }
+    {
+        publication_law();
+        self.history_law();
+        series_lines(self.alloc, &mut self.series, &self.published)
+    }
+}

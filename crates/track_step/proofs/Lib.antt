@@ -1,0 +1,3 @@
+mod Submits
+mod ToldAgain
+mod Listing

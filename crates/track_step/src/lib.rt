@@ -1,0 +1,19 @@
+//! The answer to any request about a machine, and the requests that add a commit or a run or take a run back.
+//!
+//! A request gets exactly the reply, and adds exactly the entry, that the definitions give on the history so far; where
+//! there is no memory nothing changes.
+//!
+//! Stands on `track_state` for the state of a machine, on `track_replay` for what is allowed, and on `track_series` and
+//! `track_follow` for the requests about series, regressions and bisections.
+#![tactic(auto)]
+
+mod commits;
+mod requests;
+mod run_lines;
+mod submissions;
+
+pub use commits::{commit, retract};
+pub use requests::step;
+pub use run_lines::runs;
+pub use std::alloc::AllocError as NoMemory;
+pub use submissions::submit;

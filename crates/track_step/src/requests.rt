@@ -1,0 +1,126 @@
+//! The answer to any request about a machine.
+ghost use Rattle.std.specs.Prelude.{◌≡◌, IfOk, OnErr};
+ghost use Rattle.history_model.specs.Entries.{entries_of};
+ghost use Rattle.track_model.specs.Outcomes.{Outcome};
+ghost use Rattle.track_model.specs.Replies.{machine_of};
+ghost use Rattle.track_model.specs.Tracks.{ComesTo, IsStep};
+
+use crate::NoMemory;
+use crate::commits::{commit, retract};
+use crate::run_lines::runs;
+use crate::submissions::submit;
+use history_model::Author;
+use request_model::{Answer, Reply, Request};
+use track_follow::{answer_job, bisect, regress, resume, set_state};
+use track_series::{calibrate, changes, report, segment, tune, verify};
+use track_state::TrackState;
+
+/// Answers a request about this machine.
+pub fn step(track: &mut TrackState, author: Author, request: &Request) -> Result<Reply, NoMemory>
+    requires { machine_of request.now ≡ track.old.machine }
+    ensures step { IfOk result (λ reply. (o : Outcome)
+        × ComesTo (entries_of track.old.history) request.now o
+        × IsStep track.old author o track.new reply) }
+    ensures same { OnErr result (track.new ≡ track.old) }
+{
+    match request {
+        Request::Machine { machine } => {
+            let machine = machine.copy(track.alloc())?;
+            Ok(track.told(Answer::Machine { machine }))
+        }
+        Request::Commit {
+            machine: _,
+            number,
+            name,
+        } => {
+            let number = *number;
+            commit(track, author, number, name)
+        }
+        Request::Submit {
+            machine: _,
+            commit,
+            run,
+            samples,
+            ignored,
+            stated,
+        } => {
+            let ignored = *ignored;
+            submit(track, author, commit, run, samples, ignored, stated)
+        }
+        Request::Retract { machine: _, run } => retract(track, author, run),
+        Request::Tune {
+            machine: _,
+            metric,
+            penalty,
+        } => {
+            let penalty = *penalty;
+            tune(track, author, metric, penalty)
+        }
+        Request::Calibrate {
+            machine: _,
+            test,
+            metric,
+            factor,
+        } => {
+            let factor = *factor;
+            calibrate(track, author, test, metric, factor)
+        }
+        Request::Segment {
+            machine: _,
+            test,
+            metric,
+        } => segment(track, author, test, metric),
+        Request::Changes {
+            machine: _,
+            test,
+            metric,
+        } => changes(track, author, test, metric),
+        Request::Verify {
+            machine: _,
+            test,
+            metric,
+        } => verify(track, author, test, metric),
+        Request::Runs { machine: _ } => runs(track),
+        Request::Regress {
+            machine: _,
+            test,
+            metric,
+            change,
+        } => {
+            let change = *change;
+            regress(track, author, test, metric, change)
+        }
+        Request::SetState {
+            machine: _,
+            regression,
+            state,
+        } => {
+            let regression = *regression;
+            let state = *state;
+            set_state(track, author, regression, state)
+        }
+        Request::Bisect { machine: _, lo, hi } => bisect(track, author, lo, hi),
+        Request::Answer {
+            machine: _,
+            job,
+            commit,
+            status,
+        } => {
+            let number = *job;
+            let status = *status;
+            answer_job(track, author, number, commit, status)
+        }
+        Request::Resume { machine: _, job } => {
+            let number = *job;
+            resume(track, author, number)
+        }
+        Request::Job { machine: _, job } => {
+            let number = *job;
+            track_follow::job(track, number)
+        }
+        Request::Report { machine: _, json } => {
+            let json = *json;
+            report(track, author, json)
+        }
+    }
+}
