@@ -13,6 +13,9 @@ use metric_table::Limit;
 use sample_model::{NoMemory, Sample, Samples};
 use std::alloc::Global;
 
+// A text of fewer bytes mostly has one sample.
+const SHORT: usize = 64;
+
 // The samples of a text so far, or the note that there are more than a run may have.
 #[derive(Drop)]
 pub(crate) struct Gathered {
@@ -27,12 +30,17 @@ impl Gathered {
     ghost use Rattle.go_bench_text.specs.Pairs.{IsPair, sample_of, samples_of};
     ghost use Rattle.go_bench_text.specs.Readings.{test_of};
 
-    // No samples.
-    pub(crate) fn new(alloc: Global) -> Gathered
+    // No samples of a text of so many bytes. Where it is short there is room for one: a vector that grows takes room for four.
+    pub(crate) fn new(alloc: Global, length: usize) -> Gathered
         ensures { Keeps result [] }
     {
+        let samples = if length < SHORT {
+            Samples::with_room(alloc, 1)
+        } else {
+            Samples::new(alloc)
+        };
         Gathered {
-            samples: Samples::new(alloc),
+            samples,
             full: false,
             buffer: String::new(alloc),
         }

@@ -108,7 +108,7 @@ fn gather(alloc: Global, names: &mut Names, text: &str) -> Result<(Gathered, u64
         × Keeps all.0 given × IsRead text.now given all.1) }
     ensures fault { IfErr result (λ fault. IsFault text.now fault) }
 {
-    let mut gathered = Gathered::new(alloc);
+    let mut gathered = Gathered::new(alloc, text.len());
     let mut pairs = Pairs::new(alloc);
     let mut pkg = "";
     let mut number = 0u64;

@@ -9,7 +9,7 @@ use std::alloc::Global;
 #[derive(Debug, Drop)]
 pub(crate) enum NameText {
     // In the value itself.
-    Short(ArrayString<24>),
+    Short(ArrayString<16>),
     // In memory of its own.
     Long(String),
 }

@@ -1,5 +1,5 @@
 //! The table of metrics, and what it says of each.
-ghost use Rattle.std.specs.Prelude.{◌≡◌, ◌≤◌, ◌↔◌, IsTrue};
+ghost use Rattle.std.specs.Prelude.{◌≡◌, ◌≤◌, ◌↔◌, IsTrue, codes};
 ghost use Rattle.metric_table.specs.Table.{row_of};
 
 /// What the table says of a metric.
@@ -38,6 +38,16 @@ const RATE: Columns = Columns {
     default_penalty: 2_500_000_000,
 };
 
+// Whether the metric is the time of an operation, as most are.
+fn is_time(metric: &[u8]) -> bool
+    ensures { IsTrue result ↔ (metric.now ≡ codes "ns/op") }
+{
+    match metric {
+        b"ns/op" => true,
+        _ => false,
+    }
+}
+
 fn is_same(metric: &[u8], name: &[u8]) -> bool
     ensures { IsTrue result ↔ (metric.now ≡ name.now) }
 {
@@ -51,7 +61,7 @@ fn columns_of(metric: &[u8]) -> Columns
     ensures penalty { result.default_penalty ≡ (row_of metric.now).default_penalty }
     ensures few { result.decimals ≤ 9 }
 {
-    if is_same(metric, b"ns/op") {
+    if is_time(metric) {
         COMMON
     } else if is_same(metric, b"MB/s") {
         RATE

@@ -1,5 +1,5 @@
 //! The first words of request lines.
-ghost use Rattle.std.specs.Prelude.{◌≡◌, ◌≢◌, IfSome, IfNone};
+ghost use Rattle.std.specs.Prelude.{◌≡◌, ◌≢◌, ◌↔◌, codes, IfSome, IfNone, IsTrue};
 ghost use Rattle.request_words.specs.Forms.{job_word, series_word};
 ghost use Rattle.request_words.specs.Verbs.{IsNoLaterVerb, word_of};
 
@@ -42,14 +42,34 @@ pub(crate) enum Verb {
     Report,
 }
 
+// Whether the word is `submit`.
+fn is_submit(word: &[u8]) -> bool
+    ensures { IsTrue result ↔ (word.now ≡ codes "submit") }
+{
+    match word {
+        b"submit" => true,
+        _ => false,
+    }
+}
+
+// Whether the word is `commit`.
+fn is_commit(word: &[u8]) -> bool
+    ensures { IsTrue result ↔ (word.now ≡ codes "commit") }
+{
+    match word {
+        b"commit" => true,
+        _ => false,
+    }
+}
+
 // The verb that a word is: first those that most lines begin with.
 pub(crate) fn read_verb(word: &[u8]) -> Option<Verb>
     ensures some { IfSome result (λ verb. word.now ≡ word_of verb) }
     ensures none { IfNone result ((verb : Verb) → word.now ≢ word_of verb) }
 {
-    if word == b"submit".as_slice() {
+    if is_submit(word) {
         Some(Verb::Submit)
-    } else if word == b"commit".as_slice() {
+    } else if is_commit(word) {
         Some(Verb::Commit)
     } else if word == b"machine".as_slice() {
         Some(Verb::Machine)

@@ -50,6 +50,17 @@ impl Samples {
         }
     }
 
+    /// No samples, with memory for so many, if there is as much. Constant time.
+    pub fn with_room(alloc: Global, count: usize) -> Samples
+        ensures { result ≡ [] }
+    {
+        let mut own = Vec::new(alloc);
+        let _ = own.reserve_exact(count);
+        Samples {
+            items: Items::Own(own),
+        }
+    }
+
     /// Says what the type keeps. Does nothing: its contract is what it is for.
     pub fn limits(&self)
         ensures { AreSamples self.now }
