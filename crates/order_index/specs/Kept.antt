@@ -1,6 +1,6 @@
--- Private: no public contract cites this. What an index of commits keeps of its two maps.
-use Rattle.std.specs.Prelude.{◌≡◌, ℕ, List, [], ◌∷◌}
-use Rattle.std.specs.List.{position_from}
+-- Private: no public contract cites this. What an index of commits keeps.
+use Rattle.std.specs.Prelude.{◌≡◌, ℕ, ◌<◌, ◌≤◌, List, [], ◌∷◌, map, Option, Some, None}
+use Rattle.std.specs.List.{position_from, AllByRecursion}
 use Rattle.std.specs.Ordering.{nat_cmp}
 use Rattle.std.specs.BTreeMap.{BTreeMap, get as at_number}
 use Rattle.indexmap.specs.IndexMap.{IndexMap, values}
@@ -13,8 +13,40 @@ abbrev pub StandAtNames : List (List ℕ × Declaration) → Type 0
 StandAtNames [] = Unit {0}
 StandAtNames (e ∷ es) = (e.0 ≡ e.1.name) × StandAtNames es
 
--- the declarations are apart, each at its name, and each number leads to the place of its declaration
-pub record Keeps {S : Type 0} (by_name : IndexMap (List ℕ) Declaration S) (by_number : BTreeMap ℕ ℕ) : Type 0 where
+-- their numbers, in the order of declaration
+abbrev pub numbers_of : List Declaration → List ℕ
+numbers_of commits = map (λ (d : Declaration). d.number) commits
+
+-- each number is below this one
+abbrev pub AreBelow : ℕ → List Declaration → Type 0
+AreBelow number commits = AllByRecursion (λ (d : Declaration). d.number < number) commits
+
+-- no number is below this one
+abbrev pub AreFrom : ℕ → List Declaration → Type 0
+AreFrom number commits = AllByRecursion (λ (d : Declaration). number ≤ d.number) commits
+
+-- each number is above this one
+abbrev pub AreAbove : ℕ → List Declaration → Type 0
+AreAbove number commits = AllByRecursion (λ (d : Declaration). number < d.number) commits
+
+-- each number is below those after it
+abbrev pub IsRising : List Declaration → Type 0
+IsRising [] = Unit {0}
+IsRising (d ∷ commits) = AreAbove d.number commits × IsRising commits
+
+-- the map leads from each number to the place of its declaration
+abbrev pub ArePlaced : List Declaration → BTreeMap ℕ ℕ → Type 0
+ArePlaced commits places =
+    (n : ℕ) → at_number nat_cmp places n ≡ position_from (has_number n) 0 commits
+
+-- what finds a declaration by its number: a map, or else the rise of the numbers
+abbrev pub AreFound : List Declaration → Option (BTreeMap ℕ ℕ) → Type 0
+AreFound commits (Some places) = ArePlaced commits places
+AreFound commits None = IsRising commits
+
+-- the declarations are apart, each at its name, and each is found by its number
+pub record Keeps {S : Type 0} (by_name : IndexMap (List ℕ) Declaration S)
+    (by_number : Option (BTreeMap ℕ ℕ)) : Type 0 where
   pub names : StandAtNames by_name.entries
-  pub numbers : (n : ℕ) → at_number nat_cmp by_number n ≡ position_from (has_number n) 0 (values by_name)
+  pub numbers : AreFound (values by_name) by_number
   pub apart : AreApart (values by_name)

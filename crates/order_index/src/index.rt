@@ -1,15 +1,14 @@
 //! The index of commits: look-ups, declarations, and the numbers in a range.
-ghost use Rattle.std.specs.Prelude.{◌≡◌, ◌≢◌, ◌++◌, IsTrue, ◌∷◌, [], OnOk, OnErr, IfOk, length, find, option_copied, option_map, bytes_eq, ◌<◌, None};
-ghost use Rattle.indexmap.specs.IndexMap.{spare, get_by};
+ghost use Rattle.std.specs.Prelude.{◌≡◌, ◌≢◌, ◌++◌, ◌∷◌, [], OnOk, OnErr, IfOk, length, find, option_copied, bytes_eq, ◌<◌, None};
+ghost use Rattle.indexmap.specs.IndexMap.{spare, get_by, values};
 ghost use Rattle.history_model.specs.Commits.{has_number, has_name, number_in, name_in, numbers_between};
-ghost use Rattle.std.specs.Prelude.{filter, ◌≤◌};
-ghost use Rattle.std.specs.Ordering.{nat_cmp};
-ghost use Rattle.std.specs.BTreeMap.{keys, IsOrdered};
 ghost use Rattle.order_index.specs.Judged.{judged, AreApart};
-ghost use Rattle.order_index.specs.Between.{is_between};
+ghost use Rattle.order_index.specs.Kept.{AreFound};
 
 use crate::NoMemory;
 use crate::declared::Declared;
+use crate::mapped::{self, keys_between, places_of};
+use crate::rising::{self, is_above_all};
 use history_model::Declaration;
 use indexmap::IndexMap;
 use line_text::{Name, Numbers};
@@ -23,8 +22,9 @@ use std::marker::Model;
 pub struct OrderIndex {
     alloc: Global,
     by_name: IndexMap<Name, Declaration>,
-    // Where in `by_name` the declaration of a number stands.
-    by_number: BTreeMap<u64, usize>,
+    // Where in `by_name` the declaration of a number stands. None as long as each number is above the one before: a
+    // declaration is then found by halving.
+    by_number: Option<BTreeMap<u64, usize>>,
 }
 
 impl Model for OrderIndex {
@@ -49,7 +49,7 @@ impl OrderIndex {
         OrderIndex {
             alloc,
             by_name: IndexMap::new(alloc),
-            by_number: BTreeMap::new(alloc),
+            by_number: None,
         }
     }
 
@@ -67,26 +67,15 @@ impl OrderIndex {
         self.by_name.len()
     }
 
-    // Whether the number is above each one. Constant time but for the depth of the map: commits mostly come in order.
-    fn is_above_all(&self, number: u64) -> bool
-        ensures { IsTrue result → find (has_number number) self.now ≡ None }
-    {
-        match self.by_number.last_key_value() {
-            Some((last, _)) => *last < number,
-            None => false,
-        }
-    }
-
-    /// The declaration with this number. Logarithmic time; takes no memory.
+    /// The declaration with this number. Constant time where numbers rise and this one is above them, else logarithmic;
+    /// takes no memory.
     pub fn with_number(&self, number: u64) -> Option<&Declaration>
         ensures { option_copied result ≡ find (has_number number) self.now }
     {
-        if self.is_above_all(number) {
-            return None;
+        match &self.by_number {
+            Some(by_number) => mapped::with_number(&self.by_name, by_number, number),
+            None => rising::with_number(&self.by_name, number),
         }
-        let place = self.by_number.get(&number)?;
-        let (_, declaration) = self.by_name.get_index(*place)?;
-        Some(declaration)
     }
 
     /// The declaration with this name. Constant time, but for the name's length; takes no memory.
@@ -106,7 +95,8 @@ impl OrderIndex {
         }
     }
 
-    /// The name of the commit of that number; none exactly where it isn't declared. Logarithmic time; takes no memory.
+    /// The name of the commit of that number; none exactly where it isn't declared. Takes the time of
+    /// [`OrderIndex::with_number`] and no memory.
     pub fn name_of(&self, number: u64) -> Option<&Name>
         ensures { option_copied result ≡ name_in number self.now }
     {
@@ -123,10 +113,14 @@ impl OrderIndex {
         if hi < lo {
             return Ok(Numbers::new(alloc));
         }
-        keys_between(alloc, &self.by_number, lo, hi)
+        match &self.by_number {
+            Some(by_number) => keys_between(alloc, by_number, lo, hi),
+            None => rising::numbers_between(alloc, &self.by_name, lo, hi),
+        }
     }
 
-    /// What a declaration of the pair would come to. Logarithmic time; takes no memory.
+    /// What a declaration of the pair would come to. Takes the time of [`OrderIndex::with_number`], but for the name's
+    /// length, and no memory.
     pub fn judge(&self, number: u64, name: &Name) -> Declared
         ensures { result ≡ judged self.now number name.now }
     {
@@ -147,7 +141,7 @@ impl OrderIndex {
 
     /// Declares the pair at a step, where it is new; else, and where there is no memory, changes nothing.
     ///
-    /// Logarithmic time, but for growing.
+    /// Takes the time of [`OrderIndex::judge`] and [`OrderIndex::add`].
     pub fn declare(&mut self, step: u64, number: u64, name: Name) -> Result<Declared, NoMemory>
         ensures judged { IfOk result (λ declared. declared ≡ judged self.old number name) }
         ensures new { result ≡ Ok Declared.New
@@ -162,8 +156,10 @@ impl OrderIndex {
         Ok(Declared::New)
     }
 
-    /// Declares a pair that is new, as [`OrderIndex::declare`] does, without judging it again. Logarithmic time, but for
-    /// growing and for the name's length.
+    /// Declares a pair that is new, as [`OrderIndex::declare`] does, without judging it again.
+    ///
+    /// Constant time as long as each number is above the last one's, else logarithmic, but for growing and for the name's
+    /// length. The first number that isn't puts each declaration into a map, once.
     pub fn add(&mut self, step: u64, number: u64, name: Name) -> Result<(), NoMemory>
         requires { judged self.old number name ≡ Declared.New }
         ensures ok { OnOk result
@@ -172,11 +168,39 @@ impl OrderIndex {
     {
         let key = name.copy(self.alloc)?;
         self.by_name.reserve(1)?;
-        let place = self.by_name.len();
-        self.by_number.insert(number, place)?;
-        put(&mut self.by_name, key, Declaration { step, number, name });
+        let declaration = Declaration { step, number, name };
+        note(self.alloc, &self.by_name, &mut self.by_number, &declaration)?;
+        put(&mut self.by_name, key, declaration);
         Ok(())
     }
+}
+
+// Makes a declaration that comes next found by its number: in the map, which is made at the first number that isn't above
+// the last one. Until then there is nothing to note.
+fn note(
+    alloc: Global,
+    by_name: &IndexMap<Name, Declaration>,
+    by_number: &mut Option<BTreeMap<u64, usize>>,
+    declaration: &Declaration,
+) -> Result<(), NoMemory>
+    requires found { AreFound (values by_name.now) by_number.old }
+    requires new { find (has_number declaration.now.number) (values by_name.now) ≡ None }
+    ensures ok { OnOk result (AreFound (values by_name.now ++ declaration.now ∷ []) by_number.new) }
+    ensures err { OnErr result (AreFound (values by_name.now) by_number.new) }
+{
+    let number = declaration.number;
+    let place = by_name.len();
+    if let Some(places) = by_number {
+        places.insert(number, place)?;
+        return Ok(());
+    }
+    if is_above_all(by_name, number) {
+        return Ok(());
+    }
+    let mut places = places_of(alloc, by_name)?;
+    places.insert(number, place)?;
+    *by_number = Some(places);
+    Ok(())
 }
 
 // Puts a declaration at a new name, for which there is room.
@@ -188,22 +212,4 @@ fn put(by_name: &mut IndexMap<Name, Declaration>, key: Name, declaration: Declar
     if let Err(_) = by_name.insert(key, declaration) {
         unreachable!();
     }
-}
-
-// The numbers of a map from one to another, in order.
-fn keys_between(
-    alloc: Global,
-    by_number: &BTreeMap<u64, usize>,
-    lo: u64,
-    hi: u64,
-) -> Result<Numbers, NoMemory>
-    requires { lo ≤ hi }
-    ensures keys { IfOk result (λ made. made ≡ filter (is_between lo hi) (keys by_number.now)) }
-    ensures ordered { IsOrdered nat_cmp by_number.now }
-{
-    let mut numbers = Numbers::new(alloc);
-    for (number, _) in by_number.range(lo..=hi) {
-        numbers.push(*number)?;
-    }
-    Ok(numbers)
 }

@@ -1,0 +1,16 @@
+use Rattle.std.proofs.Common.{◌≤◌, ◌-◌, take, drop, length}
+use Rattle.indexmap.specs.IndexMap.{values}
+use Rattle.order_index.specs.Kept.{AreBelow, AreFrom}
+use Rattle.order_index.proofs.rising.place_from.Given as goal
+
+-- the numbers before `low` are below this one, and those from `high` on are not
+abbrev pub invariant-loop-low : goal.invariant-loop-low
+invariant-loop-low l = record {
+  order : l.low ≤ l.high;
+  within : l.high ≤ length l.by_name.entries;
+  below : AreBelow l.number (take l.low (values l.by_name));
+  rest : AreFrom l.number (drop l.high (values l.by_name));
+}
+
+abbrev pub decreases-loop-low : goal.decreases-loop-low
+decreases-loop-low l = l.high - l.low
