@@ -172,12 +172,12 @@ fn jobs(alloc: Global) -> Option<JobLines> {
     Some(lines)
 }
 
-// A report with each kind of line, copied; none where there is no memory.
+// A report with each kind of line; none where there is no memory.
 fn full_pages(alloc: Global) -> Option<Pages> {
     let mut pages = pages_of(alloc, "m", 7, &("a test", "ns/op", 3, 2, None, None))?;
     pages.regressions = regressions(alloc)?;
     pages.jobs = jobs(alloc)?;
-    pages.copy(alloc).ok()
+    Some(pages)
 }
 
 const FULL_TEXT: &str =

@@ -1,11 +1,7 @@
 //! What a report says of a series, a regression and a bisection.
-ghost use Rattle.std.specs.Prelude.{◌≡◌, IfOk};
-
-use crate::NoMemory;
 use crate::told::Told;
-use line_text::Name;
+use line_text::{Items, Name};
 use regression_state::State;
-use std::alloc::Global;
 
 /// What a report says of a series.
 #[derive(Debug, Drop)]
@@ -54,48 +50,11 @@ pub struct JobLine {
     pub outcome: Told,
 }
 
-impl SeriesLine {
-    /// The same once more. `NoMemory` comes only where the owners of a name can't be counted any more.
-    pub fn copy(&self, alloc: Global) -> Result<SeriesLine, NoMemory>
-        ensures { IfOk result (λ made. made ≡ self.now) }
-    {
-        Ok(SeriesLine {
-            test: self.test.copy(alloc)?,
-            metric: self.metric.copy(alloc)?,
-            samples: self.samples,
-            positions: self.positions,
-            changes: self.changes,
-            centre: self.centre,
-        })
-    }
-}
+/// What a report says of each series.
+pub type SeriesLines = Items<SeriesLine>;
 
-impl RegressionLine {
-    /// The same once more. `NoMemory` comes only where the owners of a name can't be counted any more.
-    pub fn copy(&self, alloc: Global) -> Result<RegressionLine, NoMemory>
-        ensures { IfOk result (λ made. made ≡ self.now) }
-    {
-        Ok(RegressionLine {
-            number: self.number,
-            test: self.test.copy(alloc)?,
-            metric: self.metric.copy(alloc)?,
-            before: self.before.copy(alloc)?,
-            after: self.after.copy(alloc)?,
-            state: self.state,
-        })
-    }
-}
+/// What a report says of each regression.
+pub type RegressionLines = Items<RegressionLine>;
 
-impl JobLine {
-    /// The same once more. `NoMemory` comes only where the owners of a name can't be counted any more.
-    pub fn copy(&self, alloc: Global) -> Result<JobLine, NoMemory>
-        ensures { IfOk result (λ made. made ≡ self.now) }
-    {
-        Ok(JobLine {
-            job: self.job,
-            range: self.range,
-            questions: self.questions,
-            outcome: self.outcome.copy(alloc)?,
-        })
-    }
-}
+/// What a report says of each bisection.
+pub type JobLines = Items<JobLine>;

@@ -14,8 +14,8 @@ mod replies;
 mod requests;
 mod runs;
 
-pub use changes::{NamedChange, NamedChanges, copy_changes};
+pub use changes::{NamedChange, NamedChanges};
 pub use line_text::Boxed;
 pub use replies::{Answer, RangePlace, Refusal, Reply};
 pub use requests::Request;
-pub use runs::{RunLine, Runs, copy_runs};
+pub use runs::{RunLine, Runs};

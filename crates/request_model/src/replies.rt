@@ -1,14 +1,11 @@
 //! What a request is answered: the answer itself, why it is refused, and the reply that has it.
-ghost use Rattle.std.specs.Prelude.{◌≡◌, IfOk};
-
-use crate::changes::{NamedChanges, copy_changes};
-use crate::runs::{Runs, copy_runs};
+use crate::changes::NamedChanges;
+use crate::runs::Runs;
 use line_text::{Boxed, Name, Text};
 use metric_table::Limit;
 use regression_state::State;
 use report_model::{Pages, Told};
 use segment_cost::Cert;
-use std::alloc::{AllocError, Global};
 
 /// Where a value is out of range.
 #[derive(Drop)]
@@ -22,25 +19,6 @@ pub enum RangePlace {
         /// The metric.
         metric: Text,
     },
-}
-
-impl RangePlace {
-    /// An equal place of its own. Linear in its texts.
-    pub fn copy(&self, alloc: Global) -> Result<RangePlace, AllocError>
-        ensures { IfOk result (λ made. made ≡ self.now) }
-    {
-        match self {
-            RangePlace::Line(at) => {
-                let at = *at;
-                Ok(RangePlace::Line(at))
-            }
-            RangePlace::Sample { test, metric } => {
-                let test = test.copy(alloc)?;
-                let metric = metric.copy(alloc)?;
-                Ok(RangePlace::Sample { test, metric })
-            }
-        }
-    }
 }
 
 /// Why a request is refused, in the order of the refusals' numbers.
@@ -115,79 +93,6 @@ pub enum Refusal {
     TooDeep(u64),
     /// The job is open, and asks this commit.
     JobOpen(Name),
-}
-
-impl Refusal {
-    /// An equal refusal of its own. Linear in its texts.
-    pub fn copy(&self, alloc: Global) -> Result<Refusal, AllocError>
-        ensures { IfOk result (λ made. made ≡ self.now) }
-    {
-        match self {
-            Refusal::BadRequest => Ok(Refusal::BadRequest),
-            Refusal::BadName => Ok(Refusal::BadName),
-            Refusal::UnknownMachine => Ok(Refusal::UnknownMachine),
-            Refusal::UnknownCommit => Ok(Refusal::UnknownCommit),
-            Refusal::CommitTaken { number, name } => {
-                let number = *number;
-                let name = name.copy(alloc)?;
-                Ok(Refusal::CommitTaken { number, name })
-            }
-            Refusal::NotText(at) => {
-                let at = *at;
-                Ok(Refusal::NotText(at))
-            }
-            Refusal::NotJson(at) => {
-                let at = *at;
-                Ok(Refusal::NotJson(at))
-            }
-            Refusal::NotReport { rule, member } => {
-                let rule = *rule;
-                let member = member.copy(alloc)?;
-                Ok(Refusal::NotReport { rule, member })
-            }
-            Refusal::OutOfRange(place) => Ok(Refusal::OutOfRange(place.copy(alloc)?)),
-            Refusal::IdentityClash(at) => {
-                let at = *at;
-                Ok(Refusal::IdentityClash(at))
-            }
-            Refusal::UnknownRun => Ok(Refusal::UnknownRun),
-            Refusal::AlreadyRetracted(at) => {
-                let at = *at;
-                Ok(Refusal::AlreadyRetracted(at))
-            }
-            Refusal::UnknownSeries => Ok(Refusal::UnknownSeries),
-            Refusal::NothingPublished => Ok(Refusal::NothingPublished),
-            Refusal::NoSuchChange(count) => {
-                let count = *count;
-                Ok(Refusal::NoSuchChange(count))
-            }
-            Refusal::UnknownRegression => Ok(Refusal::UnknownRegression),
-            Refusal::IllegalMove { from, to } => {
-                let from = *from;
-                let to = *to;
-                Ok(Refusal::IllegalMove { from, to })
-            }
-            Refusal::UnknownJob => Ok(Refusal::UnknownJob),
-            Refusal::NotAsked(asked) => Ok(Refusal::NotAsked(asked.copy(alloc)?)),
-            Refusal::BadRange => Ok(Refusal::BadRange),
-            Refusal::Full(at) => {
-                let at = *at;
-                Ok(Refusal::Full(at))
-            }
-            Refusal::BadPenalty => Ok(Refusal::BadPenalty),
-            Refusal::TooFewPoints(at) => {
-                let at = *at;
-                Ok(Refusal::TooFewPoints(at))
-            }
-            Refusal::JobClosed(told) => Ok(Refusal::JobClosed(told.copy(alloc)?)),
-            Refusal::BodyTooLong => Ok(Refusal::BodyTooLong),
-            Refusal::TooDeep(at) => {
-                let at = *at;
-                Ok(Refusal::TooDeep(at))
-            }
-            Refusal::JobOpen(asked) => Ok(Refusal::JobOpen(asked.copy(alloc)?)),
-        }
-    }
 }
 
 /// What a request is answered.
@@ -301,151 +206,6 @@ pub enum Answer {
     Refused(Refusal),
 }
 
-impl Answer {
-    /// An equal answer of its own. Linear in its list and its texts.
-    pub fn copy(&self, alloc: Global) -> Result<Answer, AllocError>
-        ensures { IfOk result (λ made. made ≡ self.now) }
-    {
-        match self {
-            Answer::Machine { machine } => {
-                let machine = machine.copy(alloc)?;
-                Ok(Answer::Machine { machine })
-            }
-            Answer::Commit { number, name } => {
-                let number = *number;
-                let name = name.copy(alloc)?;
-                Ok(Answer::Commit { number, name })
-            }
-            Answer::Duplicate { step } => {
-                let step = *step;
-                Ok(Answer::Duplicate { step })
-            }
-            Answer::Accepted {
-                run,
-                samples,
-                ignored,
-            } => {
-                let run = run.copy(alloc)?;
-                let samples = *samples;
-                let ignored = *ignored;
-                Ok(Answer::Accepted {
-                    run,
-                    samples,
-                    ignored,
-                })
-            }
-            Answer::Retracted { run } => {
-                let run = run.copy(alloc)?;
-                Ok(Answer::Retracted { run })
-            }
-            Answer::Tuned { metric, penalty } => {
-                let metric = metric.copy(alloc)?;
-                let penalty = *penalty;
-                Ok(Answer::Tuned { metric, penalty })
-            }
-            Answer::Segmented {
-                version,
-                base,
-                points,
-                cuts,
-                redone,
-                total,
-            } => {
-                let version = *version;
-                let base = *base;
-                let points = *points;
-                let cuts = *cuts;
-                let redone = *redone;
-                let total = *total;
-                Ok(Answer::Segmented {
-                    version,
-                    base,
-                    points,
-                    cuts,
-                    redone,
-                    total,
-                })
-            }
-            Answer::Changes {
-                version,
-                metric,
-                items,
-            } => {
-                let version = *version;
-                let metric = metric.copy(alloc)?;
-                let items = copy_changes(alloc, items)?;
-                Ok(Answer::Changes {
-                    version,
-                    metric,
-                    items,
-                })
-            }
-            Answer::Verified { version, cert } => {
-                let version = *version;
-                let cert = copy_cert(alloc, cert)?;
-                Ok(Answer::Verified { version, cert })
-            }
-            Answer::Raised { regression } => {
-                let regression = *regression;
-                Ok(Answer::Raised { regression })
-            }
-            Answer::Moved {
-                regression,
-                from,
-                to,
-            } => Ok(Answer::Moved {
-                regression: *regression,
-                from: *from,
-                to: *to,
-            }),
-            Answer::Job {
-                job,
-                range,
-                questions,
-                outcome,
-            } => {
-                let job = *job;
-                let range = *range;
-                let questions = *questions;
-                let outcome = outcome.copy(alloc)?;
-                Ok(Answer::Job {
-                    job,
-                    range,
-                    questions,
-                    outcome,
-                })
-            }
-            Answer::Runs { runs } => {
-                let runs = copy_runs(alloc, runs)?;
-                Ok(Answer::Runs { runs })
-            }
-            Answer::Report { pages } => {
-                let pages = copy_pages(alloc, pages)?;
-                Ok(Answer::Report { pages })
-            }
-            Answer::Refused(refusal) => Ok(Answer::Refused(refusal.copy(alloc)?)),
-        }
-    }
-}
-
-// An equal certificate of its own.
-fn copy_cert(alloc: Global, cert: &Boxed<Cert>) -> Result<Boxed<Cert>, AllocError>
-    ensures { IfOk result (λ made. made ≡ cert.now) }
-{
-    let made = cert.get().copy(alloc)?;
-    let boxed = Boxed::new(alloc, made)?;
-    Ok(boxed)
-}
-
-// Equal pages of their own.
-fn copy_pages(alloc: Global, pages: &Boxed<Pages>) -> Result<Boxed<Pages>, AllocError>
-    ensures { IfOk result (λ made. made ≡ pages.now) }
-{
-    let made = pages.get().copy(alloc)?;
-    let boxed = Boxed::new(alloc, made)?;
-    Ok(boxed)
-}
-
 /// An answer, with the number of entries of the machine's history behind the request.
 #[derive(Drop)]
 pub struct Reply {
@@ -453,16 +213,4 @@ pub struct Reply {
     pub step: u64,
     /// The answer.
     pub answer: Answer,
-}
-
-impl Reply {
-    /// An equal reply of its own. Linear in its answer's list and texts.
-    pub fn copy(&self, alloc: Global) -> Result<Reply, AllocError>
-        ensures { IfOk result (λ made. made ≡ self.now) }
-    {
-        Ok(Reply {
-            step: self.step,
-            answer: self.answer.copy(alloc)?,
-        })
-    }
 }

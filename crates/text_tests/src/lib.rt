@@ -18,8 +18,6 @@ mod of_regression_state;
 #[cfg(test)]
 mod of_reply_text;
 #[cfg(test)]
-mod of_request_model;
-#[cfg(test)]
 mod of_request_text;
 #[cfg(test)]
 mod of_series_gen;
