@@ -1,3 +1,1 @@
 mod Segmenting
-mod Declared
-mod Reporting

@@ -1,10 +1,9 @@
--- What a segmentation comes to, and what is told of the last publication.
-use Rattle.std.proofs.Common.{◌≡◌, ℕ, ℤ, ◌+◌, List, length, map, ap, subst, ◌∙◌, Option, Some, None, arith}
+-- What a segmentation comes to.
+use Rattle.std.proofs.Common.{◌≡◌, ℕ, ℤ, ◌+◌, List, length, ap, subst, ◌∙◌, Option, Some, None, arith}
 use Rattle.metric_table.specs.declared.limits.Limit.{Limit}
 use Rattle.metric_table.specs.declared.limits.Limit.TheVariants.{Steps}
 use Rattle.segment_model.specs.Segments.{Position}
 use Rattle.segment_cost.specs.Certificate.{StandsFor}
-use Rattle.segment_cost.specs.declared.cert.Cert.{Cert}
 use Rattle.segment_cost.specs.declared.done.Done.{Done}
 use Rattle.history_model.specs.declared.entries.Author.{Author}
 use Rattle.history_model.specs.declared.entries.Entry.{Entry}
@@ -16,26 +15,20 @@ use Rattle.history_model.specs.Penalties.{penalty_of}
 use Rattle.history_model.specs.Positions.{positions}
 use Rattle.history_model.specs.Publications.{last_publication, IsUpTo}
 use Rattle.history_model.specs.Runs.{Series, is_known}
-use Rattle.change_list.specs.Changes.{AreChanges}
-use Rattle.change_list.specs.declared.change.Change.{Change}
-use Rattle.request_model.specs.declared.changes.NamedChange.{NamedChange}
 use Rattle.request_model.specs.declared.replies.Answer.{Answer}
 use Rattle.request_model.specs.declared.replies.Answer.TheVariants as answer
 use Rattle.request_model.specs.declared.replies.Refusal.TheVariants as refusal
 use Rattle.request_model.specs.declared.replies.Reply.{Reply}
-use Rattle.publication_index.specs.Kept.{series_of}
 use Rattle.track_model.specs.Outcomes.{tells, added_unless}
-use Rattle.track_model.specs.Publishing.{SegmentComesTo, IsPublished, publication, publish, segmented, named, TellsChanges, TellsCertificate}
+use Rattle.track_model.specs.Publishing.{SegmentComesTo, IsPublished, publication, publish, segmented}
 use Rattle.track_model.specs.Replies.{reply_of}
 use Rattle.track_model.specs.Tracks.{Track, IsStep}
-use Rattle.track_state.specs.Made.{publication_from, IsMadeFrom}
-use Rattle.track_state.specs.Made.{entry_of}
+use Rattle.track_state.specs.Made.{publication_from, entry_of}
 use Rattle.track_series.specs.Publications.{IsAdded}
 use Rattle.track_series.specs.Snapshots.{IsTakenAt, IsSegmented}
 use Rattle.track_series.specs.declared.publishing.Published.{Published}
 use Rattle.track_series.specs.declared.publishing.Published.TheVariants as published
 use Rattle.track_series.specs.declared.snapshot.Snapshot.{Snapshot}
-use Rattle.track_state.proofs.Publishing.{made-stands}
 use Rattle.track_state.proofs.Told.{known}
 
 -- ---- what was put as a step
@@ -95,22 +88,3 @@ module _ (h : List Entry) (s : Series) (x : Snapshot) (done : Done) (taken : IsT
 pub up-to : LastStands → (h : List Entry) (s : Series) (version : ℕ) → Legal h → version ≡ length h → (o : Option Publication) → last_publication s h ≡ o → IsUpTo version o
 up-to last h s version legal is None found = tt
 up-to last h s version legal is (Some p) found = let past = (last h s p legal found).1.past in omega (arith, past, is)
-
--- ---- what is told of a publication
-pub certified : (h : List Entry) (s : Series) (done : Done) → IsMadeFrom h done → series_of done ≡ s → (cert : Cert) → cert ≡ done.cert
-    → TellsCertificate h s (publication_from done) (tells (answer.Verified done.version cert))
-certified h s done made same cert is =
-    let P : Series → Type 0 = λ u. TellsCertificate h u (publication_from done) (tells (answer.Verified done.version cert)) in
-    subst P same (done.cert, made-stands h done made, ap (λ (x : Cert). tells (answer.Verified done.version x)) is)
-
--- the changes of a publication, as they are told of its series
-pub changed : (h : List Entry) (s : Series) (done : Done) (items : List Change) (told : List NamedChange) → IsMadeFrom h done → series_of done ≡ s
-    → AreChanges done.points done.metric done.cert.cuts items → told ≡ map (named h) items
-    → TellsChanges h s (publication_from done) (tells (answer.Changes done.version s.metric told))
-changed h s done items told made same are is =
-    let P : Series → Type 0 = λ u. TellsChanges h u (publication_from done) (tells (answer.Changes done.version u.metric told)) in
-    subst P same (
-      items,
-      subst (λ (ps : List Position). AreChanges ps done.metric done.cert.cuts items) made.points are,
-      ap (λ (ls : List NamedChange). tells (answer.Changes done.version done.metric ls)) is,
-    )

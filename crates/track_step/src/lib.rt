@@ -3,8 +3,8 @@
 //! A request gets exactly the reply, and adds exactly the entry, that the definitions give on the history so far; where
 //! there is no memory nothing changes.
 //!
-//! Stands on `track_state` for the state of a machine, on `track_replay` for what is allowed, and on `track_series` and
-//! `track_follow` for the requests about series, regressions and bisections.
+//! Stands on `track_state` for the state of a machine, on `track_replay` for what is allowed, and on `track_penalties`,
+//! `track_series`, `track_reports` and `track_follow` for the requests about series, regressions and bisections.
 #![tactic(auto)]
 
 mod commits;

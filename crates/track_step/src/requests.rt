@@ -12,7 +12,9 @@ use crate::submissions::submit;
 use history_model::Author;
 use request_model::{Answer, Reply, Request};
 use track_follow::{answer_job, bisect, regress, resume, set_state};
-use track_series::{calibrate, changes, report, segment, tune, verify};
+use track_penalties::{calibrate, tune};
+use track_reports::{changes, report, verify};
+use track_series::segment;
 use track_state::TrackState;
 
 /// Answers a request about this machine.

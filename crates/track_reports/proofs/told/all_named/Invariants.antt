@@ -1,6 +1,6 @@
 use Rattle.std.proofs.Common.{◌≡◌, map, take}
-use Rattle.track_series.specs.Lines.{named_by}
-use Rattle.track_series.proofs.told.all_named.Given as goal
+use Rattle.track_reports.specs.Lines.{named_by}
+use Rattle.track_reports.proofs.told.all_named.Given as goal
 
 -- the changes so far
 abbrev pub invariant-loop-change : goal.invariant-loop-change

@@ -12,8 +12,8 @@ use Rattle.track_model.specs.Outcomes.{Outcome}
 use Rattle.track_model.specs.Publishing.{CalibrateComesTo, OfKnown, OfMany, IsCalibrated, is_factor}
 use Rattle.track_state.specs.State.{IsFound}
 use Rattle.track_state.proofs.Told.{tells-it, factor-out, factor-in, unknown, known, few}
-use Rattle.track_series.proofs.penalties.calibrate_settled.Goals as goal
-use Rattle.track_series.proofs.penalties.calibrate_settled.Goals.{then-factor-lt1-via-then-factor-lt1, then-factor-lt1-via-else-factor-lt1+then-factor-gt1000}
+use Rattle.track_penalties.proofs.penalties.calibrate_settled.Goals as goal
+use Rattle.track_penalties.proofs.penalties.calibrate_settled.Goals.{then-factor-lt1-via-then-factor-lt1, then-factor-lt1-via-else-factor-lt1+then-factor-gt1000}
 
 and-false : (a b : Bool) → b ≡ false → (a && b) ≡ false
 and-false true b is = is

@@ -5,7 +5,7 @@ use Rattle.request_model.specs.declared.replies.Reply.{Reply}
 use Rattle.track_model.specs.Outcomes.{Outcome}
 use Rattle.track_model.specs.Reports.{AreSeriesLines, ReportComesTo}
 use Rattle.track_model.specs.Tracks.{IsStep, Track}
-use Rattle.track_series.proofs.pages.report.Goals as goal
+use Rattle.track_reports.proofs.pages.report.Goals as goal
 
 pub report_with-requires : goal.report_with-requires
 report_with-requires c = subst (λ (t : Track). AreSeriesLines (entries_of t.history) c.in_ok-series.series) (sym c.series_lines.ensures.same) c.in_ok-series.ensures.lines

@@ -9,8 +9,8 @@ use Rattle.history_model.specs.Jobs.{jobs}
 use Rattle.report_lines.specs.NumberedLines.{HasNames, told_line}
 use Rattle.report_model.specs.declared.items.JobLine.{JobLine}
 use Rattle.track_model.specs.Reports.{numbered, job_line}
-use Rattle.track_series.proofs.Reporting.{jobs-named, told-lines}
-use Rattle.track_series.proofs.pages.job_lines.Goals as goal
+use Rattle.track_reports.proofs.Reporting.{jobs-named, told-lines}
+use Rattle.track_reports.proofs.pages.job_lines.Goals as goal
 
 pub job_lines-requires : goal.job_lines-requires
 job_lines-requires c =

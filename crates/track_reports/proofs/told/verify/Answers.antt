@@ -12,9 +12,9 @@ use Rattle.track_model.specs.Publishing.{VerifyComesTo, OfPublished, TellsCertif
 use Rattle.track_state.specs.Made.{publication_from}
 use Rattle.track_state.specs.State.{IsKept}
 use Rattle.track_state.proofs.Published.{nothing, something, of-series, published-one, published-none}
-use Rattle.track_series.proofs.Segmenting.{certified}
+use Rattle.track_reports.proofs.Telling.{certified}
 use Rattle.track_state.proofs.Told.{tells-it, unknown, known}
-use Rattle.track_series.proofs.told.verify.Goals as goal
+use Rattle.track_reports.proofs.told.verify.Goals as goal
 
 pub returns-then-not-is_known : goal.returns-then-not-is_known
 returns-then-not-is_known c =

@@ -12,14 +12,14 @@ use Rattle.track_model.specs.Publishing.{ChangesComeTo, OfPublished, named, Tell
 use Rattle.track_state.specs.Made.{publication_from}
 use Rattle.track_state.specs.State.{IsKept}
 use Rattle.track_state.proofs.Published.{nothing, something, of-series, published-one, published-none}
-use Rattle.track_series.proofs.Segmenting.{changed}
+use Rattle.track_reports.proofs.Telling.{changed}
 use Rattle.history_model.specs.declared.entries.Declaration.{Declaration}
 use Rattle.history_model.specs.Commits.{declarations}
 use Rattle.track_model.specs.Replies.{reply_of}
-use Rattle.track_series.specs.Lines.{named_by}
-use Rattle.track_series.proofs.Declared.{all-have-names}
+use Rattle.track_reports.specs.Lines.{named_by}
+use Rattle.track_reports.proofs.Declared.{all-have-names}
 use Rattle.track_state.proofs.Told.{tells-it, unknown, known}
-use Rattle.track_series.proofs.told.changes.Goals as goal
+use Rattle.track_reports.proofs.told.changes.Goals as goal
 
 pub returns-then-not-is_known : goal.returns-then-not-is_known
 returns-then-not-is_known c =

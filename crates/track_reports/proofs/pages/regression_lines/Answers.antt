@@ -9,8 +9,8 @@ use Rattle.history_model.specs.Regressions.{regressions}
 use Rattle.report_lines.specs.NumberedLines.{HasEnds, followed_line}
 use Rattle.report_model.specs.declared.items.RegressionLine.{RegressionLine}
 use Rattle.track_model.specs.Reports.{numbered, regression_line}
-use Rattle.track_series.proofs.Reporting.{followed-ends, followed-lines}
-use Rattle.track_series.proofs.pages.regression_lines.Goals as goal
+use Rattle.track_reports.proofs.Reporting.{followed-ends, followed-lines}
+use Rattle.track_reports.proofs.pages.regression_lines.Goals as goal
 
 pub regression_lines-requires : goal.regression_lines-requires
 regression_lines-requires c =

@@ -4,7 +4,7 @@ ghost use Rattle.history_model.specs.Entries.{entries_of};
 ghost use Rattle.track_model.specs.Outcomes.{Outcome};
 ghost use Rattle.track_model.specs.Publishing.{ChangesComeTo, VerifyComesTo};
 ghost use Rattle.track_model.specs.Tracks.{IsStep};
-ghost use Rattle.track_series.specs.Lines.{named_by, HasNames};
+ghost use Rattle.track_reports.specs.Lines.{named_by, HasNames};
 
 use crate::NoMemory;
 use change_list::Change;

@@ -5,7 +5,7 @@ use Rattle.request_model.specs.declared.replies.Reply.{Reply}
 use Rattle.track_model.specs.Outcomes.{Outcome}
 use Rattle.track_model.specs.Publishing.{CalibrateComesTo}
 use Rattle.track_model.specs.Tracks.{IsStep, Track}
-use Rattle.track_series.proofs.penalties.calibrate.Goals as goal
+use Rattle.track_penalties.proofs.penalties.calibrate.Goals as goal
 
 pub returns-clause-step : goal.returns-clause-step
 returns-clause-step c =

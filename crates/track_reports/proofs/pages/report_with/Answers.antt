@@ -7,7 +7,7 @@ use Rattle.report_model.specs.declared.pages.Pages.{Pages}
 use Rattle.request_model.specs.declared.replies.Answer.TheVariants as answer
 use Rattle.track_model.specs.Reports.{IsReport, ReportComesTo}
 use Rattle.track_state.proofs.Told.{tells-it}
-use Rattle.track_series.proofs.pages.report_with.Goals as goal
+use Rattle.track_reports.proofs.pages.report_with.Goals as goal
 
 pub returns : goal.returns
 returns c =

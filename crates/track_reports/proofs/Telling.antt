@@ -1,0 +1,34 @@
+-- What is told of the last publication.
+use Rattle.std.proofs.Common.{◌≡◌, List, map, ap, subst}
+use Rattle.segment_model.specs.Segments.{Position}
+use Rattle.segment_cost.specs.declared.cert.Cert.{Cert}
+use Rattle.segment_cost.specs.declared.done.Done.{Done}
+use Rattle.history_model.specs.declared.entries.Entry.{Entry}
+use Rattle.history_model.specs.Runs.{Series}
+use Rattle.change_list.specs.Changes.{AreChanges}
+use Rattle.change_list.specs.declared.change.Change.{Change}
+use Rattle.request_model.specs.declared.changes.NamedChange.{NamedChange}
+use Rattle.request_model.specs.declared.replies.Answer.TheVariants as answer
+use Rattle.publication_index.specs.Kept.{series_of}
+use Rattle.track_model.specs.Outcomes.{tells}
+use Rattle.track_model.specs.Publishing.{named, TellsChanges, TellsCertificate}
+use Rattle.track_state.specs.Made.{publication_from, IsMadeFrom}
+use Rattle.track_state.proofs.Publishing.{made-stands}
+
+pub certified : (h : List Entry) (s : Series) (done : Done) → IsMadeFrom h done → series_of done ≡ s → (cert : Cert) → cert ≡ done.cert
+    → TellsCertificate h s (publication_from done) (tells (answer.Verified done.version cert))
+certified h s done made same cert is =
+    let P : Series → Type 0 = λ u. TellsCertificate h u (publication_from done) (tells (answer.Verified done.version cert)) in
+    subst P same (done.cert, made-stands h done made, ap (λ (x : Cert). tells (answer.Verified done.version x)) is)
+
+-- the changes of a publication, as they are told of its series
+pub changed : (h : List Entry) (s : Series) (done : Done) (items : List Change) (told : List NamedChange) → IsMadeFrom h done → series_of done ≡ s
+    → AreChanges done.points done.metric done.cert.cuts items → told ≡ map (named h) items
+    → TellsChanges h s (publication_from done) (tells (answer.Changes done.version s.metric told))
+changed h s done items told made same are is =
+    let P : Series → Type 0 = λ u. TellsChanges h u (publication_from done) (tells (answer.Changes done.version u.metric told)) in
+    subst P same (
+      items,
+      subst (λ (ps : List Position). AreChanges ps done.metric done.cert.cuts items) made.points are,
+      ap (λ (ls : List NamedChange). tells (answer.Changes done.version done.metric ls)) is,
+    )
