@@ -11,7 +11,8 @@ use Rattle.request_model.specs.declared.requests.Request.{Request}
 use Rattle.request_model.specs.declared.replies.Reply.{Reply}
 use Rattle.reply_text.specs.Replies.{text_of}
 use Rattle.request_words.specs.Bodies.{Item}
-use Rattle.script_session.specs.Outputs.{AnswersItem, AreAnswers, IsOutput}
+use Rattle.script_desk.specs.Folds.{AnswersItem, AreAnswers}
+use Rattle.script_session.specs.Outputs.{IsOutput}
 use Rattle.request_text.specs.declared.stop.ReadStop.{ReadStop}
 use Rattle.request_text.specs.declared.stop.ReadStop.TheVariants as read
 use Rattle.script_session.specs.Stops.{stop_of}

@@ -17,8 +17,8 @@ use Rattle.track_model.specs.Forms as forms
 use Rattle.track_model.specs.Outcomes.{Outcome, tells, refuses}
 use Rattle.track_model.specs.Replies.{machine_of}
 use Rattle.track_model.specs.Tracks.{Track, ComesTo}
-use Rattle.script_session.specs.Sessions.{Answered, is_track, untouched, unknown, stepped, AnswersAbout, State, AnswersFor}
-use Rattle.script_session.specs.Outputs.{AnswersItem, AreAnswers}
+use Rattle.script_desk.specs.Sessions.{Answered, is_track, untouched, unknown, stepped, AnswersAbout, State, AnswersFor}
+use Rattle.script_desk.specs.Folds.{AnswersItem, AreAnswers}
 use Rattle.script_session.specs.Laws.{IsComputed, AsksComputed, OutputsExist}
 
 -- what a request of these forms comes to; of the other forms it is anything

@@ -7,5 +7,3 @@ mod Once
 mod Parted
 mod Computed
 mod Examples
-mod Growing
-mod GoingOn

@@ -15,8 +15,9 @@ use Rattle.history_model.specs.Entries.{entries_of}
 use Rattle.track_model.specs.Laws.{OneOutcome}
 use Rattle.track_model.specs.Replies.{machine_of}
 use Rattle.track_model.specs.Tracks.{Track}
-use Rattle.script_session.specs.Sessions.{Answered, is_track, stepped, AnswersAbout, Answers, State, RepliesTo, AnswersFor, is_of_segmentations, AnswersSome}
-use Rattle.script_session.specs.Outputs.{AnswersItem, AreAnswers, IsOutput, AsksFirst}
+use Rattle.script_desk.specs.Sessions.{Answered, is_track, stepped, AnswersAbout, Answers, State, RepliesTo, AnswersFor, is_of_segmentations, AnswersSome}
+use Rattle.script_desk.specs.Folds.{AnswersItem, AreAnswers}
+use Rattle.script_session.specs.Outputs.{IsOutput, AsksFirst}
 use Rattle.script_session.specs.Laws.{AnswersOnce, OutputsOnce, OneScript, ScriptsOnce, BeginsOutput}
 
 -- ---- the machines of a session, over whatever request comes to one outcome

@@ -5,8 +5,8 @@ use Rattle.std.specs.List.{flat_map}
 use Rattle.request_model.specs.declared.replies.Reply.{Reply}
 use Rattle.reply_text.specs.Replies.{text_of}
 use Rattle.request_words.specs.Bodies.{Item}
-use Rattle.script_session.specs.Sessions.{State, AnswersFor, AnswersSome}
-use Rattle.script_session.specs.Outputs.{AnswersItem}
+use Rattle.script_desk.specs.Sessions.{State, AnswersFor, AnswersSome}
+use Rattle.script_desk.specs.Folds.{AnswersItem}
 use Rattle.script_session.specs.Part.{is_of_part, part, IsPart, OneReplyEach, TellsPart, TellsNoMore, OutputsAreParts, PartsAreOfOutputs, PartOfEach}
 use Rattle.script_session.specs.Laws.{ScriptsOnce}
 

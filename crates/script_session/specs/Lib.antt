@@ -1,8 +1,6 @@
-pub mod Sessions
 pub mod Outputs
 pub mod Endings
 pub mod Stops
 pub mod Turns
 pub mod Laws
 pub mod Part
-pub mod Growth

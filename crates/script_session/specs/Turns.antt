@@ -1,5 +1,5 @@
--- Private: no public contract cites this. What one turn of a session gathers and writes, and what a session has done between
--- turns.
+-- Private: no public contract cites this. What one turn of a session gathers and writes, and what a
+-- session has done between turns.
 use Rattle.std.specs.Prelude.{◌≡◌, ℕ, ◌+◌, ◌≤◌, ◌⊎◌, false, List, ◌++◌, length, Option, Result, IfSome, Err}
 use Rattle.std.specs.Io.KnownBytes.{prepend_known}
 use Rattle.track_outside.specs.Calls.{Took, FailedIn, TookPart}
@@ -17,36 +17,44 @@ use Rattle.script_session.specs.Outputs.{AsksFirst, IsOutput}
 use Rattle.script_session.specs.Endings.{HasRead, HasAnswered}
 
 -- items are answered, and the text of their replies is gathered behind what was
-pub record Adds {S : Type 0} (does : S → Request → Option Reply → S → Type 0) (before : S) (items : List Item) (after : S) (old new : List ℕ) : Type 0 where
+pub record Adds {S : Type 0} (does : S → Request → Option Reply → S → Type 0) (before : S)
+    (items : List Item) (after : S) (old new : List ℕ) : Type 0 where
   pub text : List ℕ
   pub output : IsOutput does before items text after
   pub gathered : new ≡ old ++ text
 
 -- the sink took a first part of a text, and the rest is gathered
-pub record Gathers {O : Type 0} (g : sink.Ghosts O) (old new : O) (text pending : List ℕ) : Type 0 where
+pub record Gathers {O : Type 0} (g : sink.Ghosts O) (old new : O) (text pending : List ℕ)
+    : Type 0 where
   pub handed : List ℕ
   pub parts : text ≡ handed ++ pending
   pub took : Took g old new handed
 
 -- the sink failed on what was gathered
-pub record FailsOn {O : Type 0} (g : sink.Ghosts O) (old new : O) (pending : List ℕ) (stop : Stop) : Type 0 where
+pub record FailsOn {O : Type 0} (g : sink.Ghosts O) (old new : O) (pending : List ℕ) (stop : Stop)
+    : Type 0 where
   pub is : stop ≡ WriteFault
   pub failed : FailedIn g old new pending
 
--- what a stop makes of what is gathered: the sink takes it and the stop is answered, or fails on it, which is answered then;
--- of a fault of the sink nothing more is written, and where memory is wanting that is answered
+-- what a stop makes of what is gathered: the sink takes it and the stop is answered, or fails on
+-- it, which is answered then; of a fault of the sink nothing more is written, and where memory is
+-- wanting that is answered
 abbrev pub StopsSo : {O : Type 0} → sink.Ghosts O → O → O → List ℕ → Stop → Stop → Type 0
 StopsSo g old new pending WriteFault answered = (answered ≡ WriteFault) × (new ≡ old)
 StopsSo g old new pending NoMemory answered = (answered ≡ NoMemory) × TookPart g old new pending
-StopsSo g old new pending stop answered = ((answered ≡ stop) × Took g old new pending) ⊎ FailsOn g old new pending answered
+StopsSo g old new pending stop answered =
+    ((answered ≡ stop) × Took g old new pending) ⊎ FailsOn g old new pending answered
 
 -- what was written of a text at this result, where the rest is gathered
-abbrev pub WrittenBut : {O : Type 0} → sink.Ghosts O → O → O → List ℕ → List ℕ → Result (Unit {0}) Stop → Type 0
+abbrev pub WrittenBut : {O : Type 0} → sink.Ghosts O → O → O → List ℕ → List ℕ
+    → Result (Unit {0}) Stop → Type 0
 WrittenBut g old new text pending (Err WriteFault) = FailedIn g old new text
 WrittenBut g old new text pending result = Gathers g old new text pending
 
 -- some items were read and answered, and their text was written but what is gathered
-pub record Answers {I O S : Type 0} (g : source.Ghosts I) (h : sink.Ghosts O) (first now : I) (old new : O) (does : S → Request → Option Reply → S → Type 0) (before after : S) (pending : List ℕ) (result : Result (Unit {0}) Stop) : Type 0 where
+pub record Answers {I O S : Type 0} (g : source.Ghosts I) (h : sink.Ghosts O) (first now : I)
+    (old new : O) (does : S → Request → Option Reply → S → Type 0) (before after : S)
+    (pending : List ℕ) (result : Result (Unit {0}) Stop) : Type 0 where
   pub items : List Item
   pub text : List ℕ
   pub read : HasRead g first now items result
@@ -54,9 +62,12 @@ pub record Answers {I O S : Type 0} (g : source.Ghosts I) (h : sink.Ghosts O) (f
   pub answered : HasAnswered does before after items text result
   pub wrote : WrittenBut h old new text pending result
 
--- these items were read from the front of an input, as whole pieces, and some bytes behind them are kept
-pub record HasTaken {I : Type 0} (g : source.Ghosts I) (first now : I) (lines : Unread) (items : List Item) : Type 0 where
-  pub takes : IfSome (g.left first) (λ bytes. IfSome (g.left now) (λ left. TakesWhole 0 bytes items lines.before (lines.kept ++ left)))
+-- these items were read from the front of an input, as whole pieces, and some bytes behind them are
+-- kept
+pub record HasTaken {I : Type 0} (g : source.Ghosts I) (first now : I) (lines : Unread)
+    (items : List Item) : Type 0 where
+  pub takes : IfSome (g.left first) (λ bytes. IfSome (g.left now) (λ left.
+      TakesWhole 0 bytes items lines.before (lines.kept ++ left)))
   pub given : List ℕ
   pub gave : g.left first ≡ prepend_known given (g.left now)
   pub counted : lines.before + length lines.kept ≡ length given
@@ -64,7 +75,9 @@ pub record HasTaken {I : Type 0} (g : source.Ghosts I) (first now : I) (lines : 
   pub counts : g.faults first ≤ g.faults now
 
 -- between two turns: items were read, and all of them are answered
-pub record Goes {I O S : Type 0} (g : source.Ghosts I) (h : sink.Ghosts O) (first now : I) (old new : O) (does : S → Request → Option Reply → S → Type 0) (before after : S) (lines : Unread) (pending : List ℕ) : Type 0 where
+pub record Goes {I O S : Type 0} (g : source.Ghosts I) (h : sink.Ghosts O) (first now : I)
+    (old new : O) (does : S → Request → Option Reply → S → Type 0) (before after : S)
+    (lines : Unread) (pending : List ℕ) : Type 0 where
   pub items : List Item
   pub text : List ℕ
   pub taken : HasTaken g first now lines items

@@ -1,6 +1,5 @@
 //! Laws of the definitions, as public functions that do nothing: their contracts are what they are for.
-ghost use Rattle.script_session.specs.Sessions.{AnswersFor, AnswersSome};
-ghost use Rattle.script_session.specs.Growth.{SessionsStay, SessionsGoOn};
+ghost use Rattle.script_desk.specs.Sessions.{AnswersFor, AnswersSome};
 ghost use Rattle.script_session.specs.Laws.{
   AnswersOnce,
   OutputsExist,
@@ -62,14 +61,3 @@ pub fn part_law()
 {
     output_law();
 }
-
-/// A session leaves the machines that it began with in their order, each with entries of its own author more, and new ones
-/// behind them; they stay different and few.
-pub fn machines_law()
-    ensures { SessionsStay }
-{}
-
-/// Kept machines go on from what they were, where a session leaves them: new entries come behind, and new machines last.
-pub fn goes_on_law()
-    ensures { SessionsGoOn }
-{}

@@ -4,17 +4,18 @@ ghost use Rattle.track_outside.specs.Calls.{GaveAtMost};
 ghost use Rattle.request_words.specs.Bodies.{Item};
 ghost use Rattle.request_text.specs.Next.{items_of};
 ghost use Rattle.request_text.specs.Scripts.{input_limit};
-ghost use Rattle.script_session.specs.Outputs.{AreAnswers};
+ghost use Rattle.track_model.specs.Outcomes.{refuses};
+ghost use Rattle.track_model.specs.Replies.{apart};
+ghost use Rattle.script_desk.specs.Folds.{AreAnswers};
 ghost use Rattle.script_session.specs.Endings.{HasRead, HasWritten, HasAnswered};
 ghost use Rattle.script_session.specs.Turns.{Answers, Adds, Gathers, FailsOn, StopsSo};
 
 use crate::NoMemory;
-use crate::desk::Desk;
-use crate::machines::apart;
 use crate::replies::Replies;
 use crate::stop::Stop;
-use request_model::{Answer, Reply};
+use request_model::{Answer, Refusal, Reply};
 use request_text::{Asked, Lines, pieces_law, read_request};
+use script_desk::Desk;
 use std::alloc::Global;
 use track_outside::{Sink, Source};
 
@@ -99,8 +100,18 @@ fn reply_to<D: Desk>(desk: &mut D, asked: Asked) -> Result<Option<Reply>, NoMemo
 {
     match asked {
         Asked::Request(request) => Ok(desk.answer(&request)?),
-        Asked::Refused(reason) => Ok(Some(apart(Answer::Refused(reason)))),
+        Asked::Refused(reason) => Ok(Some(refused(reason))),
         Asked::End => Ok(None),
+    }
+}
+
+// The reply to what can't be read: the reason, and no history.
+fn refused(reason: Refusal) -> Reply
+    ensures { result ≡ apart (refuses reason) }
+{
+    Reply {
+        step: 0,
+        answer: Answer::Refused(reason),
     }
 }
 

@@ -26,9 +26,9 @@ use Rattle.track_outside.specs.Kept.{with_more}
 use Rattle.kept_machines.specs.Kept.{kept_of, AreKept}
 use Rattle.kept_machines.specs.Loading.{LeadTo, IsFirstBad}
 use Rattle.kept_machines.specs.Rows.{new_rows}
-use Rattle.script_session.specs.Growth.{ComesBack}
+use Rattle.script_desk.specs.Growth.{ComesBack}
 use Rattle.track_model.specs.Tracks.{Track}
-use Rattle.script_session.specs.Sessions.{State, AnswersFor}
+use Rattle.script_desk.specs.Sessions.{State, AnswersFor}
 use Rattle.script_session.specs.Outputs.{IsOutput}
 use Rattle.series_gen.specs.Script.{script as script_of}
 
@@ -254,7 +254,7 @@ module _ {I O K : Type 0} (g : source.Ghosts I) (h : sink.Ghosts O) (k : keeper.
       leads : (known : Option (List (List ℕ))) → IfSome known (λ told. LeadTo told machines)
           → IfSome (with_more known (new_rows now.tracks)) (λ told. LeadTo told (map kept_of now.tracks))
       leads None led = tt
-      leads (Some told) led = back told (state_of machines) answers.items answers.text refl led output
+      leads (Some told) led = back told (state_of machines) answers.items output.replies refl led output.answers
 
   -- the same of what was called: the store's name, the machines that the session began with, and those that it left
   pub ends_kept : (name called : List ℕ) (middle : K) (begun : State) (left : List Track) (done : Unit {0})

@@ -7,7 +7,7 @@ use Rattle.track_outside.specs.declared.sink.Sink as sink
 use Rattle.request_words.specs.Bodies.{Item}
 use Rattle.script_session.specs.declared.stop.Stop.{Stop}
 use Rattle.script_session.specs.declared.stop.Stop.TheVariants as stop
-use Rattle.script_session.specs.Sessions.{State, AnswersFor, AnswersSome}
+use Rattle.script_desk.specs.Sessions.{State, AnswersFor, AnswersSome}
 use Rattle.request_text.specs.Scripts.{end, cut_off, unfinished}
 use Rattle.script_session.specs.Outputs.{IsOutput, Out}
 use Rattle.script_session.specs.Part.{OutputsAreParts}

@@ -10,7 +10,7 @@ use Rattle.history_model.specs.Entries.{entries_of}
 use Rattle.history_model.specs.Followed.{AllFinishWell}
 use Rattle.history_model.specs.Publications.{publications, Stands}
 use Rattle.track_model.specs.Tracks.{Track}
-use Rattle.script_session.specs.Sessions.{State}
+use Rattle.script_desk.specs.Sessions.{State}
 
 -- the text of the best segmentation of these points at the penalty
 pub record IsTextOf (points : List Position) (penalty : ℕ) (text : List ℕ) : Type 0 where

@@ -21,7 +21,7 @@ use Rattle.script_session.specs.declared.stop.Stop.TheVariants as stop
 use Rattle.script_session.specs.Endings.{HasRead, HasAnswered, HasWritten}
 use Rattle.script_session.specs.Outputs.{AsksFirst, Out}
 use Rattle.script_session.specs.Part.{IsPart}
-use Rattle.script_session.specs.Sessions.{State, AnswersFor, AnswersSome}
+use Rattle.script_desk.specs.Sessions.{State, AnswersFor, AnswersSome}
 use Rattle.series_gen.specs.Script.{script as script_of}
 use Rattle.command_words.specs.declared.command.Command.{Command}
 use Rattle.command_words.specs.declared.command.Command.TheVariants.{Cut, Apply, Gen, Trial}

@@ -1,7 +1,7 @@
 //! The top call: it runs the command that the words are.
 ghost use Rattle.std.specs.Prelude.{◌≡◌, ◌≢◌, ℕ, ◌^◌, ◌≤◌, ◌⊎◌, List, [], IfOk, IfSome, Result, Some};
 ghost use Rattle.track_outside.specs.Counts.{Rose};
-ghost use Rattle.script_session.specs.Sessions.{State};
+ghost use Rattle.script_desk.specs.Sessions.{State};
 ghost use Rattle.script_session.specs.declared.stop.Stop.{Stop};
 ghost use Rattle.command_words.specs.declared.command.Command.{Command};
 ghost use Rattle.command_words.specs.Commands.{texts, IsSpelled, IsInRange, AreNoCommand};
@@ -18,7 +18,8 @@ use cut_lines::{one_stop_law, read_points};
 use history_model::{Author, finished_law, publication_law};
 use kept_machines::{append_all, load, rows_law};
 use pelt_core::segmentation;
-use script_session::{Session, Stop, Trial, answer_script, output_law, part_law};
+use script_desk::{Session, Trial};
+use script_session::{Stop, answer_script, output_law, part_law};
 use segment_cost::Points;
 use series_gen::put_script;
 use std::alloc::Global;

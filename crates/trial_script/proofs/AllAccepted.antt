@@ -16,8 +16,8 @@ use Rattle.trial_script.specs.Requests as asked
 use Rattle.trial_script.specs.Requests.{asked_in_turn}
 use Rattle.trial_script.specs.Accepted.{EachIsAccepted, NoneIsRefused}
 use Rattle.trial_script.specs.Laws.{ScriptIsWhole}
-use Rattle.script_session.specs.Sessions.{AnswersFor}
-use Rattle.script_session.specs.Outputs.{AreAnswers}
+use Rattle.script_desk.specs.Sessions.{AnswersFor}
+use Rattle.script_desk.specs.Folds.{AreAnswers}
 use Rattle.trial_script.proofs.Reached.{Reached}
 use Rattle.trial_script.proofs.Passing.{Passes, Begins, one, behind, begun_then, nothing, in_turn, declared}
 use Rattle.trial_script.proofs.Accepting.{Turned, Ready, commit_good, tune_good, retract_good, submit_good, segment_good, last_good, changes_good}

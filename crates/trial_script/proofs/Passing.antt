@@ -18,8 +18,8 @@ use Rattle.track_model.specs.Outcomes.{Outcome}
 use Rattle.track_model.specs.Replies.{machine_of, reply_of}
 use Rattle.track_model.specs.Tracks.{Track, with_added, with_outcome, ComesTo}
 use Rattle.request_words.specs.Bodies.{Item}
-use Rattle.script_session.specs.Sessions.{Answered, State, Answers, AnswersAbout, AnswersFor, is_track, stepped}
-use Rattle.script_session.specs.Outputs.{AreAnswers}
+use Rattle.script_desk.specs.Sessions.{Answered, State, Answers, AnswersAbout, AnswersFor, is_track, stepped}
+use Rattle.script_desk.specs.Folds.{AreAnswers}
 use Rattle.trial_script.specs.Requests.{machine, asked_in_turn}
 use Rattle.trial_script.specs.Accepted.{IsAccepted}
 use Rattle.trial_script.proofs.Turns.{oks}

@@ -1,4 +1,4 @@
-use Rattle.script_session.specs.Sessions.{AnswersFor}
+use Rattle.script_desk.specs.Sessions.{AnswersFor}
 use Rattle.script_session.proofs.Once.{answers_once, outputs_once, script_once, scripts_once, begins_output}
 use Rattle.script_session.proofs.Computed.{outputs_exist}
 use Rattle.script_session.proofs.Opening.{open_first}

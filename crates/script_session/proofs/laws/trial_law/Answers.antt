@@ -1,4 +1,4 @@
-use Rattle.script_session.specs.Sessions.{AnswersSome}
+use Rattle.script_desk.specs.Sessions.{AnswersSome}
 use Rattle.script_session.proofs.Once.{some_once, scripts_once, begins_output}
 use Rattle.script_session.proofs.laws.trial_law.Goals as goal
 

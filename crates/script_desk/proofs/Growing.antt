@@ -18,9 +18,9 @@ use Rattle.history_model.specs.declared.entries.Placed.{Placed}
 use Rattle.track_model.specs.Outcomes.{Outcome, tells, refuses}
 use Rattle.track_model.specs.Replies.{machine_of, apart}
 use Rattle.track_model.specs.Tracks.{Track, with_added, with_outcome}
-use Rattle.script_session.specs.Sessions.{Answered, is_track, changed, untouched, new_track, added, unknown, AnswersAbout, Answers, State, AnswersFor}
-use Rattle.script_session.specs.Outputs.{AnswersItem, AreAnswers}
-use Rattle.script_session.specs.Growth.{AreBy, Continues, IsNew, Grows, IsOther, AreDifferent, names_of, Stays, SessionsStay}
+use Rattle.script_desk.specs.Sessions.{Answered, is_track, changed, untouched, new_track, added, unknown, AnswersAbout, Answers, State, AnswersFor}
+use Rattle.script_desk.specs.Folds.{AnswersItem}
+use Rattle.script_desk.specs.Growth.{AreBy, Continues, IsNew, Grows, IsOther, AreDifferent, names_of, Stays, SessionsStay}
 
 by_join : (author : Author) (xs ys : List Placed) → AreBy author xs → AreBy author ys → AreBy author (xs ++ ys)
 by_join author [] ys one two = two
@@ -170,12 +170,9 @@ item_stays before (Ok q) told after (reply, answers, is) = (answers.0, answered_
 item_stays before (Err reason) told after (is, same) =
     (ap (λ (s : State). s.author) same, subst (λ (s : State). Stays before.author before.tracks s.tracks) (sym same) (stays_same before.author before.tracks))
 
-answers_stay : (before : State) (items : List Item) (replies : List Reply) (after : State) → AreAnswers AnswersFor before items replies after → Stays before.author before.tracks after.tracks
-answers_stay before [] replies after told = subst (λ (s : State). Stays before.author before.tracks s.tracks) (sym told.1) (stays_same before.author before.tracks)
-answers_stay before (item ∷ items) replies after told =
-    let one = item_stays before item told.0 told.1 told.3 in
-    let two : Stays before.author told.1.tracks after.tracks = subst (λ author. Stays author told.1.tracks after.tracks) one.0 (answers_stay told.1 items told.2 after told.5) in
-    stays_on before.author before.tracks told.1.tracks after.tracks one.1 two
-
 pub sessions_stay : SessionsStay
-sessions_stay before after items text output = answers_stay before items output.replies after output.answers
+sessions_stay before after [] replies told = subst (λ (s : State). Stays before.author before.tracks s.tracks) (sym told.1) (stays_same before.author before.tracks)
+sessions_stay before after (item ∷ items) replies told =
+    let one = item_stays before item told.0 told.1 told.3 in
+    let two : Stays before.author told.1.tracks after.tracks = subst (λ author. Stays author told.1.tracks after.tracks) one.0 (sessions_stay told.1 after items told.2 told.5) in
+    stays_on before.author before.tracks told.1.tracks after.tracks one.1 two

@@ -3,6 +3,7 @@ use Rattle.std.specs.Prelude.{◌≡◌, ℕ, ◌≤◌, true, false, List, [], 
 use Rattle.std.specs.List.{AllByRecursion}
 use Rattle.metric_table.specs.Limits.{most}
 use Rattle.metric_table.specs.declared.limits.Limit.TheVariants.{Machines}
+use Rattle.request_model.specs.declared.replies.Reply.{Reply}
 use Rattle.request_words.specs.Bodies.{Item}
 use Rattle.history_model.specs.declared.entries.Author.{Author}
 use Rattle.history_model.specs.declared.entries.Placed.{Placed}
@@ -12,8 +13,8 @@ use Rattle.kept_machines.specs.Kept.{kept_of, AreKept}
 use Rattle.kept_machines.specs.Loading.{LeadTo}
 use Rattle.kept_machines.specs.Rows.{is_of_session, new_rows}
 pub use Rattle.kept_machines.specs.Machines.{IsOther, AreDifferent, names_of}
-use Rattle.script_session.specs.Sessions.{State, AnswersFor}
-use Rattle.script_session.specs.Outputs.{IsOutput}
+use Rattle.script_desk.specs.Sessions.{State, AnswersFor}
+use Rattle.script_desk.specs.Folds.{AreAnswers}
 
 abbrev pub AreBy : Author → List Placed → Type 0
 AreBy author entries = AllByRecursion (λ (p : Placed). p.author ≡ author) entries
@@ -42,18 +43,25 @@ pub record Stays (author : Author) (old new : List Track) : Type 0 where
   pub different : AreDifferent (names_of old) → AreDifferent (names_of new)
   pub few : length old ≤ most Machines → length new ≤ most Machines
 
--- so does every output leave them
+-- so does answering items leave them
 abbrev pub SessionsStay : Type 0
-SessionsStay = (before after : State) (items : List Item) (text : List ℕ) → IsOutput AnswersFor before items text after → Stays before.author before.tracks after.tracks
+SessionsStay =
+    (before after : State) (items : List Item) (replies : List Reply)
+    → AreAnswers AnswersFor before items replies after
+    → Stays before.author before.tracks after.tracks
 
 -- kept machines that grow by entries of one of this session go on from what they were
 abbrev pub SessionsGoOn : Type 0
 SessionsGoOn =
-    (author : Author) (old new : List Track) → is_of_session author ≡ true → AreKept old → Grows author old new → GoOn old new
+    (author : Author) (old new : List Track) → is_of_session author ≡ true → AreKept old
+    → Grows author old new → GoOn old new
 
--- what a session leaves comes back: rows that led to the machines that it began with, and the new rows of those that it left,
--- lead to each of the latter as it is kept, where its entries are of one of this session
+-- what a session leaves comes back: rows that led to the machines that it began with, and the new
+-- rows of those that it left, lead to each of the latter as it is kept, where its entries are of
+-- one of this session
 abbrev pub ComesBack : State → Type 0
 ComesBack after =
-    (rows : List (List ℕ)) (before : State) (items : List Item) (text : List ℕ) → is_of_session before.author ≡ true → LeadTo rows before.tracks
-    → IsOutput AnswersFor before items text after → LeadTo (rows ++ new_rows after.tracks) (map kept_of after.tracks)
+    (rows : List (List ℕ)) (before : State) (items : List Item) (replies : List Reply)
+    → is_of_session before.author ≡ true → LeadTo rows before.tracks
+    → AreAnswers AnswersFor before items replies after
+    → LeadTo (rows ++ new_rows after.tracks) (map kept_of after.tracks)

@@ -8,9 +8,9 @@ use Rattle.kept_machines.specs.Growth.{AreOfSession, GoOn, IsNewTrack, MayBeKept
 use Rattle.kept_machines.specs.Kept.{kept_of, AreKept}
 use Rattle.kept_machines.specs.Laws.{KeptComesBack, LoadedAreKept}
 use Rattle.kept_machines.specs.Rows.{is_of_session}
-use Rattle.script_session.specs.Growth.{AreBy, ComesBack, IsNew, Grows, SessionsGoOn, Stays}
-use Rattle.script_session.specs.Sessions.{State}
-use Rattle.script_session.proofs.Growing.{sessions_stay}
+use Rattle.script_desk.specs.Growth.{AreBy, ComesBack, IsNew, Grows, SessionsGoOn, Stays}
+use Rattle.script_desk.specs.Sessions.{State}
+use Rattle.script_desk.proofs.Growing.{sessions_stay}
 
 made_by : (author : Author) → is_of_session author ≡ true → (entries : List Placed) → AreBy author entries → AreOfSession entries
 made_by author is [] by = tt
@@ -38,9 +38,9 @@ pub sessions_go_on : SessionsGoOn
 sessions_go_on author old new is are grows = go_on author is old new are.kept grows
 
 pub kept_come_back : (after : State) → KeptComesBack → LoadedAreKept → AllByRecursion MayBeKept after.tracks → ComesBack after
-kept_come_back after back loaded may rows before items text is led output =
+kept_come_back after back loaded may rows before items replies is led answers =
     let are : AreKept before.tracks = loaded rows before.tracks led in
-    let stays : Stays before.author before.tracks after.tracks = sessions_stay before after items text output in
+    let stays : Stays before.author before.tracks after.tracks = sessions_stay before after items replies answers in
     back rows before.tracks after.tracks led (record {
       go_on = go_on before.author is before.tracks after.tracks are.kept stays.grows;
       may = may;

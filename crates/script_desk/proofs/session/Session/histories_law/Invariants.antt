@@ -1,7 +1,7 @@
 use Rattle.std.proofs.Common.{take}
 use Rattle.std.specs.Prelude.{All}
-use Rattle.script_session.specs.Sessions.{HasLegalHistory}
-use Rattle.script_session.proofs.session.Session.histories_law.Given as goal
+use Rattle.script_desk.specs.Sessions.{HasLegalHistory}
+use Rattle.script_desk.proofs.session.Session.histories_law.Given as goal
 
 -- the machines so far
 abbrev pub invariant-loop-machine : goal.invariant-loop-machine

@@ -1,7 +1,7 @@
 //! The machines of one thread.
 ghost use Rattle.std.specs.Prelude.{◌≡◌, All, IfOk};
-ghost use Rattle.script_session.specs.Growth.{ComesBack};
-ghost use Rattle.script_session.specs.Sessions.{HasLegalHistory, RepliesTo};
+ghost use Rattle.script_desk.specs.Growth.{ComesBack};
+ghost use Rattle.script_desk.specs.Sessions.{HasLegalHistory, RepliesTo};
 
 use crate::NoMemory;
 use crate::desk::Desk;
@@ -23,7 +23,7 @@ pub struct Session {
 }
 
 impl Model for Session {
-    ghost use Rattle.script_session.specs.Sessions.{State};
+    ghost use Rattle.script_desk.specs.Sessions.{State};
 
     ghost Value = { State };
 
@@ -76,7 +76,7 @@ impl Session {
 }
 
 impl Desk for Session {
-    ghost use Rattle.script_session.specs.Sessions.{AnswersFor};
+    ghost use Rattle.script_desk.specs.Sessions.{AnswersFor};
 
     ghost answers = { AnswersFor };
 

@@ -1,4 +1,5 @@
--- What one request of a script makes of the machines of a session: its reply, and their histories after it.
+-- What one request of a script makes of the machines of a session: its reply, and their histories
+-- after it.
 use Rattle.std.specs.Prelude.{◌≡◌, ℕ, Bool, true, false, nat_le, if◌then◌else◌, List, [], ◌∷◌, ◌++◌, length, find, Option, Some, None}
 use Rattle.metric_table.specs.Limits.{most}
 use Rattle.metric_table.specs.declared.limits.Limit.TheVariants.{Machines}
@@ -32,7 +33,10 @@ abbrev pub added : List Track → List ℕ → Answered
 added tracks machine =
     if nat_le (most Machines) (length tracks)
     then untouched tracks (refuses (refusal.Full Machines))
-    else record { reply = apart (tells (answer.Machine machine)); tracks = tracks ++ new_track machine ∷ [] }
+    else record {
+      reply = apart (tells (answer.Machine machine));
+      tracks = tracks ++ new_track machine ∷ [];
+    }
 
 -- ---- a request about a machine that is not declared: it declares the machine, or is refused
 abbrev pub unknown : List Track → Request → Answered
@@ -42,15 +46,20 @@ unknown tracks q = untouched tracks (refuses refusal.UnknownMachine)
 -- ---- a request about a machine that is declared, which its history answers
 abbrev pub stepped : Author → List Track → Request → Track → Outcome → Answered
 stepped author tracks q t o =
-    record { reply = reply_of (entries_of t.history) o; tracks = changed (machine_of q) (λ u. with_outcome author u o) tracks }
+    record {
+      reply = reply_of (entries_of t.history) o;
+      tracks = changed (machine_of q) (λ u. with_outcome author u o) tracks;
+    }
 
 -- ---- any request
 abbrev pub AnswersAbout : Option Track → Author → List Track → Request → Answered → Type 0
 AnswersAbout None author tracks q answered = answered ≡ unknown tracks q
-AnswersAbout (Some t) author tracks q answered = (o : Outcome) × ComesTo (entries_of t.history) q o × (answered ≡ stepped author tracks q t o)
+AnswersAbout (Some t) author tracks q answered =
+    (o : Outcome) × ComesTo (entries_of t.history) q o × (answered ≡ stepped author tracks q t o)
 
 abbrev pub Answers : Author → List Track → Request → Answered → Type 0
-Answers author tracks q answered = AnswersAbout (find (is_track (machine_of q)) tracks) author tracks q answered
+Answers author tracks q answered =
+    AnswersAbout (find (is_track (machine_of q)) tracks) author tracks q answered
 
 -- a machine's history is legal
 abbrev pub HasLegalHistory : Track → Type 0
@@ -63,11 +72,14 @@ pub record State : Type 0 where
 
 -- a request is answered by this reply, under the session's author
 abbrev pub RepliesTo : State → Request → Reply → State → Type 0
-RepliesTo before q reply after = (after.author ≡ before.author) × Answers before.author before.tracks q (record { reply = reply; tracks = after.tracks })
+RepliesTo before q reply after =
+    (after.author ≡ before.author)
+    × Answers before.author before.tracks q (record { reply = reply; tracks = after.tracks })
 
 -- so it is by a session that tells each reply
 abbrev pub AnswersFor : State → Request → Option Reply → State → Type 0
-AnswersFor before q told after = (reply : Reply) × RepliesTo before q reply after × (told ≡ Some reply)
+AnswersFor before q told after =
+    (reply : Reply) × RepliesTo before q reply after × (told ≡ Some reply)
 
 -- ---- a session that tells the replies about segmentations alone
 
@@ -79,4 +91,6 @@ is_of_segmentations q = false
 
 -- a request is answered as ever, and the reply is told exactly where the request is such a one
 abbrev pub AnswersSome : State → Request → Option Reply → State → Type 0
-AnswersSome before q told after = (reply : Reply) × RepliesTo before q reply after × (told ≡ (if is_of_segmentations q then Some reply else None))
+AnswersSome before q told after =
+    (reply : Reply) × RepliesTo before q reply after
+    × (told ≡ (if is_of_segmentations q then Some reply else None))

@@ -1,6 +1,6 @@
 //! A session of which the replies about segmentations alone are told.
 ghost use Rattle.std.specs.Prelude.{◌≡◌, All, Some, None, if◌then◌else◌};
-ghost use Rattle.script_session.specs.Sessions.{HasLegalHistory, is_of_segmentations};
+ghost use Rattle.script_desk.specs.Sessions.{HasLegalHistory, is_of_segmentations};
 
 use crate::NoMemory;
 use crate::desk::Desk;
@@ -16,7 +16,7 @@ pub struct Trial {
 }
 
 impl Model for Trial {
-    ghost use Rattle.script_session.specs.Sessions.{State};
+    ghost use Rattle.script_desk.specs.Sessions.{State};
 
     ghost Value = { State };
 
@@ -58,7 +58,7 @@ fn told_if(is_told: bool, reply: Reply) -> Option<Reply>
 }
 
 impl Desk for Trial {
-    ghost use Rattle.script_session.specs.Sessions.{AnswersSome};
+    ghost use Rattle.script_desk.specs.Sessions.{AnswersSome};
 
     ghost answers = { AnswersSome };
 

@@ -1,7 +1,7 @@
 //! Requests, answered on the machine that each is about.
 ghost use Rattle.std.specs.Prelude.{◌≡◌, IfOk, OnErr};
 ghost use Rattle.track_model.specs.Replies as replies;
-ghost use Rattle.script_session.specs.Sessions.{added, unknown, Answers};
+ghost use Rattle.script_desk.specs.Sessions.{added, unknown, Answers};
 
 use crate::NoMemory;
 use history_model::Author;
@@ -95,7 +95,7 @@ fn machine_of(request: &Request) -> &Name
 }
 
 // An answer that names no history.
-pub(crate) fn apart(answer: Answer) -> Reply
+fn apart(answer: Answer) -> Reply
     ensures { result ≡ record { step = 0; answer = answer } }
 {
     Reply { step: 0, answer }

@@ -2,8 +2,8 @@ use Rattle.std.proofs.Common.{◌≡◌, List, All, ap, subst, ◌∙◌, sym, a
 use Rattle.std.proofs.lemmas.List.{take_all}
 use Rattle.std.proofs.lemmas.List.Elements.{All-more}
 use Rattle.track_model.specs.Tracks.{Track}
-use Rattle.script_session.specs.Sessions.{State, HasLegalHistory}
-use Rattle.script_session.proofs.session.Session.histories_law.Goals as goal
+use Rattle.script_desk.specs.Sessions.{State, HasLegalHistory}
+use Rattle.script_desk.proofs.session.Session.histories_law.Goals as goal
 
 pub loop-machine-preserved : goal.loop-machine-preserved
 loop-machine-preserved c =

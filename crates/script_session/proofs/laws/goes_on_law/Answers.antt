@@ -1,5 +1,0 @@
-use Rattle.script_session.proofs.GoingOn.{sessions_go_on}
-use Rattle.script_session.proofs.laws.goes_on_law.Goals as goal
-
-pub returns : goal.returns
-returns c = sessions_go_on
