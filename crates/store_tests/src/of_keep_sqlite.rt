@@ -1,6 +1,7 @@
 //! Rows are there again when a store is opened again; files that are none are refused.
 use keep_sqlite::SqliteKeeper;
-use sqlite::Connection;
+use sqlite::{Connection, FileStore};
+use sqlite_disk::Disk;
 use std::alloc::{AllocError, Global};
 use std::fs;
 use track_outside::Keeper;
@@ -90,11 +91,20 @@ fn many_rows_are_read(rt: HostRuntime) {
     assert!(rt; has_many(&rt, rt.alloc()), "many rows");
 }
 
+// Whether something is so of a keeper, which is let go of behind it. What a keeper owns is much, so it is let go of here, where
+// its type isn't known.
+fn is_so<K: Drop, F: FnOnce(&mut K) -> bool>(mut keeper: K, test: F) -> bool
+    requires { F.IsAlwaysCallable test }
+{
+    test(&mut keeper)
+}
+
 // Whether no call is answered before a start, no file is made before the first append, and then the row is there.
 fn makes(rt: &HostRuntime, alloc: Global) -> bool {
-    let mut keeper = SqliteKeeper::new(rt, alloc);
-    let fresh = keeper.count().is_err() && keeper.start(alloc, FILE).is_ok();
-    fresh && is_missing(rt) && adds(alloc, &mut keeper) && has(alloc, &mut keeper)
+    is_so(SqliteKeeper::new(rt, alloc), |keeper| {
+        let fresh = keeper.count().is_err() && keeper.start(alloc, FILE).is_ok();
+        fresh && is_missing(rt) && adds(alloc, keeper) && has(alloc, keeper)
+    })
 }
 
 fn is_missing(rt: &HostRuntime) -> bool {
@@ -105,26 +115,30 @@ fn is_missing(rt: &HostRuntime) -> bool {
 }
 
 fn reopens(rt: &HostRuntime, alloc: Global) -> bool {
-    let mut keeper = SqliteKeeper::new(rt, alloc);
-    keeper.start(alloc, FILE).is_ok() && has(alloc, &mut keeper)
+    is_so(SqliteKeeper::new(rt, alloc), |keeper| {
+        keeper.start(alloc, FILE).is_ok() && has(alloc, keeper)
+    })
 }
 
 // Whether a store can't be opened while it is open.
 fn is_locked(rt: &HostRuntime, alloc: Global) -> bool {
-    let mut keeper = SqliteKeeper::new(rt, alloc);
-    keeper.start(alloc, FILE).is_ok() && is_refused(rt, alloc, FILE)
+    is_so(SqliteKeeper::new(rt, alloc), |keeper| {
+        keeper.start(alloc, FILE).is_ok() && is_refused(rt, alloc, FILE)
+    })
 }
 
 // Whether, where no file was there, a keeper adds nothing behind the rows of another.
 fn adds_behind_none(rt: &HostRuntime, alloc: Global) -> bool {
-    let mut keeper = SqliteKeeper::new(rt, alloc);
-    let begun = keeper.start(alloc, SHARED).is_ok() && keeper.count() == Ok(0);
-    begun && adds_to(rt, alloc) && !adds_row(alloc, &mut keeper)
+    is_so(SqliteKeeper::new(rt, alloc), |keeper| {
+        let begun = keeper.start(alloc, SHARED).is_ok() && keeper.count() == Ok(0);
+        begun && adds_to(rt, alloc) && !adds_row(alloc, keeper)
+    })
 }
 
 fn adds_to(rt: &HostRuntime, alloc: Global) -> bool {
-    let mut keeper = SqliteKeeper::new(rt, alloc);
-    keeper.start(alloc, SHARED).is_ok() && adds(alloc, &mut keeper)
+    is_so(SqliteKeeper::new(rt, alloc), |keeper| {
+        keeper.start(alloc, SHARED).is_ok() && adds(alloc, keeper)
+    })
 }
 
 fn adds(alloc: Global, keeper: &mut SqliteKeeper<'_>) -> bool {
@@ -150,39 +164,43 @@ fn has(alloc: Global, keeper: &mut SqliteKeeper<'_>) -> bool {
 }
 
 fn is_refused(rt: &HostRuntime, alloc: Global, name: &str) -> bool {
-    SqliteKeeper::new(rt, alloc).start(alloc, name).is_err()
+    is_so(SqliteKeeper::new(rt, alloc), |keeper| {
+        keeper.start(alloc, name).is_err()
+    })
 }
 
 fn has_no_count(rt: &HostRuntime, alloc: Global) -> bool {
-    let mut keeper = SqliteKeeper::new(rt, alloc);
-    keeper.start(alloc, BEFORE.0).is_ok() && keeper.count().is_err()
+    is_so(SqliteKeeper::new(rt, alloc), |keeper| {
+        keeper.start(alloc, BEFORE.0).is_ok() && keeper.count().is_err()
+    })
 }
 
 // Whether no row can be added under a name.
 fn is_never_made(rt: &HostRuntime, alloc: Global, name: &str) -> bool {
-    let mut keeper = SqliteKeeper::new(rt, alloc);
-    keeper.start(alloc, name).is_ok() && keeper.count() == Ok(0) && !adds_row(alloc, &mut keeper)
+    is_so(SqliteKeeper::new(rt, alloc), |keeper| {
+        keeper.start(alloc, name).is_ok() && keeper.count() == Ok(0) && !adds_row(alloc, keeper)
+    })
 }
 
 // Whether the second row isn't there, though rows are counted to the third.
 fn has_gap(rt: &HostRuntime, alloc: Global) -> bool {
-    let mut keeper = SqliteKeeper::new(rt, alloc);
-    keeper.start(alloc, GAP.0).is_ok()
-        && keeper.count() == Ok(3)
-        && keeper.row(alloc, 1).is_ok()
-        && keeper.row(alloc, 2).is_err()
+    is_so(SqliteKeeper::new(rt, alloc), |keeper| {
+        keeper.start(alloc, GAP.0).is_ok()
+            && keeper.count() == Ok(3)
+            && keeper.row(alloc, 1).is_ok()
+            && keeper.row(alloc, 2).is_err()
+    })
 }
 
 fn makes_many(rt: &HostRuntime, alloc: Global) -> bool {
-    let mut keeper = SqliteKeeper::new(rt, alloc);
-    match many_rows(alloc) {
-        Ok(rows) => {
-            keeper.start(alloc, MANY).is_ok()
-                && keeper.count() == Ok(0)
-                && keeper.append(alloc, &rows).is_ok()
-        }
-        Err(_) => false,
-    }
+    let Ok(rows) = many_rows(alloc) else {
+        return false;
+    };
+    is_so(SqliteKeeper::new(rt, alloc), |keeper| {
+        keeper.start(alloc, MANY).is_ok()
+            && keeper.count() == Ok(0)
+            && keeper.append(alloc, &rows).is_ok()
+    })
 }
 
 fn many_rows(alloc: Global) -> Result<Vec<Vec<u8>>, AllocError> {
@@ -202,14 +220,15 @@ fn length_of(k: usize) -> usize {
 
 // Whether each row before the gap at 600 is there, the gap is a fault, and rows are also read out of their order.
 fn has_many(rt: &HostRuntime, alloc: Global) -> bool {
-    let mut keeper = SqliteKeeper::new(rt, alloc);
-    keeper.start(alloc, MANY).is_ok()
-        && first_missing(alloc, &mut keeper) == 600
-        && keeper.row(alloc, 600).is_err()
-        && has_row(alloc, &mut keeper, 601)
-        && has_row(alloc, &mut keeper, 300)
-        && has_row(alloc, &mut keeper, 300)
-        && has_row(alloc, &mut keeper, 1)
+    is_so(SqliteKeeper::new(rt, alloc), |keeper| {
+        keeper.start(alloc, MANY).is_ok()
+            && first_missing(alloc, keeper) == 600
+            && keeper.row(alloc, 600).is_err()
+            && has_row(alloc, keeper, 601)
+            && has_row(alloc, keeper, 300)
+            && has_row(alloc, keeper, 300)
+            && has_row(alloc, keeper, 1)
+    })
 }
 
 // The number of the first row that isn't there.
@@ -232,11 +251,14 @@ fn has_row(alloc: Global, keeper: &mut SqliteKeeper<'_>, k: usize) -> bool {
 // Makes the file by these statements.
 fn holds(rt: &HostRuntime, file: &str, statements: &str) -> bool {
     match Connection::open(rt, file) {
-        Ok(mut store) => {
-            let done = store.execute_batch(statements).is_ok();
-            let _ = store.close();
-            done
-        }
+        Ok(store) => has_run(store, statements),
         Err(_) => false,
     }
+}
+
+// Runs these statements on a store, and closes it.
+fn has_run<D: Disk + Drop>(mut store: Connection<FileStore<D>>, statements: &str) -> bool {
+    let done = store.execute_batch(statements).is_ok();
+    let _ = store.close();
+    done
 }
