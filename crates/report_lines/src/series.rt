@@ -45,8 +45,8 @@ fn line(
     ensures is { IfOk result (λ line. IsLine series.old published.now line) }
     ensures same { (s : Series) → seen s series.new ≡ seen s series.old }
 {
-    series.settle(name.test(), name.metric())?;
-    let (samples, positions) = counts(series, name)?;
+    let samples = live_samples(series, name);
+    let positions = series.position_count(name.test(), name.metric())? as u64;
     let (changes, centre) = last(alloc, published, name)?;
     Ok(SeriesLine {
         test: name.test().copy(alloc)?,
@@ -58,20 +58,14 @@ fn line(
     })
 }
 
-// How many live samples a series has, and how many positions, where no sample waits for its place.
-fn counts(series: &SeriesIndex, name: &SeriesName) -> Result<(u64, u64), NoMemory>
-    ensures samples { IfOk result
-        (λ counts. counts.0 ≡ length (values_of (seen name.now series.now).points)) }
-    ensures positions { IfOk result
-        (λ counts. counts.1 ≡ length (seen name.now series.now).points) }
+// How many live samples a series has.
+fn live_samples(series: &SeriesIndex, name: &SeriesName) -> u64
+    ensures { result ≡ length (values_of (seen name.now series.now).points) }
 {
-    let Some(tracked) = series.get(name.test(), name.metric()) else {
-        return Ok((0, 0));
-    };
-    let Some(points) = tracked.points.settled() else {
-        return Err(NoMemory);
-    };
-    Ok((points.count() as u64, points.len() as u64))
+    match series.get(name.test(), name.metric()) {
+        Some(tracked) => tracked.points.count() as u64,
+        None => 0,
+    }
 }
 
 // How many cuts a series' last segmentation has, and the centre of its last segment.

@@ -106,16 +106,16 @@ impl PointLog {
         drop_step(&mut self.coming, commit, step);
     }
 
-    /// Places all values that wait. Changes nothing that is seen, whether there is memory or not. O(n log n) time for n
-    /// values that wait, but for their places among others.
-    pub fn settle(&mut self) -> Result<(), NoMemory>
+    // Places all values that wait. Changes nothing that is seen, whether there is memory or not. O(n log n) time for n
+    // values that wait, but for their places among others.
+    pub(crate) fn settle(&mut self) -> Result<(), NoMemory>
         ensures { self.new ≡ self.old }
     {
         place_all(&mut self.placed, &mut self.coming)
     }
 
-    /// The positions, where no value waits.
-    pub fn settled(&self) -> Option<&Points>
+    // The positions, where no value waits.
+    pub(crate) fn settled(&self) -> Option<&Points>
         ensures { IfSome result (λ points. points.now ≡ self.now) }
     {
         if self.coming.is_empty() {

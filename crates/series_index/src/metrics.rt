@@ -70,7 +70,7 @@ impl MetricIndex {
     }
 
     // Places what waits in the series of a metric; changes nothing that is seen.
-    pub fn settle(&mut self, metric: &Name) -> Result<(), NoMemory>
+    pub(crate) fn settle(&mut self, metric: &Name) -> Result<(), NoMemory>
         ensures { (m : List ℕ) → seen_of m self.new ≡ seen_of m self.old }
     {
         if let Some(tracked) = self.entries.get_mut(metric) {

@@ -1,5 +1,5 @@
 //! The series of a machine, by test and metric: samples put in and taken out.
-ghost use Rattle.std.specs.Prelude.{◌≡◌, [], if◌then◌else◌, OnOk, OnErr, All, length, unwrap_or, option_copied};
+ghost use Rattle.std.specs.Prelude.{◌≡◌, [], if◌then◌else◌, OnOk, OnErr, All, length, unwrap_or, option_copied, IfOk};
 ghost use Rattle.std.specs.List.{list_any};
 ghost use Rattle.segment_model.specs.Limits.{IsSmall};
 ghost use Rattle.sample_model.specs.Samples.{Measurement};
@@ -11,6 +11,7 @@ use crate::NoMemory;
 use crate::metrics::MetricIndex;
 use crate::tracked::Tracked;
 use line_text::Name;
+use point_list::Points;
 use sample_model::Sample;
 use std::alloc::Global;
 use std::collections::BTreeMap;
@@ -83,15 +84,57 @@ impl SeriesIndex {
         Ok(())
     }
 
-    /// Places the samples that wait in a series, so that its positions can be read. Changes nothing that is seen, whether
-    /// there is memory or not.
-    pub fn settle(&mut self, test: &Name, metric: &Name) -> Result<(), NoMemory>
+    // Places the samples that wait in a series. Changes nothing that is seen, whether there is memory or not.
+    fn settle(&mut self, test: &Name, metric: &Name) -> Result<(), NoMemory>
         ensures { (s : Series) → seen s self.new ≡ seen s self.old }
     {
         if let Some(metrics) = self.tests.get_mut(test) {
             return metrics.settle(metric);
         }
         Ok(())
+    }
+
+    // The positions of a series that ever had a sample, where none waits in it.
+    fn settled(&self, test: &Name, metric: &Name) -> Result<Option<&Points>, NoMemory>
+        ensures { IfOk result (λ found. unwrap_or (option_copied found) []
+            ≡ (seen (record { test = test.now; metric = metric.now }) self.now).points) }
+    {
+        let Some(tracked) = self.get(test, metric) else {
+            return Ok(None);
+        };
+        let Some(points) = tracked.points.settled() else {
+            return Err(NoMemory);
+        };
+        Ok(Some(points))
+    }
+
+    /// The positions of a series, as a value of its own; none where the series never had a sample. Changes nothing that
+    /// is seen. Logarithmic time to find the series, linear in its values, and O(n log n) for n samples that came since
+    /// its positions were last asked for.
+    pub fn points(&mut self, test: &Name, metric: &Name) -> Result<Points, NoMemory>
+        ensures points { IfOk result (λ points. points
+            ≡ (seen (record { test = test.now; metric = metric.now }) self.old).points) }
+        ensures same { (s : Series) → seen s self.new ≡ seen s self.old }
+    {
+        self.settle(test, metric)?;
+        match self.settled(test, metric)? {
+            Some(points) => Ok(points.copy(self.alloc)?),
+            None => Ok(Points::new(self.alloc)),
+        }
+    }
+
+    /// How many positions a series has. Changes nothing that is seen. Logarithmic time, and O(n log n) for n samples that
+    /// came since its positions were last asked for.
+    pub fn position_count(&mut self, test: &Name, metric: &Name) -> Result<usize, NoMemory>
+        ensures count { IfOk result (λ count. count
+            ≡ length (seen (record { test = test.now; metric = metric.now }) self.old).points) }
+        ensures same { (s : Series) → seen s self.new ≡ seen s self.old }
+    {
+        self.settle(test, metric)?;
+        match self.settled(test, metric)? {
+            Some(points) => Ok(points.len()),
+            None => Ok(0),
+        }
     }
 
     /// Takes all samples of a step at a commit out of a series, which stays known. Takes no memory.

@@ -69,8 +69,9 @@ fn penalty_by(factor: u64, noise: u64) -> i128
     i128::from(factor) * square_of(noise)
 }
 
-// `calibrate`, where no sample waits in the series.
-fn calibrate_settled(
+/// `calibrate M TEST METRIC FACTOR`: the metric has the factor times the square of the series' noise as its penalty
+/// from here on. O(n log n + v) time for n positions with v values.
+pub fn calibrate(
     track: &mut TrackState,
     author: Author,
     test: &Name,
@@ -93,25 +94,6 @@ fn calibrate_settled(
     if n < 3 {
         return Ok(track.told(Answer::Refused(Refusal::TooFewPoints(n as u64))));
     }
-    let noise = noise(track.alloc(), points)?;
+    let noise = noise(track.alloc(), &points)?;
     tune(track, author, metric, penalty_by(factor, noise))
-}
-
-/// `calibrate M TEST METRIC FACTOR`: the metric has the factor times the square of the series' noise as its penalty
-/// from here on. O(n log n + v) time for n positions with v values.
-pub fn calibrate(
-    track: &mut TrackState,
-    author: Author,
-    test: &Name,
-    metric: &Name,
-    factor: u64,
-) -> Result<Reply, NoMemory>
-    ensures step { IfOk result (λ reply. (o : Outcome)
-        × CalibrateComesTo (entries_of track.old.history)
-        (record { test = test.now; metric = metric.now }) factor o
-        × IsStep track.old author o track.new reply) }
-    ensures same { OnErr result (track.new ≡ track.old) }
-{
-    track.settle(test, metric)?;
-    calibrate_settled(track, author, test, metric, factor)
 }

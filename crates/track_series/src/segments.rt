@@ -17,24 +17,6 @@ use segment_cost::Done;
 use std::alloc::Global;
 use track_state::TrackState;
 
-// What the history has of a series, where no sample waits in it.
-fn taken(track: &TrackState, test: &Name, metric: &Name) -> Result<Option<Snapshot>, NoMemory>
-    ensures { IfOk result (λ found. IsSnapshot (entries_of track.now.history)
-        (record { test = test.now; metric = metric.now }) found) }
-{
-    let Some(points) = track.points_of(test, metric)? else {
-        return Ok(None);
-    };
-    let points = points.copy(track.alloc())?;
-    Ok(Some(Snapshot {
-        test: test.copy(track.alloc())?,
-        metric: metric.copy(track.alloc())?,
-        version: track.len(),
-        penalty: track.penalty(metric),
-        points,
-    }))
-}
-
 /// What the history has of a series; none exactly where the series is unknown. Linear in the values of the series, but
 /// for samples that came since it was last read. Changes nothing that is seen.
 pub fn take_snapshot(
@@ -46,8 +28,16 @@ pub fn take_snapshot(
         (record { test = test.now; metric = metric.now }) found) }
     ensures same { track.new ≡ track.old }
 {
-    track.settle(test, metric)?;
-    taken(track, test, metric)
+    let Some(points) = track.points_of(test, metric)? else {
+        return Ok(None);
+    };
+    Ok(Some(Snapshot {
+        test: test.copy(track.alloc())?,
+        metric: metric.copy(track.alloc())?,
+        version: track.len(),
+        penalty: track.penalty(metric),
+        points,
+    }))
 }
 
 // The best segmentation of a snapshot, in a table of its own.
@@ -82,33 +72,6 @@ fn segmented(done: &Done) -> Answer
     }
 }
 
-// `segment`, where no sample waits in the series.
-fn segment_settled(
-    track: &mut TrackState,
-    author: Author,
-    test: &Name,
-    metric: &Name,
-) -> Result<Reply, NoMemory>
-    ensures step { IfOk result (λ reply. (o : Outcome)
-        × SegmentComesTo (entries_of track.old.history)
-        (record { test = test.now; metric = metric.now }) o
-        × IsStep track.old author o track.new reply) }
-    ensures same { OnErr result (track.new ≡ track.old) }
-{
-    publication_law();
-    track.history_law();
-    let Some(snapshot) = taken(track, test, metric)? else {
-        return Ok(track.told(Answer::Refused(Refusal::UnknownSeries)));
-    };
-    let done = finished(track.alloc(), snapshot)?;
-    let answer = segmented(&done);
-    match put(track, author, done)? {
-        Published::Ok(step) => Ok(Reply { step, answer }),
-        Published::Full(limit) => Ok(track.told(Answer::Refused(Refusal::Full(limit)))),
-        Published::Stale(_) => unreachable!(),
-    }
-}
-
 /// `segment M TEST METRIC`: publishes the best segmentation of all that the history has of the series. At most
 /// O(n² + v) time for n positions with v values, O(n + v) where changes come at bounded distances.
 pub fn segment(
@@ -123,6 +86,16 @@ pub fn segment(
         × IsStep track.old author o track.new reply) }
     ensures same { OnErr result (track.new ≡ track.old) }
 {
-    track.settle(test, metric)?;
-    segment_settled(track, author, test, metric)
+    let Some(snapshot) = take_snapshot(track, test, metric)? else {
+        return Ok(track.told(Answer::Refused(Refusal::UnknownSeries)));
+    };
+    publication_law();
+    track.history_law();
+    let done = finished(track.alloc(), snapshot)?;
+    let answer = segmented(&done);
+    match put(track, author, done)? {
+        Published::Ok(step) => Ok(Reply { step, answer }),
+        Published::Full(limit) => Ok(track.told(Answer::Refused(Refusal::Full(limit)))),
+        Published::Stale(_) => unreachable!(),
+    }
 }

@@ -1,11 +1,10 @@
 -- What is followed of a machine: it takes each entry in that is allowed, and follows from the history after it.
-use Rattle.std.proofs.Common.{◌≡◌, ℕ, zero, suc, ◌+◌, ◌-◌, ◌<◌, ◌≤◌, Bool, true, false, cond, List, [], ◌∷◌, ◌++◌, length, set, refl, sym, ap, ap₂, subst, ◌∙◌, Option, Some, None, arith, eqb, eq-eqb, ne_eqb, append-nil}
+use Rattle.std.proofs.Common.{◌≡◌, ℕ, zero, suc, ◌+◌, ◌-◌, ◌≤◌, true, cond, List, [], ◌∷◌, ◌++◌, length, set, refl, sym, ap, ap₂, subst, ◌∙◌, Option, Some, None, arith, eq-eqb, ne_eqb, append-nil}
 use Rattle.std.specs.Prelude.{slice_get, option_to_list}
 use Rattle.bisect_core.specs.Bisections.{Bisection, bisection, IsRecorded}
 use Rattle.bisect_core.specs.Turns.{Turn, tested, given_up}
 use Rattle.regression_state.specs.declared.states.State.{State}
 use Rattle.regression_state.specs.declared.states.State.TheVariants.{Detected}
-use Rattle.history_model.specs.declared.entries.Declaration.{Declaration}
 use Rattle.history_model.specs.declared.entries.Entry.{Entry}
 use Rattle.history_model.specs.declared.entries.Entry.TheVariants as entry
 use Rattle.history_model.specs.declared.events.JobEvent.TheVariants.{Begin, Answer, GiveUp}

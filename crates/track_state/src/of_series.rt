@@ -38,27 +38,17 @@ impl TrackState {
         self.penalties.get(metric)
     }
 
-    /// Places the samples that wait in a series, so that its positions can be read.
-    pub fn settle(&mut self, test: &Name, metric: &Name) -> Result<(), NoMemory>
-        ensures { self.new ≡ self.old }
+    /// The positions of a series, as a value of its own; none exactly where the series isn't known. Changes nothing that
+    /// is seen. Linear in its values, but for look-ups and for samples that came since they were last asked for.
+    pub fn points_of(&mut self, test: &Name, metric: &Name) -> Result<Option<Points>, NoMemory>
+        ensures found { IfOk result (IsFound (entries_of self.old.history)
+            (record { test = test.now; metric = metric.now })) }
+        ensures same { self.new ≡ self.old }
     {
-        self.series.settle(test, metric)
-    }
-
-    /// The positions of a series that is known, where no sample waits in it.
-    pub fn points_of(&self, test: &Name, metric: &Name) -> Result<Option<&Points>, NoMemory>
-        ensures { IfOk result (λ found. IsFound (entries_of self.now.history)
-            (record { test = test.now; metric = metric.now }) (option_copied found)) }
-    {
-        let Some(tracked) = self.series.get(test, metric) else {
-            return Ok(None);
-        };
-        if tracked.since.is_none() {
+        if !self.is_known(test, metric) {
             return Ok(None);
         }
-        let Some(points) = tracked.points.settled() else {
-            return Err(NoMemory);
-        };
+        let points = self.series.points(test, metric)?;
         Ok(Some(points))
     }
 

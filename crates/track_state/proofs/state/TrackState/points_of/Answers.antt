@@ -3,7 +3,7 @@ use Rattle.history_model.specs.declared.entries.Entry.{Entry}
 use Rattle.history_model.specs.Entries.{entries_of}
 use Rattle.series_index.specs.declared.tracked.Tracked.{Tracked}
 use Rattle.track_state.specs.State.{IsTracked}
-use Rattle.track_state.proofs.state.TrackState.settle.Goals as goal
+use Rattle.track_state.proofs.state.TrackState.points_of.Goals as goal
 
 pub invariant_of-self : goal.invariant_of-self
 invariant_of-self c =
@@ -13,7 +13,7 @@ invariant_of-self c =
       limits = c.self.invariant.limits;
       commits_are = c.self.invariant.commits_are;
       runs_are = c.self.invariant.runs_are;
-      series_are = λ s. subst (λ (t : Tracked). IsTracked h s t) (sym (c.settle.ensures s)) (c.self.invariant.series_are s);
+      series_are = λ s. subst (λ (t : Tracked). IsTracked h s t) (sym (c.points.ensures.same s)) (c.self.invariant.series_are s);
       known_are = c.self.invariant.known_are;
       penalties_are = c.self.invariant.penalties_are;
       penalties_fit = c.self.invariant.penalties_fit;
