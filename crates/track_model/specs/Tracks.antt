@@ -39,6 +39,11 @@ pub record IsStep (old : Track) (author : Author) (o : Outcome) (new : Track) (r
   pub track : new ≡ with_outcome author old o
   pub told : reply ≡ reply_of (entries_of old.history) o
 
+-- a request came to an outcome that adds nothing, and the reply tells its answer
+pub record IsTold (old : Track) (o : Outcome) (reply : Reply) : Type 0 where
+  pub adds : o.adds ≡ None
+  pub told : reply ≡ reply_of (entries_of old.history) o
+
 -- the series of a test and a metric
 abbrev series : List ℕ → List ℕ → Series
 series test metric = record { test = test; metric = metric }

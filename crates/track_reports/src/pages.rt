@@ -5,10 +5,10 @@ ghost use Rattle.history_model.specs.Jobs.{jobs};
 ghost use Rattle.history_model.specs.Regressions.{regressions};
 ghost use Rattle.track_model.specs.Outcomes.{Outcome};
 ghost use Rattle.track_model.specs.Reports.{AreSeriesLines, ReportComesTo, job_line, numbered, regression_line};
-ghost use Rattle.track_model.specs.Tracks.{IsStep};
+ghost use Rattle.track_model.specs.Tracks.{IsTold};
 
 use crate::NoMemory;
-use history_model::{Author, jobs_law, regressions_law};
+use history_model::{jobs_law, regressions_law};
 use report_model::{JobLines, Pages, RegressionLines, SeriesLines};
 use request_model::{Answer, Boxed, Reply};
 use track_state::TrackState;
@@ -36,16 +36,11 @@ fn job_lines(track: &TrackState) -> Result<JobLines, NoMemory>
 }
 
 // The pages of the machine with these lines of series.
-fn report_with(
-    track: &TrackState,
-    author: Author,
-    json: bool,
-    series: SeriesLines,
-) -> Result<Reply, NoMemory>
+fn report_with(track: &TrackState, json: bool, series: SeriesLines) -> Result<Reply, NoMemory>
     requires { AreSeriesLines (entries_of track.now.history) series }
     ensures { IfOk result (λ reply. (o : Outcome)
         × ReportComesTo (entries_of track.now.history) track.now.machine json o
-        × IsStep track.now author o track.now reply) }
+        × IsTold track.now o reply) }
 {
     let machine = track.machine().copy(track.alloc())?;
     let regressions = regression_lines(track)?;
@@ -64,12 +59,12 @@ fn report_with(
 
 /// `report M`: the pages of the machine; adds nothing. Linear in the lines and in the values of what was published last,
 /// but for look-ups and for samples that came since their series was last read.
-pub fn report(track: &mut TrackState, author: Author, json: bool) -> Result<Reply, NoMemory>
+pub fn report(track: &mut TrackState, json: bool) -> Result<Reply, NoMemory>
     ensures step { IfOk result (λ reply. (o : Outcome)
         × ReportComesTo (entries_of track.old.history) track.old.machine json o
-        × IsStep track.old author o track.new reply) }
+        × IsTold track.old o reply) }
     ensures same { track.new ≡ track.old }
 {
     let series = track.series_lines()?;
-    report_with(track, author, json, series)
+    report_with(track, json, series)
 }

@@ -3,12 +3,12 @@ ghost use Rattle.std.specs.Prelude.{◌≡◌, All, IfOk, map};
 ghost use Rattle.history_model.specs.Entries.{entries_of};
 ghost use Rattle.track_model.specs.Outcomes.{Outcome};
 ghost use Rattle.track_model.specs.Publishing.{ChangesComeTo, VerifyComesTo};
-ghost use Rattle.track_model.specs.Tracks.{IsStep};
+ghost use Rattle.track_model.specs.Tracks.{IsTold};
 ghost use Rattle.track_reports.specs.Lines.{named_by, HasNames};
 
 use crate::NoMemory;
 use change_list::Change;
-use history_model::{Author, publication_law, runs_law};
+use history_model::{publication_law, runs_law};
 use line_text::Name;
 use order_index::OrderIndex;
 use request_model::{Answer, Boxed, NamedChange, NamedChanges, Refusal, Reply};
@@ -53,16 +53,11 @@ fn all_named(
 
 /// `changes M TEST METRIC`: the changes of the series' last publication; adds nothing. Linear in its values, but for
 /// look-ups.
-pub fn changes(
-    track: &TrackState,
-    author: Author,
-    test: &Name,
-    metric: &Name,
-) -> Result<Reply, NoMemory>
+pub fn changes(track: &TrackState, test: &Name, metric: &Name) -> Result<Reply, NoMemory>
     ensures { IfOk result (λ reply. (o : Outcome)
         × ChangesComeTo (entries_of track.now.history)
         (record { test = test.now; metric = metric.now }) o
-        × IsStep track.now author o track.now reply) }
+        × IsTold track.now o reply) }
 {
     publication_law();
     runs_law();
@@ -85,16 +80,11 @@ pub fn changes(
 }
 
 /// `verify M TEST METRIC`: the certificate of the series' last publication; adds nothing. Linear in its points.
-pub fn verify(
-    track: &TrackState,
-    author: Author,
-    test: &Name,
-    metric: &Name,
-) -> Result<Reply, NoMemory>
+pub fn verify(track: &TrackState, test: &Name, metric: &Name) -> Result<Reply, NoMemory>
     ensures { IfOk result (λ reply. (o : Outcome)
         × VerifyComesTo (entries_of track.now.history)
         (record { test = test.now; metric = metric.now }) o
-        × IsStep track.now author o track.now reply) }
+        × IsTold track.now o reply) }
 {
     publication_law();
     track.history_law();

@@ -1,5 +1,5 @@
 -- What a form about a series comes to where nothing is done, and where something is.
-use Rattle.std.proofs.Common.{◌≡◌, ℕ, Bool, true, false, refl}
+use Rattle.std.proofs.Common.{◌≡◌, ℕ, Bool, true, false, refl, sym, ap}
 use Rattle.history_model.specs.declared.entries.Author.{Author}
 use Rattle.history_model.specs.Entries.{entries_of}
 use Rattle.request_model.specs.declared.replies.Answer.{Answer}
@@ -8,12 +8,20 @@ use Rattle.request_model.specs.declared.replies.Refusal.TheVariants as refusal
 use Rattle.track_model.specs.Outcomes.{Outcome, tells, refuses}
 use Rattle.track_model.specs.Publishing.{OfKnown, OfFactor, OfMany}
 use Rattle.track_model.specs.Replies.{reply_of}
-use Rattle.track_model.specs.Tracks.{Track, IsStep}
+use Rattle.track_model.specs.Tracks.{Track, IsStep, IsTold, with_added}
 
 -- an outcome that tells something and adds nothing
 pub tells-it : (Comes : Outcome → Type 0) (old : Track) (author : Author) (answer : Answer) (reply : Reply) → Comes (tells answer) → reply ≡ reply_of (entries_of old.history) (tells answer)
     → (o : Outcome) × Comes o × IsStep old author o old reply
 tells-it Comes old author answer reply comes told = (tells answer, comes, record { track = refl; told = told })
+
+-- the same, where it is said that nothing is added; so it is whoever asked
+pub only-told : (Comes : Outcome → Type 0) (old : Track) (answer : Answer) (reply : Reply) → Comes (tells answer) → reply ≡ reply_of (entries_of old.history) (tells answer)
+    → (o : Outcome) × Comes o × IsTold old o reply
+only-told Comes old answer reply comes told = (tells answer, comes, record { adds = refl; told = told })
+
+pub any-step : (old : Track) (author : Author) (o : Outcome) (reply : Reply) → IsTold old o reply → IsStep old author o old reply
+any-step old author o reply is = record { track = sym (ap (with_added author old) is.adds); told = is.told }
 
 -- the tests in front of a form
 pub factor-out : (Comes : Outcome → Type 0) (b : Bool) → b ≡ false → OfFactor b Comes (refuses refusal.BadPenalty)

@@ -76,12 +76,12 @@ pub fn step(track: &mut TrackState, author: Author, request: &Request) -> Result
             machine: _,
             test,
             metric,
-        } => changes(track, author, test, metric),
+        } => changes(track, test, metric),
         Request::Verify {
             machine: _,
             test,
             metric,
-        } => verify(track, author, test, metric),
+        } => verify(track, test, metric),
         Request::Runs { machine: _ } => runs(track),
         Request::Regress {
             machine: _,
@@ -122,7 +122,7 @@ pub fn step(track: &mut TrackState, author: Author, request: &Request) -> Result
         }
         Request::Report { machine: _, json } => {
             let json = *json;
-            report(track, author, json)
+            report(track, json)
         }
     }
 }

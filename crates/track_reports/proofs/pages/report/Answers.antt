@@ -4,7 +4,7 @@ use Rattle.history_model.specs.Entries.{entries_of}
 use Rattle.request_model.specs.declared.replies.Reply.{Reply}
 use Rattle.track_model.specs.Outcomes.{Outcome}
 use Rattle.track_model.specs.Reports.{AreSeriesLines, ReportComesTo}
-use Rattle.track_model.specs.Tracks.{IsStep, Track}
+use Rattle.track_model.specs.Tracks.{IsTold, Track}
 use Rattle.track_reports.proofs.pages.report.Goals as goal
 
 pub report_with-requires : goal.report_with-requires
@@ -12,5 +12,5 @@ report_with-requires c = subst (λ (t : Track). AreSeriesLines (entries_of t.his
 
 pub returns-clause-step : goal.returns-clause-step
 returns-clause-step c =
-    subst (λ (t : Track). IfOk c.report_with.result (λ (reply : Reply). (o : Outcome) × ReportComesTo (entries_of t.history) t.machine c.args.json o × IsStep t c.args.author o c.series_lines.new.self reply))
+    subst (λ (t : Track). IfOk c.report_with.result (λ (reply : Reply). (o : Outcome) × ReportComesTo (entries_of t.history) t.machine c.args.json o × IsTold t o reply))
     c.series_lines.ensures.same c.report_with.ensures

@@ -6,7 +6,7 @@ use Rattle.history_model.specs.Entries.{entries_of}
 use Rattle.report_model.specs.declared.pages.Pages.{Pages}
 use Rattle.request_model.specs.declared.replies.Answer.TheVariants as answer
 use Rattle.track_model.specs.Reports.{IsReport, ReportComesTo}
-use Rattle.track_state.proofs.Told.{tells-it}
+use Rattle.track_state.proofs.Told.{only-told}
 use Rattle.track_reports.proofs.pages.report_with.Goals as goal
 
 pub returns : goal.returns
@@ -30,5 +30,5 @@ returns c =
       of_regressions = c.in_ok-regressions.ensures;
       of_jobs = c.in_ok-jobs.ensures;
     } in
-    tells-it (ReportComesTo h machine c.args.json) c.args.track.now c.args.author (answer.Report c.in_ok-pages.pages) c.told.result
+    only-told (ReportComesTo h machine c.args.json) c.args.track.now (answer.Report c.in_ok-pages.pages) c.told.result
     (c.in_ok-pages.pages, subst (IsReport h machine c.args.json) (sym c.in_ok-pages.ensures) is, refl) c.told.ensures

@@ -18,7 +18,7 @@ use Rattle.history_model.specs.Commits.{declarations}
 use Rattle.track_model.specs.Replies.{reply_of}
 use Rattle.track_reports.specs.Lines.{named_by}
 use Rattle.track_reports.proofs.Declared.{all-have-names}
-use Rattle.track_state.proofs.Told.{tells-it, unknown, known}
+use Rattle.track_state.proofs.Told.{only-told, unknown, known}
 use Rattle.track_reports.proofs.told.changes.Goals as goal
 
 pub returns-then-not-is_known : goal.returns-then-not-is_known
@@ -26,7 +26,7 @@ returns-then-not-is_known c =
     let h : List Entry = entries_of c.args.track.now.history in
     let s : Series = record { test = c.args.test.now; metric = c.args.metric.now } in
     let none : is_known s h ≡ false = sym c.is_known.ensures ∙ c.if-not-is_known.true in
-    tells-it (ChangesComeTo h s) c.args.track.now c.args.author (answer.Refused refusal.UnknownSeries) c.told.result
+    only-told (ChangesComeTo h s) c.args.track.now (answer.Refused refusal.UnknownSeries) c.told.result
     (unknown (OfPublished (last_publication s h) (TellsChanges h s)) (is_known s h) none) c.told.ensures
 
 pub returns-in_default : goal.returns-in_default
@@ -36,7 +36,7 @@ returns-in_default c =
     let one : is_known s h ≡ true = sym c.is_known.ensures ∙ c.if-not-is_known.false in
     let none : option_copied c.published.result ≡ None = ap option_copied c.in_default.is in
     let then = OfPublished (last_publication s h) (TellsChanges h s) in
-    tells-it (ChangesComeTo h s) c.args.track.now c.args.author (answer.Refused refusal.NothingPublished) c.told-in_default.result
+    only-told (ChangesComeTo h s) c.args.track.now (answer.Refused refusal.NothingPublished) c.told-in_default.result
     (known then (tells (answer.Refused refusal.NothingPublished)) (is_known s h) one
     (published-none (TellsChanges h s) (last_publication s h) (nothing h (last_publication s h) (option_copied c.published.result) c.published.ensures none)))
     c.told-in_default.ensures
@@ -56,7 +56,7 @@ returns c =
     c.in_ok-items.ensures ∙ ap (map (named_by c.commits.result.now)) c.as_slice.ensures ∙ ap (λ (ds : List Declaration). map (named_by ds) c.in_ok-found.found) commits_are in
     let then = OfPublished (last_publication s h) (TellsChanges h s) in
     let told = tells (answer.Changes done.version s.metric c.in_ok-items.items) in
-    tells-it (ChangesComeTo h s) c.args.track.now c.args.author (answer.Changes done.version s.metric c.in_ok-items.items) c.told-2.result
+    only-told (ChangesComeTo h s) c.args.track.now (answer.Changes done.version s.metric c.in_ok-items.items) c.told-2.result
     (known then told (is_known s h) one
     (published-one (TellsChanges h s) told (last_publication s h) (publication_from done) both.0 (changed h s done c.in_ok-found.found c.in_ok-items.items both.1 same c.in_ok-found.ensures items_are)))
     (c.told-2.ensures ∙ ap (λ (m : List ℕ). reply_of h (tells (answer.Changes done.version m c.in_ok-items.items))) metric_is)

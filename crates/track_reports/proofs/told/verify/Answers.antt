@@ -13,7 +13,7 @@ use Rattle.track_state.specs.Made.{publication_from}
 use Rattle.track_state.specs.State.{IsKept}
 use Rattle.track_state.proofs.Published.{nothing, something, of-series, published-one, published-none}
 use Rattle.track_reports.proofs.Telling.{certified}
-use Rattle.track_state.proofs.Told.{tells-it, unknown, known}
+use Rattle.track_state.proofs.Told.{only-told, unknown, known}
 use Rattle.track_reports.proofs.told.verify.Goals as goal
 
 pub returns-then-not-is_known : goal.returns-then-not-is_known
@@ -21,7 +21,7 @@ returns-then-not-is_known c =
     let h : List Entry = entries_of c.args.track.now.history in
     let s : Series = record { test = c.args.test.now; metric = c.args.metric.now } in
     let none : is_known s h ≡ false = sym c.is_known.ensures ∙ c.if-not-is_known.true in
-    tells-it (VerifyComesTo h s) c.args.track.now c.args.author (answer.Refused refusal.UnknownSeries) c.told.result
+    only-told (VerifyComesTo h s) c.args.track.now (answer.Refused refusal.UnknownSeries) c.told.result
     (unknown (OfPublished (last_publication s h) (TellsCertificate h s)) (is_known s h) none) c.told.ensures
 
 pub returns-in_default : goal.returns-in_default
@@ -31,7 +31,7 @@ returns-in_default c =
     let one : is_known s h ≡ true = sym c.is_known.ensures ∙ c.if-not-is_known.false in
     let none : option_copied c.published.result ≡ None = ap option_copied c.in_default.is in
     let then = OfPublished (last_publication s h) (TellsCertificate h s) in
-    tells-it (VerifyComesTo h s) c.args.track.now c.args.author (answer.Refused refusal.NothingPublished) c.told-in_default.result
+    only-told (VerifyComesTo h s) c.args.track.now (answer.Refused refusal.NothingPublished) c.told-in_default.result
     (known then (tells (answer.Refused refusal.NothingPublished)) (is_known s h) one
     (published-none (TellsCertificate h s) (last_publication s h) (nothing h (last_publication s h) (option_copied c.published.result) c.published.ensures none)))
     c.told-in_default.ensures
@@ -47,7 +47,7 @@ returns c =
     let same = of-series c.publication_law.ensures.last_stands h s done c.history_law.ensures.legal both.0 in
     let then = OfPublished (last_publication s h) (TellsCertificate h s) in
     let told = tells (answer.Verified done.version c.in_ok-cert-2.cert) in
-    tells-it (VerifyComesTo h s) c.args.track.now c.args.author (answer.Verified done.version c.in_ok-cert-2.cert) c.told-2.result
+    only-told (VerifyComesTo h s) c.args.track.now (answer.Verified done.version c.in_ok-cert-2.cert) c.told-2.result
     (known then told (is_known s h) one
     (published-one (TellsCertificate h s) told (last_publication s h) (publication_from done) both.0 (certified h s done both.1 same c.in_ok-cert-2.cert (c.in_ok-cert-2.ensures ∙ c.in_ok-cert.ensures))))
     c.told-2.ensures

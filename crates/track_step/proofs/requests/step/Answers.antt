@@ -10,9 +10,12 @@ use Rattle.track_model.specs.Outcomes.{Outcome, tells}
 use Rattle.request_model.specs.declared.requests.Request.TheVariants as request
 use Rattle.track_model.specs.Following as following
 use Rattle.track_model.specs.Replies.{machine_of, reply_of}
+use Rattle.history_model.specs.declared.entries.Author.{Author}
+use Rattle.history_model.specs.Runs.{Series}
+use Rattle.track_model.specs.Publishing.{ChangesComeTo, VerifyComesTo}
 use Rattle.track_model.specs.Reports.{ReportComesTo}
-use Rattle.track_model.specs.Tracks.{ComesTo, IsStep}
-use Rattle.track_state.proofs.Told.{tells-it}
+use Rattle.track_model.specs.Tracks.{ComesTo, IsStep, IsTold, Track}
+use Rattle.track_state.proofs.Told.{tells-it, any-step}
 use Rattle.track_step.proofs.requests.step.Goals as goal
 
 pub returns-in_ok-machine-in-Machine-clause-step : goal.returns-in_ok-machine-in-Machine-clause-step
@@ -42,12 +45,30 @@ returns-in-Job-clause-step c =
     (λ reply told. (following.job h number, subst (λ (q : Request). ComesTo h q (following.job h number)) (sym c.in-Job.is) refl, record { track = refl; told = told }))
     c.job.ensures
 
+-- what adds nothing is the same for whoever asked
+told-by : {E : Type 0} (t : Track) (author : Author) (P Q : Outcome → Type 0) (r : Result Reply E) → ((o : Outcome) → P o → Q o)
+    → IfOk r (λ reply. (o : Outcome) × P o × IsTold t o reply) → IfOk r (λ reply. (o : Outcome) × Q o × IsStep t author o t reply)
+told-by t author P Q r to is = if-ok (λ reply. (o : Outcome) × P o × IsTold t o reply) (λ reply. (o : Outcome) × Q o × IsStep t author o t reply) r
+    (λ reply x. (x.0, to x.0 x.1, any-step t author x.0 reply x.2)) is
+
+pub returns-in-Changes-clause-step : goal.returns-in-Changes-clause-step
+returns-in-Changes-clause-step c =
+    let h : List Entry = entries_of c.args.track.now.history in
+    let s : Series = record { test = c.in-Changes.test; metric = c.in-Changes.metric } in
+    told-by c.args.track.now c.args.author (ChangesComeTo h s) (ComesTo h c.args.request.now) c.changes.result
+    (λ o comes. subst (λ (q : Request). ComesTo h q o) (sym c.in-Changes.is) comes) c.changes.ensures
+
+pub returns-in-Verify-clause-step : goal.returns-in-Verify-clause-step
+returns-in-Verify-clause-step c =
+    let h : List Entry = entries_of c.args.track.now.history in
+    let s : Series = record { test = c.in-Verify.test; metric = c.in-Verify.metric } in
+    told-by c.args.track.now c.args.author (VerifyComesTo h s) (ComesTo h c.args.request.now) c.verify.result
+    (λ o comes. subst (λ (q : Request). ComesTo h q o) (sym c.in-Verify.is) comes) c.verify.ensures
+
 pub returns-in-Report-clause-step : goal.returns-in-Report-clause-step
 returns-in-Report-clause-step c =
     let h : List Entry = entries_of c.args.track.now.history in
     let same : machine_of c.args.request.now ≡ c.args.track.now.machine = c.requires in
     let asked : (machine : List ℕ) → c.args.request.now ≡ request.Report machine c.in-Report.json → machine ≡ c.args.track.now.machine = λ machine is. sym (ap machine_of is) ∙ same in
-    if-ok (λ reply. (o : Outcome) × ReportComesTo h c.args.track.now.machine c.in-Report.json o × IsStep c.args.track.now c.args.author o c.report.new.track reply)
-    (λ reply. (o : Outcome) × ComesTo h c.args.request.now o × IsStep c.args.track.now c.args.author o c.report.new.track reply) c.report.result
-    (λ reply x. (x.0, subst (λ (q : Request). ComesTo h q x.0) (sym c.in-Report.is) (subst (λ (m : List ℕ). ReportComesTo h m c.in-Report.json x.0) (sym (asked _ c.in-Report.is)) x.1), x.2))
-    c.report.ensures.step
+    rw c.report.ensures.same (told-by c.args.track.now c.args.author (ReportComesTo h c.args.track.now.machine c.in-Report.json) (ComesTo h c.args.request.now) c.report.result
+    (λ o comes. subst (λ (q : Request). ComesTo h q o) (sym c.in-Report.is) (subst (λ (m : List ℕ). ReportComesTo h m c.in-Report.json o) (sym (asked _ c.in-Report.is)) comes)) c.report.ensures.step)
