@@ -12,5 +12,6 @@ mod sound;
 mod write;
 mod write_line;
 
+pub use go_bench_text::PutFault;
 pub use std::alloc::AllocError as NoMemory;
-pub use write::{PutFault, put_request};
+pub use write::put_request;

@@ -9,32 +9,12 @@ ghost use Rattle.request_written.specs.Written.{head_line, IsBody, IsBodyOf, IsW
 use crate::NoMemory;
 use crate::sound::sound;
 use crate::write_line::put_line;
-use go_bench_text::put_go;
+use go_bench_text::{PutFault, put_go};
 use line_text::{Name, names_law, numbers_law, words_law};
 use lnt_report::{LntRun, put_report};
 use request_model::Request;
 use sample_model::{Sample, Samples};
 use std::alloc::Global;
-
-/// Why a request has no text.
-#[derive(Clone, Copy, Debug, PartialEq, Eq)]
-pub enum PutFault {
-    /// The place, from 0, of the first sample that has no spelling.
-    CannotWrite(u64),
-    /// There was no memory for the text.
-    NoMemory,
-}
-
-impl From<NoMemory> for PutFault {
-    ghost use Rattle.std.specs.Prelude.{◌≡◌};
-    ghost use Rattle.request_written.specs.declared.write.PutFault.TheVariants as fault;
-
-    ghost from_gives = { λ _ e. e ≡ fault.NoMemory };
-
-    fn from(_: NoMemory) -> PutFault {
-        PutFault::NoMemory
-    }
-}
 
 /// Appends the text of a request: its line, in canonical spelling and with single spaces, and its body. `CannotWrite` names
 /// the first sample without a spelling in such a body.
@@ -101,22 +81,8 @@ fn submitted_body(
         → IsFirstUnwritten samples.now stated.now place }
 {
     match stated {
-        None => go_body(alloc, samples),
+        None => put_go(alloc, samples),
         Some(machine) => lnt_body(alloc, machine, commit, samples),
-    }
-}
-
-// The samples as Go benchmark text.
-fn go_body(alloc: Global, samples: &Samples) -> Result<Vec<u8>, PutFault>
-    ensures ok { IfOk result (λ body. AreSpelled samples.now body.items) }
-    ensures back { IfOk result (λ body. IsRead body.items samples.now 0) }
-    ensures cannot { (place : ℕ) → result ≡ Err (PutFault.CannotWrite place)
-        → IsFirstUnspelled samples.now place }
-{
-    match put_go(alloc, samples) {
-        Ok(body) => Ok(body),
-        Err(go_bench_text::PutFault::CannotWrite(place)) => Err(PutFault::CannotWrite(place)),
-        Err(go_bench_text::PutFault::NoMemory) => Err(PutFault::NoMemory),
     }
 }
 
