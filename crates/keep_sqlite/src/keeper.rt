@@ -3,10 +3,8 @@ ghost use Rattle.std.specs.Prelude.{◌≡◌, ℕ, ◌≤◌, OnErr, Option, No
 ghost use Rattle.track_outside.specs.Counts.{Rose, one_more};
 ghost use Rattle.track_outside.specs.declared.out_error.OutError.TheVariants as error;
 
-use crate::ahead::Ahead;
-use crate::opening::{Store, append_last, find_store, open_store};
-use crate::statements::count_rows;
 use sqlite::{Error, ErrorCode};
+use sqlite_rows::{Ahead, Store, append_last, count_rows, find_store, open_store};
 use std::alloc::Global;
 use std::marker::Model;
 use track_outside::{Failed, Keeper, OutError};

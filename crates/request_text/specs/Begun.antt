@@ -12,6 +12,12 @@ pub record HasLine (bytes : List ℕ) (ended : ℕ) (line : List ℕ) : Type 0 w
   pub size : ended ≡ length line + 1
   pub whole : IsLine line
 
+-- the bytes begin with a line to which so many bytes belong
+pub record BeginsWithBody (bytes : List ℕ) (ended count : ℕ) : Type 0 where
+  pub line : List ℕ
+  pub has : HasLine bytes ended line
+  pub counted : Counts line count
+
 -- the bytes begin with a line of this head, to which so many bytes belong
 pub record BeginsWithHead (bytes : List ℕ) (ended : ℕ) (head : Head) (count : ℕ) : Type 0 where
   pub line : List ℕ

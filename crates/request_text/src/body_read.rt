@@ -1,6 +1,7 @@
 //! A body that is kept, read behind its line.
-ghost use Rattle.std.specs.Prelude.{◌≡◌, ◌≤◌, ◌<◌, ◌+◌, ◌^◌, false, length, IfOk, IfErr};
-ghost use Rattle.request_text.specs.Begun.{BeginsWithHead};
+ghost use Rattle.std.specs.Prelude.{true, OnOk, ◌≡◌, ◌≤◌, ◌<◌, ◌+◌, ◌^◌, false, length, IfOk, IfErr};
+ghost use Rattle.request_text.specs.Begun.{BeginsWithBody, BeginsWithHead};
+ghost use Rattle.request_text.specs.Needs.{GathersFrom};
 ghost use Rattle.request_text.specs.Parts.{AsksKept, TakesFrom, Fails};
 
 use crate::asked::Asked;
@@ -28,12 +29,33 @@ pub(crate) fn read_short<S: Source>(
     ensures stops { IfErr result (Fails S.Source lines.old source.old source.new) }
     ensures counts { S.faults source.old ≤ S.faults source.new }
 {
+    let head = gather(alloc, lines, source, head, ended, count)?;
+    ask_kept(alloc, lines, head, ended, ended + count)
+}
+
+// Reads on until a body of so many bytes is kept behind a line that takes so many with its line feed, and hands back what is
+// held meanwhile. What that is isn't known here, since letting go of a head is much to prove.
+fn gather<S: Source, T: Drop>(
+    alloc: Global,
+    lines: &mut Lines,
+    source: &mut S,
+    held: T,
+    ended: usize,
+    count: usize,
+) -> Result<T, ReadStop>
+    requires begins { BeginsWithBody lines.old.kept ended count }
+    requires fits { ended + count < 2 ^ 64 }
+    ensures held { IfOk result (λ given. given ≡ held) }
+    ensures there { OnOk result (GathersFrom S.Source lines.old lines.new
+        source.old source.new (ended + count) true) }
+    ensures stops { IfErr result (Fails S.Source lines.old source.old source.new) }
+    ensures counts { S.faults source.old ≤ S.faults source.new }
+{
     let at = lines.before();
-    let total = ended + count;
-    if !need(alloc, lines, source, total)? {
+    if !need(alloc, lines, source, ended + count)? {
         return Err(ReadStop::CutOff(at));
     }
-    ask_kept(alloc, lines, head, ended, total)
+    Ok(held)
 }
 
 // Uses up a line and its body, which are kept, and answers what they ask together.

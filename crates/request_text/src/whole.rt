@@ -56,6 +56,8 @@ fn read_body<S: Source>(
     if count <= BODY_LIMIT {
         return read_short(alloc, lines, source, head, ended, count as usize);
     }
+    // (a head is let go of where its type isn't known: see `gather`)
+    drop(head);
     read_long(alloc, lines, source, ended, count)
 }
 

@@ -4,10 +4,10 @@ use crate::statements::{read_row, read_rows};
 use sqlite::{Alter, Connection, Error, Row};
 use std::alloc::Global;
 
-// Short rows behind the one that was asked for last. Rows are mostly asked for in order, and a statement for each takes
-// longer than its bytes do.
+/// Short rows behind the one that was asked for last. Rows are mostly asked for in order, and a statement for each takes
+/// longer than its bytes do.
 #[derive(Drop)]
-pub(crate) struct Ahead {
+pub struct Ahead {
     // The last is first, so that the next leaves without moving the others.
     rows: Vec<Row>,
     // How many rows behind the one that is asked for are looked at: none behind a long one, then one, three, seven and so on,
@@ -19,33 +19,30 @@ pub(crate) struct Ahead {
 const MOST: i64 = 255;
 
 impl Ahead {
-    pub(crate) fn new(alloc: Global) -> Ahead {
+    /// No rows.
+    pub fn new(alloc: Global) -> Ahead {
         Ahead {
             rows: Vec::new(alloc),
             more: 0,
         }
     }
 
-    // Lets go of the rows.
-    pub(crate) fn clear(&mut self) {
+    /// Lets go of the rows.
+    pub fn clear(&mut self) {
         self.rows.clear();
     }
 
-    // Takes the bytes of row k, if it is the next of the rows.
-    pub(crate) fn next(&mut self, k: i64) -> Option<Vec<u8>> {
+    /// Takes the bytes of row k, if it is the next of the rows.
+    pub fn next(&mut self, k: i64) -> Option<Vec<u8>> {
         match number_at(self.rows.last()?, 0) {
             Ok(number) if number == k => bytes_at(&self.rows.pop()?, 1).ok(),
             _ => None,
         }
     }
 
-    // The bytes of row k, which isn't the next: by a statement for it and rows behind it, or by one of its own, where rows
-    // behind it are read already, where it is long, and where one of them can't be read: so a fault is met at its row.
-    pub(crate) fn read<S: Alter>(
-        &mut self,
-        store: &mut Connection<S>,
-        k: i64,
-    ) -> Result<Vec<u8>, Error> {
+    /// The bytes of row k, which isn't the next: by a statement for it and rows behind it, or by one of its own, where rows
+    /// behind it are read already, where it is long, and where one of them can't be read: so a fault is met at its row.
+    pub fn read<S: Alter>(&mut self, store: &mut Connection<S>, k: i64) -> Result<Vec<u8>, Error> {
         if self.rows.is_empty() {
             self.fill(store, k);
         }

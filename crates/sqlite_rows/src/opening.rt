@@ -10,15 +10,15 @@ use std::fs;
 use std::hash::{BuildHasher, RandomState};
 use std::io::ErrorKind;
 
-// An open store.
-pub(crate) type Store = Connection<FileStore<File>>;
+/// An open store.
+pub type Store = Connection<FileStore<File>>;
 
 // How many pages of a file are kept in memory. Rows are read once and in order, so few are asked for again, and a cache takes
 // time to make.
 const PAGES: usize = 64;
 
-// Opens the file of that name, if there is one and it has a table.
-pub(crate) fn find_store(rt: &HostRuntime, name: &str) -> Result<Option<Store>, Error> {
+/// Opens the file of that name, if there is one and it has the table of a store; an error where it has another.
+pub fn find_store(rt: &HostRuntime, name: &str) -> Result<Option<Store>, Error> {
     match fs::exists(rt, name) {
         Ok(true) => {}
         Ok(false) => return Ok(None),
@@ -36,8 +36,8 @@ fn with_table<S: Alter + Drop>(mut store: Connection<S>) -> Result<Option<Connec
     }
 }
 
-// Opens the file of that name, or makes it. Where it has not so many rows, another run changed it meanwhile.
-pub(crate) fn open_store(rt: &HostRuntime, name: &str, count: u64) -> Result<Store, Error> {
+/// Opens the file of that name, or makes it. Where it has not so many rows, another run changed it meanwhile, which is an error.
+pub fn open_store(rt: &HostRuntime, name: &str, count: u64) -> Result<Store, Error> {
     with_count(open(rt, name)?, count)
 }
 
@@ -99,9 +99,9 @@ fn code_of(fault: OpenError) -> ErrorCode {
     }
 }
 
-// Adds all of the rows, or none, and closes the store, which moves them from the log into the file: they are there even where
-// that fails. Answers how many there are then.
-pub(crate) fn append_last<D: Disk + Drop>(
+/// Adds all of the rows, or none, and closes the store, which moves them from the log into the file: they are there even where
+/// that fails. Answers how many there are then. Linear in the rows.
+pub fn append_last<D: Disk + Drop>(
     mut store: Connection<FileStore<D>>,
     rows: &[Vec<u8>],
 ) -> Result<u64, Error> {
