@@ -1,5 +1,5 @@
 -- What a change of a publication comes to that is raised as a regression.
-use Rattle.std.proofs.Common.{◌≡◌, ℕ, ◌+◌, ◌-◌, ◌<◌, ◌≤◌, Bool, true, false, not, List, [], ◌∷◌, length, refl, sym, ap, subst, ◌∙◌, Option, Some, None}
+use Rattle.std.proofs.Common.{◌≡◌, ℕ, ◌+◌, ◌-◌, ◌<◌, ◌≤◌, true, false, not, List, [], ◌∷◌, length, sym, ap, ◌∙◌, Option, Some, None}
 use Rattle.std.specs.Prelude.{take, slice_index, nat_le}
 use Rattle.std.proofs.lemmas.Bool.{and_parts, leb-true}
 use Rattle.metric_table.specs.Limits.{most}
@@ -10,11 +10,9 @@ use Rattle.history_model.specs.declared.entries.Entry.{Entry}
 use Rattle.history_model.specs.declared.entries.Entry.TheVariants as entry
 use Rattle.history_model.specs.declared.events.Raised.{Raised}
 use Rattle.history_model.specs.declared.events.RegressionEvent.TheVariants as event
-use Rattle.history_model.specs.declared.publication.Publication.{Publication}
 use Rattle.history_model.specs.Positions.{positions}
-use Rattle.history_model.specs.Publications.{last_publication}
 use Rattle.history_model.specs.Regressions.{is_number, regressions}
-use Rattle.history_model.specs.Runs.{Series, is_known}
+use Rattle.history_model.specs.Runs.{Series}
 use Rattle.publication_index.specs.Kept.{series_of}
 use Rattle.request_model.specs.declared.replies.Answer.{Answer}
 use Rattle.request_model.specs.declared.replies.Answer.TheVariants as answer
@@ -22,11 +20,10 @@ use Rattle.request_model.specs.declared.replies.Refusal.TheVariants as refusal
 use Rattle.track_model.specs.Following as following
 use Rattle.track_model.specs.Laws.{StepsAreFull, StepIsAdded}
 use Rattle.track_model.specs.Outcomes.{Outcome, refuses, refusal_if, unless, adds_within}
-use Rattle.track_model.specs.Publishing.{OfPublished}
 use Rattle.track_state.specs.Made.{publication_from, IsMadeFrom}
 use Rattle.track_follow.specs.Raised.{raised_from}
-use Rattle.track_state.proofs.Published.{published-one}
-use Rattle.track_state.proofs.Told.{known}
+use Rattle.track_state.specs.State.{IsLast}
+use Rattle.track_state.proofs.Published.{tells-last}
 
 pub range : (count number : ℕ) → is_number count number ≡ true → (1 ≤ number) × (number ≤ count)
 range count number is =
@@ -34,11 +31,8 @@ range count number is =
     (leb-true 1 number two.0, leb-true number count two.1)
 
 module _ (h : List Entry) (s : Series) (done : Done) (change : ℕ) where
-  pub comes : is_known s h ≡ true → last_publication s h ≡ Some (publication_from done) → (o : Outcome) → o ≡ following.raise h s change (publication_from done)
-      → following.RegressComesTo h s change o
-  comes one last o is =
-      let then : Publication → Outcome → Type 0 = λ p raised. raised ≡ following.raise h s change p in
-      known (OfPublished (last_publication s h) then) o (is_known s h) one (published-one then o (last_publication s h) (publication_from done) last is)
+  pub comes : IsLast h s done → (o : Outcome) → o ≡ following.raise h s change (publication_from done) → following.RegressComesTo h s change o
+  comes last o is = tells-last (λ p raised. raised ≡ following.raise h s change p) h s done o last is
 
   pub change-is : IsMadeFrom h done → series_of done ≡ s → raised_from done change ≡ following.change_of h s (publication_from done) change
   change-is made same =

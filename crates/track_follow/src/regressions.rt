@@ -9,7 +9,7 @@ ghost use Rattle.track_follow.specs.Raised.{raised_from};
 
 use crate::NoMemory;
 use change_list::changes;
-use history_model::{Author, Entry, Raised, RegressionEvent, publication_law};
+use history_model::{Author, Entry, Raised, RegressionEvent};
 use line_text::Name;
 use metric_table::Limit;
 use regression_state::{State, may_move};
@@ -116,15 +116,12 @@ pub fn regress(
         × IsStep track.old author o track.new reply) }
     ensures same { OnErr result (track.new ≡ track.old) }
 {
-    publication_law();
     steps_law();
     follow_law();
     track.history_law();
-    if !track.is_known(test, metric) {
-        return Ok(track.told(Answer::Refused(Refusal::UnknownSeries)));
-    }
-    let Some(done) = track.published(test, metric) else {
-        return Ok(track.told(Answer::Refused(Refusal::NothingPublished)));
+    let done = match track.last_published(test, metric) {
+        Ok(done) => done,
+        Err(why) => return Ok(track.told(Answer::Refused(why))),
     };
     let count = done.cert.cuts.len() as u64;
     if !is_number(count, change) {

@@ -8,10 +8,10 @@ ghost use Rattle.track_reports.specs.Lines.{named_by, HasNames};
 
 use crate::NoMemory;
 use change_list::Change;
-use history_model::{publication_law, runs_law};
+use history_model::runs_law;
 use line_text::Name;
 use order_index::OrderIndex;
-use request_model::{Answer, Boxed, NamedChange, NamedChanges, Refusal, Reply};
+use request_model::{Answer, Boxed, NamedChange, NamedChanges, Reply};
 use std::alloc::Global;
 use track_state::TrackState;
 
@@ -59,14 +59,11 @@ pub fn changes(track: &TrackState, test: &Name, metric: &Name) -> Result<Reply, 
         (record { test = test.now; metric = metric.now }) o
         × IsTold track.now o reply) }
 {
-    publication_law();
     runs_law();
     track.history_law();
-    if !track.is_known(test, metric) {
-        return Ok(track.told(Answer::Refused(Refusal::UnknownSeries)));
-    }
-    let Some(done) = track.published(test, metric) else {
-        return Ok(track.told(Answer::Refused(Refusal::NothingPublished)));
+    let done = match track.last_published(test, metric) {
+        Ok(done) => done,
+        Err(why) => return Ok(track.told(Answer::Refused(why))),
     };
     let version = done.version;
     let found = change_list::changes(track.alloc(), done)?;
@@ -86,13 +83,9 @@ pub fn verify(track: &TrackState, test: &Name, metric: &Name) -> Result<Reply, N
         (record { test = test.now; metric = metric.now }) o
         × IsTold track.now o reply) }
 {
-    publication_law();
-    track.history_law();
-    if !track.is_known(test, metric) {
-        return Ok(track.told(Answer::Refused(Refusal::UnknownSeries)));
-    }
-    let Some(done) = track.published(test, metric) else {
-        return Ok(track.told(Answer::Refused(Refusal::NothingPublished)));
+    let done = match track.last_published(test, metric) {
+        Ok(done) => done,
+        Err(why) => return Ok(track.told(Answer::Refused(why))),
     };
     let version = done.version;
     let cert = done.cert.copy(track.alloc())?;

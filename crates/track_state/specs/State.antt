@@ -16,7 +16,10 @@ use Rattle.history_model.specs.Publications.{last_publication, cut_count}
 use Rattle.metric_table.specs.Table.{IsPenalty}
 use Rattle.segment_cost.specs.declared.done.Done.{Done}
 use Rattle.publication_index.specs.Given.{given}
-use Rattle.publication_index.specs.Kept.{kept}
+use Rattle.publication_index.specs.Kept.{kept, series_of}
+use Rattle.request_model.specs.declared.replies.Refusal.{Refusal}
+use Rattle.track_model.specs.Outcomes.{refuses}
+use Rattle.track_model.specs.Publishing.{OfKnown, OfPublished}
 use Rattle.track_state.specs.declared.following.Following.{Following}
 use Rattle.track_state.specs.Following.{AreFollowed}
 use Rattle.track_state.specs.Indexes.{Kept, Penalties, stored_runs}
@@ -44,6 +47,17 @@ IsKept h None None = Unit {0}
 IsKept h (Some p) (Some done) = (p ≡ publication_from done) × IsMadeFrom h done
 IsKept h None (Some done) = ⊥
 IsKept h (Some p) None = ⊥
+
+-- what a request about a series' last publication finds: the segmentation that it was made from
+pub record IsLast (h : List Entry) (s : Series) (done : Done) : Type 0 where
+  pub known : is_known s h ≡ true
+  pub last : last_publication s h ≡ Some (publication_from done)
+  pub series : series_of done ≡ s
+  pub made : IsMadeFrom h done
+
+-- or why it is refused, whatever it would tell of a publication
+abbrev pub HasNone : List Entry → Series → Refusal → Type 0
+HasNone h s why = OfKnown (is_known s h) (OfPublished (last_publication s h) (λ p o. ⊥)) (refuses why)
 
 -- the history is legal, and each index is what follows from it
 pub record StandsFor (h : List Entry) (commits : List Declaration) (runs : List Stored) (series : Kept) (known : ℕ) (penalties : Penalties) (published : Segmentations) (cuts : ℕ) (following : Following) : Type 0 where

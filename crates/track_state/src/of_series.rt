@@ -1,12 +1,12 @@
 //! What the indexes tell of a series.
-ghost use Rattle.std.specs.Prelude.{◌≡◌, IfOk, option_copied};
+ghost use Rattle.std.specs.Prelude.{◌≡◌, IfErr, IfOk, option_copied};
 ghost use Rattle.metric_table.specs.Table.{IsPenalty};
 ghost use Rattle.history_model.specs.Entries.{entries_of};
 ghost use Rattle.history_model.specs.Penalties.{penalty_of};
 ghost use Rattle.history_model.specs.Publications.{last_publication};
 ghost use Rattle.history_model.specs.Runs.{is_known};
 ghost use Rattle.track_model.specs.Reports.{AreSeriesLines};
-ghost use Rattle.track_state.specs.State.{IsFound, IsKept};
+ghost use Rattle.track_state.specs.State.{HasNone, IsFound, IsKept, IsLast};
 
 use crate::NoMemory;
 use crate::state::TrackState;
@@ -15,13 +15,14 @@ use line_text::Name;
 use point_list::Points;
 use report_lines::series_lines;
 use report_model::SeriesLines;
+use request_model::Refusal;
 use segment_cost::Done;
 
 impl TrackState {
     /// Whether the series ever had a sample.
     pub fn is_known(&self, test: &Name, metric: &Name) -> bool
-        ensures { result
-            ≡ is_known (record { test = test.now; metric = metric.now }) (entries_of self.now.history) }
+        ensures { result ≡ is_known
+            (record { test = test.now; metric = metric.now }) (entries_of self.now.history) }
     {
         match self.series.get(test, metric) {
             Some(tracked) => tracked.since.is_some(),
@@ -53,12 +54,32 @@ impl TrackState {
     }
 
     /// The segmentation that a series' last publication was made from; none exactly where nothing was published of it.
+    /// Logarithmic time; takes no memory.
     pub fn published(&self, test: &Name, metric: &Name) -> Option<&Done>
         ensures { IsKept (entries_of self.now.history) (last_publication
             (record { test = test.now; metric = metric.now }) (entries_of self.now.history))
             (option_copied result) }
     {
         self.published.get(test, metric)
+    }
+
+    /// The segmentation that the series' last publication was made from, for a request about it; where there is none, why
+    /// that request is refused. Logarithmic time; takes no memory.
+    pub fn last_published(&self, test: &Name, metric: &Name) -> Result<&Done, Refusal>
+        ensures found { IfOk result (λ done. IsLast (entries_of self.now.history)
+            (record { test = test.now; metric = metric.now }) done.now) }
+        ensures none { IfErr result (λ why. HasNone (entries_of self.now.history)
+            (record { test = test.now; metric = metric.now }) why) }
+    {
+        publication_law();
+        self.history_law();
+        if !self.is_known(test, metric) {
+            return Err(Refusal::UnknownSeries);
+        }
+        match self.published(test, metric) {
+            Some(done) => Ok(done),
+            None => Err(Refusal::NothingPublished),
+        }
     }
 
     /// A line for each known series. Changes nothing that is seen.

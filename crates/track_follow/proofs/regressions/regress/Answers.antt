@@ -1,5 +1,5 @@
-use Rattle.std.proofs.Common.{◌≡◌, ℕ, ◌+◌, ◌<◌, ◌≤◌, true, false, List, length, refl, sym, ap, subst, ◌∙◌, Option, Some, None, arith}
-use Rattle.std.specs.Prelude.{option_copied}
+use Rattle.std.proofs.Common.{◌≡◌, ℕ, ◌+◌, ◌<◌, ◌≤◌, true, false, List, length, refl, sym, ap, subst, ◌∙◌, Some, arith}
+use Rattle.std.specs.Prelude.{IfOk, IfErr}
 use Rattle.std.proofs.lemmas.List.{length-map}
 use Rattle.metric_table.specs.Limits.{most}
 use Rattle.metric_table.specs.declared.limits.Limit.TheVariants as limit
@@ -11,59 +11,42 @@ use Rattle.history_model.specs.declared.events.Raised.{Raised}
 use Rattle.history_model.specs.declared.events.RegressionEvent.TheVariants.{Raise}
 use Rattle.history_model.specs.Allowed.{Allowed}
 use Rattle.history_model.specs.Entries.{entries_of}
-use Rattle.history_model.specs.Publications.{last_publication}
 use Rattle.history_model.specs.Regressions.{is_number, regressions}
-use Rattle.history_model.specs.Runs.{Series, is_known}
-use Rattle.publication_index.specs.Kept.{kept, series_of}
+use Rattle.history_model.specs.Runs.{Series}
 use Rattle.request_model.specs.declared.replies.Answer.TheVariants as answer
 use Rattle.request_model.specs.declared.replies.Refusal.TheVariants as refusal
 use Rattle.request_model.specs.declared.replies.Reply.{Reply}
 use Rattle.track_model.specs.Following as following
-use Rattle.track_model.specs.Outcomes.{Outcome, tells, refuses}
-use Rattle.track_model.specs.Publishing.{OfPublished}
-use Rattle.track_model.specs.Tracks.{Track}
-use Rattle.track_state.specs.Made.{publication_from, IsMadeFrom}
-use Rattle.track_state.specs.State.{IsKept}
+use Rattle.track_model.specs.Outcomes.{Outcome, refuses}
+use Rattle.track_state.specs.Made.{publication_from}
+use Rattle.track_state.specs.State.{HasNone, IsLast}
 use Rattle.track_state.proofs.Followed.{followed-length}
 use Rattle.track_follow.proofs.Raising.{comes, change-is, none-such, free, full, added}
-use Rattle.track_state.proofs.Published.{nothing, something, of-series, published-none}
+use Rattle.track_state.proofs.Published.{tells-none}
 use Rattle.track_state.proofs.Series.{no-more}
 use Rattle.track_state.proofs.Steps.{added-step}
-use Rattle.track_state.proofs.Told.{tells-it, unknown, known}
+use Rattle.track_state.proofs.Told.{tells-it}
 use Rattle.track_follow.proofs.regressions.regress.Goals as goal
 
-pub returns-then-not-is_known-clause-step : goal.returns-then-not-is_known-clause-step
-returns-then-not-is_known-clause-step c =
+pub returns-in-Err-clause-step : goal.returns-in-Err-clause-step
+returns-in-Err-clause-step c =
     let h : List Entry = entries_of c.args.track.now.history in
     let s : Series = record { test = c.args.test.now; metric = c.args.metric.now } in
-    let none : is_known s h ≡ false = sym c.is_known.ensures ∙ c.if-not-is_known.true in
-    tells-it (following.RegressComesTo h s c.args.change) c.args.track.now c.args.author (answer.Refused refusal.UnknownSeries) c.told.result
-    (unknown (OfPublished (last_publication s h) (λ p raised. raised ≡ following.raise h s c.args.change p)) (is_known s h) none) c.told.ensures
-
-pub returns-in_default-clause-step : goal.returns-in_default-clause-step
-returns-in_default-clause-step c =
-    let h : List Entry = entries_of c.args.track.now.history in
-    let s : Series = record { test = c.args.test.now; metric = c.args.metric.now } in
-    let one : is_known s h ≡ true = sym c.is_known.ensures ∙ c.if-not-is_known.false in
-    let none : option_copied c.published.result ≡ None = ap option_copied c.in_default.is in
-    tells-it (following.RegressComesTo h s c.args.change) c.args.track.now c.args.author (answer.Refused refusal.NothingPublished) c.told-in_default.result
-    (known (OfPublished (last_publication s h) (λ p raised. raised ≡ following.raise h s c.args.change p)) (tells (answer.Refused refusal.NothingPublished)) (is_known s h) one
-    (published-none (λ p raised. raised ≡ following.raise h s c.args.change p) (last_publication s h) (nothing h (last_publication s h) (option_copied c.published.result) c.published.ensures none)))
-    c.told-in_default.ensures
+    let none : HasNone h s c.in-Err.why = subst (λ r. IfErr r (HasNone h s)) c.in-Err.is c.last_published.ensures.none in
+    tells-it (following.RegressComesTo h s c.args.change) c.args.track.now c.args.author (answer.Refused c.in-Err.why) c.told.result
+    (tells-none (λ p raised. raised ≡ following.raise h s c.args.change p) h s c.in-Err.why none) c.told.ensures
 
 pub returns-then-not-is_number-clause-step : goal.returns-then-not-is_number-clause-step
 returns-then-not-is_number-clause-step c =
     let h : List Entry = entries_of c.args.track.now.history in
     let s : Series = record { test = c.args.test.now; metric = c.args.metric.now } in
-    let one : is_known s h ≡ true = sym c.is_known.ensures ∙ c.if-not-is_known.false in
-    let done : Done = c.in-Some.done.now in
-    let some : option_copied c.published.result ≡ Some done = ap option_copied c.in-Some.is in
-    let both = something h (last_publication s h) done (subst (λ (d : Option Done). IsKept h (last_publication s h) d) some c.published.ensures) in
+    let done : Done = c.in-Ok.done.now in
+    let last : IsLast h s done = subst (λ r. IfOk r (λ d. IsLast h s d.now)) c.in-Ok.is c.last_published.ensures.found in
     let count_is : c.len-count.result ≡ length done.cert.cuts = c.len-count.ensures in
     let out : is_number (length done.cert.cuts) c.args.change ≡ false =
     ap (λ (n : ℕ). is_number n c.args.change) (sym count_is) ∙ sym c.is_number.ensures ∙ c.if-not-is_number.true in
     tells-it (following.RegressComesTo h s c.args.change) c.args.track.now c.args.author (answer.Refused (refusal.NoSuchChange c.len-count.result)) c.told-then-not-is_number.result
-    (comes h s done c.args.change one both.0 (refuses (refusal.NoSuchChange c.len-count.result))
+    (comes h s done c.args.change last (refuses (refusal.NoSuchChange c.len-count.result))
     (ap (λ (n : ℕ). refuses (refusal.NoSuchChange n)) count_is ∙ none-such h s done c.args.change out))
     c.told-then-not-is_number.ensures
 
@@ -71,17 +54,15 @@ pub returns-then-len-most-clause-step : goal.returns-then-len-most-clause-step
 returns-then-len-most-clause-step c =
     let h : List Entry = entries_of c.args.track.now.history in
     let s : Series = record { test = c.args.test.now; metric = c.args.metric.now } in
-    let one : is_known s h ≡ true = sym c.is_known.ensures ∙ c.if-not-is_known.false in
-    let done : Done = c.in-Some.done.now in
-    let some : option_copied c.published.result ≡ Some done = ap option_copied c.in-Some.is in
-    let both = something h (last_publication s h) done (subst (λ (d : Option Done). IsKept h (last_publication s h) d) some c.published.ensures) in
+    let done : Done = c.in-Ok.done.now in
+    let last : IsLast h s done = subst (λ r. IfOk r (λ d. IsLast h s d.now)) c.in-Ok.is c.last_published.ensures.found in
     let count_is : c.len-count.result ≡ length done.cert.cuts = c.len-count.ensures in
     let is : is_number (length done.cert.cuts) c.args.change ≡ true =
     ap (λ (n : ℕ). is_number n c.args.change) (sym count_is) ∙ sym c.is_number.ensures ∙ c.if-not-is_number.false in
     let size : length h ≡ length c.args.track.now.history = length-map c.args.track.now.history (λ (p : Placed). p.entry) in
     let no_room : most limit.Steps ≤ length h = omega (arith, c.len.ensures, size, c.if-len-most.true, c.most.ensures) in
     tells-it (following.RegressComesTo h s c.args.change) c.args.track.now c.args.author (answer.Refused (refusal.Full limit.Steps)) c.told-then-len-most.result
-    (comes h s done c.args.change one both.0 (refuses (refusal.Full limit.Steps)) (full h s done c.args.change c.steps_law.ensures.full is no_room))
+    (comes h s done c.args.change last (refuses (refusal.Full limit.Steps)) (full h s done c.args.change c.steps_law.ensures.full is no_room))
     c.told-then-len-most.ensures
 
 pub overflow_add-regression : goal.overflow_add-regression
@@ -91,20 +72,17 @@ pub add-requires-clause-allowed : goal.add-requires-clause-allowed
 add-requires-clause-allowed c =
     let h : List Entry = entries_of c.args.track.now.history in
     let s : Series = record { test = c.args.test.now; metric = c.args.metric.now } in
-    let one : is_known s h ≡ true = sym c.is_known.ensures ∙ c.if-not-is_known.false in
-    let done : Done = c.in-Some.done.now in
-    let some : option_copied c.published.result ≡ Some done = ap option_copied c.in-Some.is in
-    let both = something h (last_publication s h) done (subst (λ (d : Option Done). IsKept h (last_publication s h) d) some c.published.ensures) in
+    let done : Done = c.in-Ok.done.now in
+    let last : IsLast h s done = subst (λ r. IfOk r (λ d. IsLast h s d.now)) c.in-Ok.is c.last_published.ensures.found in
     let count_is : c.len-count.result ≡ length done.cert.cuts = c.len-count.ensures in
     let is : is_number (length done.cert.cuts) c.args.change ≡ true =
     ap (λ (n : ℕ). is_number n c.args.change) (sym count_is) ∙ sym c.is_number.ensures ∙ c.if-not-is_number.false in
     let size : length h ≡ length c.args.track.now.history = length-map c.args.track.now.history (λ (p : Placed). p.entry) in
     let room : length h < most limit.Steps = omega (arith, c.len.ensures, size, c.if-len-most.false, c.most.ensures) in
-    let same = of-series c.publication_law.ensures.last_stands h s done c.history_law.ensures.legal both.0 in
     let raised_is : c.in_ok-raised.raised ≡ following.change_of h s (publication_from done) c.args.change =
-    c.in_ok-raised.ensures ∙ change-is h s done c.args.change both.1 same in
+    c.in_ok-raised.ensures ∙ change-is h s done c.args.change last.made last.series in
     subst (λ (r : Raised). Allowed h (entry.Regression (Raise r))) (sym raised_is)
-    (c.follow_law.ensures.raises h s (publication_from done) c.args.change c.history_law.ensures.legal c.history_law.ensures.limits one both.0 (free h s done c.args.change is) room)
+    (c.follow_law.ensures.raises h s (publication_from done) c.args.change c.history_law.ensures.legal c.history_law.ensures.limits last.known last.last (free h s done c.args.change is) room)
 
 pub add-requires-clause-more : goal.add-requires-clause-more
 add-requires-clause-more c = no-more (entries_of c.args.track.now.history) (entry.Regression (Raise c.in_ok-raised.raised)) refl
@@ -113,24 +91,21 @@ pub returns-clause-step : goal.returns-clause-step
 returns-clause-step c =
     let h : List Entry = entries_of c.args.track.now.history in
     let s : Series = record { test = c.args.test.now; metric = c.args.metric.now } in
-    let one : is_known s h ≡ true = sym c.is_known.ensures ∙ c.if-not-is_known.false in
-    let done : Done = c.in-Some.done.now in
-    let some : option_copied c.published.result ≡ Some done = ap option_copied c.in-Some.is in
-    let both = something h (last_publication s h) done (subst (λ (d : Option Done). IsKept h (last_publication s h) d) some c.published.ensures) in
+    let done : Done = c.in-Ok.done.now in
+    let last : IsLast h s done = subst (λ r. IfOk r (λ d. IsLast h s d.now)) c.in-Ok.is c.last_published.ensures.found in
     let count_is : c.len-count.result ≡ length done.cert.cuts = c.len-count.ensures in
     let is : is_number (length done.cert.cuts) c.args.change ≡ true =
     ap (λ (n : ℕ). is_number n c.args.change) (sym count_is) ∙ sym c.is_number.ensures ∙ c.if-not-is_number.false in
     let size : length h ≡ length c.args.track.now.history = length-map c.args.track.now.history (λ (p : Placed). p.entry) in
     let room : length h < most limit.Steps = omega (arith, c.len.ensures, size, c.if-len-most.false, c.most.ensures) in
-    let same = of-series c.publication_law.ensures.last_stands h s done c.history_law.ensures.legal both.0 in
     let raised_is : c.in_ok-raised.raised ≡ following.change_of h s (publication_from done) c.args.change =
-    c.in_ok-raised.ensures ∙ change-is h s done c.args.change both.1 same in
+    c.in_ok-raised.ensures ∙ change-is h s done c.args.change last.made last.series in
     let e : Entry = entry.Regression (Raise c.in_ok-raised.raised) in
     let told_is : c.len-regression.result + 1 ≡ length (regressions h) + 1 =
     ap (λ (n : ℕ). n + 1) (c.len-regression.ensures.told ∙ ap length c.regressions.ensures ∙ followed-length h 1 (regressions h)) in
     let o : Outcome = record { answer = answer.Raised (c.len-regression.result + 1); adds = Some e } in (
       o,
-      comes h s done c.args.change one both.0 o (added h s done c.args.change c.steps_law.ensures.added is room (c.len-regression.result + 1) told_is c.in_ok-raised.raised raised_is),
+      comes h s done c.args.change last o (added h s done c.args.change c.steps_law.ensures.added is room (c.len-regression.result + 1) told_is c.in_ok-raised.raised raised_is),
       added-step c.args.track.now c.args.author o o.answer e c.add.new.self _ refl c.in_ok-step.ensures.track
           (ap (λ (n : ℕ). let r : Reply = record { step = n; answer = o.answer } in r) c.in_ok-step.ensures.step),
     )
