@@ -5,6 +5,7 @@ ghost use Rattle.history_model.specs.Entries.{entries_of};
 ghost use Rattle.track_model.specs.Forms as forms;
 ghost use Rattle.history_model.specs.Runs.{accepted};
 ghost use Rattle.track_model.specs.Tracks.{IsStep};
+ghost use Rattle.track_step.specs.Told.{told_of};
 
 use crate::NoMemory;
 use history_model::{Author, Entry, Run, accept_law, retraction_law, within_law};
@@ -35,17 +36,24 @@ fn submitted(
     })
 }
 
-// What is said of a run whose name was accepted before.
-fn told_again(track: &TrackState, new: &Run) -> Option<Answer>
-    ensures { result ≡ option_map (forms.told_again new.now)
-        (accepted new.now.run (entries_of track.now.history)) }
+// What is said of a run that was judged so, where it is no new one.
+fn told_of(judged: Accepted) -> Option<Answer>
+    ensures { result ≡ told_of judged }
 {
-    match track.stored_runs().judge(new) {
+    match judged {
         Accepted::Duplicate(step) => Some(Answer::Duplicate { step }),
         Accepted::Clash(step) => Some(Answer::Refused(Refusal::IdentityClash(step))),
         Accepted::New => None,
         Accepted::Full(_) => None,
     }
+}
+
+// What is said of a run whose name was accepted before.
+fn told_again(track: &TrackState, new: &Run) -> Option<Answer>
+    ensures { result ≡ option_map (forms.told_again new.now)
+        (accepted new.now.run (entries_of track.now.history)) }
+{
+    told_of(track.stored_runs().judge(new))
 }
 
 // Whether a body states another machine.
