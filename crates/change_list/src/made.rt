@@ -37,7 +37,8 @@ pub fn changes(alloc: Global, done: &Done) -> Result<ChangeItems, NoMemory>
 // Each cut stands between the places beside it, and the centres there differ. Does nothing.
 pub(crate) fn cuts_law(done: &Done)
     ensures { (i : ℕ) → i < length done.now.cert.cuts
-        → IsBetween done.now.points (place_before done.now.cert.cuts i) (slice_index done.now.cert.cuts i)
+        → IsBetween done.now.points (place_before done.now.cert.cuts i)
+        (slice_index done.now.cert.cuts i)
         (place_behind done.now.cert.cuts (length done.now.points) i) }
 {
     joining_law();

@@ -42,7 +42,8 @@ fn need_of(square: &Square, least: &[i128], back: &[u64], from: usize, end: usiz
     requires totals { AreTotals least.now }
     requires least { length least.now ≡ length square.now.positions + 1 }
     requires back { length back.now ≡ length square.now.positions + 1 }
-    ensures { IsNeed (cost_between least_sum_of square.now.positions) least.now back.now from end result }
+    ensures { IsNeed (cost_between least_sum_of square.now.positions)
+        least.now back.now from end result }
 {
     square.limits();
     squares_law();
@@ -59,7 +60,8 @@ fn need_of(square: &Square, least: &[i128], back: &[u64], from: usize, end: usiz
 
 // The need with a place more.
 fn need_with(need: Need, total: i128, last_cut: usize) -> Need
-    ensures total { (need.total ≤ℤ result.total) × (total ≤ℤ result.total) × ((result.total ≡ need.total) ⊎ (result.total ≡ total)) }
+    ensures total { (need.total ≤ℤ result.total) × (total ≤ℤ result.total)
+        × ((result.total ≡ need.total) ⊎ (result.total ≡ total)) }
     ensures last_cut { (need.last_cut ≤ result.last_cut) × (last_cut ≤ result.last_cut) }
 {
     Need {
@@ -110,8 +112,11 @@ fn is_told(
     requires least { length least.now ≡ length square.now.positions + 1 }
     requires back { length back.now ≡ length square.now.positions + 1 }
     requires pruned { length pruned.now ≡ length square.now.positions + 1 }
-    requires need { IsNeed (cost_between least_sum_of square.now.positions) least.now back.now from end need }
-    ensures { IsTrue result → PlaceHoldsInBlock (cost_between least_sum_of square.now.positions) penalty least.now back.now pruned.now s from end }
+    requires need { IsNeed (cost_between least_sum_of square.now.positions)
+        least.now back.now from end need }
+    ensures { IsTrue result
+        → PlaceHoldsInBlock (cost_between least_sum_of square.now.positions)
+        penalty least.now back.now pruned.now s from end }
 {
     squares_law();
     value_costs_law();
@@ -166,8 +171,11 @@ fn place_holds(
     requires least { length least.now ≡ length square.now.positions + 1 }
     requires back { length back.now ≡ length square.now.positions + 1 }
     requires pruned { length pruned.now ≡ length square.now.positions + 1 }
-    requires need { IsNeed (cost_between least_sum_of square.now.positions) least.now back.now from end need }
-    ensures { IsTrue result ↔ PlaceHoldsInBlock (cost_between least_sum_of square.now.positions) penalty least.now back.now pruned.now s from end }
+    requires need { IsNeed (cost_between least_sum_of square.now.positions)
+        least.now back.now from end need }
+    ensures { IsTrue result
+        ↔ PlaceHoldsInBlock (cost_between least_sum_of square.now.positions)
+        penalty least.now back.now pruned.now s from end }
 {
     if is_told(square, penalty, least, back, pruned, need, s, from, end) {
         return true;
@@ -209,7 +217,8 @@ fn floor_at(square: &Square, watch: Watch, from: usize) -> i128
     requires before { watch.at ≤ from }
     requires low { neg_ℤ (pos (2 * 10 ^ 37)) ≤ℤ watch.total }
     requires high { watch.total ≤ℤ pos (2 * 10 ^ 37) }
-    ensures total { result ≤ℤ (watch.total +ℤ cost_between least_sum_of square.now.positions watch.at from) }
+    ensures total { result
+        ≤ℤ (watch.total +ℤ cost_between least_sum_of square.now.positions watch.at from) }
     ensures low { neg_ℤ (pos (2 * 10 ^ 37)) ≤ℤ result }
     ensures high { result ≤ℤ pos (3 * 10 ^ 37) }
 {
@@ -241,7 +250,9 @@ fn passes(
     requires total_high { watch.total ≤ℤ pos (2 * 10 ^ 37) }
     ensures { IsTrue result → (watch.is_shut ≡ true)
         ⊎ ((need.last_cut ≤ start) × (end ≤ watch.until)
-        × (need.total ≤ℤ (watch.total +ℤ cost_between least_sum_of square.now.positions watch.at from +ℤ penalty))) }
+        × (need.total
+        ≤ℤ (watch.total +ℤ cost_between least_sum_of square.now.positions watch.at from
+        +ℤ penalty))) }
 {
     square.limits();
     squares_law();
@@ -260,7 +271,8 @@ fn passes(
 
 // What is known of a block with a place more, which isn't closed, has that mark, and makes that.
 fn watch_with(watch: Watch, made: i128, mark: usize) -> Watch
-    ensures total { (result.total ≤ℤ watch.total) × (result.total ≤ℤ made) × ((result.total ≡ watch.total) ⊎ (result.total ≡ made)) }
+    ensures total { (result.total ≤ℤ watch.total) × (result.total ≤ℤ made)
+        × ((result.total ≡ watch.total) ⊎ (result.total ≡ made)) }
     ensures until { (result.until ≤ watch.until) × ((mark ≡ 0) ⊎ (result.until < mark)) }
     ensures open { result.is_shut ≡ false }
     ensures at { result.at ≡ watch.at }
@@ -291,8 +303,10 @@ fn next_watch(
     requires totals { AreTotals least.now }
     requires least { length least.now ≡ length square.now.positions + 1 }
     requires pruned { length pruned.now ≡ length square.now.positions + 1 }
-    requires watch { IsWatch (cost_between least_sum_of square.now.positions) (length square.now.positions) least.now pruned.now start s watch.at watch }
-    ensures watch { IsWatch (cost_between least_sum_of square.now.positions) (length square.now.positions) least.now pruned.now start (s + 1) watch.at result }
+    requires watch { IsWatch (cost_between least_sum_of square.now.positions)
+        (length square.now.positions) least.now pruned.now start s watch.at watch }
+    ensures watch { IsWatch (cost_between least_sum_of square.now.positions)
+        (length square.now.positions) least.now pruned.now start (s + 1) watch.at result }
     ensures at { result.at ≡ watch.at }
 {
     square.limits();
@@ -320,7 +334,8 @@ fn watch_of(
     requires totals { AreTotals least.now }
     requires least { length least.now ≡ length square.now.positions + 1 }
     requires pruned { length pruned.now ≡ length square.now.positions + 1 }
-    ensures { IsWatch (cost_between least_sum_of square.now.positions) (length square.now.positions) least.now pruned.now start stop from result }
+    ensures { IsWatch (cost_between least_sum_of square.now.positions) (length square.now.positions)
+        least.now pruned.now start stop from result }
 {
     let mut watch = Watch {
         at: from,
@@ -358,9 +373,12 @@ fn range_holds(
     requires least { length least.now ≡ length square.now.positions + 1 }
     requires back { length back.now ≡ length square.now.positions + 1 }
     requires pruned { length pruned.now ≡ length square.now.positions + 1 }
-    requires need { IsNeed (cost_between least_sum_of square.now.positions) least.now back.now from end need }
+    requires need { IsNeed (cost_between least_sum_of square.now.positions)
+        least.now back.now from end need }
     ensures { IsTrue result
-        ↔ ((s : ℕ) → start ≤ s → s < stop → PlaceHoldsInBlock (cost_between least_sum_of square.now.positions) penalty least.now back.now pruned.now s from end) }
+        ↔ ((s : ℕ) → start ≤ s → s < stop
+        → PlaceHoldsInBlock (cost_between least_sum_of square.now.positions)
+        penalty least.now back.now pruned.now s from end) }
 {
     for s in start..stop {
         if !place_holds(square, penalty, least, back, pruned, need, s, from, end) {
@@ -398,11 +416,21 @@ fn front_holds(
     requires least { length least.now ≡ length square.now.positions + 1 }
     requires back { length back.now ≡ length square.now.positions + 1 }
     requires pruned { length pruned.now ≡ length square.now.positions + 1 }
-    requires need { IsNeed (cost_between least_sum_of square.now.positions) least.now back.now from end need }
-    requires watch { IsWatch (cost_between least_sum_of square.now.positions) (length square.now.positions) least.now pruned.now start stop from watch }
-    ensures holds { IfSome result (λ next. (s : ℕ) → start ≤ s → s < stop → PlaceHoldsInBlock (cost_between least_sum_of square.now.positions) penalty least.now back.now pruned.now s from end) }
-    ensures watch { IfSome result (λ next. IsWatch (cost_between least_sum_of square.now.positions) (length square.now.positions) least.now pruned.now start stop from next) }
-    ensures none { IfNone result (¬ ((s : ℕ) → start ≤ s → s < stop → PlaceHoldsInBlock (cost_between least_sum_of square.now.positions) penalty least.now back.now pruned.now s from end)) }
+    requires need { IsNeed (cost_between least_sum_of square.now.positions)
+        least.now back.now from end need }
+    requires watch { IsWatch (cost_between least_sum_of square.now.positions)
+        (length square.now.positions) least.now pruned.now start stop from watch }
+    ensures holds { IfSome result
+        (λ next. (s : ℕ) → start ≤ s → s < stop
+        → PlaceHoldsInBlock (cost_between least_sum_of square.now.positions)
+        penalty least.now back.now pruned.now s from end) }
+    ensures watch { IfSome result
+        (λ next. IsWatch (cost_between least_sum_of square.now.positions)
+        (length square.now.positions) least.now pruned.now start stop from next) }
+    ensures none { IfNone result
+        (¬ ((s : ℕ) → start ≤ s → s < stop
+        → PlaceHoldsInBlock (cost_between least_sum_of square.now.positions)
+        penalty least.now back.now pruned.now s from end)) }
 {
     square.limits();
     squares_law();
@@ -459,11 +487,16 @@ fn fronts_hold(
     requires least { length least.now ≡ length square.now.positions + 1 }
     requires back { length back.now ≡ length square.now.positions + 1 }
     requires pruned { length pruned.now ≡ length square.now.positions + 1 }
-    requires need { IsNeed (cost_between least_sum_of square.now.positions) least.now back.now (k * 32) end need }
-    requires watches { AreWatches (cost_between least_sum_of square.now.positions) (length square.now.positions) least.now pruned.now (k * 32) watches.old }
+    requires need { IsNeed (cost_between least_sum_of square.now.positions)
+        least.now back.now (k * 32) end need }
+    requires watches { AreWatches (cost_between least_sum_of square.now.positions)
+        (length square.now.positions) least.now pruned.now (k * 32) watches.old }
     ensures holds { IsTrue result
-        ↔ ((s : ℕ) → s < k * 32 → PlaceHoldsInBlock (cost_between least_sum_of square.now.positions) penalty least.now back.now pruned.now s (k * 32) end) }
-    ensures watches { AreWatches (cost_between least_sum_of square.now.positions) (length square.now.positions) least.now pruned.now (k * 32) watches.new }
+        ↔ ((s : ℕ) → s < k * 32
+        → PlaceHoldsInBlock (cost_between least_sum_of square.now.positions)
+        penalty least.now back.now pruned.now s (k * 32) end) }
+    ensures watches { AreWatches (cost_between least_sum_of square.now.positions)
+        (length square.now.positions) least.now pruned.now (k * 32) watches.new }
 {
     square.limits();
     squares_law();
@@ -511,10 +544,14 @@ fn block_holds(
     requires least { length least.now ≡ length square.now.positions + 1 }
     requires back { length back.now ≡ length square.now.positions + 1 }
     requires pruned { length pruned.now ≡ length square.now.positions + 1 }
-    requires watches { AreWatches (cost_between least_sum_of square.now.positions) (length square.now.positions) least.now pruned.now (k * 32) watches.old }
+    requires watches { AreWatches (cost_between least_sum_of square.now.positions)
+        (length square.now.positions) least.now pruned.now (k * 32) watches.old }
     ensures holds { IsTrue result
-        ↔ ((s : ℕ) → s < end → PlaceHoldsInBlock (cost_between least_sum_of square.now.positions) penalty least.now back.now pruned.now s (k * 32) end) }
-    ensures watches { AreWatches (cost_between least_sum_of square.now.positions) (length square.now.positions) least.now pruned.now (k * 32 + 32) watches.new }
+        ↔ ((s : ℕ) → s < end
+        → PlaceHoldsInBlock (cost_between least_sum_of square.now.positions)
+        penalty least.now back.now pruned.now s (k * 32) end) }
+    ensures watches { AreWatches (cost_between least_sum_of square.now.positions)
+        (length square.now.positions) least.now pruned.now (k * 32 + 32) watches.new }
 {
     let from = k * BLOCK;
     let need = need_of(square, least, back, from, end);
@@ -545,9 +582,12 @@ fn own_holds(
     requires least { length least.now ≡ length square.now.positions + 1 }
     requires back { length back.now ≡ length square.now.positions + 1 }
     requires pruned { length pruned.now ≡ length square.now.positions + 1 }
-    requires need { IsNeed (cost_between least_sum_of square.now.positions) least.now back.now from end need }
+    requires need { IsNeed (cost_between least_sum_of square.now.positions)
+        least.now back.now from end need }
     ensures { IsTrue result
-        ↔ ((s : ℕ) → from ≤ s → s < end → PlaceHoldsInBlock (cost_between least_sum_of square.now.positions) penalty least.now back.now pruned.now s from end) }
+        ↔ ((s : ℕ) → from ≤ s → s < end
+        → PlaceHoldsInBlock (cost_between least_sum_of square.now.positions)
+        penalty least.now back.now pruned.now s from end) }
 {
     square.limits();
     squares_law();
@@ -573,7 +613,8 @@ fn blocks_of(count: usize) -> usize
 fn no_watches(square: &Square, least: &[i128], pruned: &[u64]) -> [Watch; BLOCKS]
     requires totals { AreTotals least.now }
     requires least { length least.now ≡ length square.now.positions + 1 }
-    ensures { AreWatches (cost_between least_sum_of square.now.positions) (length square.now.positions) least.now pruned.now 0 result }
+    ensures { AreWatches (cost_between least_sum_of square.now.positions)
+        (length square.now.positions) least.now pruned.now 0 result }
 {
     square.limits();
     squares_law();
@@ -593,7 +634,8 @@ fn blocks_hold(square: &Square, penalty: i128, least: &[i128], back: &[u64], pru
     requires back { length back.now ≡ length square.now.positions + 1 }
     requires pruned { length pruned.now ≡ length square.now.positions + 1 }
     ensures { IsTrue result
-        ↔ ((s : ℕ) → PlaceHoldsInBlock (cost_between least_sum_of square.now.positions) penalty least.now back.now pruned.now s 0 (length square.now.positions)) }
+        ↔ ((s : ℕ) → PlaceHoldsInBlock (cost_between least_sum_of square.now.positions)
+        penalty least.now back.now pruned.now s 0 (length square.now.positions)) }
 {
     let n = square.len();
     let mut watches = no_watches(square, least, pruned);
@@ -643,7 +685,8 @@ pub fn places_hold(
     requires back { length back.now ≡ length square.now.positions + 1 }
     requires pruned { length pruned.now ≡ length square.now.positions + 1 }
     ensures { IsTrue result ↔ ((s : ℕ) → s ≤ length square.now.positions
-        → PlaceHolds (cost_between least_sum_of square.now.positions) (length square.now.positions) penalty least.now back.now pruned.now s) }
+        → PlaceHolds (cost_between least_sum_of square.now.positions) (length square.now.positions)
+        penalty least.now back.now pruned.now s) }
 {
     if !marks_hold(square.len(), pruned) {
         return false;

@@ -67,8 +67,9 @@ fn total_of(least: &[i128], n: usize) -> i128
 fn are_tables(square: &Square, penalty: i128, least: &[i128], back: &[u64], pruned: &[u64]) -> bool
     requires low { pos 0 ≤ℤ penalty }
     requires high { penalty ≤ℤ pos (10 ^ 36) }
-    ensures { IsTrue result ↔ IsTable (cost_between least_sum_of square.now.positions) (length square.now.positions) penalty
-        least.now back.now pruned.now }
+    ensures { IsTrue result
+        ↔ IsTable (cost_between least_sum_of square.now.positions) (length square.now.positions)
+        penalty least.now back.now pruned.now }
 {
     square.limits();
     squares_law();

@@ -30,7 +30,8 @@ pub fn made_from(square: &Square, least: &[i128], s: usize, t: usize) -> i128
     requires below { s < t }
     requires totals { AreTotals least.now }
     requires least { length least.now ≡ length square.now.positions + 1 }
-    ensures total { result ≡ int_at least.now s +ℤ cost_between least_sum_of square.now.positions s t }
+    ensures total { result
+        ≡ int_at least.now s +ℤ cost_between least_sum_of square.now.positions s t }
     ensures low { neg_ℤ (pos (10 ^ 36)) ≤ℤ result }
     ensures high { result ≤ℤ pos (2 * 10 ^ 37) }
 {
@@ -49,7 +50,8 @@ fn row_holds(square: &Square, penalty: i128, least: &[i128], back: &[u64], t: us
     requires totals { AreTotals least.now }
     requires least { length least.now ≡ length square.now.positions + 1 }
     requires back { length back.now ≡ length square.now.positions + 1 }
-    ensures { IsTrue result ↔ RowHolds (cost_between least_sum_of square.now.positions) penalty least.now back.now t }
+    ensures { IsTrue result
+        ↔ RowHolds (cost_between least_sum_of square.now.positions) penalty least.now back.now t }
 {
     let s = back[t] as usize;
     if s >= t {
@@ -94,11 +96,13 @@ fn pair_holds(
     requires least { length least.now ≡ length square.now.positions + 1 }
     requires back { length back.now ≡ length square.now.positions + 1 }
     requires pruned { length pruned.now ≡ length square.now.positions + 1 }
-    requires made { from_here ≡ int_at least.now s +ℤ cost_between least_sum_of square.now.positions s t }
+    requires made { from_here
+        ≡ int_at least.now s +ℤ cost_between least_sum_of square.now.positions s t }
     requires made_low { neg_ℤ (pos (10 ^ 36)) ≤ℤ from_here }
     requires made_high { from_here ≤ℤ pos (2 * 10 ^ 37) }
     ensures { IsTrue result
-        ↔ PairHolds (cost_between least_sum_of square.now.positions) penalty least.now back.now pruned.now s t }
+        ↔ PairHolds (cost_between least_sum_of square.now.positions)
+        penalty least.now back.now pruned.now s t }
 {
     let _ = square;
     let made = from_here + penalty;
@@ -135,7 +139,8 @@ fn are_paired(
 
 // Whether place t is the mark, where place s lies before the last cut and the segment to t is dear, and isn't elsewhere.
 fn is_marked(dear: bool, s: usize, last_cut: usize, mark: usize, t: usize) -> bool
-    ensures { IsTrue result ↔ ((s < last_cut → (IsTrue dear ↔ (mark ≡ t))) × (last_cut ≤ s → mark ≢ t)) }
+    ensures { IsTrue result
+        ↔ ((s < last_cut → (IsTrue dear ↔ (mark ≡ t))) × (last_cut ≤ s → mark ≢ t)) }
 {
     if s < last_cut && dear {
         mark == t
@@ -206,11 +211,17 @@ fn next_floor(
     requires least { length least.now ≡ length square.now.positions + 1 }
     requires back { length back.now ≡ length square.now.positions + 1 }
     requires pruned { length pruned.now ≡ length square.now.positions + 1 }
-    requires floor { IsFloor (cost_between least_sum_of square.now.positions) (length square.now.positions) least.now s t floor }
-    ensures holds { IfSome result (λ next. PairHolds (cost_between least_sum_of square.now.positions) penalty least.now back.now pruned.now s t) }
+    requires floor { IsFloor (cost_between least_sum_of square.now.positions)
+        (length square.now.positions) least.now s t floor }
+    ensures holds { IfSome result
+        (λ next. PairHolds (cost_between least_sum_of square.now.positions)
+        penalty least.now back.now pruned.now s t) }
     ensures floor { IfSome result (λ next.
-        IsFloor (cost_between least_sum_of square.now.positions) (length square.now.positions) least.now s (t + 1) next) }
-    ensures none { IfNone result (¬ PairHolds (cost_between least_sum_of square.now.positions) penalty least.now back.now pruned.now s t) }
+        IsFloor (cost_between least_sum_of square.now.positions) (length square.now.positions)
+        least.now s (t + 1) next) }
+    ensures none { IfNone result
+        (¬ PairHolds (cost_between least_sum_of square.now.positions)
+        penalty least.now back.now pruned.now s t) }
 {
     square.limits();
     squares_law();
@@ -250,7 +261,8 @@ pub fn pairs_hold(
     requires back { length back.now ≡ length square.now.positions + 1 }
     requires pruned { length pruned.now ≡ length square.now.positions + 1 }
     ensures { IsTrue result ↔ ((t : ℕ) → from < t → t ≤ end
-        → PairHolds (cost_between least_sum_of square.now.positions) penalty least.now back.now pruned.now s t) }
+        → PairHolds (cost_between least_sum_of square.now.positions)
+        penalty least.now back.now pruned.now s t) }
 {
     square.limits();
     squares_law();

@@ -35,7 +35,8 @@ fn put_number(alloc: Global, out: &mut Vec<u8>, name: &[u8], number: u64) -> Res
 
 // A line of one cost behind a name.
 fn put_cost(alloc: Global, out: &mut Vec<u8>, name: &[u8], cost: i128) -> Result<(), NoMemory>
-    ensures { OnOk result (out.new.items ≡ out.old.items ++ row name.now (signed_decimal cost ∷ [])) }
+    ensures { OnOk result
+        (out.new.items ≡ out.old.items ++ row name.now (signed_decimal cost ∷ [])) }
 {
     out.extend_from_slice(name)?;
     out.push(b' ')?;
@@ -51,7 +52,8 @@ fn put_numbers(
     name: &[u8],
     numbers: &Numbers,
 ) -> Result<(), NoMemory>
-    ensures { OnOk result (out.new.items ≡ out.old.items ++ row name.now (map decimal numbers.now)) }
+    ensures { OnOk result
+        (out.new.items ≡ out.old.items ++ row name.now (map decimal numbers.now)) }
 {
     out.extend_from_slice(name)?;
     for number in numbers.as_slice() {
@@ -64,7 +66,8 @@ fn put_numbers(
 
 // A line of costs behind a name.
 fn put_costs(alloc: Global, out: &mut Vec<u8>, name: &[u8], costs: &Costs) -> Result<(), NoMemory>
-    ensures { OnOk result (out.new.items ≡ out.old.items ++ row name.now (map signed_decimal costs.now)) }
+    ensures { OnOk result
+        (out.new.items ≡ out.old.items ++ row name.now (map signed_decimal costs.now)) }
 {
     out.extend_from_slice(name)?;
     for cost in costs.as_slice() {

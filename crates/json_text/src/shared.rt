@@ -98,7 +98,8 @@ impl Model for SharedText {
 
     ghost view = { λ t. slice_range t.whole t.start t.end };
 
-    ghost invariant = { λ t. (t.start ≤ t.end) × IsCharBoundary t.whole t.start × IsCharBoundary t.whole t.end };
+    ghost invariant = { λ t. (t.start ≤ t.end) × IsCharBoundary t.whole t.start
+        × IsCharBoundary t.whole t.end };
 }
 
 impl SharedText {

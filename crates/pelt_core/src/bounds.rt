@@ -58,12 +58,16 @@ pub fn first_least<C: Cost>(
     requires some { guess < length candidates.now }
     requires few { length candidates.now ≤ 16_385 }
     requires limits { AreWithinLimits (C.positions cost.now) }
-    requires below { (i : ℕ) → i < length candidates.now → slice_index candidates.now i < length (C.positions cost.now) }
+    requires below { (i : ℕ) → i < length candidates.now
+        → slice_index candidates.now i < length (C.positions cost.now) }
     requires lengths { length least.now ≡ length (C.positions cost.now) }
     requires totals { AreTotals least.now }
-    requires bounds { HaveBounds (cost_between C.cost_of (C.positions cost.now)) (length (C.positions cost.now)) least.now candidates.now guess bounds.old }
-    ensures bounds { HaveBounds (cost_between C.cost_of (C.positions cost.now)) (length (C.positions cost.now)) least.now candidates.now result.index bounds.new }
-    ensures found { IsFirst (cost_between C.cost_of (C.positions cost.now)) least.now (length (C.positions cost.now)) candidates.now guess (length candidates.now) result }
+    requires bounds { HaveBounds (cost_between C.cost_of (C.positions cost.now))
+        (length (C.positions cost.now)) least.now candidates.now guess bounds.old }
+    ensures bounds { HaveBounds (cost_between C.cost_of (C.positions cost.now))
+        (length (C.positions cost.now)) least.now candidates.now result.index bounds.new }
+    ensures found { IsFirst (cost_between C.cost_of (C.positions cost.now)) least.now
+        (length (C.positions cost.now)) candidates.now guess (length candidates.now) result }
 {
     value_costs_law();
     let first = Found {
@@ -83,7 +87,8 @@ pub fn first_least<C: Cost>(
 fn release(bounds: &mut [Bound], k: usize, first: Found, found: usize, t: usize)
     requires { k < length bounds.old }
     ensures same { found ≡ first.index → bounds.new ≡ bounds.old }
-    ensures lowered { found ≢ first.index → IsLowered (bound_at bounds.old k) t first.total (bound_at bounds.new k) }
+    ensures lowered { found ≢ first.index
+        → IsLowered (bound_at bounds.old k) t first.total (bound_at bounds.new k) }
     ensures others { (j : ℕ) → j ≢ k → bound_at bounds.new j ≡ bound_at bounds.old j }
 {
     if found != first.index {
@@ -120,13 +125,18 @@ fn look_at_block<C: Cost>(
 ) -> Found
     requires block { k < 65 }
     requires limits { AreWithinLimits (C.positions cost.now) }
-    requires below { (i : ℕ) → i < length candidates.now → slice_index candidates.now i < length (C.positions cost.now) }
+    requires below { (i : ℕ) → i < length candidates.now
+        → slice_index candidates.now i < length (C.positions cost.now) }
     requires lengths { length least.now ≡ length (C.positions cost.now) }
     requires totals { AreTotals least.now }
-    requires bounds { HaveBounds (cost_between C.cost_of (C.positions cost.now)) (length (C.positions cost.now)) least.now candidates.now guess bounds.old }
-    requires found { IsFirst (cost_between C.cost_of (C.positions cost.now)) least.now (length (C.positions cost.now)) candidates.now guess (256 * k) best }
-    ensures bounds { HaveBounds (cost_between C.cost_of (C.positions cost.now)) (length (C.positions cost.now)) least.now candidates.now guess bounds.new }
-    ensures found { IsFirst (cost_between C.cost_of (C.positions cost.now)) least.now (length (C.positions cost.now)) candidates.now guess (256 * k + 256) result }
+    requires bounds { HaveBounds (cost_between C.cost_of (C.positions cost.now))
+        (length (C.positions cost.now)) least.now candidates.now guess bounds.old }
+    requires found { IsFirst (cost_between C.cost_of (C.positions cost.now)) least.now
+        (length (C.positions cost.now)) candidates.now guess (256 * k) best }
+    ensures bounds { HaveBounds (cost_between C.cost_of (C.positions cost.now))
+        (length (C.positions cost.now)) least.now candidates.now guess bounds.new }
+    ensures found { IsFirst (cost_between C.cost_of (C.positions cost.now)) least.now
+        (length (C.positions cost.now)) candidates.now guess (256 * k + 256) result }
 {
     value_costs_law();
     if is_behind(cost, bounds[k], k * BLOCK, best) {
@@ -147,7 +157,9 @@ fn is_behind<C: Cost>(cost: &C, bound: Bound, start: usize, best: Found) -> bool
     requires placed { bound.at ≤ length (C.positions cost.now) }
     requires low { neg_ℤ (pos (10 ^ 36)) ≤ℤ bound.total }
     requires high { bound.total ≤ℤ pos (2 * 10 ^ 37) }
-    ensures { IsTrue result → IsBelowBlock (cost_between C.cost_of (C.positions cost.now)) (length (C.positions cost.now)) bound start best }
+    ensures { IsTrue result
+        → IsBelowBlock (cost_between C.cost_of (C.positions cost.now))
+        (length (C.positions cost.now)) bound start best }
 {
     value_costs_law();
     if comes_first(best, bound.total, start) {
@@ -177,13 +189,18 @@ fn best_of_block<C: Cost>(
 ) -> Looked
     requires block { k < 65 }
     requires limits { AreWithinLimits (C.positions cost.now) }
-    requires below { (i : ℕ) → i < length candidates.now → slice_index candidates.now i < length (C.positions cost.now) }
+    requires below { (i : ℕ) → i < length candidates.now
+        → slice_index candidates.now i < length (C.positions cost.now) }
     requires lengths { length least.now ≡ length (C.positions cost.now) }
     requires totals { AreTotals least.now }
-    requires found { IsFirst (cost_between C.cost_of (C.positions cost.now)) least.now (length (C.positions cost.now)) candidates.now guess (256 * k) best }
-    ensures found { IsFirst (cost_between C.cost_of (C.positions cost.now)) least.now (length (C.positions cost.now)) candidates.now guess (256 * k + 256) result.best }
-    ensures at_most { (i : ℕ) → 256 * k ≤ i → i < 256 * k + 256 → i < length candidates.now → i ≢ guess
-        → result.low ≤ℤ total_from (cost_between C.cost_of (C.positions cost.now)) least.now (length (C.positions cost.now)) (slice_index candidates.now i) }
+    requires found { IsFirst (cost_between C.cost_of (C.positions cost.now)) least.now
+        (length (C.positions cost.now)) candidates.now guess (256 * k) best }
+    ensures found { IsFirst (cost_between C.cost_of (C.positions cost.now)) least.now
+        (length (C.positions cost.now)) candidates.now guess (256 * k + 256) result.best }
+    ensures at_most { (i : ℕ) → 256 * k ≤ i → i < 256 * k + 256 → i < length candidates.now
+        → i ≢ guess
+        → result.low ≤ℤ total_from (cost_between C.cost_of (C.positions cost.now)) least.now
+        (length (C.positions cost.now)) (slice_index candidates.now i) }
     ensures low { neg_ℤ (pos (10 ^ 36)) ≤ℤ result.low }
     ensures high { result.low ≤ℤ pos (2 * 10 ^ 37) }
 {
@@ -203,7 +220,8 @@ fn best_of_block<C: Cost>(
 
 // The one with the smaller total; of equal totals the one at the smaller index.
 fn better(best: Found, here: Found) -> Found
-    ensures here { ((here.total <ℤ best.total) ⊎ ((here.total ≡ best.total) × (here.index < best.index))) → result ≡ here }
+    ensures here { ((here.total <ℤ best.total)
+        ⊎ ((here.total ≡ best.total) × (here.index < best.index))) → result ≡ here }
     ensures best { IsNoLater best here.total here.index → result ≡ best }
 {
     if comes_first(best, here.total, here.index) {
@@ -260,7 +278,8 @@ pub fn reset(bounds: &mut [Bound], bound: Bound)
 
 // Makes each bound one that holds for any places up to place t.
 pub fn forget(bounds: &mut [Bound], t: usize)
-    ensures { (k : ℕ) → k < length bounds.old → bound_at bounds.new k ≡ record { at = t; total = neg_ℤ (pos (10 ^ 36)) } }
+    ensures { (k : ℕ) → k < length bounds.old
+        → bound_at bounds.new k ≡ record { at = t; total = neg_ℤ (pos (10 ^ 36)) } }
 {
     reset(
         bounds,

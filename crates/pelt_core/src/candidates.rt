@@ -13,7 +13,9 @@ pub fn last_total<C: Cost>(cost: &C, least: &[i128], s: usize) -> i128
     requires below { s < length (C.positions cost.now) }
     requires lengths { length (C.positions cost.now) ≤ length least.now }
     requires totals { AreTotals least.now }
-    ensures total { result ≡ total_from (cost_between C.cost_of (C.positions cost.now)) least.now (length (C.positions cost.now)) s }
+    ensures total { result
+        ≡ total_from (cost_between C.cost_of (C.positions cost.now)) least.now
+        (length (C.positions cost.now)) s }
     ensures low { neg_ℤ (pos (10 ^ 36)) ≤ℤ result }
     ensures high { result ≤ℤ pos (2 * 10 ^ 37) }
 {
@@ -28,7 +30,8 @@ fn is_dear<C: Cost>(cost: &C, least: &[i128], s: usize) -> bool
     requires lengths { length least.now ≡ length (C.positions cost.now) + 1 }
     requires totals { AreTotals least.now }
     ensures { IsTrue result
-        ↔ IsDear (cost_between C.cost_of (C.positions cost.now)) least.now s (length (C.positions cost.now)) }
+        ↔ IsDear (cost_between C.cost_of (C.positions cost.now)) least.now s
+        (length (C.positions cost.now)) }
 {
     last_total(cost, least, s) > least[cost.len()]
 }
@@ -44,18 +47,24 @@ pub fn mark_dear<C: Cost>(
 ) -> usize
     requires limits { AreWithinLimits (C.positions cost.now) }
     requires count { count ≤ length candidates.now }
-    requires below { (i : ℕ) → i < length candidates.now → slice_index candidates.now i < length (C.positions cost.now) }
-    requires rising { (i j : ℕ) → i < j → j < length candidates.now → slice_index candidates.now i < slice_index candidates.now j }
+    requires below { (i : ℕ) → i < length candidates.now
+        → slice_index candidates.now i < length (C.positions cost.now) }
+    requires rising { (i j : ℕ) → i < j → j < length candidates.now
+        → slice_index candidates.now i < slice_index candidates.now j }
     requires least { length least.now ≡ length (C.positions cost.now) + 1 }
     requires pruned { length pruned.old ≡ length (C.positions cost.now) + 1 }
     requires totals { AreTotals least.now }
     ensures dear { (i : ℕ) → i < count
-        → IsDear (cost_between C.cost_of (C.positions cost.now)) least.now (slice_index candidates.now i) (length (C.positions cost.now))
+        → IsDear (cost_between C.cost_of (C.positions cost.now)) least.now
+        (slice_index candidates.now i) (length (C.positions cost.now))
         → slice_index pruned.new (slice_index candidates.now i) ≡ length (C.positions cost.now) }
     ensures cheap { (i : ℕ) → i < count
-        → ¬ IsDear (cost_between C.cost_of (C.positions cost.now)) least.now (slice_index candidates.now i) (length (C.positions cost.now))
-        → slice_index pruned.new (slice_index candidates.now i) ≡ slice_index pruned.old (slice_index candidates.now i) }
-    ensures others { (s : ℕ) → ((i : ℕ) → i < count → slice_index candidates.now i ≢ s) → slice_index pruned.new s ≡ slice_index pruned.old s }
+        → ¬ IsDear (cost_between C.cost_of (C.positions cost.now)) least.now
+        (slice_index candidates.now i) (length (C.positions cost.now))
+        → slice_index pruned.new (slice_index candidates.now i)
+        ≡ slice_index pruned.old (slice_index candidates.now i) }
+    ensures others { (s : ℕ) → ((i : ℕ) → i < count → slice_index candidates.now i ≢ s)
+        → slice_index pruned.new s ≡ slice_index pruned.old s }
     ensures some { result ≤ count }
     ensures none { result ≡ 0 → pruned.new ≡ pruned.old }
 {
@@ -72,7 +81,9 @@ pub fn mark_dear<C: Cost>(
 
 // Keeps the candidates that have no mark, where some of them were marked.
 pub fn sweep(candidates: &mut Vec<u16>, pruned: &[u16], marked: usize)
-    ensures some { 0 < marked → candidates.new.items ≡ filter (λ c. slice_index_or pruned.now c 1 == 0) candidates.old.items }
+    ensures some { 0 < marked
+        → candidates.new.items
+        ≡ filter (λ c. slice_index_or pruned.now c 1 == 0) candidates.old.items }
     ensures none { marked ≡ 0 → candidates.new.items ≡ candidates.old.items }
     ensures capacity { vec_capacity candidates.old ≤ vec_capacity candidates.new }
 {
@@ -83,7 +94,8 @@ pub fn sweep(candidates: &mut Vec<u16>, pruned: &[u16], marked: usize)
 
 // Keeps the candidates that have no mark.
 fn drop_marked(candidates: &mut Vec<u16>, pruned: &[u16])
-    ensures items { candidates.new.items ≡ filter (λ c. slice_index_or pruned.now c 1 == 0) candidates.old.items }
+    ensures items { candidates.new.items
+        ≡ filter (λ c. slice_index_or pruned.now c 1 == 0) candidates.old.items }
     ensures capacity { vec_capacity candidates.old ≤ vec_capacity candidates.new }
 {
     candidates.retain(|c| is_open(pruned, *c));
@@ -99,7 +111,8 @@ fn is_open(pruned: &[u16], s: u16) -> bool
 
 // Takes away the marks behind place k.
 pub fn unmark(pruned: &mut [u16], k: usize)
-    ensures { (s : ℕ) → s < length pruned.old → IsUnmarkedBehind k (slice_index pruned.old s) (slice_index pruned.new s) }
+    ensures { (s : ℕ) → s < length pruned.old
+        → IsUnmarkedBehind k (slice_index pruned.old s) (slice_index pruned.new s) }
 {
     for i in 0..pruned.len() {
         if usize::from(pruned[i]) > k {

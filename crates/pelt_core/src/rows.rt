@@ -35,7 +35,8 @@ impl Rows {
     pub fn start(alloc: Global, penalty: i128) -> Result<Rows, NoMemory>
         requires low { pos 0 ≤ℤ penalty }
         requires high { penalty ≤ℤ pos (10 ^ 36) }
-        ensures { IfOk result (λ rows. (cost : ℕ → ℕ → ℤ) → cost 0 0 ≡ pos 0 → ArePruned cost 0 penalty rows) }
+        ensures { IfOk result
+            (λ rows. (cost : ℕ → ℕ → ℤ) → cost 0 0 ≡ pos 0 → ArePruned cost 0 penalty rows) }
     {
         growth_law();
         let mut bounds = vec![in alloc; Bound { at: 0, total: 0 }; BLOCKS]?;
@@ -73,17 +74,26 @@ impl Rows {
         requires some { 0 < length (C.positions cost.now) }
         requires low { pos 0 ≤ℤ penalty }
         requires high { penalty ≤ℤ pos (10 ^ 36) }
-        requires pruned { ArePruned (cost_between C.cost_of (C.positions cost.now)) (length (C.positions cost.now) - 1) penalty self.old }
+        requires pruned { ArePruned (cost_between C.cost_of (C.positions cost.now))
+            (length (C.positions cost.now) - 1) penalty self.old }
         requires room { HaveRoom self.old }
         ensures below { result.index < length self.old.candidates.items }
-        ensures found { IsFirstLeast (cost_between C.cost_of (C.positions cost.now)) (int_at self.old.least.items) (length (C.positions cost.now)) (slice_index self.old.candidates.items result.index) }
-        ensures total { result.total ≡ total_from (cost_between C.cost_of (C.positions cost.now)) self.old.least.items (length (C.positions cost.now)) (slice_index self.old.candidates.items result.index) }
+        ensures found { IsFirstLeast (cost_between C.cost_of (C.positions cost.now))
+            (int_at self.old.least.items) (length (C.positions cost.now))
+            (slice_index self.old.candidates.items result.index) }
+        ensures total { result.total
+            ≡ total_from (cost_between C.cost_of (C.positions cost.now)) self.old.least.items
+            (length (C.positions cost.now)) (slice_index self.old.candidates.items result.index) }
         ensures low { neg_ℤ (pos (10 ^ 36)) ≤ℤ result.total }
         ensures high { result.total ≤ℤ pos (2 * 10 ^ 37) }
-        ensures least { self.new.least.items ≡ self.old.least.items ++ (result.total +ℤ penalty) ∷ [] }
-        ensures back { self.new.back.items ≡ self.old.back.items ++ slice_index self.old.candidates.items result.index ∷ [] }
+        ensures least { self.new.least.items
+            ≡ self.old.least.items ++ (result.total +ℤ penalty) ∷ [] }
+        ensures back { self.new.back.items
+            ≡ self.old.back.items ++ slice_index self.old.candidates.items result.index ∷ [] }
         ensures unmarked { self.new.pruned.items ≡ self.old.pruned.items ++ 0 ∷ [] }
-        ensures bounds { HaveBounds (cost_between C.cost_of (C.positions cost.now)) (length (C.positions cost.now)) self.old.least.items self.old.candidates.items result.index self.new.bounds.items }
+        ensures bounds { HaveBounds (cost_between C.cost_of (C.positions cost.now))
+            (length (C.positions cost.now))
+            self.old.least.items self.old.candidates.items result.index self.new.bounds.items }
         ensures candidates { self.new.candidates.items ≡ self.old.candidates.items }
         ensures capacity { vec_capacity self.new.candidates ≡ vec_capacity self.old.candidates }
     {
@@ -104,9 +114,11 @@ impl Rows {
         requires some { 0 < length (C.positions cost.now) }
         requires low { pos 0 ≤ℤ penalty }
         requires high { penalty ≤ℤ pos (10 ^ 36) }
-        requires pruned { ArePruned (cost_between C.cost_of (C.positions cost.now)) (length (C.positions cost.now) - 1) penalty self.old }
+        requires pruned { ArePruned (cost_between C.cost_of (C.positions cost.now))
+            (length (C.positions cost.now) - 1) penalty self.old }
         requires room { HaveRoom self.old }
-        ensures { ArePruned (cost_between C.cost_of (C.positions cost.now)) (length (C.positions cost.now)) penalty self.new }
+        ensures { ArePruned (cost_between C.cost_of (C.positions cost.now))
+            (length (C.positions cost.now)) penalty self.new }
     {
         growth_law();
         last_cut_law();
@@ -141,7 +153,8 @@ impl Rows {
         requires few { length self.old.least.items ≤ 16_385 }
         requires same { length self.old.pruned.items ≡ length self.old.least.items }
         requires room { length self.old.least.items ≤ vec_capacity self.old.candidates }
-        ensures { (cost : ℕ → ℕ → ℤ) (n : ℕ) (b : ℤ) → k ≤ n → pos 0 ≤ℤ b → b ≤ℤ pos (10 ^ 36) → AreInRange cost n
+        ensures { (cost : ℕ → ℕ → ℤ) (n : ℕ) (b : ℤ) → k ≤ n → pos 0 ≤ℤ b → b ≤ℤ pos (10 ^ 36)
+            → AreInRange cost n
             → ArePruned cost n b self.old → ArePruned cost k b self.new }
     {
         shrinking_law();
@@ -159,7 +172,8 @@ impl Rows {
 // bound, lowered by the new candidate's total.
 fn renew(bounds: &mut [Bound], marked: usize, k: usize, t: usize, least_made: i128, newest: i128)
     requires { k < length bounds.old }
-    ensures some { 0 < marked → (j : ℕ) → j < length bounds.old → bound_at bounds.new j ≡ record { at = t; total = least_made } }
+    ensures some { 0 < marked → (j : ℕ) → j < length bounds.old
+        → bound_at bounds.new j ≡ record { at = t; total = least_made } }
     ensures none { marked ≡ 0 → IsLowered (bound_at bounds.old k) t newest (bound_at bounds.new k) }
     ensures others { marked ≡ 0 → (j : ℕ) → j ≢ k → bound_at bounds.new j ≡ bound_at bounds.old j }
 {

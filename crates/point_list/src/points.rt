@@ -276,7 +276,8 @@ fn place_of(positions: &PositionList, commit: u64) -> usize
 fn from_the_end(positions: &PositionList, commit: u64) -> usize
     requires { IsStrictlyIncreasing (commits_of positions.now) }
     ensures within { result ≤ length positions.now }
-    ensures below { (k : ℕ) (d : Position) → k < result → (get_or positions.now k d).commit < commit }
+    ensures below { (k : ℕ) (d : Position) → k < result
+        → (get_or positions.now k d).commit < commit }
 {
     let count = positions.len();
     if count == 0 {

@@ -79,7 +79,8 @@ impl PositionList {
     pub fn push_at(&mut self, place: usize, step: u64, value: i64) -> Result<(), NoMemory>
         requires { place < length self.old }
         ensures ok { (d : Position) → OnOk result (self.new ≡ slice_set self.old place
-            (with_value (record { step = step; value = value }) (slice_index_or self.old place d))) }
+            (with_value (record { step = step; value = value })
+            (slice_index_or self.old place d))) }
         ensures err { OnErr result (self.new ≡ self.old) }
     {
         let slot = usize::from(self.order[place]);
@@ -94,7 +95,8 @@ impl PositionList {
           commit = (slice_index_or self.old place d).commit;
           samples = filter (by_another step) (slice_index_or self.old place d).samples;
         }) }
-        ensures gone { (d : Position) → length (filter (by_another step) (slice_index_or self.old place d).samples) + result
+        ensures gone { (d : Position)
+            → length (filter (by_another step) (slice_index_or self.old place d).samples) + result
             ≡ length (slice_index_or self.old place d).samples }
     {
         let slot = usize::from(self.order[place]);

@@ -115,7 +115,8 @@ impl StoredPosition {
 fn make_room(cells: &mut SmallVec<i64, 2>, count: usize) -> Result<(), NoMemory>
     requires { HasHalves count cells.old.items }
     ensures halves { OnOk result (HasHalves (count + 1) cells.new.items) }
-    ensures same { OnOk result (samples_in count cells.new.items ≡ samples_in count cells.old.items) }
+    ensures same { OnOk result
+        (samples_in count cells.new.items ≡ samples_in count cells.old.items) }
     ensures err { OnErr result (cells.new.items ≡ cells.old.items) }
 {
     let half = cells.len() / 2;
@@ -147,7 +148,8 @@ fn put_behind(cells: &mut [i64], count: usize, step: i64, value: i64)
 // Moves what came by other steps to the fronts of both halves, and gives its count.
 fn keep_others(step: u64, cells: &mut [i64], count: usize) -> usize
     requires { HasHalves count cells.old }
-    ensures kept { samples_in result cells.new ≡ filter (by_another step) (samples_in count cells.old) }
+    ensures kept { samples_in result cells.new
+        ≡ filter (by_another step) (samples_in count cells.old) }
     ensures within { result ≤ count }
     ensures length { length cells.new ≡ length cells.old }
 {
@@ -160,7 +162,8 @@ fn keep_apart(step: u64, steps: &mut [i64], values: &mut [i64], count: usize) ->
     requires steps { count ≤ length steps.old }
     requires values { count ≤ length values.old }
     ensures kept { samples_of (as_steps (take result steps.new)) (take result values.new)
-        ≡ filter (by_another step) (samples_of (as_steps (take count steps.old)) (take count values.old)) }
+        ≡ filter (by_another step)
+        (samples_of (as_steps (take count steps.old)) (take count values.old)) }
     ensures within { result ≤ count }
     ensures steps { length steps.new ≡ length steps.old }
     ensures values { length values.new ≡ length values.old }

@@ -28,7 +28,8 @@ impl Model for SumList {
 
     ghost view = { λ l. record {
       items = sums_in l.counts.items l.totals.items;
-      spare = min (vec_capacity l.counts - vec_len l.counts) (vec_capacity l.totals - vec_len l.totals);
+      spare = min (vec_capacity l.counts - vec_len l.counts)
+          (vec_capacity l.totals - vec_len l.totals);
     } };
 
     ghost invariant = { λ l. length l.counts.items ≡ length l.totals.items };

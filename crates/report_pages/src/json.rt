@@ -151,7 +151,8 @@ fn pages_object(
     regressions: Value,
     series: Value,
 ) -> Result<Value, AllocError>
-    ensures { IfOk result (λ v. view v ≡ pages_of pages.now (view jobs) (view regressions) (view series)) }
+    ensures { IfOk result
+        (λ v. view v ≡ pages_of pages.now (view jobs) (view regressions) (view series)) }
 {
     let machine = pages.machine.as_str();
     json!(in alloc; {

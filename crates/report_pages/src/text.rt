@@ -39,7 +39,8 @@ fn put_name_left(
     name: &Name,
     width: usize,
 ) -> Result<(), NoMemory>
-    ensures { OnOk result (out.new.items ≡ out.old.items ++ left_aligned width (spelling name.now)) }
+    ensures { OnOk result
+        (out.new.items ≡ out.old.items ++ left_aligned width (spelling name.now)) }
 {
     let mut word = Vec::new(alloc);
     put_name(alloc, &mut word, name)?;
@@ -59,7 +60,8 @@ fn put_right(out: &mut Vec<u8>, word: &[u8], width: usize) -> Result<(), NoMemor
 
 // Appends a count, or `-`, at the right of a column of 8 behind a space.
 fn put_count(alloc: Global, out: &mut Vec<u8>, count: Option<u64>) -> Result<(), NoMemory>
-    ensures { OnOk result (out.new.items ≡ out.old.items ++ (codes " " ++ right_aligned 8 (count_text count))) }
+    ensures { OnOk result (out.new.items
+        ≡ out.old.items ++ (codes " " ++ right_aligned 8 (count_text count))) }
 {
     let mut word = Vec::new(alloc);
     match count {
@@ -91,7 +93,8 @@ fn put_centre(
     metric: &Name,
     centre: Option<i64>,
 ) -> Result<(), NoMemory>
-    ensures { OnOk result (out.new.items ≡ out.old.items ++ (codes " " ++ right_aligned 20 (centre_text metric.now centre))) }
+    ensures { OnOk result (out.new.items
+        ≡ out.old.items ++ (codes " " ++ right_aligned 20 (centre_text metric.now centre))) }
 {
     let mut word = Vec::new(alloc);
     match centre {
@@ -138,7 +141,8 @@ fn put_regression(alloc: Global, out: &mut Vec<u8>, line: &RegressionLine) -> Re
 
 // Appends a space, a state's word and the end of the line.
 fn put_state(out: &mut Vec<u8>, state: State) -> Result<(), NoMemory>
-    ensures { OnOk result (out.new.items ≡ out.old.items ++ (codes " " ++ word state ++ codes "\n")) }
+    ensures { OnOk result (out.new.items
+        ≡ out.old.items ++ (codes " " ++ word state ++ codes "\n")) }
 {
     put_bytes(out, b" ")?;
     let word = state.word();
@@ -150,7 +154,8 @@ fn put_state(out: &mut Vec<u8>, state: State) -> Result<(), NoMemory>
 // Appends a name of a test and one of a metric, in their columns.
 fn put_names(alloc: Global, out: &mut Vec<u8>, test: &Name, metric: &Name) -> Result<(), NoMemory>
     ensures { OnOk result (out.new.items ≡ out.old.items
-        ++ (left_aligned 40 (spelling test.now) ++ codes " " ++ left_aligned 16 (spelling metric.now))) }
+        ++ (left_aligned 40 (spelling test.now) ++ codes " "
+        ++ left_aligned 16 (spelling metric.now))) }
 {
     put_name_left(alloc, out, test, 40)?;
     put_bytes(out, b" ")?;

@@ -85,7 +85,8 @@ impl Lines {
 
     /// Whether a whole line is kept: else the next request can't be read without asking the source. Linear in the line.
     pub fn holds_line(&self) -> bool
-        ensures yes { IsTrue result → SomeIndex self.now.kept (λ i. slice_index self.now.kept i ≡ 10) }
+        ensures yes { IsTrue result
+            → SomeIndex self.now.kept (λ i. slice_index self.now.kept i ≡ 10) }
         ensures no { result ≡ false → All (λ b. b ≢ 10) self.now.kept }
     {
         memchr(b'\n', self.kept()).is_some()

@@ -197,7 +197,8 @@ fn tune_head(alloc: Global, names: &mut Names, words: Words) -> Result<Head, NoM
 
 // The words of a penalty.
 fn tune_words<'a>(mut words: Words<'a>) -> Option<(&'a [u8], &'a [u8], &'a [u8])>
-    ensures some { IfSome result (λ parts. (words.entry ≡ parts.0.now ∷ parts.1.now ∷ parts.2.now ∷ [])
+    ensures some { IfSome result
+        (λ parts. (words.entry ≡ parts.0.now ∷ parts.1.now ∷ parts.2.now ∷ [])
         × IsNumber parts.2.now) }
     ensures none { IfNone result ((m x p : List ℕ)
         → IsNumber p → words.entry ≢ m ∷ x ∷ p ∷ []) }

@@ -72,7 +72,8 @@ pub(crate) fn three_named(
     third: &[u8],
 ) -> Result<Option<(Name, Name, Name)>, NoMemory>
     ensures some { IfOk result (λ found. IfSome found (λ names.
-        (names.0 ≡ name_of first.now) × (names.1 ≡ name_of second.now) × (names.2 ≡ name_of third.now))) }
+        (names.0 ≡ name_of first.now) × (names.1 ≡ name_of second.now)
+        × (names.2 ≡ name_of third.now))) }
     ensures spelled { IfOk result (λ found. IfSome found (λ _.
         (SpellsName first.now × SpellsName second.now × SpellsName third.now))) }
     ensures none { IfOk result (λ found. IfNone found
@@ -119,7 +120,8 @@ pub(crate) fn series_named(
     metric: &[u8],
 ) -> Result<Option<(Name, Name, Name)>, NoMemory>
     ensures some { IfOk result (λ found. IfSome found (λ names.
-        (names.0 ≡ name_of first.now) × (names.1 ≡ name_of second.now) × (names.2 ≡ name_of metric.now))) }
+        (names.0 ≡ name_of first.now) × (names.1 ≡ name_of second.now)
+        × (names.2 ≡ name_of metric.now))) }
     ensures spelled { IfOk result (λ found. IfSome found (λ _.
         AreSeriesNames first.now second.now metric.now)) }
     ensures none { IfOk result (λ found. IfNone found

@@ -23,5 +23,6 @@ pub struct Done {
     pub cert: Cert,
     /// The positions of the series.
     pub points: Points,
-    pub ghost stands: { ∥ (pos 0 ≤ℤ cert.penalty) × (cert.penalty ≤ℤ pos (10 ^ 36)) × StandsFor points cert.penalty cert ∥₁ },
+    pub ghost stands: { ∥ (pos 0 ≤ℤ cert.penalty) × (cert.penalty ≤ℤ pos (10 ^ 36))
+        × StandsFor points cert.penalty cert ∥₁ },
 }

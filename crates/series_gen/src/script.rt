@@ -94,7 +94,8 @@ fn put_body(alloc: Global, out: &mut Vec<u8>, value: u64) -> Result<(), NoMemory
 // The line of a segmentation after each hundredth run.
 fn put_hundredth(out: &mut Vec<u8>, j: u64) -> Result<(), NoMemory>
     requires { j < 2_000 }
-    ensures { OnOk result (out.new.items ≡ out.old.items ++ (if (j + 1) % 100 == 0 then segment_line else [])) }
+    ensures { OnOk result
+        (out.new.items ≡ out.old.items ++ (if (j + 1) % 100 == 0 then segment_line else [])) }
 {
     if (j + 1) % 100 == 0 {
         out.extend_from_slice(b"segment g G ns/op\n")?;

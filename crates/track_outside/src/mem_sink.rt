@@ -24,7 +24,14 @@ impl Model for MemSink {
 
     ghost Value = { Output };
 
-    ghost view = { λ s. record { name = s.name.items; taken = s.bytes.items; room = s.room; fails = s.plan.fails.items; calls = s.plan.calls; faults = s.plan.faults } };
+    ghost view = { λ s. record {
+      name = s.name.items;
+      taken = s.bytes.items;
+      room = s.room;
+      fails = s.plan.fails.items;
+      calls = s.plan.calls;
+      faults = s.plan.faults;
+    } };
 
     ghost invariant = { λ s. s.room ≤ vec_capacity s.bytes };
 }

@@ -21,7 +21,12 @@ impl Model for MemSource {
 
     ghost Value = { Input };
 
-    ghost view = { λ s. record { left = s.source; fails = s.plan.fails.items; calls = s.plan.calls; faults = s.plan.faults } };
+    ghost view = { λ s. record {
+      left = s.source;
+      fails = s.plan.fails.items;
+      calls = s.plan.calls;
+      faults = s.plan.faults;
+    } };
 }
 
 impl MemSource {
