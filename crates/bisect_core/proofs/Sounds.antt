@@ -134,16 +134,6 @@ sound_status commits p place status commit a = elim (says status) [
   | inr (inr s) ↦ subst (λ (r : Progress). IsSound (seen (kept_by commits r.outcome) r)) (sym (untestable_status p place status commit s)) (sound_untestable commits p place status commit a.sound)
 ]
 
-pub sound_giving_up : (commits : Option (List ℕ)) (p : Progress) (place commit : ℕ) → IsSound (seen commits p)
-    → IsSound (seen (kept_by commits (after_giving_up p place commit).outcome) (after_giving_up p place commit))
-sound_giving_up commits p place commit sound = record {
-  bound = sound.bound;
-  small = sound.small;
-  ends = sound.ends;
-  asks = λ (opened : false ≡ true). absurd (cc);
-  listed = λ (opened : false ≡ true). absurd (cc);
-}
-
 -- a list of two or more commits, before any answer
 pub sound_begun : (list : List ℕ) → IsStrictlyIncreasing list → 2 ≤ length list → length list - 1 < 2 ^ 64
     → IsSound (standing list 0 (length list - 1) 0 None)

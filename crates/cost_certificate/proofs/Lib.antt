@@ -1,3 +1,4 @@
+mod Bools
 mod Loops
 mod Whole
 mod Certificates

@@ -8,15 +8,6 @@ use Rattle.cost_certificate.specs.declared.blocks.Need.{Need}
 use Rattle.cost_certificate.specs.Checks.{PairHolds, PlaceHolds, PlaceHoldsInBlock, IsNeed, IsLevel}
 
 module _ (cost : ℕ → ℕ → ℤ) (least : List ℤ) (back : List ℕ) (from : ℕ) where
-  -- the need of no places
-  pub first-need : (need : Need) → neg_ℤ (pos (2 * 10 ^ 37)) ≤ℤ need.total → need.total ≤ℤ pos (10 ^ 37) → (t : ℕ) → t ≡ from + 1 → IsNeed cost least back from (t - 1) need
-  first-need need low high t e = record {
-    total = λ v above below. absurd (omega (arith, above, below, e));
-    last_cut = λ v above below. absurd (omega (arith, above, below, e));
-    low = low;
-    high = high;
-  }
-
   -- that of one place more
   pub next-need : (need need' : Need) (t : ℕ) (total : ℤ) → IsNeed cost least back from (t - 1) need → from < t → (int_at least t) ≤ℤ (total +ℤ cost from t)
       → neg_ℤ (pos (2 * 10 ^ 37)) ≤ℤ total → total ≤ℤ pos (10 ^ 37)

@@ -1,5 +1,5 @@
 -- What is known of blocks of places.
-use Rattle.std.proofs.Common.{◌≡◌, ℕ, ℤ, ◌+◌, ◌*◌, ◌^◌, ◌<◌, ◌≤◌, List, length, set, replicate, slice_index, Bool, true, false, ◌⊎◌, inl, inr, refl, ◌∙◌, pos, neg_ℤ, ◌+ℤ◌, ◌≤ℤ◌, get_or-set_same, get_or-set_other, arith}
+use Rattle.std.proofs.Common.{◌≡◌, ℕ, ℤ, ◌+◌, ◌*◌, ◌^◌, ◌<◌, ◌≤◌, List, length, set, replicate, slice_index, true, false, ◌⊎◌, inl, inr, refl, ◌∙◌, pos, neg_ℤ, ◌+ℤ◌, ◌≤ℤ◌, get_or-set_same, get_or-set_other, arith}
 use Rattle.std.proofs.Math.ListN.{length-set}
 use Rattle.std.proofs.lemmas.List.{length-replicate, get_or-replicate}
 use Rattle.std.proofs.lemmas.Int.{ints}
@@ -11,16 +11,10 @@ use Rattle.cost_certificate.specs.declared.blocks.Watch.{Watch}
 use Rattle.cost_certificate.specs.Checks.{AreTotals, PlaceHoldsInBlock, IsNeed, IsClosed, IsWatch, watch_at, AreWatches}
 use Rattle.cost_certificate.proofs.Floors.{InRange}
 use Rattle.cost_certificate.proofs.Needs.{told, closed}
-
-not_both : (b : Bool) → b ≡ false → b ≡ true → ⊥
-not_both b p q = cc
+use Rattle.cost_certificate.proofs.Bools.{not_both}
 
 module _ (cost : ℕ → ℕ → ℤ) (n : ℕ) (least : List ℤ) (pruned : List ℕ) where
   module _ (start : ℕ) where
-    -- of no places
-    pub first-watch : (at : ℕ) (watch : Watch) → watch.at ≤ at → neg_ℤ (pos (2 * 10 ^ 37)) ≤ℤ watch.total → watch.total ≤ℤ pos (2 * 10 ^ 37) → IsWatch cost n least pruned start start at watch
-    first-watch at watch le low high = record { made = le; known = λ s above below. absurd (omega (arith, above, below)); low = low; high = high }
-
     -- with a closed place more
     pub closed-more : (watch : Watch) (s : ℕ) → IsClosed pruned s watch.at → IsWatch cost n least pruned start s watch.at watch → IsWatch cost n least pruned start (s + 1) watch.at watch
     closed-more watch s here h = record {

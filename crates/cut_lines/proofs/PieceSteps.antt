@@ -155,9 +155,6 @@ module _ {I : Type 0} (g : Ghosts I) (first : I) where
         let sum : length (gave.read ++ piece) ≤ 2 ^ 30 + 1 = omega (arith, gave.short) in
         record { given = gave.read ++ piece; gave = more piece next; few = sum }
 
-    pub kept_few : g.left new ≡ g.left old → GaveAtMost (2 ^ 30 + 1) (g.left first) (g.left new)
-    kept_few same = record { given = gave.read; gave = kept same; few = omega (arith, gave.short) }
-
   -- ---- the end of the bytes
 
   module _ (now : I) (reader : Reader) (allowed : ℕ) (gave : Gave g first now reader allowed) (end : IsAtEnd (g.left now)) where

@@ -68,11 +68,6 @@ rest_fits m k unit is le =
     let less : m % unit < unit = mod_below m unit (subst (λ u. 0 < u) (sym is) (ten_some k)) in
     omega (arith, ten_grows k 38 le)
 
--- at a power
-pub at_low_power : (m : ℕ) (power : ℤ) (a : ℕ) → power <ℤ pos 0 → IsNearest m (unsigned_abs power) a → IsMagnitude m power a
-at_low_power m (pos k) a low is = absurd (omega (arith, ints, low))
-at_low_power m (negsuc k) a low is = is
-
 pub at_high_power : (m : ℕ) (power : ℤ) (a : ℕ) → pos 0 ≤ℤ power → a ≡ m * 10 ^ unsigned_abs power → IsMagnitude m power a
 at_high_power m (pos k) a high is = is
 at_high_power m (negsuc k) a high is = absurd (omega (arith, ints, high))

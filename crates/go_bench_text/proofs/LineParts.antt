@@ -1,13 +1,12 @@
 -- What a line adds, and when it is out of range.
-use Rattle.std.proofs.Common.{◌≡◌, ℕ, ◌≤◌, ◌<◌, ◌⊎◌, inl, inr, true, false, List, [], ◌∷◌, ◌++◌, length, refl, sym, ◌∙◌, ap, subst, arith, append_assoc}
+use Rattle.std.proofs.Common.{◌≡◌, ℕ, ◌≤◌, ◌<◌, ◌⊎◌, inl, inr, true, false, List, [], ◌∷◌, ◌++◌, length, refl, sym, ◌∙◌, ap, subst, arith}
 use Rattle.std.specs.Prelude.{codes}
-use Rattle.sample_model.specs.Samples.{Measurement}
 use Rattle.std.proofs.lemmas.List.{append-nil}
 use Rattle.go_bench_text.specs.Gathering.{Keeps, Gains, AddsLine}
 use Rattle.go_bench_text.specs.Lines.{begins, ArePairs, IsResult, IsResultLine}
-use Rattle.go_bench_text.specs.Pairs.{IsHead, ReadsPairs, HasLargePair, samples_of}
+use Rattle.go_bench_text.specs.Pairs.{IsHead, ReadsPairs, samples_of}
 use Rattle.go_bench_text.specs.Readings.{HasLarge, PairsGive, IsOver, pkg_of, test_of}
-use Rattle.go_bench_text.specs.Readings.LineGives.{measured, broken, silent}
+use Rattle.go_bench_text.specs.Readings.LineGives.{measured, broken}
 use Rattle.go_bench_text.specs.declared.gather.Gathered.{Gathered}
 use Rattle.go_bench_text.specs.declared.pairs.Pair.{Pair}
 use Rattle.go_bench_text.proofs.OneReading.{same_parts, not_both}
@@ -15,28 +14,9 @@ use Rattle.go_bench_text.proofs.OneReading.{same_parts, not_both}
 pub gains_none : (before : Gathered) → Gains before before []
 gains_none before given keeps = subst (Keeps before) (sym (append-nil given)) keeps
 
-pub gains_more : (before now next : Gathered) (new : List Measurement) (sample : Measurement) → Gains before now new → Gains now next (sample ∷ []) → Gains before next (new ++ sample ∷ [])
-gains_more before now next new sample first last given keeps = subst (Keeps next) (append_assoc given new (sample ∷ [])) (last (given ++ new) (first given keeps))
-
 -- a line that begins as a result line does and goes on with pairs is one
 pub is_whole : (line name : List ℕ) (fields : List (List ℕ)) → IsHead line name fields → 0 < length fields → ArePairs fields → IsResult line name fields
 is_whole line name fields head some paired = record { count = head.count; first = head.first; fields = head.fields; named = head.named; counted = head.counted; some = some; paired = paired }
-
--- a line that begins as a result line does and goes on with pairs, one out of range, is out of range
-pub is_over_pairs : (before : List (List ℕ)) (line name : List ℕ) (fields : List (List ℕ)) → IsHead line name fields → HasLargePair fields → IsOver before line
-is_over_pairs before line name fields head large = record { name = name; pairs = fields; is = is_whole line name fields head (some_large fields large.1) large.0; over = inr large.1 } where
-  some_large : (fs : List (List ℕ)) → HasLarge fs → 0 < length fs
-  some_large [] h = absurd h
-  some_large (f ∷ fs) h = omega arith
-
--- or whose test is too long
-pub is_over_test : (before : List (List ℕ)) (line name pkg : List ℕ) (fields : List (List ℕ)) (pairs : List Pair) → IsHead line name fields → ReadsPairs fields pairs → pkg_of before ≡ pkg → 256 < length (test_of pkg name) → IsOver before line
-is_over_test before line name pkg fields pairs head reads e long = record {
-  name = name;
-  pairs = fields;
-  is = is_whole line name fields head reads.some reads.paired;
-  over = inl (subst (λ (p : List ℕ). 256 < length (test_of p name)) (sym e) long);
-}
 
 -- only a result line is out of range
 pub silent_in_range : (before : List (List ℕ)) (line : List ℕ) → begins line ≡ false → ¬ IsOver before line
@@ -78,6 +58,3 @@ adds_broken old before line first is = record {
   gains = gains_none old;
   in_range = λ over. is (over.name, over.pairs, over.is);
 }
-
-pub adds_silent : (old : Gathered) (before : List (List ℕ)) (line : List ℕ) → begins line ≡ false → AddsLine old old before line 0
-adds_silent old before line off = record { samples = []; gives = silent off refl refl; gains = gains_none old; in_range = silent_in_range before line off }

@@ -1,7 +1,7 @@
 -- Where a test is cut.
-use Rattle.std.proofs.Common.{◌≡◌, ◌≢◌, ℕ, ◌+◌, true, List, [], ◌∷◌, ◌++◌, length, take, drop, get_or, sym, ◌∙◌, ap, subst, append_assoc}
+use Rattle.std.proofs.Common.{◌≡◌, ◌≢◌, ℕ, ◌+◌, List, [], ◌∷◌, ◌++◌, length, take, drop, get_or, sym, ◌∙◌, ap, append_assoc}
 use Rattle.std.proofs.lemmas.List.{take_at, drop_at, get_or_at, length_push}
-use Rattle.go_bench_text.specs.Spellings.{IsPartedAt, may_set, is_bare_name}
+use Rattle.go_bench_text.specs.Spellings.{IsPartedAt}
 
 -- what a cut at this place is
 pub record PartedThere (test : List ℕ) (at : ℕ) (pkg name : List ℕ) : Type 0 where
@@ -21,10 +21,3 @@ parted_there test pkg name at n cut = record {
 
 pub no_hash : (test : List ℕ) (at : ℕ) → get_or test at 0 ≢ 35 → (pkg name : List ℕ) → length pkg ≡ at → ¬ IsPartedAt test pkg name
 no_hash test at h pkg name n cut = h (parted_there test pkg name at n cut).hash
-
--- the parts at this place don't meet the conditions
-pub no_parts : (test front back : List ℕ) (at : ℕ) → front ≡ take at test → back ≡ drop (at + 1) test → (may_set front ≡ true → is_bare_name back ≡ true → ⊥)
-    → (pkg name : List ℕ) → length pkg ≡ at → ¬ IsPartedAt test pkg name
-no_parts test front back at e f h pkg name n cut =
-    let there = parted_there test pkg name at n cut in
-    h (subst (λ (xs : List ℕ). may_set xs ≡ true) (there.front ∙ sym e) cut.before) (subst (λ (xs : List ℕ). is_bare_name xs ≡ true) (there.back ∙ sym f) cut.behind)

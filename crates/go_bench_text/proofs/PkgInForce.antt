@@ -9,9 +9,6 @@ use Rattle.std.proofs.lemmas.Bool.Decides.{nat_tests}
 use Rattle.go_bench_text.specs.Lines.{begins, is_config, is_colon, key_of, value_of, without_returns}
 use Rattle.go_bench_text.specs.Readings.{sets_pkg, pkg_of}
 
-pkg_back : List (List ℕ) → List ℕ
-pkg_back back = option_map_or value_of (find sets_pkg back) []
-
 chosen : (line : List ℕ) (back : List (List ℕ)) (t : Bool) → sets_pkg line ≡ t
     → option_map_or value_of (find sets_pkg (line ∷ back)) [] ≡ option_map_or value_of (cond t (Some line) (find sets_pkg back)) []
 chosen line back t e = ap (λ (b : Bool). option_map_or value_of (cond b (Some line) (find sets_pkg back)) []) e

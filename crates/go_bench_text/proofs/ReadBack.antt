@@ -31,9 +31,6 @@ use Rattle.go_bench_text.proofs.LineParts.{over_parts, none_over, silent_in_rang
 
 -- ---- no line feed
 
-is_clean : ℕ → Bool
-is_clean b = not (eqb b 10)
-
 -- the bytes hold no line feed
 pub record IsClean (bytes : List ℕ) : Type 0 where
   pub each : All (λ b. eqb b 10 ≡ false) bytes

@@ -4,10 +4,9 @@ use Rattle.std.specs.List.{All}
 use Rattle.std.proofs.lemmas.List.{append-nil, map-append, length-map}
 use Rattle.std.proofs.lemmas.List.Elements.{All-append}
 use Rattle.sample_model.specs.Samples.{Measurement}
-use Rattle.fixed_value.specs.Numerals.{HasNumeral}
 use Rattle.metric_value.specs.Values.{HasNoneInRange}
 use Rattle.go_bench_text.specs.Lines.{ArePairs}
-use Rattle.go_bench_text.specs.Pairs.{IsPair, IsPairOf, sample_of, samples_of, ReadsPairs, HasLargePair}
+use Rattle.go_bench_text.specs.Pairs.{IsPair, IsPairOf, sample_of, samples_of, ReadsPairs}
 use Rattle.go_bench_text.specs.Readings.{HasLarge, PairsGive}
 use Rattle.go_bench_text.specs.declared.pairs.Pair.{Pair}
 
@@ -83,7 +82,3 @@ pub taken_no : (fields rest : List (List ℕ)) (pairs : List Pair) → Taken fie
 taken_no fields rest pairs taken e none some =
     let empty : fields ≡ [] = no_fields fields (subst (λ (ps : List Pair). PairsGive [] fields (samples_of [] ps)) none (all_given fields rest pairs [] taken e)) in
     omega (arith, some, ap (λ (fs : List (List ℕ)). length fs) empty)
-
--- a value out of range in front of pairs
-pub taken_large : (fields more : List (List ℕ)) (value unit : List ℕ) (pairs : List Pair) → Taken fields (value ∷ unit ∷ more) pairs → HasNumeral value → length unit ≤ 64 → HasNoneInRange unit value → ArePairs more → HasLargePair fields
-taken_large fields more value unit pairs taken numeral short none paired = (taken.on (numeral, short, paired), taken.larger (inl none))

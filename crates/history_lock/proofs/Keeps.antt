@@ -1,7 +1,6 @@
 -- Each step of a lock keeps its rule.
-use Rattle.std.proofs.Common.{◌≡◌, ℕ, Bool, true, false, ltb, suc, ◌+◌, ◌%◌, ◌^◌, ◌<◌, ◌≤◌, ◌≢◌, ◌⊎◌, List, [], ◌∷◌, ◌++◌, length, get_or, set, sym, refl, ap, ◌∙◌, subst, inl, inr, ⊎_elim, arith, length-set, length-append, get_or-set_other, get_or-set_same}
+use Rattle.std.proofs.Common.{◌≡◌, ℕ, suc, ◌+◌, ◌%◌, ◌^◌, ◌<◌, ◌≤◌, ◌≢◌, List, [], ◌∷◌, ◌++◌, length, get_or, set, sym, refl, ap, ◌∙◌, subst, inl, inr, ⊎_elim, arith, length-set, length-append, get_or-set_other, get_or-set_same}
 use Rattle.std.specs.Prelude.{Option, Some}
-use Rattle.std.proofs.lemmas.Bool.{lt-ltb, le-ltb}
 use mathlib.Core.Logic.{dite}
 use mathlib.Core.Option.{none, some, some-injective}
 use native.Mathlib.Decide.{ℕ_discrete}
@@ -17,7 +16,7 @@ use Rattle.history_lock.specs.declared.view.Stage.{Stage}
 use Rattle.history_lock.specs.declared.view.Stage.TheVariants.{Outside, Waiting, Turn, Inside}
 use Rattle.history_lock.specs.Rule.{busy, alive, HasTurn, Holds, turn_of, listed, first_view, at_stage, seeing, waiting, Sees, Knows, IsBadge, LockState, KeptSlot, Kept}
 use Rattle.history_lock.specs.Marks.{Follows, HaveMarksUpTo, IsNoneOf, entries, marked, unmarked}
-use Rattle.history_lock.specs.Steps.{Sat, MayAdd, in_slot, drew, drew_if_free, looked, read_count, counted, passed_on}
+use Rattle.history_lock.specs.Steps.{Sat, in_slot, drew, drew_if_free, looked, read_count, counted, passed_on}
 use Rattle.history_lock.proofs.Seats.{number, none_some, some_same, only, within, seats_stay, pairs_stay, waiting-set, living-set, waiting_living, holder_turn, turn_drawn, knows_drawn, knows_served, knows_longer, follows_all, given-append}
 
 entries_unmarked : {E : Type 0} (es : List E) → es ≡ entries (unmarked es)
@@ -307,14 +306,3 @@ module _ {S E L : Type 0} (history : S → List E) (label : S → L) where
   pub opens_at : (y z : S) (n : ℕ) (xs : List (Option S)) → z ≡ y → n ≡ length (history y) → xs ≡ Some y ∷ []
       → Kept history label (label z) (opening (n ∷ 0 ∷ 0 ∷ 0 ∷ 0 ∷ []) xs (first_view (history z) (label z)))
   opens_at y z n xs e f g = subst (λ (q : S × ℕ × List (Option S)). Kept history label (label q.0) (opening (q.1 ∷ 0 ∷ 0 ∷ 0 ∷ 0 ∷ []) q.2 (first_view (history q.0) (label q.0)))) (λ i. (sym e i, sym f i, sym g i)) (opens history label (label y) y refl)
-
-length-entries : {E : Type 0} (log : List (Marked E)) → length (entries log) ≡ length log
-length-entries [] = refl
-length-entries (x ∷ xs) = ap suc (length-entries xs)
-
-module _ {E : Type 0} where
-  pub may_add : (es : List E) (seen : List (Marked E)) (count len : ℕ) → count ≡ length seen → len ≡ length es → len < 2 ^ 64 → (es ≡ entries seen) ⊎ ((e : E) × (es ≡ entries seen ++ e ∷ [])) → MayAdd (ltb count len) es seen
-  may_add es seen count len c l small may = let long = length-entries seen in ⊎_elim
-      (λ h. let n : length es ≡ length (entries seen) = ap length h in let no : ltb count len ≡ false = le-ltb count len (omega arith) in subst (λ (b : Bool). MayAdd b es seen) (sym no) h)
-      (λ h. let n : length es ≡ length (entries seen ++ h.0 ∷ []) = ap length h.1 in let more = length-append (entries seen) (h.0 ∷ []) in let yes : ltb count len ≡ true = lt-ltb count len (omega arith) in subst (λ (b : Bool). MayAdd b es seen) (sym yes) (h.0, h.1, omega arith))
-      may

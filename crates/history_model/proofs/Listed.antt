@@ -12,10 +12,7 @@ use Rattle.history_model.specs.declared.entries.Entry.TheVariants as entry
 use Rattle.history_model.specs.declared.run.Run.{Run}
 use Rattle.history_model.specs.Runs.{Series, acceptance, acceptances, known_series, is_known, new_series, same_series, is_of, distinct, measured}
 use Rattle.history_model.proofs.Chosen.{chosen-push}
-
-or-true : (b : Bool) → (b || true) ≡ true
-or-true true = refl
-or-true false = refl
+use Rattle.history_model.proofs.Lists.{or-true, filter-same, any-map}
 
 module _ {A : Type 0} (same : A → A → Bool) where
   abbrev stands : List A → A → Bool
@@ -64,14 +61,6 @@ module _ {A : Type 0} (same : A → A → Bool) where
 
     pub distinct-more : (ys : List A) → distinct same (first ++ ys) ≡ distinct same first ++ filter (λ y. not (list_any (λ z. same z y) first)) (distinct same ys)
     distinct-more ys = go [] ys (ap (distinct same) (append-nil first) ∙ sym (append-nil (distinct same first)))
-
-filter-same : {A : Type 0} (p q : A → Bool) (xs : List A) → ((x : A) → p x ≡ q x) → filter p xs ≡ filter q xs
-filter-same p q [] same = refl
-filter-same p q (x ∷ xs) same = ap (λ b. cond b (x ∷ filter p xs) (filter p xs)) (same x) ∙ ap (λ ys. cond (q x) (x ∷ ys) ys) (filter-same p q xs same)
-
-any-map : {A B : Type 0} (p : B → Bool) (f : A → B) (xs : List A) → list_any p (map f xs) ≡ list_any (λ x. p (f x)) xs
-any-map p f [] = refl
-any-map p f (x ∷ xs) = ap (λ b. p (f x) || b) (any-map p f xs)
 
 abbrev series_in : Acceptance → List Series
 series_in a = map measured a.run.samples

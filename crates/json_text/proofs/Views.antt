@@ -4,10 +4,10 @@ use Rattle.json_text.specs.Tree.{Tree, Items, item, Members, member}
 use Rattle.json_text.specs.Parts.{then_item, then_member}
 use Rattle.json_text.specs.View.{items_of, members_of, tree_of, entry_of, items_view, members_view, value_step, list_step, member_step, members_step}
 use Rattle.json_text.specs.declared.tree.Json.{Json}
-use Rattle.json_text.specs.declared.tree.Json.TheFolds.{fold-roll-JsonList, fold_out-JsonList, fold-roll-JsonMembers, fold_out-JsonMembers, fold-roll-Member}
+use Rattle.json_text.specs.declared.tree.Json.TheFolds.{fold-roll-JsonList, fold_out-JsonList, fold-roll-JsonMembers, fold_out-JsonMembers}
 use Rattle.json_text.specs.declared.tree.Json.TheOpen.{JsonList-F, JsonMembers-F}
 use Rattle.json_text.specs.declared.tree.JsonList.{JsonList, roll-JsonList, out-JsonList}
-use Rattle.json_text.specs.declared.tree.Member.{Member, roll-Member}
+use Rattle.json_text.specs.declared.tree.Member.{Member}
 use Rattle.json_text.specs.declared.tree.JsonMembers.{JsonMembers, roll-JsonMembers, out-JsonMembers}
 
 -- an item at the end
@@ -36,6 +36,3 @@ members_view-made level = fold-roll-JsonMembers Tree Items Members (List ℕ × 
 
 pub members_view-opened : (members : JsonMembers) → members_view members ≡ members_of (map entry_of (out-JsonMembers members).members.items)
 members_view-opened members = fold_out-JsonMembers Tree Items Members (List ℕ × Tree) value_step list_step members_step member_step members
-
-pub entry_of-made : (key : List ℕ) (value : Json) → entry_of (roll-Member (record { key = key; value = value })) ≡ (key, tree_of value)
-entry_of-made key value = fold-roll-Member Tree Items Members (List ℕ × Tree) value_step list_step members_step member_step (record { key = key; value = value })

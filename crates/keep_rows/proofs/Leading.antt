@@ -1,7 +1,6 @@
 -- One row more.
-use Rattle.std.proofs.Common.{◌≡◌, ℕ, suc, zero, ◌+◌, ◌<◌, ◌≤◌, List, [], ◌∷◌, ◌++◌, length, take, refl, ap, subst, arith, Option, Some, None}
+use Rattle.std.proofs.Common.{◌≡◌, ℕ, suc, zero, ◌+◌, List, [], ◌∷◌, ◌++◌, take, refl, ap, subst, arith, Option, Some, None}
 use Rattle.std.specs.Prelude.{slice_get, IfSome}
-use Rattle.std.proofs.lemmas.List.{take_all}
 use Rattle.keep_rows.specs.Loading.{LeadsTo, Takes, IsRefused, IsBad}
 
 leads_more : {S : Type 0} (does : S → List ℕ → S → Type 0) (before v w : S) (rows : List (List ℕ)) (row : List ℕ)
@@ -28,15 +27,3 @@ pub is_bad : {S : Type 0} (does : S → List ℕ → S → Type 0) (kept : Optio
 is_bad does None before v k led refused = tt
 is_bad {S = S} does (Some rows) before v k led refused =
     (omega arith, (v, subst (λ (j : ℕ). LeadsTo does before (take j rows) v) (omega arith) led, refused))
-
-pub may_take : (kept : Option (List (List ℕ))) (k count : ℕ) → k < count → IfSome kept (λ rows. count ≡ length rows) → IfSome kept (λ rows. (1 ≤ k + 1) × (k + 1 ≤ length rows))
-may_take None k count below told = tt
-may_take (Some rows) k count below told = (omega arith, omega arith)
-
--- all of the rows
-pub all_led : {S : Type 0} (does : S → List ℕ → S → Type 0) (kept : Option (List (List ℕ))) (before v : S) (count : ℕ)
-    → IfSome kept (λ rows. count ≡ length rows) → IfSome kept (λ rows. LeadsTo does before (take count rows) v) → IfSome kept (λ rows. LeadsTo does before rows v)
-all_led does None before v count told led = tt
-all_led {S = S} does (Some rows) before v count told led =
-    let all : take count rows ≡ rows = take_all count rows (omega (arith, told)) in
-    subst (λ (l : List (List ℕ)). LeadsTo does before l v) all led

@@ -1,5 +1,5 @@
 -- The new rows of a history, entry by entry.
-use Rattle.std.proofs.Common.{◌≡◌, ℕ, zero, suc, ◌+◌, List, [], ◌∷◌, ◌++◌, ◌<◌, length, take, map, None, Some, refl, sym, ap, subst, ◌∙◌, arith, append_assoc}
+use Rattle.std.proofs.Common.{◌≡◌, ℕ, zero, suc, ◌+◌, List, [], ◌∷◌, ◌++◌, take, map, Some, refl, sym, ap, subst, ◌∙◌, arith, append_assoc}
 use Rattle.std.specs.Prelude.{slice_get, filter}
 use Rattle.std.proofs.lemmas.List.{map-append}
 use Rattle.history_model.specs.declared.entries.Placed.{Placed}
@@ -28,9 +28,3 @@ put_more machine seen h j k p now out before same_name same_place at put were =
     ∙ ap (λ (o : List (List ℕ)). o ++ map (row_of machine) (filter is_new (p ∷ []))) were
     ∙ append_assoc before (map (row_of machine) (filter is_new (take k h))) (map (row_of machine) (filter is_new (p ∷ [])))
     ∙ ap (λ (more : List (List ℕ)). before ++ more) (sym (rows_more machine h k p there))
-
--- there is an entry at each place
-pub no_place : (h : List Placed) (k : ℕ) → None ≡ slice_get h k → k < length h → ⊥
-no_place [] k is below = omega (arith, below)
-no_place (p ∷ h) zero is below = absurd cc
-no_place (p ∷ h) (suc k) is below = no_place h k is (omega (arith, below))

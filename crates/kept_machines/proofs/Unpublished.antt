@@ -169,9 +169,6 @@ commits_so s (a ∷ runs) =
     map_again [] = refl
     map_again (x ∷ xs) = ap (λ ys. a.run.commit ∷ ys) (map_again xs)
 
-brought_length : (s : Series) (runs : List Acceptance) → length (brought s runs) ≡ length (flat_map (commits_of_run s) (map run_of runs))
-brought_length s runs = sym (length-map (brought s runs) commit_of) ∙ ap length (commits_so s runs)
-
 positions_length : (items : List Brought) → length (positions_of items) ≡ length (rising (map commit_of items))
 unfolding commit_of
 positions_length items = length-map (rising (map commit_of items)) (position_at items)

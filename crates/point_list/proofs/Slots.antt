@@ -51,16 +51,6 @@ order-set slots (s ∷ order) (suc place) d p below once lt =
     (get_or-set_other slots (get_or order place d) s p nowhere (λ e. missing-at s order place d once.0 (omega arith) (sym e)))
     (order-set slots order place d p below.1 once.1 (omega arith))
 
-pub order-kept : (slots : List Position) (order : List ℕ) (s : ℕ) (p : Position) → IsOrder slots order → IsOrder (set slots s p) order
-order-kept slots order s p is =
-    let n : length (set slots s p) ≡ length slots = length-set slots s p in
-    record {
-      few = omega (arith, n, is.few);
-      as_many = is.as_many ∙ sym n;
-      below = rw n is.below;
-      once = is.once;
-    }
-
 -- ---- a position comes
 map-insert : {A B : Type 0} (f : A → B) (xs : List A) (i : ℕ) (x : A) → map f (insert xs i x) ≡ insert (map f xs) i (f x)
 map-insert f [] zero x = refl

@@ -3,19 +3,15 @@ use Rattle.std.proofs.Common.{◌≡◌, ℕ, ◌+◌, ◌<◌, ◌≤◌, Bool,
 use Rattle.request_words.specs.Bodies.{Item}
 use Rattle.request_words.specs.Items.{IsSkipped, Asks, Counts, Gives}
 use Rattle.request_text.specs.Scripts.{input_limit, IsLine, IsBefore, end, cut_off, last, inside, Reads}
-use Rattle.track_outside.specs.declared.source.Source.{Ghosts}
 use Rattle.request_text.specs.declared.asked.Asked.{Asked}
 use Rattle.request_text.specs.declared.asked.Asked.TheVariants as asked
 use Rattle.request_text.specs.declared.line.LineEnd.TheVariants.{Input}
-use Rattle.request_text.specs.declared.stop.ReadStop.{ReadStop}
-use Rattle.request_text.specs.declared.stop.ReadStop.TheVariants.{ReadFault, CutOff, InputTooLong, NoMemory}
 use Rattle.request_text.specs.Unread.{Unread}
 use Rattle.request_text.specs.Next.{items_of, TellsEnd, TakesLast, ReadsNext}
-use Rattle.request_text.specs.Reading.{StopsReading}
-use Rattle.request_text.specs.Parts.{TakesNext, Fails}
+use Rattle.request_text.specs.Parts.{TakesNext}
 use Rattle.request_text.specs.LineEnds.{FindsEnd}
-use Rattle.request_text.specs.LastLines.{HasEnded, AsksLast, StopsLast}
-use Rattle.request_text.proofs.Stops.{some_same, none_some, few_kept}
+use Rattle.request_text.specs.LastLines.{HasEnded, AsksLast}
+use Rattle.request_text.proofs.Stops.{some_same}
 use Rattle.request_words.proofs.Skipped.{skipped_counts}
 
 last_reads : (at : ℕ) (bytes : List ℕ) (items : List Item) → IsLine bytes → Counts bytes 0 → Gives bytes [] items → Reads true at bytes items end
@@ -92,27 +88,3 @@ takes_last old mid new before after what finds ended asks =
       where
         differ : true ≡ false → ⊥
         differ same = cc
-
-pub last_stops : {S : Type 0} (g : Ghosts S) (old mid : Unread) (from to : S) (stop : ReadStop) → FindsEnd old mid (g.left from) (g.left to) Input
-    → StopsLast mid stop → Fails g old from to stop
-last_stops g old mid from to stop finds stops =
-    record {
-      why = why (g.left from) (g.left to) (g.faults from) (g.faults to) stop finds stops;
-      few = few_kept old mid (g.left from) (g.left to) finds.given finds.gains;
-    }
-  where
-    cut : (before after : Option (List ℕ)) (f h offset : ℕ) → FindsEnd old mid before after Input → Reads true mid.before mid.kept [] (cut_off offset)
-        → StopsReading old before after f h (CutOff offset)
-    cut None after f h offset found reads = tt
-    cut (Some left) None f h offset found reads = absurd (none_some found.gains.gave)
-    cut (Some left) (Some rest) f h offset found reads =
-        let kept : old.kept ++ left ≡ mid.kept = all_kept old mid left rest found in
-        let size = ap length kept in
-        inl (omega (arith, size, found.gains.place, found.gains.within), rw (kept, sym found.gains.place) reads)
-
-    why : (before after : Option (List ℕ)) (f h : ℕ) (what : ReadStop) → FindsEnd old mid before after Input → StopsLast mid what
-        → StopsReading old before after f h what
-    why before after f h (CutOff offset) found told = cut before after f h offset found told
-    why before after f h NoMemory found told = tt
-    why before after f h ReadFault found told = absurd told
-    why before after f h InputTooLong found told = absurd told

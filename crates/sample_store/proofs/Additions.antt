@@ -1,19 +1,18 @@
 -- One run more.
-use Rattle.std.proofs.Common.{◌≡◌, ℕ, ◌+◌, ◌<◌, ◌≤◌, Bool, true, false, cond, List, [], ◌∷◌, ◌++◌, length, map, refl, sym, ap, ◌∙◌, Option, Some, None, inl, inr, ◌⊎◌, ◌||◌, arith}
+use Rattle.std.proofs.Common.{◌≡◌, ℕ, ◌+◌, ◌≤◌, Bool, true, false, cond, List, [], ◌∷◌, ◌++◌, length, map, refl, sym, ap, ◌∙◌, Option, Some, None, inl, inr, ◌⊎◌, ◌||◌}
 use Rattle.std.specs.Prelude.{find, bytes_eq, nat_lt}
 use Rattle.std.specs.Option.{option_or}
 use Rattle.std.specs.List.{list_any}
 use Rattle.std.proofs.lemmas.List.Sums.{sum_by_push}
 use Rattle.std.specs.Cmp.Lexicographic.{nat_list_eq_equiv}
 use Rattle.indexmap.specs.IndexSet.{insert_key}
-use Rattle.std.proofs.lemmas.Bool.{cases_Bool, cases_lt, lt-ltb, le-ltb}
+use Rattle.std.proofs.lemmas.Bool.{cases_Bool, cases_lt, lt-ltb}
 use Rattle.std.proofs.lemmas.List.Folds.{find-append}
 use Rattle.std.proofs.lemmas.Slice.Eq.{bytes_eq-Decides}
 use Rattle.metric_table.specs.Limits.{most}
 use Rattle.metric_table.specs.declared.limits.Limit.TheVariants as limit
 use Rattle.history_model.specs.declared.run.Run.{Run}
 use Rattle.history_model.specs.Runs.{same_run}
-use Rattle.sample_store.specs.declared.answers.Accepted.{Accepted}
 use Rattle.sample_store.specs.declared.answers.Accepted.TheVariants.{New, Duplicate, Clash, Full}
 use Rattle.sample_store.specs.declared.store.Stored.{Stored}
 use Rattle.sample_store.specs.Runs.{names, samples_in, AreNamedOnce}

@@ -1,5 +1,5 @@
 -- Exported: the least sum of squares is a cost that merges and is in range.
-use Rattle.std.proofs.Common.{ℕ, ℤ, ◌+◌, ◌*◌, ◌^◌, ◌<◌, ◌≤◌, List, [], ◌∷◌, ◌++◌, length, pos, ◌≤ℤ◌, arith}
+use Rattle.std.proofs.Common.{◌^◌, ◌++◌, arith}
 use Rattle.std.proofs.lemmas.Int.{ints}
 use Rattle.segment_model.specs.Computed.{least_sum_of}
 use Rattle.segment_model.specs.Values.{LeastSumsMerge, LeastSumsAreInRange}

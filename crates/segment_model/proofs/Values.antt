@@ -1,16 +1,12 @@
 -- Segments of positions as lists of values.
-use Rattle.std.proofs.Common.{◌≡◌, ℕ, ℤ, zero, suc, ◌+◌, ◌-◌, ◌^◌, ◌<◌, ◌≤◌, List, [], ◌∷◌, ◌++◌, length, get_or, take, drop, map, flat_map, All, refl, sym, ap, ◌∙◌, pos, ◌+ℤ◌, ◌≤ℤ◌, arith}
-use Rattle.std.proofs.lemmas.Int.{ints}
+use Rattle.std.proofs.Common.{◌≡◌, ℕ, ℤ, zero, suc, ◌+◌, ◌-◌, ◌<◌, ◌≤◌, List, [], ◌∷◌, ◌++◌, length, get_or, take, drop, All, refl, sym, ap, ◌∙◌, arith}
 use Rattle.std.proofs.lemmas.List.{length-append, length-drop, length-map, drop-drop, take-append-drop, take_all, take_more, take-append-le, drop-append-le}
 use Rattle.std.proofs.lemmas.List.Concat.{flat_map-append}
-use Rattle.segment_model.specs.Segments.{Observation, Position, position_values, values_of, segment, IsLeastSum}
-use Rattle.segment_model.specs.Limits.{IsSmall, HasValue, WithinLimits}
-use Rattle.segment_model.specs.Computed.{least_sum_of}
-use Rattle.segment_model.specs.Cuts.{Merges}
-use Rattle.segment_model.specs.Values.{joined, values_between, values_by_position, IsSome, AreWithinLimits, cost_between, MergesValues, CostsInRange, ValuesHaveParts, ValuesAreWithinLimits, ValuesAreSome, FrontHasSameValues, FrontIsWithinLimits, FirstAreWithinLimits, NextOfPoints, AllOfPoints, NextValuesFollow, ValuesOfPoints, PointsAreWithinLimits, SegmentsMerge, SegmentsAreInRange, LeastSumsMerge, LeastSumsAreInRange}
+use Rattle.segment_model.specs.Segments.{Observation, Position, position_values, values_of}
+use Rattle.segment_model.specs.Limits.{IsSmall, HasValue}
+use Rattle.segment_model.specs.Values.{joined, values_between, values_by_position, IsSome, AreWithinLimits, ValuesHaveParts, ValuesAreWithinLimits, ValuesAreSome, FrontHasSameValues, FrontIsWithinLimits, FirstAreWithinLimits, NextOfPoints, AllOfPoints, NextValuesFollow, ValuesOfPoints, PointsAreWithinLimits, SegmentsMerge, SegmentsAreInRange}
 use Rattle.segment_model.proofs.Segments.{take-sum, one-position}
-use Rattle.segment_model.proofs.Bounds.{all-left, all-right, least_sum-low, least_sum-high}
-use Rattle.segment_model.proofs.Centres.{least_sum_of-is, least_sum-append}
+use Rattle.segment_model.proofs.Bounds.{all-left, all-right}
 
 joined-append : (xs ys : List (List ℤ)) → joined (xs ++ ys) ≡ joined xs ++ joined ys
 joined-append xs ys = flat_map-append (λ (v : List ℤ). v) xs ys

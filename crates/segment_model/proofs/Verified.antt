@@ -1,13 +1,13 @@
 -- Tables that were looked at entry by entry are the tables.
-use Rattle.std.proofs.Common.{◌≡◌, ◌≢◌, ℕ, ℤ, suc, zero, ◌+◌, ◌<◌, ◌≤◌, List, [], ◌∷◌, ◌++◌, reverse, length, map, cond, ltb, get_or, take, slice_index, slice_index_or, ◌⊎◌, inl, inr, refl, sym, ap, ◌∙◌, subst, pos, neg_ℤ, ◌+ℤ◌, ◌≤ℤ◌, ◌<ℤ◌, arith}
+use Rattle.std.proofs.Common.{◌≡◌, ◌≢◌, ℕ, ℤ, suc, zero, ◌+◌, ◌<◌, ◌≤◌, List, [], ◌∷◌, ◌++◌, reverse, length, map, cond, ltb, take, slice_index, inl, inr, refl, sym, ap, ◌∙◌, subst, pos, ◌+ℤ◌, ◌≤ℤ◌, arith}
 use Rattle.std.proofs.lemmas.Int.{ints}
 use Rattle.std.proofs.lemmas.Bool.{cases_lt, cases_eq, lt-ltb, le-ltb}
-use Rattle.std.proofs.lemmas.List.{length-append, length-take, length-map, take_more, take_all, get_or_append_left, get_or_push, get_or-take, get_or-map}
+use Rattle.std.proofs.lemmas.List.{length-take, length-map, take_more, take_all, get_or-take, get_or-map}
 use Rattle.segment_model.specs.Cuts.{Merges}
-use Rattle.segment_model.specs.Tables.{int_at, IsRow, IsDear, IsPrunedAt, IsTable, IsFirstLeast, IsMarkedAt, AreMarkedAt, IsUnmarkedBehind, IsOpenAt, IsVerified, IsWalk}
+use Rattle.segment_model.specs.Tables.{int_at, IsDear, IsTable, IsFirstLeast, IsMarkedAt, IsUnmarkedBehind, IsOpenAt, IsVerified, IsWalk}
 use Rattle.segment_model.specs.Laws.{VerifiedIsTable, TableIsVerified, BestIsWalk}
 use Rattle.segment_model.proofs.BestCuts.{IsBestBack, best-reversed, first_least-some, total_back}
-use Rattle.segment_model.proofs.Rows.{IsPlace, head_or_zero, table-place, next-place, best_back-unique, place-best, tail-best, pruned-same}
+use Rattle.segment_model.proofs.Rows.{IsPlace, head_or_zero, table-place, next-place, best_back-unique, place-best, tail-best}
 use Rattle.segment_model.proofs.Growth.{table-grows}
 use Rattle.segment_model.proofs.Pruning.{unmarked-first}
 use Rattle.segment_model.proofs.Shrinking.{total-at-most, not-dear}

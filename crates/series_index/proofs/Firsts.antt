@@ -16,6 +16,7 @@ use Rattle.series_index.specs.Seen.{with_sample}
 use Rattle.series_index.specs.Taken.{of_series, with_samples}
 use Rattle.series_index.specs.Demands.{Kept, is_new, new_ones}
 use Rattle.series_index.proofs.Runs.{filter-next, count-next}
+use Rattle.history_model.proofs.Lists.{or-true, any-map}
 
 pub own : (x : Measurement) → is_of (measured x) x ≡ true
 own x =
@@ -56,13 +57,9 @@ count-with commit step (x ∷ xs) t =
     let one = count-inserted commit (record { step = step; value = x.value }) t.points in
     omega (arith, rest, one)
 
-or-false : (b : Bool) → (b || false) ≡ b
+pub or-false : (b : Bool) → (b || false) ≡ b
 or-false true = refl
 or-false false = refl
-
-or-true : (b : Bool) → (b || true) ≡ true
-or-true true = refl
-or-true false = refl
 
 pub known-with : (commit step : ℕ) (s : Series) (xs : List Measurement) (t : Tracked)
     → is_some (with_samples commit step (of_series s xs) t).since ≡ (is_some t.since || list_any (is_of s) xs)
@@ -73,10 +70,6 @@ known-with commit step s (x ∷ xs) t = elim (cases_Bool (is_of s x)) [
 ]
 
 -- ---- new series
-any-map : {A B : Type 0} (p : B → Bool) (f : A → B) (xs : List A) → list_any p (map f xs) ≡ list_any (λ x. p (f x)) xs
-any-map p f [] = refl
-any-map p f (x ∷ xs) = ap (λ b. p (f x) || b) (any-map p f xs)
-
 one-or-none : (p : Series → Bool) (there : Bool) (s : Series) → length (filter p (cond there [] (s ∷ []))) ≡ cond (p s && not there) 1 0
 one-or-none p true s = none (p s)
   where

@@ -1,5 +1,5 @@
 -- The known series of an index, listed in order.
-use Rattle.std.proofs.Common.{◌≡◌, ◌⊎◌, inl, inr, ℕ, Bool, true, false, true≢false, cond, List, [], ◌∷◌, Ordering, Less, nat_cmp, refl, sym, ap, subst, ◌∙◌, Option, Some}
+use Rattle.std.proofs.Common.{◌≡◌, ◌⊎◌, inl, inr, ℕ, Bool, true, false, true≢false, cond, List, [], ◌∷◌, Less, nat_cmp, refl, sym, ap, subst, ◌∙◌, Option, Some}
 use Rattle.std.specs.Prelude.{Contains, is_some, unwrap_or}
 use Rattle.std.specs.Ordering.{is_eq, ordering_then, ordering_reverse}
 use Rattle.std.specs.Cmp.Lexicographic.{slice_cmp}
@@ -24,9 +24,6 @@ Metrics = List (List ℕ × Tracked)
 
 abbrev Tests : Type 0
 Tests = List (List ℕ × Metrics)
-
-abbrev name_cmp : List ℕ → List ℕ → Ordering
-name_cmp one other = slice_cmp nat_cmp one other
 
 -- the metrics of a test are in order
 abbrev pub HasSorted : List ℕ × Metrics → Type 0

@@ -11,10 +11,11 @@ use Rattle.segment_model.specs.Limits.{IsSmall, HasStepsInOrder, WithinLimits, c
 use Rattle.segment_model.specs.Edits.{position_of, with_value, inserted, has_values, by_another, without_step, removed}
 use Rattle.point_list.specs.Places.{CameBy, MayCome}
 use Rattle.point_list.proofs.Places.{RisesFrom, lower, to-rises}
-use Rattle.point_list.proofs.Kept.{count-inserted, size-inserted, few-inserted, within-inserted, within-removed}
+use Rattle.point_list.proofs.Kept.{size-inserted, few-inserted, within-inserted, within-removed, AreSmall, all-left, all-right, small-out}
 use Rattle.series_index.specs.declared.coming.Coming.{Coming}
 use Rattle.series_index.specs.Log.{observed, all_placed, is_of_step, MayBePlaced, HaveRoom}
 use Rattle.series_index.proofs.Undo.{removed-inserted}
+use Rattle.segment_model.proofs.Inserted.{count-inserted}
 
 -- ---- one value, by where its commit stands to that of the first position
 pub put-below : (commit : ℕ) (x : Observation) (p : Position) (points : List Position) → commit < p.commit → inserted commit x (p ∷ points) ≡ position_of commit x ∷ p ∷ points
@@ -66,22 +67,6 @@ module _ (P : Position → Type 0) (less : (x : Observation) (p : Position) → 
   pub all-before : (coming : List Coming) (points : List Position) → All P (all_placed coming points) → All P points
   all-before [] points all = all
   all-before (x ∷ coming) points all = all-before-one x.commit (observed x) points (all-before coming (inserted x.commit (observed x) points) all)
-
-all-left : (xs ys : List ℤ) → All IsSmall (xs ++ ys) → All IsSmall xs
-all-left [] ys all = All-nil IsSmall
-all-left (x ∷ xs) ys all = All-cons IsSmall x xs (All-head IsSmall x (xs ++ ys) all) (all-left xs ys (All-tail IsSmall x (xs ++ ys) all))
-
-all-right : (xs ys : List ℤ) → All IsSmall (xs ++ ys) → All IsSmall ys
-all-right [] ys all = all
-all-right (x ∷ xs) ys all = all-right xs ys (All-tail IsSmall x (xs ++ ys) all)
-
-abbrev AreSmall : Position → Type 0
-AreSmall p = All IsSmall (position_values p)
-
-small-out : (points : List Position) → All IsSmall (values_of points) → All AreSmall points
-small-out [] all = All-nil AreSmall
-small-out (p ∷ points) all =
-    All-cons AreSmall p points (all-left (position_values p) (values_of points) all) (small-out points (all-right (position_values p) (values_of points) all))
 
 small-parts : (x : Observation) (p : Position) → AreSmall (with_value x p) → All IsSmall (position_values p ++ x.value ∷ [])
 small-parts x p all = subst (All IsSmall) (map-append (λ (y : Observation). y.value) p.samples (x ∷ [])) all

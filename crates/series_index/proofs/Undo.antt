@@ -6,13 +6,14 @@ use Rattle.std.proofs.lemmas.List.{append-nil}
 use Rattle.std.proofs.lemmas.List.Elements.{filter-append, All-nil, All-cons, All-head, All-tail, All-push}
 use Rattle.segment_model.specs.Segments.{Observation, Position}
 use Rattle.segment_model.specs.Limits.{IsSmall}
-use Rattle.segment_model.specs.Edits.{position_of, with_value, inserted, has_values, by_another, without_step, removed, has_commit}
+use Rattle.segment_model.specs.Edits.{position_of, with_value, inserted, has_values, by_another, without_step, removed}
 use Rattle.point_list.specs.Places.{CameBy}
 use Rattle.segment_model.proofs.Inserted.{count-inserted}
 use Rattle.sample_model.specs.Samples.{Measurement}
 use Rattle.series_index.specs.declared.tracked.Tracked.{Tracked}
 use Rattle.series_index.specs.Seen.{with_sample, without, forgotten, undone, HasRoom}
 use Rattle.series_index.specs.Taken.{with_samples, HasRoomFor}
+use Rattle.history_model.proofs.Commit.{has-inserted}
 
 -- a value that is taken out with its step leaves no trace
 pub removed-inserted : (commit step : ℕ) (v : ℤ) (points : List Position) → removed commit step (inserted commit (record { step = step; value = v }) points) ≡ removed commit step points
@@ -58,16 +59,6 @@ with-push commit step [] x t = refl
 with-push commit step (y ∷ xs) x t = with-push commit step xs x (with_sample commit (record { step = step; value = y.value }) t)
 
 -- ---- room for the next
-has-inserted : (commit : ℕ) (x : Observation) (points : List Position) → has_commit commit (inserted commit x points) ≡ true
-has-inserted commit x [] = rw (eq-eqb commit commit refl) refl
-has-inserted commit x (p ∷ points) = elim (cases_order commit p.commit) [
-  | inl same ↦ rw (le-ltb commit p.commit (omega (arith, same)), eq-eqb p.commit commit (sym same)) (rw (eq-eqb p.commit commit (sym same)) refl)
-  | inr other ↦ elim other [
-    | inl below ↦ rw (lt-ltb commit p.commit below, eq-eqb commit commit refl) refl
-    | inr above ↦ rw (le-ltb commit p.commit (omega (arith, above)), ne_eqb p.commit commit (λ e. omega (arith, e, above))) (rw (ne_eqb p.commit commit (λ e. omega (arith, e, above))) (has-inserted commit x points))
-  ]
-]
-
 came-inserted : (commit step : ℕ) (v : ℤ) (points : List Position) → All (CameBy commit step) points → All (CameBy commit step) (inserted commit (record { step = step; value = v }) points)
 came-inserted commit step v [] all =
     All-cons (CameBy commit step) (position_of commit (record { step = step; value = v })) []

@@ -1,23 +1,12 @@
--- One division gives each centre, and points have one list of distances.
-use Rattle.std.proofs.Common.{◌≡◌, ℕ, suc, ℤ, ◌+◌, ◌<◌, ◌≤◌, List, [], ◌∷◌, ◌++◌, length, refl, sym, ap, ◌∙◌, inl, inr, arith, ◌-ℤ◌, unsigned_abs}
+-- Points have one list of distances.
+use Rattle.std.proofs.Common.{◌≡◌, ℕ, suc, ℤ, ◌+◌, ◌<◌, List, [], ◌∷◌, ◌++◌, length, refl, sym, ap, ◌∙◌, inl, inr, arith, ◌-ℤ◌, unsigned_abs}
 use Rattle.std.specs.Prelude.{slice_index}
 use Rattle.std.proofs.lemmas.Bool.{cases_lt}
 use Rattle.std.proofs.lemmas.List.{length-append, get_or_append_left, get_or_push}
-use Rattle.segment_model.specs.Segments.{Position, segment, IsCentre}
-use Rattle.segment_model.specs.Limits.{WithinLimits}
-use Rattle.segment_model.specs.Computed.{sum_of, centre_by_division}
-use Rattle.segment_model.specs.Values.{values_between, values_by_position, ValuesOfPoints}
-use Rattle.segment_model.specs.Laws.{SegmentHasValue, DivisionGivesCentre, CentreIsUnique}
+use Rattle.segment_model.specs.Segments.{Position, segment}
+use Rattle.segment_model.specs.Laws.{CentreIsUnique}
 use Rattle.series_noise.specs.Noise.{IsDistance, IsNoise}
 use Rattle.series_noise.proofs.Ordered.{one-median}
-
-pub centre-at : ValuesOfPoints → SegmentHasValue → DivisionGivesCentre → (points : List Position) (positions : List (List ℤ))
-    → positions ≡ values_by_position points → WithinLimits points → (s t : ℕ) → s < t → t ≤ length points → (x : ℤ)
-    → x ≡ centre_by_division (length (values_between positions s t)) (sum_of (values_between positions s t))
-    → IsCentre (segment points s t) x
-centre-at of_points some divided points positions stands limits s t lt le x is =
-    let same : values_between positions s t ≡ segment points s t = ap (λ all. values_between all s t) stands ∙ of_points points s t in
-    rw (is, same) (divided (segment points s t) (some points limits s t lt le))
 
 -- ---- one distance more
 pub one-more : (P : ℕ → ℕ → Type 0) (xs : List ℕ) (x i : ℕ) → length xs ≡ i → ((k : ℕ) → k < i → P k (slice_index xs k)) → P i x

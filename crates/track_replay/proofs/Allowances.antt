@@ -104,11 +104,6 @@ jobs-refused h lo hi full allowed =
     let few : open_count (jobs (h ++ entry.Job (Begin lo hi) ∷ [])) ≤ most limit.Jobs = allowed.1 limit.Jobs in
     absurd (omega (arith, full, few))
 
-pub turn-refused : (h : List Entry) (number place : ℕ) (event : JobEvent) → IsTurnOf number place event → (asked number h ≡ Some place → ⊥) → IsAllowance h (entry.Job event) None
-turn-refused h number place (Begin lo hi) turn other allowed = absurd turn
-turn-refused h number place (Answer job at status) turn other allowed = other (ap (λ (n : ℕ). asked n h) (sym turn.0) ∙ allowed.0 ∙ ap Some turn.1)
-turn-refused h number place (GiveUp job at) turn other allowed = other (ap (λ (n : ℕ). asked n h) (sym turn.0) ∙ allowed.0 ∙ ap Some turn.1)
-
 -- the state of a regression, where it is there
 pub state-some : (h : List Entry) (number : ℕ) (f : Followed) → followed_in number (followed h) ≡ Some f → Some f.state ≡ state_if h number
 state-some h number f there =

@@ -38,10 +38,6 @@ none-of (Some x) none = absurd (let never : false ≡ true = none in cc)
 of-none : {A : Type 0} (o : Option A) → o ≡ None → is_none o ≡ true
 of-none o none = ap is_none none
 
-pub some-not-none : {A : Type 0} (o : Option A) → is_some o ≡ true → o ≡ None → ⊥
-some-not-none None some none = let never : false ≡ true = some in cc
-some-not-none (Some x) some none = let never : Some x ≡ None = none in cc
-
 pub neither : {A : Type 0} (o : Option A) → is_some o ≡ false → o ≡ None
 neither None no-one = refl
 neither (Some x) no-one = absurd (let never : true ≡ false = no-one in cc)

@@ -1,5 +1,5 @@
 -- The series of a state: ready for an entry that is allowed, and after it.
-use Rattle.std.proofs.Common.{◌≡◌, ℕ, ◌+◌, ◌<◌, ◌≤◌, Bool, true, false, cond, ◌||◌, List, [], ◌∷◌, ◌++◌, length, map, All, refl, sym, ap, ◌∙◌, subst, Option, Some, None, is_some, inl, inr, arith}
+use Rattle.std.proofs.Common.{◌≡◌, ℕ, ◌+◌, ◌<◌, ◌≤◌, Bool, true, false, cond, ◌||◌, List, [], ◌∷◌, ◌++◌, length, map, All, refl, sym, ap, ◌∙◌, subst, Option, Some, None, inl, inr, arith}
 use Rattle.std.specs.Prelude.{IsSome, unwrap_or, option_map}
 use Rattle.std.specs.List.{list_any}
 use Rattle.std.proofs.lemmas.Bool.{cases_Bool, ne_eqb}
@@ -26,6 +26,7 @@ use Rattle.series_index.specs.declared.tracked.Tracked.{Tracked}
 use Rattle.track_state.specs.Indexes.{Kept, stored, stored_runs, found_run, given_back, seen_after, TakesIn}
 use Rattle.track_state.specs.State.{IsPast, IsTracked}
 use Rattle.track_state.proofs.Marks.{look-up}
+use Rattle.series_index.proofs.Firsts.{or-false, known-with}
 
 some-of : {A : Type 0} (o : Option A) → IsSome o → (x : A) × (o ≡ Some x)
 some-of None some = absurd (let no : false ≡ true = some in cc)
@@ -45,22 +46,6 @@ past-with now commit step (x ∷ xs) t le past =
     one : (o : Option ℕ) → IsPast now o → IsPast now (Some (unwrap_or o step))
     one None p = le
     one (Some k) p = p
-
-or-false : (b : Bool) → (b || false) ≡ b
-or-false true = refl
-or-false false = refl
-
-known-with : (commit step : ℕ) (s : Series) (xs : List Measurement) (t : Tracked)
-    → is_some (with_samples commit step (of_series s xs) t).since ≡ (is_some t.since || list_any (is_of s) xs)
-known-with commit step s [] t = sym (or-false (is_some t.since))
-known-with commit step s (x ∷ xs) t = elim (cases_Bool (is_of s x)) [
-  | inl hit ↦ rw hit (known-with commit step s xs (with_sample commit (record { step = step; value = x.value }) t) ∙ sym (or-true (is_some t.since)))
-  | inr miss ↦ rw miss (known-with commit step s xs t)
-]
-  where
-    or-true : (b : Bool) → (b || true) ≡ true
-    or-true true = refl
-    or-true false = refl
 
 later : (now : ℕ) (o : Option ℕ) → IsPast now o → IsPast (now + 1) o
 later now None p = tt

@@ -1,26 +1,22 @@
--- How a command ends where reading stops, and that what is due comes.
-use Rattle.std.proofs.Common.{◌≡◌, ◌≢◌, ℕ, ◌+◌, ◌^◌, ◌≤◌, ◌⊎◌, inl, inr, List, [], ◌∷◌, Option, None, Some, Result, Ok, Err, IfSome, map, refl, sym, ap, subst, ◌∙◌, arith}
+-- How a command ends, and that what is due comes.
+use Rattle.std.proofs.Common.{◌≡◌, ◌≢◌, ℕ, ◌≤◌, ◌⊎◌, inl, inr, List, [], ◌∷◌, Option, None, Some, Result, Ok, Err, IfSome, map, refl, sym, ap, subst, ◌∙◌, arith}
 use Rattle.track_outside.specs.Counts.{Rose}
 use Rattle.track_outside.specs.declared.source.Source as source
 use Rattle.track_outside.specs.declared.sink.Sink as sink
 use Rattle.track_outside.specs.declared.keeper.Keeper as keeper
-use Rattle.track_outside.specs.Calls.{Took, IsUntouched, GaveAtMost}
+use Rattle.track_outside.specs.Calls.{Took}
 use Rattle.request_words.specs.Bodies.{Item}
 use Rattle.request_text.specs.Scripts.{Ending, end, cut_off, unfinished, IsScript}
 use Rattle.script_session.specs.declared.stop.Stop.{Stop as ScriptStop}
 use Rattle.script_session.specs.declared.stop.Stop.TheVariants as script
 use Rattle.script_session.specs.Endings.{HasRead, HasWritten}
-use Rattle.cut_lines.specs.declared.stop.Refusal.TheVariants as refusal
-use Rattle.cut_lines.specs.declared.stop.Stop.{Stop}
-use Rattle.cut_lines.specs.declared.stop.Stop.TheVariants as stop
-use Rattle.cut_lines.specs.Stops.{BytesShow, StopsFor}
 use Rattle.command_words.specs.declared.command.Command.{Command}
 use Rattle.command_words.specs.declared.command.Command.TheVariants.{Cut, Apply, Gen, Trial}
 use Rattle.tracker_top.specs.declared.status.Status.{Status}
 use Rattle.tracker_top.specs.declared.status.Status.TheVariants.{Done, BadWords, ReadFault, WriteFault, StoreFault, BadStore, CutOff, NoMemory, InputTooLong}
 use Rattle.command_words.specs.Commands.{IsSpelled, AreOneCommand}
-use Rattle.tracker_top.specs.Statuses.{status_of, script_status_of, script_status, ended, CutShows, ScriptShows, Shows, IsDue, OneStatusIsDue}
-use Rattle.tracker_top.specs.Endings.{HasCause, EndsInput, EndsOutput, AnswersScript, Begins, WasStarted, Keeps, Prints, AppendCause, LoadCause, EndsSo, EndsScript, EndsApply, IsOfOutput, HasAsked, Ends}
+use Rattle.tracker_top.specs.Statuses.{script_status_of, script_status, ended, CutShows, ScriptShows, Shows, IsDue, OneStatusIsDue}
+use Rattle.tracker_top.specs.Endings.{HasCause, EndsOutput, AnswersScript, Begins, WasStarted, Keeps, Prints, AppendCause, LoadCause, EndsSo, EndsScript, EndsApply, IsOfOutput, HasAsked, Ends}
 use Rattle.tracker_top.specs.Answers.{IsCertificateText, state_of}
 use Rattle.track_outside.specs.Kept.{with_more}
 use Rattle.kept_machines.specs.Kept.{kept_of, AreKept}
@@ -31,38 +27,6 @@ use Rattle.track_model.specs.Tracks.{Track}
 use Rattle.script_desk.specs.Sessions.{State, AnswersFor}
 use Rattle.script_session.specs.Outputs.{IsOutput}
 use Rattle.series_gen.specs.Script.{script as script_of}
-
--- ---- where reading stops
-
-stop_shows : (known : Option (List ℕ)) (why : Stop) → IfSome known (λ bytes. BytesShow bytes why) → IfSome known (λ bytes. CutShows bytes (status_of why))
-stop_shows None why shown = tt
-stop_shows (Some bytes) why shown = inr (why, refl, shown)
-
-module _ {I : Type 0} (g : source.Ghosts I) (old new : I) where
-  stop_causes : (why : Stop) → StopsFor g old new why → HasCause g old new (status_of why)
-  stop_causes stop.Fault told = told
-  stop_causes stop.NoMemory told = tt
-  stop_causes stop.TooLong told = stop_shows (g.left old) stop.TooLong told
-  stop_causes (stop.Refused refusal.Bad k) told = stop_shows (g.left old) (stop.Refused refusal.Bad k) told
-  stop_causes (stop.Refused refusal.Full k) told = stop_shows (g.left old) (stop.Refused refusal.Full k) told
-
-  stop_not_done : (why : Stop) → status_of why ≢ Done
-  stop_not_done stop.Fault is = cc
-  stop_not_done stop.NoMemory is = cc
-  stop_not_done stop.TooLong is = cc
-  stop_not_done (stop.Refused refusal.Bad k) is = cc
-  stop_not_done (stop.Refused refusal.Full k) is = cc
-
-  pub stop_ends : (why : Stop) → StopsFor g old new why → GaveAtMost (2 ^ 30 + 1) (g.left old) (g.left new) → g.faults old ≤ g.faults new
-      → EndsInput g old new (status_of why)
-  stop_ends why told few counts = record { cause = stop_causes why told; whole = λ is. absurd (stop_not_done why is); few = few; counts = counts }
-
-pub stop_writes : {O : Type 0} (g : sink.Ghosts O) (Answers : List ℕ → Type 0) (old new : O) (why : Stop) → IsUntouched g old new → EndsOutput g Answers old new (status_of why)
-stop_writes g Answers old new stop.Fault same = same
-stop_writes g Answers old new stop.NoMemory same = same
-stop_writes g Answers old new stop.TooLong same = same
-stop_writes g Answers old new (stop.Refused refusal.Bad k) same = same
-stop_writes g Answers old new (stop.Refused refusal.Full k) same = same
 
 -- ---- what is due comes
 

@@ -2,7 +2,7 @@ use Rattle.std.proofs.Common.{◌+◌, FitsSigned, arith}
 use Rattle.std.specs.Int.{w64}
 use Rattle.std.proofs.lemmas.Int.{to_z-of_z}
 use Rattle.segment_model.specs.Segments.{segment, IsCentre}
-use Rattle.series_noise.proofs.Distances.{centre-at}
+use Rattle.segment_model.proofs.CentreAt.{centre-at}
 use Rattle.series_noise.proofs.distance.Goals as goal
 
 pub returns : goal.returns

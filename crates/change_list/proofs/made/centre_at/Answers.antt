@@ -2,7 +2,7 @@ use Rattle.std.proofs.Common.{FitsSigned}
 use Rattle.std.specs.Int.{w64}
 use Rattle.std.proofs.lemmas.Int.{to_z-of_z}
 use Rattle.segment_model.specs.Segments.{IsCentre, segment}
-use Rattle.change_list.proofs.Places.{centre-at}
+use Rattle.segment_model.proofs.CentreAt.{centre-at}
 use Rattle.change_list.proofs.made.centre_at.Goals as goal
 
 pub returns : goal.returns

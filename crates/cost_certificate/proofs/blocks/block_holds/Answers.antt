@@ -1,14 +1,12 @@
-use Rattle.std.proofs.Common.{◌≡◌, ◌+◌, ◌*◌, Bool, true, false, inl, inr, refl, length, arith}
+use Rattle.std.proofs.Common.{◌+◌, ◌*◌, false, inl, inr, refl, length, arith}
 use Rattle.std.specs.Int.{w128}
 use Rattle.std.proofs.lemmas.Int.{to_z-of_z}
 use Rattle.std.proofs.lemmas.Bool.{cases_lt}
 use Rattle.segment_model.specs.Values.{cost_between}
 use Rattle.segment_model.specs.Computed.{least_sum_of}
 use Rattle.cost_certificate.proofs.Watches.{watches-later}
+use Rattle.cost_certificate.proofs.Bools.{not_both}
 use Rattle.cost_certificate.proofs.blocks.block_holds.Goals as goal
-
-not_both : (b : Bool) → b ≡ false → b ≡ true → ⊥
-not_both b p q = cc
 
 pub returns-then-not-fronts_hold-clause-holds : goal.returns-then-not-fronts_hold-clause-holds
 returns-then-not-fronts_hold-clause-holds c =

@@ -1,13 +1,11 @@
-use Rattle.std.proofs.Common.{◌≡◌, Bool, true, false, length, FitsSigned, arith}
+use Rattle.std.proofs.Common.{length, FitsSigned, arith}
 use Rattle.std.specs.Int.{w128}
 use Rattle.std.proofs.lemmas.Int.{ints, to_z-of_z}
 use Rattle.segment_model.specs.Values.{cost_between}
 use Rattle.segment_model.specs.Computed.{least_sum_of}
 use Rattle.cost_certificate.proofs.Watches.{passed}
+use Rattle.cost_certificate.proofs.Bools.{not_both}
 use Rattle.cost_certificate.proofs.blocks.front_holds.Goals as goal
-
-not_both : (b : Bool) → b ≡ false → b ≡ true → ⊥
-not_both b p q = cc
 
 pub returns-then-passes-clause-holds : goal.returns-then-passes-clause-holds
 returns-then-passes-clause-holds c =

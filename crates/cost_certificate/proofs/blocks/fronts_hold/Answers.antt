@@ -1,4 +1,4 @@
-use Rattle.std.proofs.Common.{◌≡◌, ℕ, ◌+◌, ◌*◌, ◌/◌, ◌<◌, Bool, true, false, inl, inr, refl, length, FitsSigned, arith}
+use Rattle.std.proofs.Common.{ℕ, ◌+◌, ◌*◌, ◌/◌, ◌<◌, false, inl, inr, refl, length, FitsSigned, arith}
 use Rattle.std.specs.Int.{w128}
 use Rattle.std.proofs.lemmas.Int.{ints, to_z-of_z}
 use Rattle.std.proofs.lemmas.Bool.{cases_lt}
@@ -6,10 +6,8 @@ use Rattle.segment_model.specs.Values.{cost_between}
 use Rattle.segment_model.specs.Computed.{least_sum_of}
 use Rattle.cost_certificate.specs.Checks.{PlaceHoldsInBlock, watch_at}
 use Rattle.cost_certificate.proofs.Watches.{watch-set, passed}
+use Rattle.cost_certificate.proofs.Bools.{not_both}
 use Rattle.cost_certificate.proofs.blocks.fronts_hold.Goals as goal
-
-not_both : (b : Bool) → b ≡ false → b ≡ true → ⊥
-not_both b p q = cc
 
 pub loop-j-init : goal.loop-j-init
 loop-j-init c =

@@ -1,13 +1,10 @@
-use Rattle.std.proofs.Common.{◌≡◌, Bool, true, false, length, FitsSigned, arith}
+use Rattle.std.proofs.Common.{length, FitsSigned, arith}
 use Rattle.std.specs.Int.{w128}
 use Rattle.std.proofs.lemmas.Int.{ints, to_z-of_z}
 use Rattle.segment_model.specs.Values.{cost_between}
 use Rattle.segment_model.specs.Computed.{least_sum_of}
 use Rattle.cost_certificate.proofs.Needs.{told}
 use Rattle.cost_certificate.proofs.blocks.is_told.Goals as goal
-
-not_both : (b : Bool) → b ≡ false → b ≡ true → ⊥
-not_both b p q = cc
 
 pub returns : goal.returns
 returns c holds =

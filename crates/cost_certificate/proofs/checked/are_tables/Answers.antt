@@ -1,4 +1,4 @@
-use Rattle.std.proofs.Common.{◌≡◌, length, Bool, true, false, refl, FitsSigned, rules, arith}
+use Rattle.std.proofs.Common.{◌≡◌, length, false, refl, FitsSigned, rules, arith}
 use Rattle.std.specs.Int.{w128}
 use Rattle.std.proofs.lemmas.Int.{to_z-of_z}
 use Rattle.segment_model.specs.Values.{cost_between}
@@ -6,11 +6,9 @@ use Rattle.segment_model.specs.Computed.{least_sum_of}
 use Rattle.segment_model.specs.Tables.{int_at, IsTable, IsVerified}
 use Rattle.cost_certificate.specs.Checks.{AreTotals}
 use Rattle.cost_certificate.proofs.Whole.{verified, rows-hold, places-hold, totals-are}
+use Rattle.cost_certificate.proofs.Bools.{not_both}
 use Rattle.cost_certificate.proofs.checked.are_tables.Goals as goal
 use Rattle.cost_certificate.proofs.checked.are_tables.Goals.{After-are_totals}
-
-not_both : (b : Bool) → b ≡ false → b ≡ true → ⊥
-not_both b p q = cc
 
 Tables : After-are_totals → Type 0
 Tables c = IsTable (cost_between least_sum_of c.args.square.now.positions) (length c.args.square.now.positions) c.args.penalty c.args.least.now c.args.back.now c.args.pruned.now

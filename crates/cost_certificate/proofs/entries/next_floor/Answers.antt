@@ -1,4 +1,4 @@
-use Rattle.std.proofs.Common.{◌≡◌, ◌≤◌, inl, inr, length, slice_index, Bool, true, false, ◌+ℤ◌, ◌≤ℤ◌, FitsSigned, rules}
+use Rattle.std.proofs.Common.{◌≤◌, inl, inr, length, slice_index, ◌+ℤ◌, ◌≤ℤ◌, FitsSigned, rules}
 use Rattle.std.specs.Int.{w128}
 use Rattle.std.proofs.lemmas.Bool.{cases_lt}
 use Rattle.std.proofs.lemmas.Int.{by_lt_z, to_z-of_z}
@@ -6,10 +6,8 @@ use Rattle.segment_model.specs.Values.{cost_between}
 use Rattle.segment_model.specs.Computed.{least_sum_of}
 use Rattle.segment_model.specs.Tables.{int_at}
 use Rattle.cost_certificate.proofs.Floors.{next-floor, floor-here, unlooked}
+use Rattle.cost_certificate.proofs.Bools.{not_both}
 use Rattle.cost_certificate.proofs.entries.next_floor.Goals as goal
-
-not_both : (b : Bool) → b ≡ false → b ≡ true → ⊥
-not_both b p q = cc
 
 pub returns-then-not-needs_look-clause-holds : goal.returns-then-not-needs_look-clause-holds
 returns-then-not-needs_look-clause-holds c =

@@ -1,4 +1,4 @@
-use Rattle.std.proofs.Common.{◌≡◌, length, Bool, true, false, refl, FitsSigned, rules, arith}
+use Rattle.std.proofs.Common.{length, false, refl, FitsSigned, rules, arith}
 use Rattle.std.specs.Int.{w128}
 use Rattle.std.proofs.lemmas.Int.{ints, to_z-of_z}
 use Rattle.segment_model.specs.Values.{cost_between}
@@ -7,10 +7,8 @@ use Rattle.segment_model.specs.Tables.{int_at}
 use Rattle.cost_certificate.specs.Checks.{PairHolds}
 use Rattle.cost_certificate.proofs.Loops.{one-more}
 use Rattle.cost_certificate.proofs.Floors.{first-floor-from}
+use Rattle.cost_certificate.proofs.Bools.{not_both}
 use Rattle.cost_certificate.proofs.entries.pairs_hold.Goals as goal
-
-not_both : (b : Bool) → b ≡ false → b ≡ true → ⊥
-not_both b p q = cc
 
 pub loop-t-init : goal.loop-t-init
 loop-t-init c =

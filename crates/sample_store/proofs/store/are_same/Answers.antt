@@ -1,4 +1,4 @@
-use Rattle.std.proofs.Common.{◌≡◌, ◌<◌, ◌∙◌, ap, sym, true, false, length, arith, get_or}
+use Rattle.std.proofs.Common.{◌≡◌, ◌<◌, ◌∙◌, ap, sym, length, arith, get_or}
 use Rattle.sample_model.specs.Samples.{Measurement}
 use Rattle.history_model.specs.Runs.{same_sample}
 use Rattle.sample_store.proofs.Same.{same-more, same-not}

@@ -1,15 +1,11 @@
-use Rattle.std.proofs.Common.{◌≡◌, ◌∙◌, List, [], ℕ, Option, Some, None, refl, ap, sym}
-use Rattle.std.specs.Prelude.{unwrap_or, IsSome}
+use Rattle.std.proofs.Common.{◌≡◌, ◌∙◌, List, [], ℕ, Option, Some, ap, sym}
+use Rattle.std.specs.Prelude.{unwrap_or}
 use Rattle.std.specs.BTreeMap.{BTreeMap}
 use Rattle.std.specs.Map.{lookup}
 use Rattle.series_index.specs.declared.tracked.Tracked.{Tracked}
 use Rattle.series_index.specs.Seen.{is_same, seen}
-use Rattle.series_index.proofs.Written.{same-within}
+use Rattle.series_index.proofs.Written.{same-within, some-is}
 use Rattle.series_index.proofs.series.SeriesIndex.settle.Goals as goal
-
-some-is : {A : Type 0} (o : Option A) (x : A) → o ≡ Some x → IsSome o
-some-is None x e = absurd (cc)
-some-is (Some y) x e = refl
 
 pub returns-in-Some : goal.returns-in-Some
 returns-in-Some c s =

@@ -12,7 +12,8 @@ use Rattle.track_model.specs.Tracks.{Track}
 use Rattle.series_index.specs.Demands.{Kept, is_new}
 use Rattle.series_index.specs.Seen.{seen}
 use Rattle.track_state.specs.State.{IsTracked}
-use Rattle.track_state.proofs.Asked.{filter-same, none-is}
+use Rattle.track_state.proofs.Asked.{none-is}
+use Rattle.history_model.proofs.Lists.{filter-same}
 use Rattle.track_state.proofs.state.TrackState.asked.Goals as goal
 
 pub demand-requires-clause-small : goal.demand-requires-clause-small
