@@ -1,18 +1,24 @@
 -- Rows and places that hold are the whole tables.
-use Rattle.std.proofs.Common.{◌≡◌, ℕ, ℤ, ◌+◌, ◌^◌, ◌<◌, ◌≤◌, List, length, slice_index, inl, inr, pos, neg_ℤ, ◌≤ℤ◌, arith}
+use Rattle.std.proofs.Common.{◌≡◌, ℕ, ℤ, ◌^◌, ◌<◌, ◌≤◌, List, inl, inr, pos, neg_ℤ, ◌≤ℤ◌, arith}
 use Rattle.std.proofs.lemmas.Int.{ints}
 use Rattle.std.proofs.lemmas.Bool.{cases_eq}
-use Rattle.segment_model.specs.Tables.{int_at, IsTable, IsVerified}
+use Rattle.segment_model.specs.Tables.{IsTable, IsVerified}
 use Rattle.segment_model.specs.Laws.{TotalsAreInRange}
-use Rattle.cost_certificate.specs.Checks.{AreTotals, RowHolds, PlaceHolds}
+use Rattle.cost_certificate.specs.declared.tables.Tables.{Tables}
+use Rattle.cost_certificate.specs.Checks.{PlaceHolds, RowHolds, cost_in, last_cut_at, last_place, total_at}
+use Rattle.cost_certificate.specs.Totals.{AreCosts, AreTotals}
 
-module _ (cost : ℕ → ℕ → ℤ) (n : ℕ) (b : ℤ) (least : List ℤ) (back pruned : List ℕ) where
-  pub verified : length least ≡ n + 1 → length back ≡ n + 1 → length pruned ≡ n + 1 → int_at least 0 ≡ neg_ℤ b → slice_index back 0 ≡ 0
-      → ((t : ℕ) → 0 < t → t ≤ n → RowHolds cost b least back t) → ((s : ℕ) → s ≤ n → PlaceHolds cost n b least back pruned s) → IsVerified cost n b least back pruned
-  verified least_size back_size pruned_size first first_back rows places = record {
-    least_length = least_size;
-    back_length = back_size;
-    pruned_length = pruned_size;
+module _ (tables : Tables) where
+  -- what the rows and the places tell, once each of them holds
+  abbrev pub IsLookedAt : Type 0
+  IsLookedAt = IsVerified (cost_in tables) (last_place tables) tables.penalty tables.least.now tables.back.now tables.pruned.now
+
+  pub verified : total_at tables 0 ≡ neg_ℤ tables.penalty → last_cut_at tables 0 ≡ 0
+      → ((t : ℕ) → 0 < t → t ≤ last_place tables → RowHolds tables t) → ((s : ℕ) → s ≤ last_place tables → PlaceHolds tables s) → IsLookedAt
+  verified first first_back rows places = record {
+    least_length = tables.least_length;
+    back_length = tables.back_length;
+    pruned_length = tables.pruned_length;
     least_at_none = first;
     back_at_none = first_back;
     before = λ t some le. (rows t some le).0;
@@ -24,17 +30,17 @@ module _ (cost : ℕ → ℕ → ℤ) (n : ℕ) (b : ℤ) (least : List ℤ) (ba
     cheap = λ s t from lt le open'. ((places s (omega arith)).1 t lt le open').3 from;
   }
     where
-      before_row : (s t : ℕ) → s < slice_index back t → t ≤ n → s < t
+      before_row : (s t : ℕ) → s < last_cut_at tables t → t ≤ last_place tables → s < t
       before_row s t lt le = elim (cases_eq t 0) [
         | inl at ↦ let lt' = rw at at lt in absurd (omega (arith, lt', first_back))
         | inr apart ↦ omega (arith, lt, (rows t (omega arith) le).0)
       ]
 
-  module _ (h : IsVerified cost n b least back pruned) where
-    pub rows-hold : (t : ℕ) → 0 < t → t ≤ n → RowHolds cost b least back t
+  module _ (h : IsLookedAt) where
+    pub rows-hold : (t : ℕ) → 0 < t → t ≤ last_place tables → RowHolds tables t
     rows-hold t some le = (h.before t some le, h.made t some le)
 
-    pub places-hold : (s : ℕ) → s ≤ n → PlaceHolds cost n b least back pruned s
+    pub places-hold : (s : ℕ) → s ≤ last_place tables → PlaceHolds tables s
     places-hold s le = (
       h.marked s le,
       λ t above within open'. (
@@ -47,7 +53,7 @@ module _ (cost : ℕ → ℕ → ℤ) (n : ℕ) (b : ℤ) (least : List ℤ) (ba
 
 -- the totals of the tables are in their range
 pub totals-are : TotalsAreInRange → (cost : ℕ → ℕ → ℤ) (n : ℕ) (b : ℤ) (least : List ℤ) (back pruned : List ℕ) → IsTable cost n b least back pruned
-    → pos 0 ≤ℤ b → b ≤ℤ pos (10 ^ 36) → ((s t : ℕ) → s ≤ t → t ≤ n → (pos 0 ≤ℤ cost s t) × (cost s t ≤ℤ pos (10 ^ 37))) → AreTotals least
+    → pos 0 ≤ℤ b → b ≤ℤ pos (10 ^ 36) → AreCosts cost n → AreTotals least
 totals-are in_range cost n b least back pruned h low high range s lt =
     let there = in_range cost n (10 ^ 37) b least back pruned low range h s (omega (arith, h.least_length)) in
     (omega (arith, ints, high, there.0), there.1)

@@ -4,16 +4,13 @@
 //! the cost of the segment from there on, since neighbouring segments cost together at most what their union costs. So
 //! for each block it is computed once what must be made to its beginning, and most places need no other look. Nor do most
 //! blocks of places before it: what their places make to a place, looked at once, is a floor of what they make behind it.
-ghost use Rattle.std.specs.Prelude.{◌≡◌, ◌≢◌, ℕ, ◌+◌, ◌*◌, ◌^◌, ◌<◌, ◌≤◌, length, pos, neg_ℤ, ◌+ℤ◌, ◌≤ℤ◌, ◌<ℤ◌, ◌↔◌, ◌⊎◌, IfNone, IfSome, IsTrue, slice_index, false, true};
-ghost use Rattle.segment_model.specs.Values.{cost_between};
-ghost use Rattle.segment_model.specs.Tables.{int_at, IsMark};
-ghost use Rattle.segment_model.specs.Computed.{least_sum_of};
-ghost use Rattle.cost_certificate.specs.Checks.{AreTotals, AreWatches, IsNeed, IsWatch, PlaceHolds, PlaceHoldsInBlock, watch_at};
+ghost use Rattle.std.specs.Prelude.{◌≡◌, ◌≢◌, ℕ, ◌+◌, ◌*◌, ◌^◌, ◌<◌, ◌≤◌, length, pos, neg_ℤ, ◌+ℤ◌, ◌≤ℤ◌, ◌↔◌, ◌⊎◌, IfNone, IfSome, IsTrue, false, true};
+ghost use Rattle.cost_certificate.specs.Checks.{AreWatches, IsNeed, IsWatch, MarksHold, PlaceHolds, PlaceHoldsInBlock, PlacesHoldInBlock, cost_in, last_place, watch_at};
 
 use crate::entries::{is_mark, last_open, made_from, pairs_hold};
 use crate::level::is_level;
-use segment_cost::{Cost, Square};
-use segment_model::{squares_law, value_costs_law};
+use crate::tables::Tables;
+use segment_cost::Cost;
 
 // How many places a block has.
 const BLOCK: usize = 32;
@@ -35,25 +32,21 @@ pub struct Need {
 }
 
 // What must be made to place `from` so that no pair with a place behind it, up to `end`, needs a look.
-fn need_of(square: &Square, least: &[i128], back: &[u64], from: usize, end: usize) -> Need
+fn need_of(tables: &Tables, from: usize, end: usize) -> Need
     requires inside { from ≤ end }
-    requires placed { end ≤ length square.now.positions }
-    requires few { length square.now.positions ≤ 16_384 }
-    requires totals { AreTotals least.now }
-    requires least { length least.now ≡ length square.now.positions + 1 }
-    requires back { length back.now ≡ length square.now.positions + 1 }
-    ensures { IsNeed (cost_between least_sum_of square.now.positions)
-        least.now back.now from end result }
+    requires placed { end ≤ last_place tables.now }
+    ensures { IsNeed tables.now from end result }
 {
-    square.limits();
-    squares_law();
-    value_costs_law();
     let mut need = Need {
         total: LOWEST,
         last_cut: 0,
     };
     for t in from + 1..end + 1 {
-        need = need_with(need, least[t] - square.cost(from, t), back[t] as usize);
+        need = need_with(
+            need,
+            tables.least[t] - tables.square.cost(from, t),
+            tables.back[t] as usize,
+        );
     }
     need
 }
@@ -92,47 +85,23 @@ fn needs_no_look(need: Need, made: i128, penalty: i128, s: usize) -> bool
 
 // Whether it is told without a look at each that the pairs of s with places behind `from`, up to `end`, at which s is open,
 // hold.
-fn is_told(
-    square: &Square,
-    penalty: i128,
-    least: &[i128],
-    back: &[u64],
-    pruned: &[u64],
-    need: Need,
-    s: usize,
-    from: usize,
-    end: usize,
-) -> bool
-    requires placed { end ≤ length square.now.positions }
+fn is_told(tables: &Tables, need: Need, s: usize, from: usize, end: usize) -> bool
+    requires placed { end ≤ last_place tables.now }
     requires inside { from ≤ end }
-    requires few { length square.now.positions ≤ 16_384 }
-    requires low { pos 0 ≤ℤ penalty }
-    requires high { penalty ≤ℤ pos (10 ^ 36) }
-    requires totals { AreTotals least.now }
-    requires least { length least.now ≡ length square.now.positions + 1 }
-    requires back { length back.now ≡ length square.now.positions + 1 }
-    requires pruned { length pruned.now ≡ length square.now.positions + 1 }
-    requires need { IsNeed (cost_between least_sum_of square.now.positions)
-        least.now back.now from end need }
-    ensures { IsTrue result
-        → PlaceHoldsInBlock (cost_between least_sum_of square.now.positions)
-        penalty least.now back.now pruned.now s from end }
+    requires need { IsNeed tables.now from end need }
+    ensures { IsTrue result → PlaceHoldsInBlock tables.now s from end }
 {
-    squares_law();
-    value_costs_law();
-    square.limits();
-    let _ = back;
     if s >= from {
         return false;
     }
-    let mark = pruned[s] as usize;
+    let mark = tables.pruned[s] as usize;
     if is_closed(mark, from) {
         return true;
     }
     if !is_open_behind(mark, end) {
         return false;
     }
-    needs_no_look(need, made_from(square, least, s, from), penalty, s)
+    needs_no_look(need, made_from(tables, s, from), tables.penalty, s)
 }
 
 // Whether a place with that mark is closed from the place behind `from` on.
@@ -150,47 +119,18 @@ fn is_open_behind(mark: usize, end: usize) -> bool
 }
 
 // Whether each pair of s with a place behind `from`, up to `end`, at which s is open, holds.
-fn place_holds(
-    square: &Square,
-    penalty: i128,
-    least: &[i128],
-    back: &[u64],
-    pruned: &[u64],
-    need: Need,
-    s: usize,
-    from: usize,
-    end: usize,
-) -> bool
-    requires placed { end ≤ length square.now.positions }
+fn place_holds(tables: &Tables, need: Need, s: usize, from: usize, end: usize) -> bool
+    requires placed { end ≤ last_place tables.now }
     requires inside { from ≤ end }
     requires below { s < end }
-    requires few { length square.now.positions ≤ 16_384 }
-    requires low { pos 0 ≤ℤ penalty }
-    requires high { penalty ≤ℤ pos (10 ^ 36) }
-    requires totals { AreTotals least.now }
-    requires least { length least.now ≡ length square.now.positions + 1 }
-    requires back { length back.now ≡ length square.now.positions + 1 }
-    requires pruned { length pruned.now ≡ length square.now.positions + 1 }
-    requires need { IsNeed (cost_between least_sum_of square.now.positions)
-        least.now back.now from end need }
-    ensures { IsTrue result
-        ↔ PlaceHoldsInBlock (cost_between least_sum_of square.now.positions)
-        penalty least.now back.now pruned.now s from end }
+    requires need { IsNeed tables.now from end need }
+    ensures { IsTrue result ↔ PlaceHoldsInBlock tables.now s from end }
 {
-    if is_told(square, penalty, least, back, pruned, need, s, from, end) {
+    if is_told(tables, need, s, from, end) {
         return true;
     }
-    let mark = pruned[s] as usize;
-    pairs_hold(
-        square,
-        penalty,
-        least,
-        back,
-        pruned,
-        s,
-        s.max(from),
-        last_open(end, mark).min(end),
-    )
+    let mark = tables.pruned[s] as usize;
+    pairs_hold(tables, s, s.max(from), last_open(end, mark).min(end))
 }
 
 // What was seen of the places of a block at place `at`: those that aren't closed there have no mark up to `until`, and make
@@ -212,61 +152,42 @@ const NOTHING: Watch = Watch {
 };
 
 // At most what each watched place makes to place `from`.
-fn floor_at(square: &Square, watch: Watch, from: usize) -> i128
-    requires placed { from ≤ length square.now.positions }
+fn floor_at(tables: &Tables, watch: Watch, from: usize) -> i128
+    requires placed { from ≤ last_place tables.now }
     requires before { watch.at ≤ from }
     requires low { neg_ℤ (pos (2 * 10 ^ 37)) ≤ℤ watch.total }
     requires high { watch.total ≤ℤ pos (2 * 10 ^ 37) }
-    ensures total { result
-        ≤ℤ (watch.total +ℤ cost_between least_sum_of square.now.positions watch.at from) }
+    ensures total { result ≤ℤ (watch.total +ℤ cost_in tables.now watch.at from) }
     ensures low { neg_ℤ (pos (2 * 10 ^ 37)) ≤ℤ result }
     ensures high { result ≤ℤ pos (3 * 10 ^ 37) }
 {
-    square.limits();
-    squares_law();
-    value_costs_law();
     if watch.at == from {
         return watch.total;
     }
-    watch.total + square.cost(watch.at, from)
+    watch.total + tables.square.cost(watch.at, from)
 }
 
 // Whether it is told of each place of a block of places, from `start` on, that its pairs with the places behind `from`, up
 // to `end`, hold.
-fn passes(
-    square: &Square,
-    need: Need,
-    watch: Watch,
-    penalty: i128,
-    start: usize,
-    from: usize,
-    end: usize,
-) -> bool
-    requires placed { from ≤ length square.now.positions }
+fn passes(tables: &Tables, need: Need, watch: Watch, start: usize, from: usize, end: usize) -> bool
+    requires placed { from ≤ last_place tables.now }
     requires before { watch.at ≤ from }
-    requires low { pos 0 ≤ℤ penalty }
-    requires high { penalty ≤ℤ pos (10 ^ 36) }
     requires total_low { neg_ℤ (pos (2 * 10 ^ 37)) ≤ℤ watch.total }
     requires total_high { watch.total ≤ℤ pos (2 * 10 ^ 37) }
     ensures { IsTrue result → (watch.is_shut ≡ true)
         ⊎ ((need.last_cut ≤ start) × (end ≤ watch.until)
-        × (need.total
-        ≤ℤ (watch.total +ℤ cost_between least_sum_of square.now.positions watch.at from
-        +ℤ penalty))) }
+        × (need.total ≤ℤ (watch.total +ℤ cost_in tables.now watch.at from +ℤ tables.now.penalty))) }
 {
-    square.limits();
-    squares_law();
-    value_costs_law();
     if watch.is_shut {
         return true;
     }
     if end > watch.until {
         return false;
     }
-    if needs_no_look(need, watch.total, penalty, start) {
+    if needs_no_look(need, watch.total, tables.penalty, start) {
         return true;
     }
-    needs_no_look(need, floor_at(square, watch, from), penalty, start)
+    needs_no_look(need, floor_at(tables, watch, from), tables.penalty, start)
 }
 
 // What is known of a block with a place more, which isn't closed, has that mark, and makes that.
@@ -290,61 +211,34 @@ fn watch_with(watch: Watch, made: i128, mark: usize) -> Watch
 }
 
 // What was seen of a block with place s more.
-fn next_watch(
-    square: &Square,
-    least: &[i128],
-    pruned: &[u64],
-    watch: Watch,
-    start: usize,
-    s: usize,
-) -> Watch
-    requires placed { watch.at ≤ length square.now.positions }
+fn next_watch(tables: &Tables, watch: Watch, start: usize, s: usize) -> Watch
+    requires placed { watch.at ≤ last_place tables.now }
     requires below { s < watch.at }
-    requires totals { AreTotals least.now }
-    requires least { length least.now ≡ length square.now.positions + 1 }
-    requires pruned { length pruned.now ≡ length square.now.positions + 1 }
-    requires watch { IsWatch (cost_between least_sum_of square.now.positions)
-        (length square.now.positions) least.now pruned.now start s watch.at watch }
-    ensures watch { IsWatch (cost_between least_sum_of square.now.positions)
-        (length square.now.positions) least.now pruned.now start (s + 1) watch.at result }
+    requires watch { IsWatch tables.now start s watch.at watch }
+    ensures watch { IsWatch tables.now start (s + 1) watch.at result }
     ensures at { result.at ≡ watch.at }
 {
-    square.limits();
-    squares_law();
-    value_costs_law();
-    let mark = pruned[s] as usize;
+    let mark = tables.pruned[s] as usize;
     if is_closed(mark, watch.at) {
         return watch;
     }
-    watch_with(watch, made_from(square, least, s, watch.at), mark)
+    watch_with(watch, made_from(tables, s, watch.at), mark)
 }
 
 // What is seen at place `from` of the places from `start` on, before `stop`.
-fn watch_of(
-    square: &Square,
-    least: &[i128],
-    pruned: &[u64],
-    start: usize,
-    stop: usize,
-    from: usize,
-) -> Watch
-    requires placed { from ≤ length square.now.positions }
-    requires block { start ≤ stop }
+fn watch_of(tables: &Tables, start: usize, stop: usize, from: usize) -> Watch
+    requires placed { from ≤ last_place tables.now }
     requires front { stop ≤ from }
-    requires totals { AreTotals least.now }
-    requires least { length least.now ≡ length square.now.positions + 1 }
-    requires pruned { length pruned.now ≡ length square.now.positions + 1 }
-    ensures { IsWatch (cost_between least_sum_of square.now.positions) (length square.now.positions)
-        least.now pruned.now start stop from result }
+    ensures { IsWatch tables.now start stop from result }
 {
     let mut watch = Watch {
         at: from,
         total: HIGHEST,
-        until: square.len(),
+        until: tables.square.len(),
         is_shut: true,
     };
     for s in start..stop {
-        watch = next_watch(square, least, pruned, watch, start, s);
+        watch = next_watch(tables, watch, start, s);
     }
     watch
 }
@@ -352,36 +246,21 @@ fn watch_of(
 // Whether each pair holds whose first place lies from `start` on, before `stop`, and whose second one behind `from`, up to
 // `end`.
 fn range_holds(
-    square: &Square,
-    penalty: i128,
-    least: &[i128],
-    back: &[u64],
-    pruned: &[u64],
+    tables: &Tables,
     need: Need,
     start: usize,
     stop: usize,
     from: usize,
     end: usize,
 ) -> bool
-    requires placed { end ≤ length square.now.positions }
+    requires placed { end ≤ last_place tables.now }
     requires inside { from ≤ end }
     requires below { stop ≤ end }
-    requires few { length square.now.positions ≤ 16_384 }
-    requires low { pos 0 ≤ℤ penalty }
-    requires high { penalty ≤ℤ pos (10 ^ 36) }
-    requires totals { AreTotals least.now }
-    requires least { length least.now ≡ length square.now.positions + 1 }
-    requires back { length back.now ≡ length square.now.positions + 1 }
-    requires pruned { length pruned.now ≡ length square.now.positions + 1 }
-    requires need { IsNeed (cost_between least_sum_of square.now.positions)
-        least.now back.now from end need }
-    ensures { IsTrue result
-        ↔ ((s : ℕ) → start ≤ s → s < stop
-        → PlaceHoldsInBlock (cost_between least_sum_of square.now.positions)
-        penalty least.now back.now pruned.now s from end) }
+    requires need { IsNeed tables.now from end need }
+    ensures { IsTrue result ↔ PlacesHoldInBlock tables.now start stop from end }
 {
     for s in start..stop {
-        if !place_holds(square, penalty, least, back, pruned, need, s, from, end) {
+        if !place_holds(tables, need, s, from, end) {
             return false;
         }
     }
@@ -393,11 +272,7 @@ fn range_holds(
 //
 // The single places are looked at only where what was known of the block doesn't tell.
 fn front_holds(
-    square: &Square,
-    penalty: i128,
-    least: &[i128],
-    back: &[u64],
-    pruned: &[u64],
+    tables: &Tables,
     need: Need,
     watch: Watch,
     start: usize,
@@ -405,46 +280,23 @@ fn front_holds(
     from: usize,
     end: usize,
 ) -> Option<Watch>
-    requires placed { end ≤ length square.now.positions }
+    requires placed { end ≤ last_place tables.now }
     requires inside { from ≤ end }
-    requires block { start ≤ stop }
     requires front { stop ≤ from }
-    requires few { length square.now.positions ≤ 16_384 }
-    requires low { pos 0 ≤ℤ penalty }
-    requires high { penalty ≤ℤ pos (10 ^ 36) }
-    requires totals { AreTotals least.now }
-    requires least { length least.now ≡ length square.now.positions + 1 }
-    requires back { length back.now ≡ length square.now.positions + 1 }
-    requires pruned { length pruned.now ≡ length square.now.positions + 1 }
-    requires need { IsNeed (cost_between least_sum_of square.now.positions)
-        least.now back.now from end need }
-    requires watch { IsWatch (cost_between least_sum_of square.now.positions)
-        (length square.now.positions) least.now pruned.now start stop from watch }
-    ensures holds { IfSome result
-        (λ next. (s : ℕ) → start ≤ s → s < stop
-        → PlaceHoldsInBlock (cost_between least_sum_of square.now.positions)
-        penalty least.now back.now pruned.now s from end) }
-    ensures watch { IfSome result
-        (λ next. IsWatch (cost_between least_sum_of square.now.positions)
-        (length square.now.positions) least.now pruned.now start stop from next) }
-    ensures none { IfNone result
-        (¬ ((s : ℕ) → start ≤ s → s < stop
-        → PlaceHoldsInBlock (cost_between least_sum_of square.now.positions)
-        penalty least.now back.now pruned.now s from end)) }
+    requires need { IsNeed tables.now from end need }
+    requires watch { IsWatch tables.now start stop from watch }
+    ensures holds { IfSome result (λ next. PlacesHoldInBlock tables.now start stop from end) }
+    ensures watch { IfSome result (λ next. IsWatch tables.now start stop from next) }
+    ensures none { IfNone result (¬ PlacesHoldInBlock tables.now start stop from end) }
 {
-    square.limits();
-    squares_law();
-    value_costs_law();
-    if passes(square, need, watch, penalty, start, from, end) {
+    if passes(tables, need, watch, start, from, end) {
         return Some(watch);
     }
-    let seen = watch_of(square, least, pruned, start, stop, from);
-    if passes(square, need, seen, penalty, start, from, end) {
+    let seen = watch_of(tables, start, stop, from);
+    if passes(tables, need, seen, start, from, end) {
         return Some(seen);
     }
-    if !range_holds(
-        square, penalty, least, back, pruned, need, start, stop, from, end,
-    ) {
+    if !range_holds(tables, need, start, stop, from, end) {
         return None;
     }
     Some(seen)
@@ -466,48 +318,19 @@ fn first_open(watches: &[Watch], k: usize) -> usize
 
 // Whether each pair holds whose first place lies before block k and whose second one in it, up to `end`. Afterwards the
 // watches hold from the block's beginning on.
-fn fronts_hold(
-    square: &Square,
-    penalty: i128,
-    least: &[i128],
-    back: &[u64],
-    pruned: &[u64],
-    need: Need,
-    watches: &mut [Watch],
-    k: usize,
-    end: usize,
-) -> bool
+fn fronts_hold(tables: &Tables, need: Need, watches: &mut [Watch], k: usize, end: usize) -> bool
     requires block { k < 512 }
-    requires placed { end ≤ length square.now.positions }
+    requires placed { end ≤ last_place tables.now }
     requires inside { k * 32 ≤ end }
-    requires few { length square.now.positions ≤ 16_384 }
-    requires low { pos 0 ≤ℤ penalty }
-    requires high { penalty ≤ℤ pos (10 ^ 36) }
-    requires totals { AreTotals least.now }
-    requires least { length least.now ≡ length square.now.positions + 1 }
-    requires back { length back.now ≡ length square.now.positions + 1 }
-    requires pruned { length pruned.now ≡ length square.now.positions + 1 }
-    requires need { IsNeed (cost_between least_sum_of square.now.positions)
-        least.now back.now (k * 32) end need }
-    requires watches { AreWatches (cost_between least_sum_of square.now.positions)
-        (length square.now.positions) least.now pruned.now (k * 32) watches.old }
+    requires need { IsNeed tables.now (k * 32) end need }
+    requires watches { AreWatches tables.now (k * 32) watches.old }
     ensures holds { IsTrue result
-        ↔ ((s : ℕ) → s < k * 32
-        → PlaceHoldsInBlock (cost_between least_sum_of square.now.positions)
-        penalty least.now back.now pruned.now s (k * 32) end) }
-    ensures watches { AreWatches (cost_between least_sum_of square.now.positions)
-        (length square.now.positions) least.now pruned.now (k * 32) watches.new }
+        ↔ ((s : ℕ) → s < k * 32 → PlaceHoldsInBlock tables.now s (k * 32) end) }
+    ensures watches { AreWatches tables.now (k * 32) watches.new }
 {
-    square.limits();
-    squares_law();
-    value_costs_law();
     for j in first_open(watches, k)..k {
         let known = front_holds(
-            square,
-            penalty,
-            least,
-            back,
-            pruned,
+            tables,
             need,
             watches[j],
             j * BLOCK,
@@ -524,80 +347,35 @@ fn fronts_hold(
 }
 
 // Whether each pair of places holds whose second one lies in block k, up to `end`. Afterwards the watches hold from `end` on.
-fn block_holds(
-    square: &Square,
-    penalty: i128,
-    least: &[i128],
-    back: &[u64],
-    pruned: &[u64],
-    watches: &mut [Watch],
-    k: usize,
-    end: usize,
-) -> bool
+fn block_holds(tables: &Tables, watches: &mut [Watch], k: usize, end: usize) -> bool
     requires block { k < 512 }
-    requires placed { end ≤ length square.now.positions }
+    requires placed { end ≤ last_place tables.now }
     requires inside { k * 32 ≤ end }
-    requires few { length square.now.positions ≤ 16_384 }
-    requires low { pos 0 ≤ℤ penalty }
-    requires high { penalty ≤ℤ pos (10 ^ 36) }
-    requires totals { AreTotals least.now }
-    requires least { length least.now ≡ length square.now.positions + 1 }
-    requires back { length back.now ≡ length square.now.positions + 1 }
-    requires pruned { length pruned.now ≡ length square.now.positions + 1 }
-    requires watches { AreWatches (cost_between least_sum_of square.now.positions)
-        (length square.now.positions) least.now pruned.now (k * 32) watches.old }
+    requires watches { AreWatches tables.now (k * 32) watches.old }
     ensures holds { IsTrue result
-        ↔ ((s : ℕ) → s < end
-        → PlaceHoldsInBlock (cost_between least_sum_of square.now.positions)
-        penalty least.now back.now pruned.now s (k * 32) end) }
-    ensures watches { AreWatches (cost_between least_sum_of square.now.positions)
-        (length square.now.positions) least.now pruned.now (k * 32 + 32) watches.new }
+        ↔ ((s : ℕ) → s < end → PlaceHoldsInBlock tables.now s (k * 32) end) }
+    ensures watches { AreWatches tables.now (k * 32 + 32) watches.new }
 {
     let from = k * BLOCK;
-    let need = need_of(square, least, back, from, end);
-    if !fronts_hold(square, penalty, least, back, pruned, need, watches, k, end) {
+    let need = need_of(tables, from, end);
+    if !fronts_hold(tables, need, watches, k, end) {
         return false;
     }
-    own_holds(square, penalty, least, back, pruned, need, from, end)
+    own_holds(tables, need, from, end)
 }
 
 // Whether each pair of places of one block holds, from `from` on, up to `end`. They are looked at one by one only where the
 // block isn't level.
-fn own_holds(
-    square: &Square,
-    penalty: i128,
-    least: &[i128],
-    back: &[u64],
-    pruned: &[u64],
-    need: Need,
-    from: usize,
-    end: usize,
-) -> bool
-    requires placed { end ≤ length square.now.positions }
+fn own_holds(tables: &Tables, need: Need, from: usize, end: usize) -> bool
+    requires placed { end ≤ last_place tables.now }
     requires inside { from ≤ end }
-    requires few { length square.now.positions ≤ 16_384 }
-    requires low { pos 0 ≤ℤ penalty }
-    requires high { penalty ≤ℤ pos (10 ^ 36) }
-    requires totals { AreTotals least.now }
-    requires least { length least.now ≡ length square.now.positions + 1 }
-    requires back { length back.now ≡ length square.now.positions + 1 }
-    requires pruned { length pruned.now ≡ length square.now.positions + 1 }
-    requires need { IsNeed (cost_between least_sum_of square.now.positions)
-        least.now back.now from end need }
-    ensures { IsTrue result
-        ↔ ((s : ℕ) → from ≤ s → s < end
-        → PlaceHoldsInBlock (cost_between least_sum_of square.now.positions)
-        penalty least.now back.now pruned.now s from end) }
+    requires need { IsNeed tables.now from end need }
+    ensures { IsTrue result ↔ PlacesHoldInBlock tables.now from end from end }
 {
-    square.limits();
-    squares_law();
-    value_costs_law();
-    if need.last_cut <= from && is_level(penalty, least, pruned, from, end) {
+    if need.last_cut <= from && is_level(tables, from, end) {
         return true;
     }
-    range_holds(
-        square, penalty, least, back, pruned, need, from, end, from, end,
-    )
+    range_holds(tables, need, from, end, from, end)
 }
 
 // How many blocks so many places fill.
@@ -610,46 +388,20 @@ fn blocks_of(count: usize) -> usize
 }
 
 // The watches before any block was seen.
-fn no_watches(square: &Square, least: &[i128], pruned: &[u64]) -> [Watch; BLOCKS]
-    requires totals { AreTotals least.now }
-    requires least { length least.now ≡ length square.now.positions + 1 }
-    ensures { AreWatches (cost_between least_sum_of square.now.positions)
-        (length square.now.positions) least.now pruned.now 0 result }
+fn no_watches(tables: &Tables) -> [Watch; BLOCKS]
+    ensures { AreWatches tables.now 0 result }
 {
-    square.limits();
-    squares_law();
-    value_costs_law();
-    let _ = least;
-    let _ = pruned;
     [NOTHING; BLOCKS]
 }
 
 // Whether each pair of places holds.
-fn blocks_hold(square: &Square, penalty: i128, least: &[i128], back: &[u64], pruned: &[u64]) -> bool
-    requires few { length square.now.positions ≤ 16_384 }
-    requires low { pos 0 ≤ℤ penalty }
-    requires high { penalty ≤ℤ pos (10 ^ 36) }
-    requires totals { AreTotals least.now }
-    requires least { length least.now ≡ length square.now.positions + 1 }
-    requires back { length back.now ≡ length square.now.positions + 1 }
-    requires pruned { length pruned.now ≡ length square.now.positions + 1 }
-    ensures { IsTrue result
-        ↔ ((s : ℕ) → PlaceHoldsInBlock (cost_between least_sum_of square.now.positions)
-        penalty least.now back.now pruned.now s 0 (length square.now.positions)) }
+fn blocks_hold(tables: &Tables) -> bool
+    ensures { IsTrue result ↔ ((s : ℕ) → PlaceHoldsInBlock tables.now s 0 (last_place tables.now)) }
 {
-    let n = square.len();
-    let mut watches = no_watches(square, least, pruned);
+    let n = tables.square.len();
+    let mut watches = no_watches(tables);
     for k in 0..blocks_of(n) {
-        if !block_holds(
-            square,
-            penalty,
-            least,
-            back,
-            pruned,
-            &mut watches,
-            k,
-            n.min(k * BLOCK + BLOCK),
-        ) {
+        if !block_holds(tables, &mut watches, k, n.min(k * BLOCK + BLOCK)) {
             return false;
         }
     }
@@ -657,12 +409,12 @@ fn blocks_hold(square: &Square, penalty: i128, least: &[i128], back: &[u64], pru
 }
 
 // Whether each mark may be one.
-fn marks_hold(n: usize, pruned: &[u64]) -> bool
-    requires { length pruned.now ≡ n + 1 }
-    ensures { IsTrue result ↔ ((s : ℕ) → s ≤ n → IsMark n s (slice_index pruned.now s)) }
+fn marks_hold(tables: &Tables) -> bool
+    ensures { IsTrue result ↔ MarksHold tables.now }
 {
-    for s in 0..pruned.len() {
-        if !is_mark(n, s, pruned[s] as usize) {
+    let n = tables.square.len();
+    for s in 0..tables.pruned.len() {
+        if !is_mark(n, s, tables.pruned[s] as usize) {
             return false;
         }
     }
@@ -670,26 +422,11 @@ fn marks_hold(n: usize, pruned: &[u64]) -> bool
 }
 
 // Whether each place holds.
-pub fn places_hold(
-    square: &Square,
-    penalty: i128,
-    least: &[i128],
-    back: &[u64],
-    pruned: &[u64],
-) -> bool
-    requires few { length square.now.positions ≤ 16_384 }
-    requires low { pos 0 ≤ℤ penalty }
-    requires high { penalty ≤ℤ pos (10 ^ 36) }
-    requires totals { AreTotals least.now }
-    requires least { length least.now ≡ length square.now.positions + 1 }
-    requires back { length back.now ≡ length square.now.positions + 1 }
-    requires pruned { length pruned.now ≡ length square.now.positions + 1 }
-    ensures { IsTrue result ↔ ((s : ℕ) → s ≤ length square.now.positions
-        → PlaceHolds (cost_between least_sum_of square.now.positions) (length square.now.positions)
-        penalty least.now back.now pruned.now s) }
+pub fn places_hold(tables: &Tables) -> bool
+    ensures { IsTrue result ↔ ((s : ℕ) → s ≤ last_place tables.now → PlaceHolds tables.now s) }
 {
-    if !marks_hold(square.len(), pruned) {
+    if !marks_hold(tables) {
         return false;
     }
-    blocks_hold(square, penalty, least, back, pruned)
+    blocks_hold(tables)
 }

@@ -4,9 +4,11 @@ ghost use Rattle.segment_model.specs.Values.{values_by_position, cost_between};
 ghost use Rattle.segment_model.specs.Computed.{least_sum_of};
 ghost use Rattle.segment_model.specs.Tables.{int_at, IsTable, IsWalk};
 ghost use Rattle.segment_cost.specs.Certificate.{StandsFor};
+ghost use Rattle.cost_certificate.specs.Checks.{AreRight};
 
 use crate::blocks::places_hold;
 use crate::entries::{are_totals, rows_hold};
+use crate::tables::Tables;
 use crate::walk::cuts_hold;
 use segment_cost::{Cert, Cost, Points, Square, certificate_law};
 use segment_model::{
@@ -75,7 +77,6 @@ fn are_tables(square: &Square, penalty: i128, least: &[i128], back: &[u64], prun
     squares_law();
     table_law();
     value_costs_law();
-    verifying_law();
     let places = square.len() + 1;
     if least.len() != places || back.len() != places || pruned.len() != places {
         return false;
@@ -83,16 +84,31 @@ fn are_tables(square: &Square, penalty: i128, least: &[i128], back: &[u64], prun
     if !are_totals(least) {
         return false;
     }
-    if !is_first(least[0], penalty) {
+    let tables = Tables {
+        square,
+        penalty,
+        least,
+        back,
+        pruned,
+    };
+    are_right(&tables)
+}
+
+// Whether the tables are those of the positions for the penalty.
+fn are_right(tables: &Tables) -> bool
+    ensures { IsTrue result ↔ AreRight tables.now }
+{
+    verifying_law();
+    if !is_first(tables.least[0], tables.penalty) {
         return false;
     }
-    if !is_none(back[0]) {
+    if !is_none(tables.back[0]) {
         return false;
     }
-    if !rows_hold(square, penalty, least, back) {
+    if !rows_hold(tables) {
         return false;
     }
-    places_hold(square, penalty, least, back, pruned)
+    places_hold(tables)
 }
 
 // Whether the total of place 0 is minus the penalty.

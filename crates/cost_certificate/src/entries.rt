@@ -1,12 +1,11 @@
 //! Single entries of the tables, and pairs of places.
-ghost use Rattle.std.specs.Prelude.{◌≡◌, ◌≢◌, ℕ, ◌+◌, ◌^◌, ◌<◌, ◌≤◌, length, pos, ◌≤ℤ◌, ◌<ℤ◌, ◌↔◌, IfSome, IfNone, IsTrue, ◌*◌, ◌⊎◌, neg_ℤ, ◌+ℤ◌};
-ghost use Rattle.segment_model.specs.Values.{cost_between};
-ghost use Rattle.segment_model.specs.Tables.{int_at, IsMark};
-ghost use Rattle.segment_model.specs.Computed.{least_sum_of};
-ghost use Rattle.cost_certificate.specs.Checks.{AreTotals, RowHolds, PairHolds, IsFloor};
+ghost use Rattle.std.specs.Prelude.{◌≡◌, ◌≢◌, ℕ, ◌+◌, ◌^◌, ◌<◌, ◌≤◌, pos, ◌≤ℤ◌, ◌<ℤ◌, ◌↔◌, IfSome, IfNone, IsTrue, ◌*◌, ◌⊎◌, neg_ℤ, ◌+ℤ◌};
+ghost use Rattle.segment_model.specs.Tables.{IsMark};
+ghost use Rattle.cost_certificate.specs.Totals.{AreTotals};
+ghost use Rattle.cost_certificate.specs.Checks.{IsFloor, PairHolds, RowHolds, cost_in, last_place, total_at};
 
-use segment_cost::{Cost, Square};
-use segment_model::{squares_law, value_costs_law};
+use crate::tables::Tables;
+use segment_cost::Cost;
 
 const LEAST_TOTAL: i128 = -1_000_000_000_000_000_000_000_000_000_000_000_000;
 
@@ -25,53 +24,36 @@ pub fn are_totals(least: &[i128]) -> bool
 }
 
 // What a last segment from place s to place t makes, without the penalty before it.
-pub fn made_from(square: &Square, least: &[i128], s: usize, t: usize) -> i128
-    requires placed { t ≤ length square.now.positions }
+pub fn made_from(tables: &Tables, s: usize, t: usize) -> i128
+    requires placed { t ≤ last_place tables.now }
     requires below { s < t }
-    requires totals { AreTotals least.now }
-    requires least { length least.now ≡ length square.now.positions + 1 }
-    ensures total { result
-        ≡ int_at least.now s +ℤ cost_between least_sum_of square.now.positions s t }
+    ensures total { result ≡ total_at tables.now s +ℤ cost_in tables.now s t }
     ensures low { neg_ℤ (pos (10 ^ 36)) ≤ℤ result }
     ensures high { result ≤ℤ pos (2 * 10 ^ 37) }
 {
-    square.limits();
-    squares_law();
-    value_costs_law();
-    least[s] + square.cost(s, t)
+    tables.least[s] + tables.square.cost(s, t)
 }
 
 // Whether the last cut of place t lies before it and makes its total.
-fn row_holds(square: &Square, penalty: i128, least: &[i128], back: &[u64], t: usize) -> bool
-    requires placed { t ≤ length square.now.positions }
+fn row_holds(tables: &Tables, t: usize) -> bool
+    requires placed { t ≤ last_place tables.now }
     requires some { 0 < t }
-    requires low { pos 0 ≤ℤ penalty }
-    requires high { penalty ≤ℤ pos (10 ^ 36) }
-    requires totals { AreTotals least.now }
-    requires least { length least.now ≡ length square.now.positions + 1 }
-    requires back { length back.now ≡ length square.now.positions + 1 }
-    ensures { IsTrue result
-        ↔ RowHolds (cost_between least_sum_of square.now.positions) penalty least.now back.now t }
+    ensures { IsTrue result ↔ RowHolds tables.now t }
 {
-    let s = back[t] as usize;
+    let s = tables.back[t] as usize;
     if s >= t {
         return false;
     }
-    least[t] == made_from(square, least, s, t) + penalty
+    tables.least[t] == made_from(tables, s, t) + tables.penalty
 }
 
 // Whether each row holds.
-pub fn rows_hold(square: &Square, penalty: i128, least: &[i128], back: &[u64]) -> bool
-    requires low { pos 0 ≤ℤ penalty }
-    requires high { penalty ≤ℤ pos (10 ^ 36) }
-    requires totals { AreTotals least.now }
-    requires least { length least.now ≡ length square.now.positions + 1 }
-    requires back { length back.now ≡ length square.now.positions + 1 }
-    ensures { IsTrue result ↔ ((t : ℕ) → 0 < t → t ≤ length square.now.positions
-        → RowHolds (cost_between least_sum_of square.now.positions) penalty least.now back.now t) }
+pub fn rows_hold(tables: &Tables) -> bool
+    ensures { IsTrue result ↔ ((t : ℕ) → 0 < t → t ≤ last_place tables.now
+        → RowHolds tables.now t) }
 {
-    for t in 1..back.len() {
-        if !row_holds(square, penalty, least, back, t) {
+    for t in 1..tables.back.len() {
+        if !row_holds(tables, t) {
             return false;
         }
     }
@@ -79,40 +61,22 @@ pub fn rows_hold(square: &Square, penalty: i128, least: &[i128], back: &[u64]) -
 }
 
 // Whether the pair of places holds, where the last segment makes that, without the penalty before it.
-fn pair_holds(
-    square: &Square,
-    penalty: i128,
-    least: &[i128],
-    back: &[u64],
-    pruned: &[u64],
-    from_here: i128,
-    s: usize,
-    t: usize,
-) -> bool
-    requires placed { t ≤ length square.now.positions }
+fn pair_holds(tables: &Tables, from_here: i128, s: usize, t: usize) -> bool
+    requires placed { t ≤ last_place tables.now }
     requires below { s < t }
-    requires low { pos 0 ≤ℤ penalty }
-    requires high { penalty ≤ℤ pos (10 ^ 36) }
-    requires least { length least.now ≡ length square.now.positions + 1 }
-    requires back { length back.now ≡ length square.now.positions + 1 }
-    requires pruned { length pruned.now ≡ length square.now.positions + 1 }
-    requires made { from_here
-        ≡ int_at least.now s +ℤ cost_between least_sum_of square.now.positions s t }
+    requires made { from_here ≡ total_at tables.now s +ℤ cost_in tables.now s t }
     requires made_low { neg_ℤ (pos (10 ^ 36)) ≤ℤ from_here }
     requires made_high { from_here ≤ℤ pos (2 * 10 ^ 37) }
-    ensures { IsTrue result
-        ↔ PairHolds (cost_between least_sum_of square.now.positions)
-        penalty least.now back.now pruned.now s t }
+    ensures { IsTrue result ↔ PairHolds tables.now s t }
 {
-    let _ = square;
-    let made = from_here + penalty;
+    let made = from_here + tables.penalty;
     are_paired(
-        least[t],
+        tables.least[t],
         from_here,
         made,
         s,
-        back[t] as usize,
-        pruned[s] as usize,
+        tables.back[t] as usize,
+        tables.pruned[s] as usize,
         t,
     )
 }
@@ -193,83 +157,43 @@ pub fn last_open(n: usize, mark: usize) -> usize
 // What a last segment from s makes at least to the places behind t, where the pair of places holds; none where it doesn't.
 //
 // It is looked at only where `floor`, which is at most what the segment to t makes, doesn't tell.
-fn next_floor(
-    square: &Square,
-    penalty: i128,
-    least: &[i128],
-    back: &[u64],
-    pruned: &[u64],
-    floor: i128,
-    s: usize,
-    t: usize,
-) -> Option<i128>
-    requires placed { t ≤ length square.now.positions }
+fn next_floor(tables: &Tables, floor: i128, s: usize, t: usize) -> Option<i128>
+    requires placed { t ≤ last_place tables.now }
     requires below { s < t }
-    requires low { pos 0 ≤ℤ penalty }
-    requires high { penalty ≤ℤ pos (10 ^ 36) }
-    requires totals { AreTotals least.now }
-    requires least { length least.now ≡ length square.now.positions + 1 }
-    requires back { length back.now ≡ length square.now.positions + 1 }
-    requires pruned { length pruned.now ≡ length square.now.positions + 1 }
-    requires floor { IsFloor (cost_between least_sum_of square.now.positions)
-        (length square.now.positions) least.now s t floor }
-    ensures holds { IfSome result
-        (λ next. PairHolds (cost_between least_sum_of square.now.positions)
-        penalty least.now back.now pruned.now s t) }
-    ensures floor { IfSome result (λ next.
-        IsFloor (cost_between least_sum_of square.now.positions) (length square.now.positions)
-        least.now s (t + 1) next) }
-    ensures none { IfNone result
-        (¬ PairHolds (cost_between least_sum_of square.now.positions)
-        penalty least.now back.now pruned.now s t) }
+    requires floor { IsFloor tables.now s t floor }
+    ensures holds { IfSome result (λ next. PairHolds tables.now s t) }
+    ensures floor { IfSome result (λ next. IsFloor tables.now s (t + 1) next) }
+    ensures none { IfNone result (¬ PairHolds tables.now s t) }
 {
-    square.limits();
-    squares_law();
-    value_costs_law();
-    if !needs_look(floor, penalty, least[t], s, back[t] as usize) {
-        if is_place(pruned[s], t) {
+    if !needs_look(
+        floor,
+        tables.penalty,
+        tables.least[t],
+        s,
+        tables.back[t] as usize,
+    ) {
+        if is_place(tables.pruned[s], t) {
             return None;
         }
         return Some(floor);
     }
-    let made = made_from(square, least, s, t);
-    if !pair_holds(square, penalty, least, back, pruned, made, s, t) {
+    let made = made_from(tables, s, t);
+    if !pair_holds(tables, made, s, t) {
         return None;
     }
     Some(made)
 }
 
 // Whether each pair of s with a place behind `from`, up to `end`, holds.
-pub fn pairs_hold(
-    square: &Square,
-    penalty: i128,
-    least: &[i128],
-    back: &[u64],
-    pruned: &[u64],
-    s: usize,
-    from: usize,
-    end: usize,
-) -> bool
+pub fn pairs_hold(tables: &Tables, s: usize, from: usize, end: usize) -> bool
     requires placed { s ≤ from }
-    requires inside { from ≤ length square.now.positions }
-    requires ends { end ≤ length square.now.positions }
-    requires few { length square.now.positions ≤ 16_384 }
-    requires low { pos 0 ≤ℤ penalty }
-    requires high { penalty ≤ℤ pos (10 ^ 36) }
-    requires totals { AreTotals least.now }
-    requires least { length least.now ≡ length square.now.positions + 1 }
-    requires back { length back.now ≡ length square.now.positions + 1 }
-    requires pruned { length pruned.now ≡ length square.now.positions + 1 }
-    ensures { IsTrue result ↔ ((t : ℕ) → from < t → t ≤ end
-        → PairHolds (cost_between least_sum_of square.now.positions)
-        penalty least.now back.now pruned.now s t) }
+    requires inside { from ≤ last_place tables.now }
+    requires ends { end ≤ last_place tables.now }
+    ensures { IsTrue result ↔ ((t : ℕ) → from < t → t ≤ end → PairHolds tables.now s t) }
 {
-    square.limits();
-    squares_law();
-    value_costs_law();
-    let mut floor = least[s];
+    let mut floor = tables.least[s];
     for t in from + 1..end + 1 {
-        let Some(next) = next_floor(square, penalty, least, back, pruned, floor, s, t) else {
+        let Some(next) = next_floor(tables, floor, s, t) else {
             return false;
         };
         floor = next;

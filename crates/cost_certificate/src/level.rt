@@ -1,6 +1,8 @@
 //! Places whose totals lie within the penalty of each other, and that stay open: their pairs hold without a look at each.
 ghost use Rattle.std.specs.Prelude.{◌≡◌, ◌≢◌, ℕ, ◌+◌, ◌*◌, ◌^◌, ◌<◌, ◌≤◌, length, pos, neg_ℤ, ◌+ℤ◌, ◌≤ℤ◌, ◌↔◌, ◌⊎◌, IsTrue};
-ghost use Rattle.cost_certificate.specs.Checks.{AreTotals, IsLevel};
+ghost use Rattle.cost_certificate.specs.Checks.{IsLevel, last_place};
+
+use crate::tables::Tables;
 
 // At least each total.
 const HIGHEST: i128 = 20_000_000_000_000_000_000_000_000_000_000_000_000;
@@ -26,18 +28,20 @@ fn lower_of(bottom: i128, total: i128) -> i128
 }
 
 // Whether each place from `from` on, before `end`, is open up to there, and its total at most the penalty below those behind.
-pub fn is_level(penalty: i128, least: &[i128], pruned: &[u64], from: usize, end: usize) -> bool
-    requires low { pos 0 ≤ℤ penalty }
-    requires high { penalty ≤ℤ pos (10 ^ 36) }
-    requires totals { AreTotals least.now }
-    requires least { end < length least.now }
-    requires pruned { end < length pruned.now }
-    ensures { IsTrue result → IsLevel penalty least.now pruned.now from end end }
+pub fn is_level(tables: &Tables, from: usize, end: usize) -> bool
+    requires { end ≤ last_place tables.now }
+    ensures { IsTrue result → IsLevel tables.now from end end }
 {
     let mut bottom = HIGHEST;
     for s in from..end {
-        bottom = lower_of(bottom, least[s]);
-        if !is_near(bottom, penalty, least[s + 1], pruned[s] as usize, end) {
+        bottom = lower_of(bottom, tables.least[s]);
+        if !is_near(
+            bottom,
+            tables.penalty,
+            tables.least[s + 1],
+            tables.pruned[s] as usize,
+            end,
+        ) {
             return false;
         }
     }

@@ -10,6 +10,7 @@ mod blocks;
 mod checked;
 mod entries;
 mod level;
+mod tables;
 mod text;
 mod walk;
 

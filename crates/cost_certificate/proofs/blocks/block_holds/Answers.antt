@@ -1,28 +1,24 @@
-use Rattle.std.proofs.Common.{◌+◌, ◌*◌, false, inl, inr, refl, length, arith}
-use Rattle.std.specs.Int.{w128}
-use Rattle.std.proofs.lemmas.Int.{to_z-of_z}
+use Rattle.std.proofs.Common.{◌+◌, ◌*◌, false, inl, inr, refl, arith}
 use Rattle.std.proofs.lemmas.Bool.{cases_lt}
-use Rattle.segment_model.specs.Values.{cost_between}
-use Rattle.segment_model.specs.Computed.{least_sum_of}
 use Rattle.cost_certificate.proofs.Watches.{watches-later}
 use Rattle.cost_certificate.proofs.Bools.{not_both}
 use Rattle.cost_certificate.proofs.blocks.block_holds.Goals as goal
 
 pub returns-then-not-fronts_hold-clause-holds : goal.returns-then-not-fronts_hold-clause-holds
 returns-then-not-fronts_hold-clause-holds c =
-    let front = simp (to_z-of_z w128 c.args.penalty c.ranges.penalty) at c.fronts_hold.ensures.holds.1 in (
+    let front = c.fronts_hold.ensures.holds.1 in (
       λ e. absurd (not_both false refl e),
       λ all. absurd (not_both c.fronts_hold.result c.if-not-fronts_hold.true (front (λ s below. all s (omega (arith, below, c.requires.inside))))),
     )
 
 pub returns-then-not-fronts_hold-clause-watches : goal.returns-then-not-fronts_hold-clause-watches
 returns-then-not-fronts_hold-clause-watches c =
-    watches-later (cost_between least_sum_of c.args.square.now.positions) (length c.args.square.now.positions) c.args.least.now c.args.pruned.now (c.args.k * 32) (c.args.k * 32 + 32) _ (omega arith) c.fronts_hold.ensures.watches
+    watches-later c.args.tables.now (c.args.k * 32) (c.args.k * 32 + 32) _ (omega arith) c.fronts_hold.ensures.watches
 
 pub returns-clause-holds : goal.returns-clause-holds
 returns-clause-holds c =
-    let front = simp (to_z-of_z w128 c.args.penalty c.ranges.penalty) at (c.fronts_hold.ensures.holds.0 c.if-not-fronts_hold.false) in
-    let own = simp (to_z-of_z w128 c.args.penalty c.ranges.penalty) at c.own_holds.ensures in (
+    let front = c.fronts_hold.ensures.holds.0 c.if-not-fronts_hold.false in
+    let own = c.own_holds.ensures in (
       λ e s below. elim (cases_lt s (c.args.k * 32)) [
         | inl before ↦ front s before
         | inr behind ↦ own.0 e s behind below
@@ -32,4 +28,4 @@ returns-clause-holds c =
 
 pub returns-clause-watches : goal.returns-clause-watches
 returns-clause-watches c =
-    watches-later (cost_between least_sum_of c.args.square.now.positions) (length c.args.square.now.positions) c.args.least.now c.args.pruned.now (c.args.k * 32) (c.args.k * 32 + 32) _ (omega arith) c.fronts_hold.ensures.watches
+    watches-later c.args.tables.now (c.args.k * 32) (c.args.k * 32 + 32) _ (omega arith) c.fronts_hold.ensures.watches

@@ -1,8 +1,6 @@
-use Rattle.std.proofs.Common.{length, FitsSigned, arith}
+use Rattle.std.proofs.Common.{FitsSigned, arith}
 use Rattle.std.specs.Int.{w128}
 use Rattle.std.proofs.lemmas.Int.{ints, to_z-of_z}
-use Rattle.segment_model.specs.Values.{cost_between}
-use Rattle.segment_model.specs.Computed.{least_sum_of}
 use Rattle.cost_certificate.proofs.Needs.{told}
 use Rattle.cost_certificate.proofs.blocks.is_told.Goals as goal
 
@@ -10,11 +8,10 @@ pub returns : goal.returns
 returns c holds =
     let made = c.made_from.ensures in
     let made_fits : FitsSigned w128 c.made_from.result = record { sfits = c.made_from.type_inv } in
-    let b_fits : FitsSigned w128 c.args.penalty = c.ranges.penalty in
+    let b_fits : FitsSigned w128 c.args.tables.now.penalty = omega (arith, ints, c.args.tables.now.low, c.args.tables.now.high) in
     let need_low = c.requires.need.low in
     let need_high = c.requires.need.high in
     let need_fits : FitsSigned w128 c.args.need.total = omega (arith, ints, need_low, need_high) in
     let enough = simp to_z-of_z at (c.needs_no_look.ensures.total holds) in
-    told (cost_between least_sum_of c.args.square.now.positions) (length c.args.square.now.positions) c.args.penalty c.args.least.now c.args.back.now c.args.pruned.now c.args.need c.args.s c.args.from c.args.end c.made_from.result
-    (c.value_costs_law.ensures.merge least_sum_of c.squares_law.ensures.merge c.args.square.now.positions (length c.args.square.now.positions)) c.requires.placed (omega (arith, c.if-s-from.false)) c.requires.need
+    told c.args.tables.now c.args.need c.args.s c.args.from c.args.end c.made_from.result c.requires.placed (omega (arith, c.if-s-from.false)) c.requires.need
     made.total enough (c.needs_no_look.ensures.last_cut holds) (c.is_open_behind.ensures.0 c.if-not-is_open_behind.false)

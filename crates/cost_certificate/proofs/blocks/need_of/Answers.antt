@@ -1,9 +1,7 @@
 use Rattle.std.proofs.Common.{◌^◌, pos, neg_ℤ, ◌-ℤ◌, ◌≤ℤ◌, FitsSigned, arith}
 use Rattle.std.specs.Int.{w128}
 use Rattle.std.proofs.lemmas.Int.{ints, to_z-of_z}
-use Rattle.segment_model.specs.Values.{cost_between}
-use Rattle.segment_model.specs.Computed.{least_sum_of}
-use Rattle.segment_model.specs.Tables.{int_at}
+use Rattle.cost_certificate.specs.Checks.{total_at}
 use Rattle.cost_certificate.proofs.Needs.{next-need, whole-need}
 use Rattle.cost_certificate.proofs.blocks.need_of.Goals as goal
 use Rattle.cost_certificate.proofs.blocks.need_of.Goals.{After-cost}
@@ -11,17 +9,17 @@ use Rattle.cost_certificate.proofs.blocks.need_of.Goals.{After-cost}
 module _ (c : After-cost) where
   cost_range : (pos 0 ≤ℤ c.cost.result) × (c.cost.result ≤ℤ pos (10 ^ 37))
   cost_range =
-      rw c.cost.ensures (c.value_costs_law.ensures.in_range least_sum_of c.squares_law.ensures.in_range c.args.square.now.positions c.limits.ensures c.args.from c.loop-t.t (omega (arith, c.loop-t.auto.t)) (omega (arith, c.loop-t-test.true, c.requires.placed)))
+      rw c.cost.ensures (c.args.tables.now.costs c.args.from c.loop-t.t (omega (arith, c.loop-t.auto.t)) (omega (arith, c.loop-t-test.true, c.requires.placed)))
 
-  total_range : (neg_ℤ (pos (10 ^ 36)) ≤ℤ int_at c.args.least.now c.loop-t.t) × (int_at c.args.least.now c.loop-t.t ≤ℤ pos (10 ^ 37))
-  total_range = c.requires.totals c.loop-t.t (omega (arith, c.loop-t-test.true, c.requires.placed, c.requires.least))
+  total_range : (neg_ℤ (pos (10 ^ 36)) ≤ℤ total_at c.args.tables.now c.loop-t.t) × (total_at c.args.tables.now c.loop-t.t ≤ℤ pos (10 ^ 37))
+  total_range = c.args.tables.now.totals c.loop-t.t (omega (arith, c.loop-t-test.true, c.requires.placed, c.args.tables.now.least_length))
 
-pub overflow_sub-least : goal.overflow_sub-least
-overflow_sub-least c =
-    let k = (goal.at.overflow_sub-least c).After-cost in
+pub overflow_sub-tables : goal.overflow_sub-tables
+overflow_sub-tables c =
+    let k = (goal.at.overflow_sub-tables c).After-cost in
     let cost = cost_range k in
     let total = total_range k in
-    let total_fits : FitsSigned w128 (int_at c.args.least.now c.loop-t.t) = omega (arith, ints, total.0, total.1) in
+    let total_fits : FitsSigned w128 (total_at c.args.tables.now c.loop-t.t) = omega (arith, ints, total.0, total.1) in
     let cost_fits : FitsSigned w128 c.cost.result = record { sfits = c.cost.type_inv } in
     simp to_z-of_z (omega (arith, ints, total.0, total.1, cost.0, cost.1))
 
@@ -30,13 +28,13 @@ loop-t-preserved c =
     let k = (goal.at.loop-t-preserved c).After-cost in
     let cost = cost_range k in
     let total = total_range k in
-    let total_fits : FitsSigned w128 (int_at c.args.least.now c.loop-t.t) = omega (arith, ints, total.0, total.1) in
+    let total_fits : FitsSigned w128 (total_at c.args.tables.now c.loop-t.t) = omega (arith, ints, total.0, total.1) in
     let cost_fits : FitsSigned w128 c.cost.result = record { sfits = c.cost.type_inv } in
-    let less_fits : FitsSigned w128 (int_at c.args.least.now c.loop-t.t -ℤ c.cost.result) = omega (arith, ints, total.0, total.1, cost.0, cost.1) in
+    let less_fits : FitsSigned w128 (total_at c.args.tables.now c.loop-t.t -ℤ c.cost.result) = omega (arith, ints, total.0, total.1, cost.0, cost.1) in
     let more = simp to_z-of_z at c.need_with-need.ensures.total in
     let cuts = c.need_with-need.ensures.last_cut in
-    next-need (cost_between least_sum_of c.args.square.now.positions) c.args.least.now c.args.back.now c.args.from c.loop-t.need c.need_with-need.result c.loop-t.t (int_at c.args.least.now c.loop-t.t -ℤ c.cost.result) c.loop-t.invariant
+    next-need c.args.tables.now c.args.from c.loop-t.need c.need_with-need.result c.loop-t.t (total_at c.args.tables.now c.loop-t.t -ℤ c.cost.result) c.loop-t.invariant
     (omega (arith, c.loop-t.auto.t)) (omega (arith, ints, c.cost.ensures)) (omega (arith, ints, total.0, cost.1)) (omega (arith, ints, total.1, cost.0)) more.0 more.1 more.2 cuts.0 cuts.1
 
 pub returns : goal.returns
-returns c = whole-need (cost_between least_sum_of c.args.square.now.positions) c.args.least.now c.args.back.now c.args.from c.loop-t.need c.loop-t.t c.args.end c.loop-t.invariant (omega (arith, c.loop-t-test.false))
+returns c = whole-need c.args.tables.now c.args.from c.loop-t.need c.loop-t.t c.args.end c.loop-t.invariant (omega (arith, c.loop-t-test.false))

@@ -1,14 +1,12 @@
-use Rattle.std.proofs.Common.{length, FitsSigned, arith}
+use Rattle.std.proofs.Common.{FitsSigned, arith}
 use Rattle.std.specs.Int.{w128}
 use Rattle.std.proofs.lemmas.Int.{ints, to_z-of_z}
-use Rattle.segment_model.specs.Values.{cost_between}
-use Rattle.segment_model.specs.Computed.{least_sum_of}
 use Rattle.cost_certificate.proofs.Watches.{closed-more, open-more}
 use Rattle.cost_certificate.proofs.blocks.next_watch.Goals as goal
 
 pub returns-then-is_closed-clause-watch : goal.returns-then-is_closed-clause-watch
 returns-then-is_closed-clause-watch c =
-    closed-more (cost_between least_sum_of c.args.square.now.positions) (length c.args.square.now.positions) c.args.least.now c.args.pruned.now c.args.start c.args.watch c.args.s
+    closed-more c.args.tables.now c.args.start c.args.watch c.args.s
     (c.is_closed.ensures.0 c.if-is_closed.true) c.requires.watch
 
 pub returns-clause-watch : goal.returns-clause-watch
@@ -20,8 +18,5 @@ returns-clause-watch c =
     let watch_fits : FitsSigned w128 c.args.watch.total = omega (arith, ints, low, high) in
     let total = simp to_z-of_z at c.watch_with.ensures.total in
     let until = c.watch_with.ensures.until in
-    open-more (cost_between least_sum_of c.args.square.now.positions) (length c.args.square.now.positions) c.args.least.now c.args.pruned.now c.args.start
-    (c.value_costs_law.ensures.merge least_sum_of c.squares_law.ensures.merge c.args.square.now.positions (length c.args.square.now.positions))
-    (c.value_costs_law.ensures.in_range least_sum_of c.squares_law.ensures.in_range c.args.square.now.positions c.limits.ensures)
-    c.args.watch c.watch_with.result c.args.s c.made_from.result c.requires.below c.requires.watch
+    open-more c.args.tables.now c.args.start c.args.watch c.watch_with.result c.args.s c.made_from.result c.requires.below c.requires.watch
     made.total made.low made.high total.0 total.1 total.2 until.0 until.1 c.watch_with.ensures.open c.watch_with.ensures.at

@@ -2,7 +2,7 @@ use Rattle.std.proofs.Common.{ℕ, ◌+◌, ◌*◌, ◌^◌, ◌<◌, ◌≤◌
 use Rattle.std.specs.Int.{w128}
 use Rattle.std.proofs.lemmas.Int.{ints, to_z-of_z}
 use Rattle.std.proofs.lemmas.Bool.{cases_eq}
-use Rattle.segment_model.specs.Tables.{int_at}
+use Rattle.cost_certificate.specs.Checks.{total_at}
 use Rattle.cost_certificate.proofs.Needs.{level-more}
 use Rattle.cost_certificate.proofs.level.is_level.Goals as goal
 
@@ -10,23 +10,22 @@ pub loop-s-preserved : goal.loop-s-preserved
 loop-s-preserved c =
     let s : ℕ = c.loop-s.s in
     let h = c.loop-s.invariant in
-    let here = c.requires.totals s (omega (arith, c.loop-s-test.true, c.requires.least)) in
-    let next = c.requires.totals (s + 1) (omega (arith, c.loop-s-test.true, c.requires.least)) in
-    let b_fits : FitsSigned w128 c.args.penalty = c.ranges.penalty in
-    let here_fits : FitsSigned w128 (int_at c.args.least.now c.loop-s.s) = omega (arith, ints, here.0, here.1) in
-    let next_fits : FitsSigned w128 (int_at c.args.least.now (c.loop-s.s + 1)) = omega (arith, ints, next.0, next.1) in
+    let here = c.args.tables.now.totals s (omega (arith, c.loop-s-test.true, c.args.tables.now.least_length)) in
+    let next = c.args.tables.now.totals (s + 1) (omega (arith, c.loop-s-test.true, c.args.tables.now.least_length)) in
+    let b_fits : FitsSigned w128 c.args.tables.now.penalty = omega (arith, ints, c.args.tables.now.low, c.args.tables.now.high) in
+    let here_fits : FitsSigned w128 (total_at c.args.tables.now c.loop-s.s) = omega (arith, ints, here.0, here.1) in
+    let next_fits : FitsSigned w128 (total_at c.args.tables.now (c.loop-s.s + 1)) = omega (arith, ints, next.0, next.1) in
     let bottom_low : neg_ℤ (pos (10 ^ 36)) ≤ℤ c.loop-s.bottom = omega (arith, ints, c.loop-s.bottom-is, h.low) in
     let bottom_high : c.loop-s.bottom ≤ℤ pos (2 * 10 ^ 37) = omega (arith, ints, c.loop-s.bottom-is, h.high) in
     let bottom_fits : FitsSigned w128 c.loop-s.bottom = omega (arith, ints, bottom_low, bottom_high) in
     let new_fits : FitsSigned w128 c.lower_of-bottom.result = record { sfits = c.lower_of-bottom.type_inv } in
-    let level = simp to_z-of_z at h.level in
-    let below : (r : ℕ) → c.args.from ≤ r → r < c.loop-s.s → c.loop-s.bottom ≤ℤ int_at c.args.least.now r = λ r start lt. omega (arith, ints, c.loop-s.bottom-is, h.bottom r start lt) in
+    let below : (r : ℕ) → c.args.from ≤ r → r < c.loop-s.s → c.loop-s.bottom ≤ℤ total_at c.args.tables.now r = λ r start lt. omega (arith, ints, c.loop-s.bottom-is, h.bottom r start lt) in
     let both = simp to_z-of_z at c.lower_of-bottom.ensures.both in
     let lower : c.lower_of-bottom.result ≤ℤ c.loop-s.bottom = omega (arith, ints, c.loop-s.bottom-is, both.0) in
     let one = simp to_z-of_z at c.lower_of-bottom.ensures.one in
     let near = simp to_z-of_z at (c.is_near.ensures.total c.if-not-is_near.false) in
     simp to_z-of_z (record {
-      level = level-more c.args.penalty c.loop-s.bottom c.lower_of-bottom.result c.args.least.now c.args.pruned.now c.args.from s c.args.end below level lower both.1 near (c.is_near.ensures.mark c.if-not-is_near.false);
+      level = level-more c.args.tables.now c.loop-s.bottom c.lower_of-bottom.result c.args.from s c.args.end below h.level lower both.1 near (c.is_near.ensures.mark c.if-not-is_near.false);
       bottom = λ r start lt. elim (cases_eq r s) [
         | inl same ↦ rw same both.1
         | inr apart ↦ omega (arith, ints, lower, below r start (omega (arith, lt, apart)))
@@ -36,6 +35,4 @@ loop-s-preserved c =
     })
 
 pub returns : goal.returns
-returns c =
-    let level = simp (to_z-of_z w128 c.args.penalty c.ranges.penalty) at c.loop-s.invariant.level in
-    λ e s t start above within. level s t start above (omega (arith, within, c.loop-s-test.false))
+returns c = λ e s t start above within. c.loop-s.invariant.level s t start above (omega (arith, within, c.loop-s-test.false))
