@@ -86,10 +86,7 @@ module _ (cost : ℕ → ℕ → ℤ) (least : List ℤ) (t : ℕ) (merges : Mer
     pub passed-over : (guess k : ℕ) (bounds : List Bound) (best : Found) → HaveBounds cost t least cs guess bounds → k < 65 → IsFirst cost least t cs guess (256 * k) best
         → IsBelowBlock cost t (bound_at bounds k) (256 * k) best → IsFirst cost least t cs guess (256 * k + 256) best
     passed-over guess k bounds best h in' first above = record {
-      inside = first.inside;
-      exact = first.exact;
-      low = first.low;
-      high = first.high;
+      made = first.made;
       before = λ i inside which. elim (cases_eq i guess) [
         | inl here ↦ first.before i inside (inr here)
         | inr there ↦ elim (cases_lt i (256 * k)) [

@@ -4,9 +4,9 @@ use Rattle.std.proofs.lemmas.Int.{ints, by_lt_z}
 use Rattle.std.proofs.lemmas.Bool.{cases_lt, cases_eq}
 use Rattle.std.proofs.lemmas.List.{length-append, get_or_append_left, get_or_push, get_or_default, get_or_read, get_or-take}
 use Rattle.segment_model.specs.Cuts.{Merges}
-use Rattle.segment_model.specs.Tables.{int_at, IsDear, IsUnmarkedBehind, IsTable, IsFirstLeast, IsMarkedAt, AreMarkedAt}
+use Rattle.segment_model.specs.Tables.{int_at, IsUnmarkedBehind, IsTable, IsFirstLeast, IsMarkedAt, AreMarkedAt}
 use Rattle.segment_model.specs.Laws.{TotalsAreInRange, TableGrows, UnmarkedIsFirstLeast, NotDearFromLastCut}
-use Rattle.pelt_core.specs.Candidates.{open_places, AreTotals, total_from}
+use Rattle.pelt_core.specs.Candidates.{open_places, AreTotals, total_from, MarksDear}
 use Rattle.pelt_core.specs.Bounds.{AreInRange}
 use Rattle.pelt_core.proofs.Open.{open-below, open-find, open-rising, open-filter, open-push, open-same, open-few, open-next}
 
@@ -84,10 +84,10 @@ module _ (cost : ℕ → ℕ → ℤ) (n : ℕ) (b : ℤ) (least : List ℤ) (ba
   -- the marks, where the candidates before the last cut were looked at
   module _ (merges : Merges cost (n + 1)) (low : pos 0 ≤ℤ b) (not_dear : NotDearFromLastCut) (best : ℕ) (in' : best < length cs) (x : ℤ)
       (x_is : x ≡ int_at least (slice_index cs best) +ℤ cost (slice_index cs best) (n + 1) +ℤ b)
-      (marked : List ℕ) (size : length marked ≡ n + 2)
-      (dear : (i : ℕ) → i < best → IsDear cost (least ++ x ∷ []) (slice_index cs i) (n + 1) → slice_index marked (slice_index cs i) ≡ n + 1)
-      (cheap : (i : ℕ) → i < best → ¬ IsDear cost (least ++ x ∷ []) (slice_index cs i) (n + 1) → slice_index marked (slice_index cs i) ≡ slice_index (pruned ++ 0 ∷ []) (slice_index cs i))
-      (others : (s : ℕ) → ((i : ℕ) → i < best → slice_index cs i ≢ s) → slice_index marked s ≡ slice_index (pruned ++ 0 ∷ []) s) where
+      (count : ℕ) (marked : List ℕ) (m : MarksDear cost (least ++ x ∷ []) (n + 1) cs best count (pruned ++ 0 ∷ []) marked) where
+    size : length marked ≡ n + 2
+    size = omega (arith, m.size, length-append pruned (0 ∷ []), h.pruned_length)
+
     was : (s : ℕ) → s ≤ n → slice_index (pruned ++ 0 ∷ []) s ≡ slice_index pruned s
     was s le = get_or_append_left pruned (0 ∷ []) 0 s (omega (arith, h.pruned_length))
 
@@ -124,12 +124,12 @@ module _ (cost : ℕ → ℕ → ℤ) (n : ℕ) (b : ℤ) (least : List ℤ) (ba
           | inl found ↦
               let none' : slice_index pruned s ≡ 0 = rw found.2 at (candidates-open found.0 (omega (arith, found.1, in'))) in
               by_lt_z (int_at (least ++ x ∷ []) (n + 1)) (total_from cost (least ++ x ∷ []) (n + 1) s)
-              (λ less. inl (none', less, rw found.2 at (dear found.0 found.1 (rw found.2 less))))
+              (λ less. inl (none', less, rw found.2 at (m.dear found.0 found.1 (rw found.2 less))))
               (λ ge.
-              let same : slice_index marked s ≡ slice_index (pruned ++ 0 ∷ []) s = rw found.2 at (cheap found.0 found.1 (λ less. let less' = rw found.2 at less in absurd (omega (arith, ints, less', ge)))) in
+              let same : slice_index marked s ≡ slice_index (pruned ++ 0 ∷ []) s = rw found.2 at (m.cheap found.0 found.1 (λ less. let less' = rw found.2 at less in absurd (omega (arith, ints, less', ge)))) in
               inr (same ∙ was s le, λ none'' less. absurd (omega (arith, ints, less, ge))))
           | inr away ↦ inr (
-            others s away ∙ was s le,
+            m.others s away ∙ was s le,
             λ none'. not_dear cost n b least back pruned (slice_index cs best) x merges low h x_is s (far-from s le none' away) le,
           )
         ]
@@ -138,7 +138,7 @@ module _ (cost : ℕ → ℕ → ℤ) (n : ℕ) (b : ℤ) (least : List ℤ) (ba
     marks = record {
       marked_length = omega (arith, size);
       marked = mark-of;
-      none_at_end = others (n + 1) (λ i lt same. absurd (omega (arith, same, candidates-below i (omega (arith, lt, in'))))) ∙ new-at-end;
+      none_at_end = m.others (n + 1) (λ i lt same. absurd (omega (arith, same, candidates-below i (omega (arith, lt, in'))))) ∙ new-at-end;
     }
 
     -- a place that has no mark afterwards had none before
@@ -189,34 +189,30 @@ totals-next in_range cost n b least back pruned h low high t e range s x found x
 module _ (cost : ℕ → ℕ → ℤ) (n : ℕ) (b : ℤ) (least : List ℤ) (back pruned : List ℕ) (cs : List ℕ)
     (h : IsTable cost n b least back pruned) (are : cs ≡ open_places pruned (n + 1)) (t : ℕ) (e : n + 1 ≡ t) (merges : Merges cost t) (low : pos 0 ≤ℤ b) (not_dear : NotDearFromLastCut)
     (best : ℕ) (in' : best < length cs) (x : ℤ) (x_is : x ≡ int_at least (slice_index cs best) +ℤ cost (slice_index cs best) t +ℤ b)
-    (marked : List ℕ) (size : length marked ≡ t + 1)
-    (dear : (i : ℕ) → i < best → IsDear cost (least ++ x ∷ []) (slice_index cs i) t → slice_index marked (slice_index cs i) ≡ t)
-    (cheap : (i : ℕ) → i < best → ¬ IsDear cost (least ++ x ∷ []) (slice_index cs i) t → slice_index marked (slice_index cs i) ≡ slice_index (pruned ++ 0 ∷ []) (slice_index cs i))
-    (others : (s : ℕ) → ((i : ℕ) → i < best → slice_index cs i ≢ s) → slice_index marked s ≡ slice_index (pruned ++ 0 ∷ []) s) where
-  size' : length marked ≡ n + 2
-  size' = omega (arith, size)
-
+    (count : ℕ) (marked : List ℕ) (m : MarksDear cost (least ++ x ∷ []) t cs best count (pruned ++ 0 ∷ []) marked) where
   pub next-table : TableGrows → IsFirstLeast cost (int_at least) t (slice_index cs best) → IsTable cost t b (least ++ x ∷ []) (back ++ slice_index cs best ∷ []) marked
   next-table grows found =
       rw (← e) (grows cost n b least back pruned marked (slice_index cs best) x h (rw (← e) at found) (rw (← e) at x_is)
-      (marks cost n b least back pruned cs h are (rw (← e) at merges) low not_dear best in' x (rw (← e) at x_is) marked size' (rw (← e) at dear) (rw (← e) at cheap) others))
+      (marks cost n b least back pruned cs h are (rw (← e) at merges) low not_dear best in' x (rw (← e) at x_is) count marked (rw (← e) at m)))
 
   pub next-filtered : filter (λ (r : ℕ). slice_index_or marked r 1 == 0) cs ≡ open_places marked t
   next-filtered =
-      rw (← e) (filtered cost n b least back pruned cs h are (rw (← e) at merges) low not_dear best in' x (rw (← e) at x_is) marked size' (rw (← e) at dear) (rw (← e) at cheap) others)
+      rw (← e) (filtered cost n b least back pruned cs h are (rw (← e) at merges) low not_dear best in' x (rw (← e) at x_is) count marked (rw (← e) at m))
 
   pub next-open : open_places marked (t + 1) ≡ open_places marked t ++ t ∷ []
   next-open =
       let above : n + 1 + 1 ≡ n + 2 = omega arith in
-      rw (← e) (ap (open_places marked) above ∙ with-last cost n b least back pruned cs h are (rw (← e) at merges) low not_dear best in' x (rw (← e) at x_is) marked size' (rw (← e) at dear) (rw (← e) at cheap) others)
+      rw (← e) (ap (open_places marked) above ∙ with-last cost n b least back pruned cs h are (rw (← e) at merges) low not_dear best in' x (rw (← e) at x_is) count marked (rw (← e) at m))
 
   -- the candidates that are left, where some of them were marked or none was
-  pub swept : (count : ℕ) → (count ≡ 0 → marked ≡ pruned ++ 0 ∷ []) → (left : List ℕ)
-      → (0 < count → left ≡ filter (λ (c : ℕ). slice_index_or marked c 1 == 0) cs) → (count ≡ 0 → left ≡ cs) → left ≡ open_places marked t
-  swept zero unmarked left some none' =
-      let same : open_places (pruned ++ 0 ∷ []) (n + 1) ≡ open_places pruned (n + 1) = open-unmarked pruned n h.pruned_length in
-      rw (none' refl, unmarked refl, ← e) (are ∙ sym same)
-  swept (suc count) unmarked left some none' = some (omega arith) ∙ next-filtered
+  pub swept : (left : List ℕ) → (0 < count → left ≡ filter (λ (c : ℕ). slice_index_or marked c 1 == 0) cs) → (count ≡ 0 → left ≡ cs) → left ≡ open_places marked t
+  swept left some none' = elim (cases_lt 0 count) [
+    | inl more ↦ some more ∙ next-filtered
+    | inr less ↦
+        let zero' : count ≡ 0 = omega (arith, less) in
+        let same : open_places (pruned ++ 0 ∷ []) (n + 1) ≡ open_places pruned (n + 1) = open-unmarked pruned n h.pruned_length in
+        rw (none' zero', m.none zero', ← e) (are ∙ sym same)
+  ]
 
   pub with-place : (left : List ℕ) → left ≡ open_places marked t → left ++ t ∷ [] ≡ open_places marked (t + 1)
   with-place left left_are = ap (λ (ps : List ℕ). ps ++ t ∷ []) left_are ∙ sym next-open
@@ -228,6 +224,10 @@ few-left marked t left are = omega (arith, ap length are, open-few marked t)
 -- what was read at a place that is t
 pub read-at : (xs : List ℤ) (t place : ℕ) (v : ℤ) → place ≡ t → t < length xs → v ≡ get_or xs place v → v ≡ int_at xs t
 read-at xs t place v e lt read = get_or_read xs t v lt (rw e at read) (pos 0)
+
+-- equal marks and candidates leave the same ones
+pub swept-by : (marked marked' cs cs' left : List ℕ) → marked ≡ marked' → cs ≡ cs' → left ≡ filter (λ (c : ℕ). slice_index_or marked c 1 == 0) cs → left ≡ filter (λ (c : ℕ). slice_index_or marked' c 1 == 0) cs'
+swept-by marked marked' cs cs' left e f h = rw (e, f) at h
 
 -- equal lists have the same table, candidates and bounds
 pub table-by : (cost : ℕ → ℕ → ℤ) (n : ℕ) (b : ℤ) (least least' : List ℤ) (back back' pruned pruned' : List ℕ) → least' ≡ least → back' ≡ back → pruned' ≡ pruned

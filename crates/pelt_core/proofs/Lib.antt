@@ -3,4 +3,5 @@ mod Blocks
 mod Marks
 mod Open
 mod Growth
+mod Growing
 mod Tables

@@ -1,32 +1,16 @@
 -- Which of the first candidates were marked.
-use Rattle.std.proofs.Common.{◌≡◌, ◌≢◌, ℕ, ◌+◌, ◌<◌, ◌≤◌, List, length, set, slice_index, inl, inr, refl, sym, ◌∙◌, get_or-set_same, get_or-set_other, arith}
+use Rattle.std.proofs.Common.{◌≡◌, ◌≢◌, ℕ, ℤ, ◌+◌, ◌<◌, List, length, set, slice_index, inl, inr, sym, ◌∙◌, get_or-set_same, get_or-set_other, arith}
 use Rattle.std.proofs.Math.ListN.{length-set}
 use Rattle.std.proofs.lemmas.Bool.{cases_lt}
+use Rattle.segment_model.specs.Tables.{IsDear}
+use Rattle.pelt_core.specs.Candidates.{MarksDear}
 
-pub record Marked (IsLow : ℕ → Type 0) (t : ℕ) (candidates : List ℕ) (old new : List ℕ) (upto marked : ℕ) : Type 0 where
-  pub size : length new ≡ length old
-  pub some : marked ≤ upto
-  pub dear : (i : ℕ) → i < upto → IsLow (slice_index candidates i) → slice_index new (slice_index candidates i) ≡ t
-  pub cheap : (i : ℕ) → i < upto → ¬ IsLow (slice_index candidates i) → slice_index new (slice_index candidates i) ≡ slice_index old (slice_index candidates i)
-  pub others : (s : ℕ) → ((i : ℕ) → i < upto → slice_index candidates i ≢ s) → slice_index new s ≡ slice_index old s
-  pub none : marked ≡ 0 → new ≡ old
-
-pub begun : (IsLow : ℕ → Type 0) (t : ℕ) (candidates : List ℕ) (old : List ℕ) → Marked IsLow t candidates old old 0 0
-begun IsLow t candidates old = record {
-  size = refl;
-  some = omega arith;
-  dear = λ i lt. absurd (omega arith);
-  cheap = λ i lt. absurd (omega arith);
-  others = λ s none. refl;
-  none = λ e. refl;
-}
-
-module _ (IsLow : ℕ → Type 0) (t : ℕ) (candidates : List ℕ) (old new : List ℕ) (i marked : ℕ) (h : Marked IsLow t candidates old new i marked)
+module _ (cost : ℕ → ℕ → ℤ) (least : List ℤ) (t : ℕ) (candidates : List ℕ) (i marked : ℕ) (old new : List ℕ) (h : MarksDear cost least t candidates i marked old new)
     (rising : (j k : ℕ) → j < k → k < length candidates → slice_index candidates j < slice_index candidates k) (lt : i < length candidates) where
   apart : (k : ℕ) → k < i → slice_index candidates k ≢ slice_index candidates i
   apart k before same = absurd (omega (arith, rising k i before lt, same))
 
-  pub left : ¬ IsLow (slice_index candidates i) → Marked IsLow t candidates old new (i + 1) marked
+  pub left : ¬ IsDear cost least (slice_index candidates i) t → MarksDear cost least t candidates (i + 1) marked old new
   left cheap = record {
     size = h.size;
     some = omega (arith, h.some);
@@ -42,7 +26,8 @@ module _ (IsLow : ℕ → Type 0) (t : ℕ) (candidates : List ℕ) (old new : L
     none = h.none;
   }
 
-  pub more : slice_index candidates i < length new → IsLow (slice_index candidates i) → Marked IsLow t candidates old (set new (slice_index candidates i) t) (i + 1) (marked + 1)
+  pub more : slice_index candidates i < length new → IsDear cost least (slice_index candidates i) t
+      → MarksDear cost least t candidates (i + 1) (marked + 1) old (set new (slice_index candidates i) t)
   more inside is_dear = record {
     size = length-set new (slice_index candidates i) t ∙ h.size;
     some = omega (arith, h.some);

@@ -4,7 +4,7 @@ use Rattle.std.proofs.lemmas.Int.{ints, by_lt_z}
 use Rattle.std.proofs.lemmas.Bool.{cases_lt, cases_eq}
 use Rattle.pelt_core.specs.declared.bounds.Found.{Found}
 use Rattle.pelt_core.specs.Candidates.{total_from}
-use Rattle.pelt_core.specs.Bounds.{IsNoLater, IsFirst}
+use Rattle.pelt_core.specs.Bounds.{IsNoLater, IsFirst, AreLooked}
 
 -- no later than more at a later index
 pub no-later : (found : Found) (x y : ℤ) (i j : ℕ) → IsNoLater found x i → x ≤ℤ y → i ≤ j → IsNoLater found y j
@@ -14,17 +14,6 @@ no-later found x y i j h le from = elim h [
 ]
 
 module _ (cost : ℕ → ℕ → ℤ) (least : List ℤ) (t : ℕ) (cs : List ℕ) (guess : ℕ) where
-  -- the guess was looked at
-  pub begun : (total : ℤ) → guess < length cs → total ≡ total_from cost least t (slice_index cs guess) → neg_ℤ (pos (10 ^ 36)) ≤ℤ total → total ≤ℤ pos (2 * 10 ^ 37)
-      → IsFirst cost least t cs guess 0 (record { index = guess; total = total })
-  begun total lt is low high = record {
-    inside = lt;
-    exact = is;
-    low = low;
-    high = high;
-    before = λ i inside which. elim which [ inl none ↦ absurd (omega (arith, none)) | inr here ↦ rw here (inr (is, omega arith)) ];
-  }
-
   -- one candidate more was looked at
   pub next : (upto : ℕ) (best here r : Found) → IsFirst cost least t cs guess upto best → upto < length cs → here.index ≡ upto → here.total ≡ total_from cost least t (slice_index cs upto)
       → neg_ℤ (pos (10 ^ 36)) ≤ℤ here.total → here.total ≤ℤ pos (2 * 10 ^ 37)
@@ -50,10 +39,7 @@ module _ (cost : ℕ → ℕ → ℤ) (least : List ℤ) (t : ℕ) (cs : List �
 
       taken : ((x : ℤ) (i : ℕ) → IsNoLater best x i → IsNoLater here x i) → IsFirst cost least t cs guess (upto + 1) here
       taken better = record {
-        inside = omega (arith, at, inside);
-        exact = rw at is;
-        low = low;
-        high = high;
+        made = record { inside = omega (arith, at, inside); exact = rw at is; low = low; high = high };
         before = λ i in' which. elim (cases_eq i upto) [
           | inl now ↦ rw now (inr (is, omega (arith, at)))
           | inr apart ↦ better _ i (h.before i in' (elim which [ inl before ↦ inl (omega (arith, before, apart)) | inr same ↦ inr same ]))
@@ -62,42 +48,23 @@ module _ (cost : ℕ → ℕ → ℤ) (least : List ℤ) (t : ℕ) (cs : List �
 
       kept : IsNoLater best here.total here.index → IsFirst cost least t cs guess (upto + 1) best
       kept later = record {
-        inside = h.inside;
-        exact = h.exact;
-        low = h.low;
-        high = h.high;
+        made = h.made;
         before = λ i in' which. elim (cases_eq i upto) [
           | inl now ↦ rw (now, ← is, ← at) later
           | inr apart ↦ h.before i in' (elim which [ inl before ↦ inl (omega (arith, before, apart)) | inr same ↦ inr same ])
         ];
       }
 
-  -- the candidates before a later index are the same ones where there are no more
-  pub widened : (upto more : ℕ) (best : Found) → IsFirst cost least t cs guess upto best → ((i : ℕ) → i < length cs → i < more → i < upto) → IsFirst cost least t cs guess more best
-  widened upto more best h fewer = record {
-    inside = h.inside;
-    exact = h.exact;
-    low = h.low;
-    high = h.high;
-    before = λ i inside which. h.before i inside (elim which [ inl before ↦ inl (fewer i inside before) | inr same ↦ inr same ]);
-  }
-
   -- when all were looked at
   pub found : (best : Found) → IsFirst cost least t cs guess (length cs) best
       → ((k : ℕ) → k < length cs → total_from cost least t (slice_index cs best.index) ≤ℤ total_from cost least t (slice_index cs k))
       × ((k : ℕ) → k < best.index → total_from cost least t (slice_index cs best.index) <ℤ total_from cost least t (slice_index cs k))
   found best h = (
-    λ k lt. elim (h.before k lt (inl lt)) [ inl above ↦ omega (arith, ints, above, h.exact) | inr tied ↦ omega (arith, ints, tied.0, h.exact) ],
-    λ k lt. elim (h.before k (omega (arith, lt, h.inside)) (inl (omega (arith, lt, h.inside)))) [ inl above ↦ omega (arith, ints, above, h.exact) | inr tied ↦ absurd (omega (arith, tied.1, lt)) ],
+    λ k lt. elim (h.before k lt (inl lt)) [ inl above ↦ omega (arith, ints, above, h.made.exact) | inr tied ↦ omega (arith, ints, tied.0, h.made.exact) ],
+    λ k lt. elim (h.before k (omega (arith, lt, h.made.inside)) (inl (omega (arith, lt, h.made.inside)))) [ inl above ↦ omega (arith, ints, above, h.made.exact) | inr tied ↦ absurd (omega (arith, tied.1, lt)) ],
   )
 
--- the candidates of a block that were looked at: their best, and their least total without the one apart
-pub record AreLooked (cost : ℕ → ℕ → ℤ) (least : List ℤ) (t : ℕ) (cs : List ℕ) (guess start upto : ℕ) (best : Found) (lowest : ℤ) : Type 0 where
-  pub first : IsFirst cost least t cs guess upto best
-  pub at_most : (i : ℕ) → start ≤ i → i < upto → i < length cs → i ≢ guess → lowest ≤ℤ total_from cost least t (slice_index cs i)
-  pub low : neg_ℤ (pos (10 ^ 36)) ≤ℤ lowest
-  pub high : lowest ≤ℤ pos (2 * 10 ^ 37)
-
+-- one candidate more of a block was looked at
 pub looked-next : (cost : ℕ → ℕ → ℤ) (least : List ℤ) (t : ℕ) (cs : List ℕ) (guess start upto : ℕ) (best here r : Found) (lowest r_low : ℤ) → AreLooked cost least t cs guess start upto best lowest
     → upto < length cs → here.index ≡ upto → here.total ≡ total_from cost least t (slice_index cs upto) → neg_ℤ (pos (10 ^ 36)) ≤ℤ here.total → here.total ≤ℤ pos (2 * 10 ^ 37)
     → ((here.total <ℤ best.total) ⊎ ((here.total ≡ best.total) × (here.index < best.index)) → r ≡ here) → (IsNoLater best here.total here.index → r ≡ best)

@@ -26,13 +26,25 @@ pub record HaveBounds (cost : ℕ → ℕ → ℤ) (t : ℕ) (least : List ℤ) 
 abbrev pub IsNoLater : Found → ℤ → ℕ → Type 0
 IsNoLater found x i = (found.total <ℤ x) ⊎ ((found.total ≡ x) × (found.index ≤ i))
 
--- what was found is made by its candidate, and comes no later than what the first `upto` make and the one at `guess`
-pub record IsFirst (cost : ℕ → ℕ → ℤ) (least : List ℤ) (t : ℕ) (candidates : List ℕ) (guess upto : ℕ) (found : Found) : Type 0 where
+-- what was found is made by its candidate
+pub record IsMade (cost : ℕ → ℕ → ℤ) (least : List ℤ) (t : ℕ) (candidates : List ℕ) (found : Found) : Type 0 where
   pub inside : found.index < length candidates
   pub exact : found.total ≡ total_from cost least t (slice_index candidates found.index)
   pub low : neg_ℤ (pos (10 ^ 36)) ≤ℤ found.total
   pub high : found.total ≤ℤ pos (2 * 10 ^ 37)
+
+-- what was found is made by its candidate, and comes no later than what the first `upto` make and the one at `guess`
+pub record IsFirst (cost : ℕ → ℕ → ℤ) (least : List ℤ) (t : ℕ) (candidates : List ℕ) (guess upto : ℕ) (found : Found) : Type 0 where
+  pub made : IsMade cost least t candidates found
   pub before : (i : ℕ) → i < length candidates → (i < upto) ⊎ (i ≡ guess) → IsNoLater found (total_from cost least t (slice_index candidates i)) i
+
+-- the best of the first `upto` candidates, and at most what those from `start` on make without the one at `guess`
+pub record AreLooked (cost : ℕ → ℕ → ℤ) (least : List ℤ) (t : ℕ) (candidates : List ℕ) (guess start upto : ℕ) (best : Found) (lowest : ℤ) : Type 0 where
+  pub first : IsFirst cost least t candidates guess upto best
+  pub at_most : (i : ℕ) → start ≤ i → i < upto → i < length candidates → i ≢ guess
+      → lowest ≤ℤ total_from cost least t (slice_index candidates i)
+  pub low : neg_ℤ (pos (10 ^ 36)) ≤ℤ lowest
+  pub high : lowest ≤ℤ pos (2 * 10 ^ 37)
 
 -- what was found comes no later than each total to place t that the bound allows, at an index from `start` on
 abbrev pub IsBelowBlock : (ℕ → ℕ → ℤ) → ℕ → Bound → ℕ → Found → Type 0

@@ -1,8 +1,9 @@
 -- Private: no public contract cites this. What a pruned table keeps: three tables in full, and as candidates the places
 -- that were never dear.
-use Rattle.std.specs.Prelude.{◌≡◌, ℕ, ℤ, ◌+◌, ◌^◌, ◌<◌, ◌≤◌, List, length, pos, ◌≤ℤ◌, vec_len, vec_capacity}
+use Rattle.std.specs.Prelude.{◌≡◌, ℕ, ℤ, ◌+◌, ◌-◌, ◌^◌, ◌<◌, ◌≤◌, List, [], ◌∷◌, ◌++◌, length, slice_index, pos, ◌+ℤ◌, ◌≤ℤ◌, vec_len, vec_capacity}
 use Rattle.segment_model.specs.Tables.{IsTable}
 use Rattle.segment_model.specs.Values.{AreWithinLimits, cost_between}
+use Rattle.pelt_core.specs.declared.bounds.Found.{Found}
 use Rattle.pelt_core.specs.declared.rows.Rows.{Rows}
 use Rattle.pelt_core.specs.Candidates.{open_places}
 use Rattle.pelt_core.specs.Bounds.{HaveBounds}
@@ -20,6 +21,23 @@ pub record HaveRoom (rows : Rows) : Type 0 where
   pub back : vec_len rows.back < vec_capacity rows.back
   pub pruned : vec_len rows.pruned < vec_capacity rows.pruned
   pub candidates : vec_len rows.least + 1 ≤ vec_capacity rows.candidates
+
+-- the rows of all positions but the last, with room for the row of that one
+pub record CanGrow (cost_of : List ℤ → ℤ) (positions : List (List ℤ)) (b : ℤ) (rows : Rows) : Type 0 where
+  pub limits : AreWithinLimits positions
+  pub some : 0 < length positions
+  pub low : pos 0 ≤ℤ b
+  pub high : b ≤ℤ pos (10 ^ 36)
+  pub pruned : ArePruned (cost_between cost_of positions) (length positions - 1) b rows
+  pub room : HaveRoom rows
+
+-- the tables have one row more, whose last cut is the candidate that was found; the candidates are the same
+pub record AddsRow (b : ℤ) (found : Found) (old new : Rows) : Type 0 where
+  pub least : new.least.items ≡ old.least.items ++ (found.total +ℤ b) ∷ []
+  pub back : new.back.items ≡ old.back.items ++ slice_index old.candidates.items found.index ∷ []
+  pub unmarked : new.pruned.items ≡ old.pruned.items ++ 0 ∷ []
+  pub candidates : new.candidates.items ≡ old.candidates.items
+  pub capacity : vec_capacity new.candidates ≡ vec_capacity old.candidates
 
 -- the same lists, with no less room
 pub record SameLists (old new : Rows) : Type 0 where

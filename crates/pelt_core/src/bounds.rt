@@ -2,11 +2,10 @@
 //!
 //! It begins with the candidate that won last, and no bound need hold for that one. Where another one wins, the bound
 //! of the first one's block is lowered by what the first one made.
-ghost use Rattle.std.specs.Prelude.{◌≡◌, ◌≢◌, ℕ, ◌+◌, ◌*◌, ◌^◌, ◌<◌, ◌≤◌, length, pos, neg_ℤ, ◌+ℤ◌, ◌≤ℤ◌, ◌<ℤ◌, ◌↔◌, ◌⊎◌, IsTrue, slice_index};
-ghost use Rattle.segment_model.specs.Tables.{int_at};
+ghost use Rattle.std.specs.Prelude.{◌≡◌, ◌≢◌, ℕ, ◌+◌, ◌*◌, ◌^◌, ◌<◌, ◌≤◌, length, pos, neg_ℤ, ◌≤ℤ◌, ◌<ℤ◌, ◌↔◌, ◌⊎◌, IsTrue};
 ghost use Rattle.segment_model.specs.Values.{AreWithinLimits, cost_between};
-ghost use Rattle.pelt_core.specs.Candidates.{AreTotals, total_from};
-ghost use Rattle.pelt_core.specs.Bounds.{bound_at, HaveBounds, IsFirst, IsBelowBlock, IsLowered, IsNoLater};
+ghost use Rattle.pelt_core.specs.Candidates.{AreCandidates};
+ghost use Rattle.pelt_core.specs.Bounds.{bound_at, HaveBounds, IsFirst, AreLooked, IsBelowBlock, IsLowered, IsNoLater};
 
 use crate::candidates::last_total;
 use segment_cost::Cost;
@@ -57,11 +56,7 @@ pub fn first_least<C: Cost>(
 ) -> Found
     requires some { guess < length candidates.now }
     requires few { length candidates.now ≤ 16_385 }
-    requires limits { AreWithinLimits (C.positions cost.now) }
-    requires below { (i : ℕ) → i < length candidates.now
-        → slice_index candidates.now i < length (C.positions cost.now) }
-    requires lengths { length least.now ≡ length (C.positions cost.now) }
-    requires totals { AreTotals least.now }
+    requires candidates { AreCandidates (C.positions cost.now) least.now candidates.now }
     requires bounds { HaveBounds (cost_between C.cost_of (C.positions cost.now))
         (length (C.positions cost.now)) least.now candidates.now guess bounds.old }
     ensures bounds { HaveBounds (cost_between C.cost_of (C.positions cost.now))
@@ -124,11 +119,7 @@ fn look_at_block<C: Cost>(
     best: Found,
 ) -> Found
     requires block { k < 65 }
-    requires limits { AreWithinLimits (C.positions cost.now) }
-    requires below { (i : ℕ) → i < length candidates.now
-        → slice_index candidates.now i < length (C.positions cost.now) }
-    requires lengths { length least.now ≡ length (C.positions cost.now) }
-    requires totals { AreTotals least.now }
+    requires candidates { AreCandidates (C.positions cost.now) least.now candidates.now }
     requires bounds { HaveBounds (cost_between C.cost_of (C.positions cost.now))
         (length (C.positions cost.now)) least.now candidates.now guess bounds.old }
     requires found { IsFirst (cost_between C.cost_of (C.positions cost.now)) least.now
@@ -188,21 +179,12 @@ fn best_of_block<C: Cost>(
     best: Found,
 ) -> Looked
     requires block { k < 65 }
-    requires limits { AreWithinLimits (C.positions cost.now) }
-    requires below { (i : ℕ) → i < length candidates.now
-        → slice_index candidates.now i < length (C.positions cost.now) }
-    requires lengths { length least.now ≡ length (C.positions cost.now) }
-    requires totals { AreTotals least.now }
+    requires candidates { AreCandidates (C.positions cost.now) least.now candidates.now }
     requires found { IsFirst (cost_between C.cost_of (C.positions cost.now)) least.now
         (length (C.positions cost.now)) candidates.now guess (256 * k) best }
-    ensures found { IsFirst (cost_between C.cost_of (C.positions cost.now)) least.now
-        (length (C.positions cost.now)) candidates.now guess (256 * k + 256) result.best }
-    ensures at_most { (i : ℕ) → 256 * k ≤ i → i < 256 * k + 256 → i < length candidates.now
-        → i ≢ guess
-        → result.low ≤ℤ total_from (cost_between C.cost_of (C.positions cost.now)) least.now
-        (length (C.positions cost.now)) (slice_index candidates.now i) }
-    ensures low { neg_ℤ (pos (10 ^ 36)) ≤ℤ result.low }
-    ensures high { result.low ≤ℤ pos (2 * 10 ^ 37) }
+    ensures { AreLooked (cost_between C.cost_of (C.positions cost.now)) least.now
+        (length (C.positions cost.now)) candidates.now
+        guess (256 * k) (256 * k + 256) result.best result.low }
 {
     let start = k * BLOCK;
     let mut best = best;

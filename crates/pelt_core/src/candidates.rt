@@ -1,18 +1,16 @@
 //! The places that may still be a last cut: which of them makes the least total, and which of them are dear.
-ghost use Rattle.std.specs.Prelude.{◌≡◌, ◌≢◌, ℕ, ◌+◌, ◌*◌, ◌^◌, ◌<◌, ◌≤◌, length, pos, neg_ℤ, ◌+ℤ◌, ◌≤ℤ◌, ◌<ℤ◌, filter, ◌==◌, ◌↔◌, ◌⊎◌, IsTrue, slice_index, slice_index_or, vec_capacity};
-ghost use Rattle.segment_model.specs.Tables.{int_at, IsDear, IsUnmarkedBehind};
-ghost use Rattle.segment_model.specs.Values.{AreWithinLimits, cost_between};
-ghost use Rattle.pelt_core.specs.Candidates.{open_places, AreTotals, total_from};
+ghost use Rattle.std.specs.Prelude.{◌≡◌, ℕ, ◌+◌, ◌*◌, ◌^◌, ◌<◌, ◌≤◌, length, pos, neg_ℤ, ◌≤ℤ◌, filter, ◌==◌, ◌↔◌, IsTrue, slice_index, slice_index_or, vec_capacity};
+ghost use Rattle.segment_model.specs.Tables.{IsDear, IsUnmarkedBehind};
+ghost use Rattle.segment_model.specs.Values.{cost_between};
+ghost use Rattle.pelt_core.specs.Candidates.{open_places, total_from, HaveTotals, AreCandidates, MarksDear};
 
 use segment_cost::Cost;
 use segment_model::value_costs_law;
 
 // What a last segment from place s to the end makes, without the penalty before it.
 pub fn last_total<C: Cost>(cost: &C, least: &[i128], s: usize) -> i128
-    requires limits { AreWithinLimits (C.positions cost.now) }
+    requires totals { HaveTotals (C.positions cost.now) least.now }
     requires below { s < length (C.positions cost.now) }
-    requires lengths { length (C.positions cost.now) ≤ length least.now }
-    requires totals { AreTotals least.now }
     ensures total { result
         ≡ total_from (cost_between C.cost_of (C.positions cost.now)) least.now
         (length (C.positions cost.now)) s }
@@ -25,10 +23,9 @@ pub fn last_total<C: Cost>(cost: &C, least: &[i128], s: usize) -> i128
 
 // Whether the segment from place s to the end is dear.
 fn is_dear<C: Cost>(cost: &C, least: &[i128], s: usize) -> bool
-    requires limits { AreWithinLimits (C.positions cost.now) }
+    requires totals { HaveTotals (C.positions cost.now) least.now }
+    requires least { length least.now ≡ length (C.positions cost.now) + 1 }
     requires below { s < length (C.positions cost.now) }
-    requires lengths { length least.now ≡ length (C.positions cost.now) + 1 }
-    requires totals { AreTotals least.now }
     ensures { IsTrue result
         ↔ IsDear (cost_between C.cost_of (C.positions cost.now)) least.now s
         (length (C.positions cost.now)) }
@@ -45,28 +42,14 @@ pub fn mark_dear<C: Cost>(
     candidates: &[u16],
     count: usize,
 ) -> usize
-    requires limits { AreWithinLimits (C.positions cost.now) }
+    requires candidates { AreCandidates (C.positions cost.now) least.now candidates.now }
     requires count { count ≤ length candidates.now }
-    requires below { (i : ℕ) → i < length candidates.now
-        → slice_index candidates.now i < length (C.positions cost.now) }
     requires rising { (i j : ℕ) → i < j → j < length candidates.now
         → slice_index candidates.now i < slice_index candidates.now j }
     requires least { length least.now ≡ length (C.positions cost.now) + 1 }
     requires pruned { length pruned.old ≡ length (C.positions cost.now) + 1 }
-    requires totals { AreTotals least.now }
-    ensures dear { (i : ℕ) → i < count
-        → IsDear (cost_between C.cost_of (C.positions cost.now)) least.now
-        (slice_index candidates.now i) (length (C.positions cost.now))
-        → slice_index pruned.new (slice_index candidates.now i) ≡ length (C.positions cost.now) }
-    ensures cheap { (i : ℕ) → i < count
-        → ¬ IsDear (cost_between C.cost_of (C.positions cost.now)) least.now
-        (slice_index candidates.now i) (length (C.positions cost.now))
-        → slice_index pruned.new (slice_index candidates.now i)
-        ≡ slice_index pruned.old (slice_index candidates.now i) }
-    ensures others { (s : ℕ) → ((i : ℕ) → i < count → slice_index candidates.now i ≢ s)
-        → slice_index pruned.new s ≡ slice_index pruned.old s }
-    ensures some { result ≤ count }
-    ensures none { result ≡ 0 → pruned.new ≡ pruned.old }
+    ensures { MarksDear (cost_between C.cost_of (C.positions cost.now)) least.now
+        (length (C.positions cost.now)) candidates.now count result pruned.old pruned.new }
 {
     let mut marked = 0;
     for i in 0..count {

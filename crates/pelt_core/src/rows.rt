@@ -1,7 +1,7 @@
 //! The rows of a pruned table, one for each place, and the places that may still be a last cut.
-ghost use Rattle.std.specs.Prelude.{◌≡◌, ◌≢◌, ℕ, ℤ, ◌+◌, ◌-◌, ◌*◌, ◌^◌, ◌<◌, ◌≤◌, [], ◌∷◌, ◌++◌, length, pos, neg_ℤ, ◌+ℤ◌, ◌≤ℤ◌, OnOk, IfOk, vec_len, vec_capacity};
+ghost use Rattle.std.specs.Prelude.{◌≡◌, ◌≢◌, ℕ, ℤ, ◌^◌, ◌<◌, ◌≤◌, length, pos, ◌≤ℤ◌, OnOk, IfOk, vec_capacity};
 ghost use Rattle.segment_model.specs.Tables.{int_at, IsFirstLeast};
-ghost use Rattle.segment_model.specs.Values.{AreWithinLimits, cost_between};
+ghost use Rattle.segment_model.specs.Values.{cost_between};
 ghost use Rattle.pelt_core.specs.Bounds.{bound_at, IsLowered, AreInRange};
 
 use crate::bounds::{BLOCKS, Bound, Found, block_of, first_least, forget, lower, reset};
@@ -27,9 +27,8 @@ pub struct Rows {
 
 impl Rows {
     ghost use Rattle.std.specs.Prelude.{slice_index};
-    ghost use Rattle.pelt_core.specs.Candidates.{total_from};
-    ghost use Rattle.pelt_core.specs.Bounds.{HaveBounds};
-    ghost use Rattle.pelt_core.specs.Rows.{ArePruned, HaveRoom, SameLists};
+    ghost use Rattle.pelt_core.specs.Bounds.{HaveBounds, IsMade};
+    ghost use Rattle.pelt_core.specs.Rows.{ArePruned, HaveRoom, CanGrow, AddsRow, SameLists};
 
     // The rows of no positions.
     pub fn start(alloc: Global, penalty: i128) -> Result<Rows, NoMemory>
@@ -70,32 +69,17 @@ impl Rows {
 
     // Adds the row of the last position: its last cut is the first candidate that makes the least total. Says which it is.
     fn next_row<C: Cost>(&mut self, cost: &C, penalty: i128) -> Found
-        requires limits { AreWithinLimits (C.positions cost.now) }
-        requires some { 0 < length (C.positions cost.now) }
-        requires low { pos 0 ≤ℤ penalty }
-        requires high { penalty ≤ℤ pos (10 ^ 36) }
-        requires pruned { ArePruned (cost_between C.cost_of (C.positions cost.now))
-            (length (C.positions cost.now) - 1) penalty self.old }
-        requires room { HaveRoom self.old }
-        ensures below { result.index < length self.old.candidates.items }
+        requires { CanGrow C.cost_of (C.positions cost.now) penalty self.old }
         ensures found { IsFirstLeast (cost_between C.cost_of (C.positions cost.now))
             (int_at self.old.least.items) (length (C.positions cost.now))
             (slice_index self.old.candidates.items result.index) }
-        ensures total { result.total
-            ≡ total_from (cost_between C.cost_of (C.positions cost.now)) self.old.least.items
-            (length (C.positions cost.now)) (slice_index self.old.candidates.items result.index) }
-        ensures low { neg_ℤ (pos (10 ^ 36)) ≤ℤ result.total }
-        ensures high { result.total ≤ℤ pos (2 * 10 ^ 37) }
-        ensures least { self.new.least.items
-            ≡ self.old.least.items ++ (result.total +ℤ penalty) ∷ [] }
-        ensures back { self.new.back.items
-            ≡ self.old.back.items ++ slice_index self.old.candidates.items result.index ∷ [] }
-        ensures unmarked { self.new.pruned.items ≡ self.old.pruned.items ++ 0 ∷ [] }
+        ensures made { IsMade (cost_between C.cost_of (C.positions cost.now))
+            self.old.least.items (length (C.positions cost.now))
+            self.old.candidates.items result }
+        ensures row { AddsRow penalty result self.old self.new }
         ensures bounds { HaveBounds (cost_between C.cost_of (C.positions cost.now))
             (length (C.positions cost.now))
             self.old.least.items self.old.candidates.items result.index self.new.bounds.items }
-        ensures candidates { self.new.candidates.items ≡ self.old.candidates.items }
-        ensures capacity { vec_capacity self.new.candidates ≡ vec_capacity self.old.candidates }
     {
         table_law();
         pruning_law();
@@ -110,13 +94,7 @@ impl Rows {
 
     // Adds the row of the last position, and marks and drops the candidates that it prunes.
     pub fn grow<C: Cost>(&mut self, cost: &C, penalty: i128)
-        requires limits { AreWithinLimits (C.positions cost.now) }
-        requires some { 0 < length (C.positions cost.now) }
-        requires low { pos 0 ≤ℤ penalty }
-        requires high { penalty ≤ℤ pos (10 ^ 36) }
-        requires pruned { ArePruned (cost_between C.cost_of (C.positions cost.now))
-            (length (C.positions cost.now) - 1) penalty self.old }
-        requires room { HaveRoom self.old }
+        requires { CanGrow C.cost_of (C.positions cost.now) penalty self.old }
         ensures { ArePruned (cost_between C.cost_of (C.positions cost.now))
             (length (C.positions cost.now)) penalty self.new }
     {

@@ -1,6 +1,6 @@
 use Rattle.std.proofs.Common.{◌*◌, length}
 use Rattle.segment_model.specs.Values.{cost_between}
-use Rattle.pelt_core.proofs.Search.{AreLooked}
+use Rattle.pelt_core.specs.Bounds.{AreLooked}
 use Rattle.pelt_core.proofs.bounds.best_of_block.Given as goal
 
 abbrev pub invariant-loop-i : goal.invariant-loop-i

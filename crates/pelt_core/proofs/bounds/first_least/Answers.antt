@@ -14,7 +14,7 @@ module _ (g : _) (c : After-value_costs_law g) where
   merges = c.value_costs_law.ensures.merge g.C.Cost.cost_of g.met.C.Cost.merging (g.C.Cost.positions c.args.cost.now) (length (g.C.Cost.positions c.args.cost.now))
 
   range : AreInRange (cost_between g.C.Cost.cost_of (g.C.Cost.positions c.args.cost.now)) (length (g.C.Cost.positions c.args.cost.now))
-  range = c.value_costs_law.ensures.in_range g.C.Cost.cost_of g.met.C.Cost.in_range (g.C.Cost.positions c.args.cost.now) c.requires.limits
+  range = c.value_costs_law.ensures.in_range g.C.Cost.cost_of g.met.C.Cost.in_range (g.C.Cost.positions c.args.cost.now) c.requires.candidates.totals.limits
 
 pub returns-clause-bounds : goal.returns-clause-bounds
 returns-clause-bounds g c =
@@ -28,7 +28,7 @@ returns-clause-bounds g c =
           refl refl same (c.release.ensures.same same) c.loop-k.invariant.0
       | inr apart ↦
           let lowered = rw c.len.ensures at (simp to_z-of_z at (c.release.ensures.lowered apart)) in
-          apart-moves (cost_between g.C.Cost.cost_of (g.C.Cost.positions c.args.cost.now)) c.args.least.now (length (g.C.Cost.positions c.args.cost.now)) (merges g k) (range g k) c.args.candidates.now c.requires.below
+          apart-moves (cost_between g.C.Cost.cost_of (g.C.Cost.positions c.args.cost.now)) c.args.least.now (length (g.C.Cost.positions c.args.cost.now)) (merges g k) (range g k) c.args.candidates.now c.requires.candidates.below
           c.args.guess c.block_of.result c.last_total.result c.loop-k.bounds c.release.new.bounds c.loop-k.invariant.0 c.block_of.ensures.start c.block_of.ensures.end block_in made.low made.high (rw c.from.ensures at made.total)
           c.release.auto.bounds lowered c.release.ensures.others c.loop-k.best.index
     ]

@@ -13,12 +13,12 @@ module _ (g : _) (c : After-value_costs_law g) where
   merges = c.value_costs_law.ensures.merge g.C.Cost.cost_of g.met.C.Cost.merging (g.C.Cost.positions c.args.cost.now) (length (g.C.Cost.positions c.args.cost.now))
 
   range : AreInRange (cost_between g.C.Cost.cost_of (g.C.Cost.positions c.args.cost.now)) (length (g.C.Cost.positions c.args.cost.now))
-  range = c.value_costs_law.ensures.in_range g.C.Cost.cost_of g.met.C.Cost.in_range (g.C.Cost.positions c.args.cost.now) c.requires.limits
+  range = c.value_costs_law.ensures.in_range g.C.Cost.cost_of g.met.C.Cost.in_range (g.C.Cost.positions c.args.cost.now) c.requires.candidates.totals.limits
 
 pub returns-then-is_behind-clause-found : goal.returns-then-is_behind-clause-found
 returns-then-is_behind-clause-found g c =
     let k = (goal.at.returns-then-is_behind-clause-found g c).After-value_costs_law in
-    passed-over (cost_between g.C.Cost.cost_of (g.C.Cost.positions c.args.cost.now)) c.args.least.now (length (g.C.Cost.positions c.args.cost.now)) (merges g k) (range g k) c.args.candidates.now c.requires.below
+    passed-over (cost_between g.C.Cost.cost_of (g.C.Cost.positions c.args.cost.now)) c.args.least.now (length (g.C.Cost.positions c.args.cost.now)) (merges g k) (range g k) c.args.candidates.now c.requires.candidates.below
     c.args.guess c.args.k c.args.bounds.now c.args.best c.requires.bounds c.requires.block c.requires.found
     (λ x i from above more. c.is_behind.ensures c.if-is_behind.true x i (omega (arith, from)) above more)
 
@@ -28,5 +28,5 @@ returns-clause-bounds g c =
     let low = c.best_of_block-looked.ensures.low in
     let high = c.best_of_block-looked.ensures.high in
     let fits : FitsSigned w128 c.best_of_block-looked.result.low = omega (arith, ints, low, high) in
-    simp to_z-of_z (rw c.len.ensures (looked-at (cost_between g.C.Cost.cost_of (g.C.Cost.positions c.args.cost.now)) c.args.least.now (length (g.C.Cost.positions c.args.cost.now)) (merges g k) (range g k) c.args.candidates.now c.requires.below
+    simp to_z-of_z (rw c.len.ensures (looked-at (cost_between g.C.Cost.cost_of (g.C.Cost.positions c.args.cost.now)) c.args.least.now (length (g.C.Cost.positions c.args.cost.now)) (merges g k) (range g k) c.args.candidates.now c.requires.candidates.below
     c.args.guess c.args.k c.best_of_block-looked.result.low c.args.bounds.now c.requires.bounds c.requires.block low high c.best_of_block-looked.ensures.at_most))

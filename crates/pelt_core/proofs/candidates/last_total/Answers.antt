@@ -12,10 +12,10 @@ module _ (g : _) (c : After-cost g) where
 
   cost_range : (pos 0 ≤ℤ c.cost.result) × (c.cost.result ≤ℤ pos (10 ^ 37))
   cost_range =
-      rw cost_is (c.value_costs_law.ensures.in_range g.C.Cost.cost_of g.met.C.Cost.in_range (g.C.Cost.positions c.args.cost.now) c.requires.limits c.args.s (length (g.C.Cost.positions c.args.cost.now)) (omega (arith, c.requires.below)) (omega arith))
+      rw cost_is (c.value_costs_law.ensures.in_range g.C.Cost.cost_of g.met.C.Cost.in_range (g.C.Cost.positions c.args.cost.now) c.requires.totals.limits c.args.s (length (g.C.Cost.positions c.args.cost.now)) (omega (arith, c.requires.below)) (omega arith))
 
   least_range : (neg_ℤ (pos (10 ^ 36)) ≤ℤ int_at c.args.least.now c.args.s) × (int_at c.args.least.now c.args.s ≤ℤ pos (10 ^ 37))
-  least_range = c.requires.totals c.args.s (omega (arith, c.requires.below, c.requires.lengths))
+  least_range = c.requires.totals.totals c.args.s (omega (arith, c.requires.below, c.requires.totals.lengths))
 
 pub overflow_add-result : goal.overflow_add-result
 overflow_add-result g c =

@@ -1,5 +1,4 @@
 use Rattle.std.proofs.Common.{◌≡◌, ℕ, ◌<◌, length, set, ◌∙◌, ap, Bool, true, false, arith}
-use Rattle.segment_model.specs.Tables.{IsDear}
 use Rattle.segment_model.specs.Values.{cost_between}
 use Rattle.std.specs.Prelude.{slice_index}
 use Rattle.pelt_core.proofs.Marks.{left, more}
@@ -20,12 +19,17 @@ loop-i-preserved g c =
       | then-is_dear w ↦
           let is : c.if-is_dear.pruned ≡ set c.loop-i.pruned (slice_index c.args.candidates.now c.loop-i.i) (length (g.C.Cost.positions c.args.cost.now)) =
           w.pruned-is ∙ ap (λ s. set c.loop-i.pruned s w.len.result) c.from-place.ensures ∙ ap (set c.loop-i.pruned (slice_index c.args.candidates.now c.loop-i.i)) w.len.ensures in
-          let inside : slice_index c.args.candidates.now c.loop-i.i < length c.loop-i.pruned = omega (arith, c.requires.below c.loop-i.i lt, c.loop-i.invariant.size, c.requires.pruned) in
+          let inside : slice_index c.args.candidates.now c.loop-i.i < length c.loop-i.pruned = omega (arith, c.requires.candidates.below c.loop-i.i lt, c.loop-i.invariant.size, c.requires.pruned) in
           rw (is, w.marked-is)
-          (more (λ s. IsDear (cost_between g.C.Cost.cost_of (g.C.Cost.positions c.args.cost.now)) c.args.least.now s (length (g.C.Cost.positions c.args.cost.now))) (length (g.C.Cost.positions c.args.cost.now))
-          c.args.candidates.now c.args.pruned.now c.loop-i.pruned c.loop-i.i c.loop-i.marked c.loop-i.invariant c.requires.rising lt inside (rw c.from-place.ensures at (c.is_dear.ensures.0 w.if-is_dear.true)))
+          (more (cost_between g.C.Cost.cost_of (g.C.Cost.positions c.args.cost.now)) c.args.least.now (length (g.C.Cost.positions c.args.cost.now))
+          c.args.candidates.now c.loop-i.i c.loop-i.marked c.args.pruned.now c.loop-i.pruned c.loop-i.invariant c.requires.rising lt inside (rw c.from-place.ensures at (c.is_dear.ensures.0 w.if-is_dear.true)))
       | else-is_dear w ↦
           rw (w.pruned-is, w.marked-is)
-          (left (λ s. IsDear (cost_between g.C.Cost.cost_of (g.C.Cost.positions c.args.cost.now)) c.args.least.now s (length (g.C.Cost.positions c.args.cost.now))) (length (g.C.Cost.positions c.args.cost.now))
-          c.args.candidates.now c.args.pruned.now c.loop-i.pruned c.loop-i.i c.loop-i.marked c.loop-i.invariant c.requires.rising lt (λ dear. not_both c.is_dear.result w.if-is_dear.false (c.is_dear.ensures.1 (rw c.from-place.ensures dear))))
+          (left (cost_between g.C.Cost.cost_of (g.C.Cost.positions c.args.cost.now)) c.args.least.now (length (g.C.Cost.positions c.args.cost.now))
+          c.args.candidates.now c.loop-i.i c.loop-i.marked c.args.pruned.now c.loop-i.pruned c.loop-i.invariant c.requires.rising lt (λ dear. not_both c.is_dear.result w.if-is_dear.false (c.is_dear.ensures.1 (rw c.from-place.ensures dear))))
     ]
+
+pub returns : goal.returns
+returns g c =
+    let all : c.loop-i.i ≡ c.args.count = omega (arith, c.loop-i-test.false, c.loop-i.auto.i-end) in
+    rw all at c.loop-i.invariant

@@ -1,6 +1,7 @@
-use Rattle.std.proofs.Common.{◌≡◌, [], ◌∷◌, ◌++◌, ap, ◌∙◌, FitsSigned, arith}
+use Rattle.std.proofs.Common.{◌≡◌, [], ◌∷◌, ◌++◌, ap, ◌∙◌, length, FitsSigned, arith}
 use Rattle.std.specs.Int.{w128}
 use Rattle.std.proofs.lemmas.Int.{ints, to_z-of_z}
+use Rattle.std.proofs.lemmas.List.{length-append}
 use Rattle.segment_model.specs.Values.{AreWithinLimits}
 use Rattle.pelt_core.specs.Seen.{Tabled}
 use Rattle.pelt_core.proofs.Tables.{table-same, before-push, after-push}
@@ -13,14 +14,22 @@ within g c = rw (ap (λ (t : Tabled). t.positions) c.self.view_is) c.requires.li
 positions_are : (g : _) (c : After-push g) → g.C.Cost.positions c.push.new.self ≡ g.C.Cost.positions c.self.inside.cost ++ c.args.values.now ∷ []
 positions_are g c = c.push.ensures.positions ∙ ap (λ ps. ps ++ c.args.values.now ∷ []) c.in_ok-reserve.ensures.positions
 
-pub grow-requires-clause-pruned : goal.grow-requires-clause-pruned
-grow-requires-clause-pruned g c =
-    let k = (goal.at.grow-requires-clause-pruned g c).After-push in
+pub grow-requires : goal.grow-requires
+grow-requires g c =
+    let k = (goal.at.grow-requires g c).After-push in
     let fits : FitsSigned w128 c.self.inside.penalty = omega (arith, ints, c.self.invariant.low, c.self.invariant.high) in
-    rw (to_z-of_z w128 c.self.inside.penalty fits)
-    (before-push g.C.Cost.cost_of g.met.C.Cost.merging g.met.C.Cost.in_range c.agreeing_costs_law.ensures.table c.value_costs_law.ensures.merge c.value_costs_law.ensures.in_range
-    (g.C.Cost.positions c.self.inside.cost) c.self.inside.penalty c.self.inside.rows c.self.invariant c.values_law.ensures.front c.args.values.now (g.C.Cost.positions c.push.new.self)
-    (positions_are g k) (within g k) c.reserve-2.new.self c.in_ok-reserve-2.ensures.same)
+    let size = ap length (positions_are g k) ∙ length-append (g.C.Cost.positions c.self.inside.cost) (c.args.values.now ∷ []) in
+    rw (to_z-of_z w128 c.self.inside.penalty fits) (record {
+      limits = rw (positions_are g k) (within g k);
+      some = omega (arith, size);
+      low = c.self.invariant.low;
+      high = c.self.invariant.high;
+      pruned =
+          before-push g.C.Cost.cost_of g.met.C.Cost.merging g.met.C.Cost.in_range c.agreeing_costs_law.ensures.table c.value_costs_law.ensures.merge c.value_costs_law.ensures.in_range
+          (g.C.Cost.positions c.self.inside.cost) c.self.inside.penalty c.self.inside.rows c.self.invariant c.values_law.ensures.front c.args.values.now (g.C.Cost.positions c.push.new.self)
+          (positions_are g k) (within g k) c.reserve-2.new.self c.in_ok-reserve-2.ensures.same;
+      room = c.in_ok-reserve-2.ensures.room;
+    })
 
 pub invariant_of-self-2 : goal.invariant_of-self-2
 invariant_of-self-2 g c =
