@@ -243,28 +243,14 @@ whole_refused read part old number stop none empty short is refuses has =
 -- ---- a line that bytes behind may make good
 
 pub is_open : (read : List ℕ) (old : Kept) → (length old.line ≤ 4_096 → MayBecomeGood old.line) → HasKept read old → MayGoOn read
-is_open read old may has = at (cases_lt 4_096 (length old.line))
+is_open read old may has =
+    record { lines = has.lines; rest = has.rest; cuts = has.cuts; split = has.split; accepted = has.accepted; may = at (cases_lt 4_096 (length old.line)) }
   where
-    at : (4_096 < length old.line) ⊎ (length old.line ≤ 4_096) → MayGoOn read
+    at : (4_096 < length old.line) ⊎ (length old.line ≤ 4_096) → MayBecomeGood has.rest
     at (inl long) =
         let count : length old.line ≡ min 4_097 (length has.rest) = ap (λ (bs : List ℕ). length bs) has.begun ∙ length-take 4_097 has.rest in
-        record {
-          lines = has.lines;
-          rest = has.rest;
-          cuts = has.cuts;
-          split = has.split;
-          accepted = has.accepted;
-          may = ([], λ k d none. absurd (omega arith), inl (subst IsSkipped (sym (append-nil has.rest)) (has.skipped (omega arith))));
-        }
-    at (inr short) =
-        record {
-          lines = has.lines;
-          rest = has.rest;
-          cuts = has.cuts;
-          split = has.split;
-          accepted = has.accepted;
-          may = subst MayBecomeGood (sym (rest_is read old has short)) (may short);
-        }
+        ([], λ k d none. absurd (omega arith), inl (subst IsSkipped (sym (append-nil has.rest)) (has.skipped (omega arith))))
+    at (inr short) = subst MayBecomeGood (sym (rest_is read old has short)) (may short)
 
 pub not_open : (read : List ℕ) (old : Kept) (number : ℕ) → number ≡ old.whole_lines + 1 → length old.line ≤ 4_096
     → ((more : List ℕ) → ¬ IsGood (old.line ++ more)) → HasKept read old → ShowsRefused read (Refused Bad number)

@@ -1,4 +1,7 @@
 //! Why reading stops.
+ghost use Rattle.std.specs.Prelude.{◌≡◌};
+ghost use Rattle.cut_lines.specs.declared.stop.Stop.{Stop};
+
 use std::alloc::AllocError;
 
 /// Why a line is refused.
@@ -24,9 +27,6 @@ pub enum Stop {
 }
 
 impl From<AllocError> for Stop {
-    ghost use Rattle.std.specs.Prelude.{◌≡◌};
-    ghost use Rattle.cut_lines.specs.declared.stop.Stop.{Stop};
-
     ghost from_gives = { λ _ stop. stop ≡ Stop.NoMemory };
 
     fn from(_: AllocError) -> Stop {

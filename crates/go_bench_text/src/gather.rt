@@ -117,8 +117,13 @@ impl Gathered {
             self.full = true;
             return Ok(());
         }
-        let test = test_name(alloc, names, &mut self.buffer, pkg, name)?;
-        Ok(self.add_all(alloc, names, &test, pairs)?)
+        let Ok(test) = test_name(alloc, names, &mut self.buffer, pkg, name) else {
+            return Err(LineFault::NoMemory);
+        };
+        match self.add_all(alloc, names, &test, pairs) {
+            Ok(()) => Ok(()),
+            Err(_) => Err(LineFault::NoMemory),
+        }
     }
 }
 

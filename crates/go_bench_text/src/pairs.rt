@@ -59,7 +59,11 @@ pub(crate) fn read_pairs<'a>(text: &'a str, pairs: &mut Pairs<'a>) -> Result<boo
             return Ok(false);
         };
         match read_pair(value, unit) {
-            PairRead::InRange(pair) => pairs.push(pair)?,
+            PairRead::InRange(pair) => {
+                let Ok(()) = pairs.push(pair) else {
+                    return Err(LineFault::NoMemory);
+                };
+            }
             PairRead::OutOfRange => return over_or_broken(more),
             PairRead::NoPair => return Ok(false),
         }

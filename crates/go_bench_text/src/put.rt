@@ -21,17 +21,6 @@ pub enum PutFault {
     NoMemory,
 }
 
-impl From<NoMemory> for PutFault {
-    ghost use Rattle.std.specs.Prelude.{◌≡◌};
-    ghost use Rattle.go_bench_text.specs.declared.put.PutFault.TheVariants as fault;
-
-    ghost from_gives = { λ _ e. e ≡ fault.NoMemory };
-
-    fn from(_: NoMemory) -> PutFault {
-        PutFault::NoMemory
-    }
-}
-
 // What `pkg` is set to and the name that a sample is written by.
 fn spelled_by(sample: &Sample) -> Option<(&str, &str)>
     ensures some { IfSome result (λ parts. IsWrittenBy sample.now.test parts.0.now parts.1.now) }
@@ -111,7 +100,9 @@ pub fn put_go(alloc: Global, samples: &Samples) -> Result<Vec<u8>, PutFault>
         let Some((pkg, name)) = spelled_by(sample) else {
             return Err(PutFault::CannotWrite(place as u64));
         };
-        put_sample(alloc, &mut out, sample, pkg, name)?;
+        let Ok(()) = put_sample(alloc, &mut out, sample, pkg, name) else {
+            return Err(PutFault::NoMemory);
+        };
     }
     Ok(out)
 }

@@ -14,7 +14,7 @@ use Rattle.history_lock.specs.declared.view.View.{View}
 use Rattle.history_lock.specs.declared.view.Marked.{Marked}
 use Rattle.history_lock.specs.declared.view.Stage.{Stage}
 use Rattle.history_lock.specs.declared.view.Stage.TheVariants.{Outside, Waiting, Turn, Inside}
-use Rattle.history_lock.specs.Rule.{busy, alive, HasTurn, Holds, turn_of, listed, first_view, at_stage, seeing, waiting, Sees, Knows, IsBadge, LockState, KeptSlot, Kept}
+use Rattle.history_lock.specs.Rule.{busy, alive, HasTurn, Holds, turn_of, listed, first_view, at_stage, seeing, waiting, Sees, Knows, IsBadge, LockState, KeptTurns, KeptMarks, KeptSlot, Kept}
 use Rattle.history_lock.specs.Marks.{Follows, HaveMarksUpTo, IsNoneOf, entries, marked, unmarked}
 use Rattle.history_lock.specs.Steps.{Sat, in_slot, drew, drew_if_free, looked, read_count, counted, passed_on}
 use Rattle.history_lock.proofs.Seats.{number, none_some, some_same, only, within, seats_stay, pairs_stay, waiting-set, living-set, waiting_living, holder_turn, turn_drawn, knows_drawn, knows_served, knows_longer, follows_all, given-append}
@@ -35,6 +35,19 @@ module _ {S E L : Type 0} (history : S → List E) (label : S → L) (name : L) 
   -- a step that changes nothing
   pub unmoved : (s : LockState S E L) (r : Kept history label name s) (i id : ℕ) (v : View E L) (c : List (ℕ × Option S)) → get_elem? s.views id ≡ some v → Kept history label name (stepped s i (get_or s.words i 0) id c v keeps)
   unmoved s r i id v c at = subst (λ (z : List ℕ × List (View E L)). Kept history label name record { words = z.0; homes = s.homes; views = z.1 }) (λ k. (sym (set-get_or s.words i 0) k, sym (set_again s.views id v at) k)) r
+
+  -- a step that changes nothing but what the passes know
+  pub with_views : (s : LockState S E L) (r : Kept history label name s) (views : List (View E L)) → KeptTurns name r.log r.drawn r.served views → KeptSlot history label name r.log s.homes views
+      → KeptMarks r.log views → Kept history label name record { words = s.words; homes = s.homes; views = views }
+  with_views s r views turns slot marks = record {
+    log = r.log;
+    drawn = r.drawn;
+    served = r.served;
+    words = r.words;
+    turns = turns;
+    slot = slot;
+    marks = marks;
+  }
 
   pub few_waiting : (s : LockState S E L) (r : Kept history label name s) → waiting s.views < 2 ^ 64
   few_waiting s r = let a = waiting_living s.views in let b = r.marks.census in let c = r.marks.few in omega arith
@@ -62,7 +75,7 @@ module _ {S E L : Type 0} (history : S → List E) (label : S → L) (name : L) 
       → HaveMarksUpTo r.marks.first.given log
       → Kept history label name (stepped s i n id c (seeing v st seen) a)
   moved s r i n id v c a st seen log drawn served at same words count mine others fresh slot given = let w : View E L = seeing v st seen in let f = first_after s r id v st seen at same in
-      let sum = waiting-set s.views id v w at in let lives = living-set s.views id v w at in let before = r.words.turns in let census = r.marks.census in record {
+      let sum = waiting-set s.views id v w at in let lives = living-set s.views id v w at in let before = r.turns.balance in let census = r.marks.census in record {
         log = log;
         drawn = drawn;
         served = served;
@@ -71,10 +84,12 @@ module _ {S E L : Type 0} (history : S → List E) (label : S → L) (name : L) 
           count_is = words.0;
           ticket_is = words.1;
           serving_is = words.2;
-          turns = omega arith;
-          each = seats_stay (λ j d. Knows drawn served log d d.stage) s.views id w mine (λ j d apart there. others j d apart there (r.words.each j d there));
-          named = seats_stay (λ j d. alive d.stage ≡ 1 → d.label ≡ Some name) s.views id w (λ lives. r.words.named id v at (sym same ∙ lives)) (λ j d _ there. r.words.named j d there);
-          apart = λ t. pairs_stay (λ i j x y. HasTurn t x.stage → HasTurn t y.stage → i ≡ j) s.views id w (λ i j x y p q. r.words.apart t i j x y p q)
+        };
+        turns = record {
+          balance = omega arith;
+          each = seats_stay (λ j d. Knows drawn served log d d.stage) s.views id w mine (λ j d apart there. others j d apart there (r.turns.each j d there));
+          named = seats_stay (λ j d. alive d.stage ≡ 1 → d.label ≡ Some name) s.views id w (λ lives. r.turns.named id v at (sym same ∙ lives)) (λ j d _ there. r.turns.named j d there);
+          apart = λ t. pairs_stay (λ i j x y. HasTurn t x.stage → HasTurn t y.stage → i ≡ j) s.views id w (λ i j x y p q. r.turns.apart t i j x y p q)
               (λ j d apart there h k. absurd (fresh t h j d apart there k)) (λ j d apart there k h. absurd (fresh t h j d apart there k)) (λ _ _. refl);
         };
         slot = slot;
@@ -109,7 +124,7 @@ module _ {S E L : Type 0} (history : S → List E) (label : S → L) (name : L) 
 
   pub draws : (slots id : ℕ) (me : Sat S E L) → me.0.stage ≡ Outside → Allows (Kept history label name) slots id me 1 (λ n. (n + 1) % 2 ^ 64) (drew (step slots 1 1 0 none) me)
   draws slots id me out s r _ at small = let v : View E L = me.0 in let t : ℕ = r.drawn in let ticket = r.words.ticket_is in let wide = r.words.wide in let x : ℕ = get_or s.words 1 0 in let n : ℕ = (x + 1) % 2 ^ 64 in
-      let known : Sees r.log v = subst (Knows r.drawn r.served r.log v) out (r.words.each id v at) in let sum = r.words.turns in let free : busy v.stage ≡ 0 = ap busy out in
+      let known : Sees r.log v = subst (Knows r.drawn r.served r.log v) out (r.turns.each id v at) in let sum = r.turns.balance in let free : busy v.stage ≡ 0 = ap busy out in
       let seen_now : t % 2 ^ 64 ≡ x = sym ticket in (
         at_stage v (Waiting t),
         keeps,
@@ -119,7 +134,7 @@ module _ {S E L : Type 0} (history : S → List E) (label : S → L) (name : L) 
             (omega arith)
             (omega arith, omega arith, known)
             (λ j d _ _ k. knows_drawn r.drawn r.served r.log d d.stage k)
-            (λ u h j d _ there k. let a = turn_drawn r.drawn r.served r.log d u d.stage k (r.words.each j d there) in let e : t ≡ u = h in absurd (omega arith))
+            (λ u h j d _ there k. let a = turn_drawn r.drawn r.served r.log d u d.stage k (r.turns.each j d there) in let e : t ≡ u = h in absurd (omega arith))
             (slot_stays s r id v (at_stage v (Waiting t)) at (λ h. absurd h) (λ h. absurd (subst Holds out h)))
             r.marks.given_marks,
         (t, refl, seen_now, refl),
@@ -148,9 +163,9 @@ module _ {S E L : Type 0} (history : S → List E) (label : S → L) (name : L) 
     moved s r i n id v me.1 keeps v.stage v.seen r.log r.drawn r.served at refl
         (get_or-set_other s.words i 0 n 0 (λ e. omega arith) ∙ r.words.count_is, get_or-set_other s.words i 1 n 0 (λ e. omega arith) ∙ r.words.ticket_is, get_or-set_other s.words i 2 n 0 (λ e. omega arith) ∙ r.words.serving_is)
         refl
-        (r.words.each id v at)
+        (r.turns.each id v at)
         (λ j d _ _ k. k)
-        (λ u h j d other there k. other (r.words.apart u j id d v there at k h))
+        (λ u h j d other there k. other (r.turns.apart u j id d v there at k h))
         (slot_stays s r id v v at (λ h. h) (λ h. h))
         r.marks.given_marks,
     refl,
@@ -158,13 +173,13 @@ module _ {S E L : Type 0} (history : S → List E) (label : S → L) (name : L) 
 
   -- who holds the slot while this seat has the turn that is served is this seat
   pub holder_is : (s : LockState S E L) (r : Kept history label name s) (id : ℕ) (v : View E L) → get_elem? s.views id ≡ some v → HasTurn r.served v.stage → (j : ℕ) (d : View E L) → get_elem? s.views j ≡ some d → Holds d.stage → j ≡ id
-  holder_is s r id v at turn j d there holds = r.words.apart r.served j id d v there at (holder_turn r.drawn r.served r.log d d.stage holds (r.words.each j d there)) turn
+  holder_is s r id v at turn j d there holds = r.turns.apart r.served j id d v there at (holder_turn r.drawn r.served r.log d d.stage holds (r.turns.each j d there)) turn
 
   pub looks : (slots id : ℕ) (me : Sat S E L) (t : ℕ) → slots ≡ 1 → me.0.stage ≡ Waiting t → Allows (Kept history label name) slots id me 2 (λ n. n) (looked history label (step slots 2 0 0 none) me)
-  looks slots id me t single is s r one at small = let v : View E L = me.0 in let x : ℕ = get_or s.words 2 0 in let known = subst (Knows r.drawn r.served r.log v) is (r.words.each id v at) in let named : v.label ≡ Some name = r.words.named id v at (ap alive is) in
+  looks slots id me t single is s r one at small = let v : View E L = me.0 in let x : ℕ = get_or s.words 2 0 in let known = subst (Knows r.drawn r.served r.log v) is (r.turns.each id v at) in let named : v.label ≡ Some name = r.turns.named id v at (ap alive is) in
       dite (ℕ_discrete (turn_of v.stage % 2 ^ 64) x)
       (λ hit.
-      let same : turn_of v.stage ≡ t = ap turn_of is in let few = few_waiting s r in let sum = r.words.turns in let low : r.served ≤ t = known.0 in let high : t < r.drawn = known.1 in let serving = r.words.serving_is in
+      let same : turn_of v.stage ≡ t = ap turn_of is in let few = few_waiting s r in let sum = r.turns.balance in let low : r.served ≤ t = known.0 in let high : t < r.drawn = known.1 in let serving = r.words.serving_is in
       let served : r.served ≡ t = one_turn r.served t (2 ^ 64) low (omega arith) (sym serving ∙ (sym hit ∙ ap (λ (z : ℕ). z % 2 ^ 64) same)) in
       let turn : HasTurn r.served v.stage = subst (HasTurn r.served) (sym is) (sym served) in
       ⊎_elim
@@ -177,7 +192,7 @@ module _ {S E L : Type 0} (history : S → List E) (label : S → L) (name : L) 
             (let b : busy v.stage ≡ 1 = ap busy is in omega arith)
             (same ∙ sym served, omega arith, h.2, known.2)
             (λ j d _ _ k. k)
-            (λ u e j d other there k. other (r.words.apart u j id d v there at k (subst (HasTurn u) (sym is) (sym same ∙ e))))
+            (λ u e j d other there k. other (r.turns.apart u j id d v there at k (subst (HasTurn u) (sym is) (sym same ∙ e))))
             (inr (set_here s.homes 0 none (omega arith), (id, w, set_here s.views id w (within s.views id v at), tt)))
             r.marks.given_marks,
         ((λ _. (h.0, refl, named ∙ sym (ap (λ (z : L). Some z) h.3), refl)), λ not. absurd (not hit)),
@@ -188,7 +203,7 @@ module _ {S E L : Type 0} (history : S → List E) (label : S → L) (name : L) 
 
   -- only this seat holds the slot
   pub reads_count : (slots id : ℕ) (me : Sat S E L) (t : ℕ) (es : List E) → me.0.stage ≡ Turn t es → Allows (Kept history label name) slots id me 0 (λ n. n) (read_count (step slots 0 0 0 none) me)
-  reads_count slots id me t es is s r _ at small = let v : View E L = me.0 in let x : ℕ = get_or s.words 0 0 in let known = subst (Knows r.drawn r.served r.log v) is (r.words.each id v at) in let same : turn_of v.stage ≡ t = ap turn_of is in
+  reads_count slots id me t es is s r _ at small = let v : View E L = me.0 in let x : ℕ = get_or s.words 0 0 in let known = subst (Knows r.drawn r.served r.log v) is (r.turns.each id v at) in let same : turn_of v.stage ≡ t = ap turn_of is in
       let w : View E L = seeing v (Inside (turn_of v.stage)) r.log in let high : t < r.drawn = known.1 in (
         w,
         keeps,
@@ -198,7 +213,7 @@ module _ {S E L : Type 0} (history : S → List E) (label : S → L) (name : L) 
             (let b : busy v.stage ≡ 1 = ap busy is in omega arith)
             (same ∙ known.0, omega arith, refl)
             (λ j d _ _ k. k)
-            (λ u e j d other there k. other (r.words.apart u j id d v there at k (subst (HasTurn u) (sym is) (sym same ∙ e))))
+            (λ u e j d other there k. other (r.turns.apart u j id d v there at k (subst (HasTurn u) (sym is) (sym same ∙ e))))
             (slot_stays s r id v w at (λ _. subst Holds (sym is) tt) (λ _. tt))
             r.marks.given_marks,
         (r.log, refl, known.3, ap listed is ∙ known.2, r.words.count_is, refl),
@@ -224,7 +239,7 @@ module _ {S E L : Type 0} (history : S → List E) (label : S → L) (name : L) 
 
   pub counts : (slots id : ℕ) (me : Sat S E L) (t : ℕ) (e : E) → me.0.stage ≡ Inside t → in_slot history me.1 ≡ entries me.0.seen ++ e ∷ [] → length me.0.seen + 1 < 2 ^ 64
       → Allows (Kept history label name) slots id me 0 (λ n. (n + 1) % 2 ^ 64) (counted history (step slots 0 1 0 none) me)
-  counts slots id me t e is more room s r _ at small = let v : View E L = me.0 in let x : ℕ = get_or s.words 0 0 in let n : ℕ = (x + 1) % 2 ^ 64 in let known = subst (Knows r.drawn r.served r.log v) is (r.words.each id v at) in
+  counts slots id me t e is more room s r _ at small = let v : View E L = me.0 in let x : ℕ = get_or s.words 0 0 in let n : ℕ = (x + 1) % 2 ^ 64 in let known = subst (Knows r.drawn r.served r.log v) is (r.turns.each id v at) in
       let lives : alive v.stage ≡ 1 = ap alive is in let turn : HasTurn r.served v.stage = subst (HasTurn r.served) (sym is) known.0 in let wide = r.words.wide in
       let new : Marked E = marked e (Some v.mark) in let log : List (Marked E) = r.log ++ new ∷ [] in let w : View E L = seeing v v.stage (v.seen ++ new ∷ []) in
       let long : length r.log + 1 < 2 ^ 64 = subst (λ (l : List (Marked E)). length l + 1 < 2 ^ 64) known.2 room in let count = r.words.count_is in
@@ -236,8 +251,8 @@ module _ {S E L : Type 0} (history : S → List E) (label : S → L) (name : L) 
             (get_or-set_same s.words 0 n 0 (omega arith) ∙ omega (arith, length-append r.log (new ∷ [])), get_or-set_other s.words 0 1 n 0 (λ e. omega arith) ∙ r.words.ticket_is, get_or-set_other s.words 0 2 n 0 (λ e. omega arith) ∙ r.words.serving_is)
             refl
             (subst (Knows r.drawn r.served log w) (sym is) (known.0, known.1, ap (λ (l : List (Marked E)). l ++ new ∷ []) known.2))
-            (λ j d other there k. knows_longer r.drawn r.served r.log e v.mark d d.stage (λ h. other (r.words.apart r.served j id d v there at h turn)) (λ lives'. foreign s r id v j d at there other lives lives') k)
-            (λ u h j d other there k. other (r.words.apart u j id d v there at k h))
+            (λ j d other there k. knows_longer r.drawn r.served r.log e v.mark d d.stage (λ h. other (r.turns.apart r.served j id d v there at h turn)) (λ lives'. foreign s r id v j d at there other lives lives') k)
+            (λ u h j d other there k. other (r.turns.apart u j id d v there at k h))
             (inr (slot_out s r id v at holds, (id, w, set_here s.views id w (within s.views id v at), holds)))
             (given-append r.marks.first.given r.log (new ∷ []) r.marks.given_marks ((λ m is_m. let same : v.mark ≡ m = ap number is_m in let small_mark = is_given s r id v at lives in omega arith), tt)),
         (e, more, refl, refl),
@@ -245,7 +260,7 @@ module _ {S E L : Type 0} (history : S → List E) (label : S → L) (name : L) 
 
   passes_on_at : (slots id : ℕ) (v : View E L) (y : S) (t : ℕ) → slots ≡ 1 → v.stage ≡ Inside t → history y ≡ entries v.seen → v.label ≡ Some (label y)
       → Allows (Kept history label name) slots id (v, (0, Some y) ∷ []) 2 (λ n. (n + 1) % 2 ^ 64) (passed_on (step slots 2 1 0 none) (v, (0, Some y) ∷ []))
-  passes_on_at slots id v y t single is stands labelled s r one at small = let x : ℕ = get_or s.words 2 0 in let n : ℕ = (x + 1) % 2 ^ 64 in let known = subst (Knows r.drawn r.served r.log v) is (r.words.each id v at) in
+  passes_on_at slots id v y t single is stands labelled s r one at small = let x : ℕ = get_or s.words 2 0 in let n : ℕ = (x + 1) % 2 ^ 64 in let known = subst (Knows r.drawn r.served r.log v) is (r.turns.each id v at) in
       let turn : HasTurn r.served v.stage = subst (HasTurn r.served) (sym is) known.0 in let w : View E L = at_stage v Outside in let serving = r.words.serving_is in let wide = r.words.wide in (
         w,
         gives,
@@ -254,13 +269,13 @@ module _ {S E L : Type 0} (history : S → List E) (label : S → L) (name : L) 
             (get_or-set_other s.words 2 0 n 0 (λ e. omega arith) ∙ r.words.count_is, get_or-set_other s.words 2 1 n 0 (λ e. omega arith) ∙ r.words.ticket_is, get_or-set_same s.words 2 n 0 (omega arith) ∙ omega arith)
             (let b : busy v.stage ≡ 1 = ap busy is in omega arith)
             (subst (λ (l : List (Marked E)). Follows (v.mark ∷ v.joined) v.seen l) known.2 (follows_all (v.mark ∷ v.joined) v.seen))
-            (λ j d other there k. knows_served r.drawn r.served r.log d d.stage (λ h. other (r.words.apart r.served j id d v there at h turn)) k)
+            (λ j d other there k. knows_served r.drawn r.served r.log d d.stage (λ h. other (r.turns.apart r.served j id d v there at h turn)) k)
             (λ u h j d other there k. absurd h)
             (inl (
               y,
               set_here s.homes 0 (some (Some y)) (omega arith),
               stands ∙ ap entries known.2,
-              some_same (sym labelled ∙ r.words.named id v at (ap alive is)),
+              some_same (sym labelled ∙ r.turns.named id v at (ap alive is)),
               seats_stay (λ j d. ¬ (Holds d.stage)) s.views id w (λ h. absurd h) (λ j d other there h. other (holder_is s r id v at turn j d there h)),
             ))
             r.marks.given_marks,
@@ -282,7 +297,9 @@ module _ {S E L : Type 0} (history : S → List E) (label : S → L) (name : L) 
       count_is = length-unmarked (history y);
       ticket_is = omega arith;
       serving_is = omega arith;
-      turns = refl;
+    };
+    turns = record {
+      balance = refl;
       each = λ j d at. subst (λ (z : View E L). Knows 0 0 log z z.stage) (only v d j at).1 (follows_all (0 ∷ []) log);
       named = λ j d at. subst (λ (z : View E L). alive z.stage ≡ 1 → z.label ≡ Some name) (only v d j at).1 (λ _. ap (λ (z : L). Some z) is);
       apart = λ t i j a b at at' _ _. (only v a i at).0 ∙ sym (only v b j at').0;

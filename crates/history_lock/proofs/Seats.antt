@@ -90,13 +90,17 @@ module _ {A : Type 0} where
   only a b (suc i) e = absurd (some-ne-none b (sym e))
 
 module _ {E : Type 0} where
+  -- a pass that was joined has no turn, and no pass has two
+  alive_or_spent : (st : Stage E) → ((alive st ≡ 1) × (busy st ≤ 1)) ⊎ (busy st ≡ 0)
+  alive_or_spent Spent = inr refl
+  alive_or_spent Outside = inl (refl, omega arith)
+  alive_or_spent (Waiting t) = inl (refl, omega arith)
+  alive_or_spent (Turn t es) = inl (refl, omega arith)
+  alive_or_spent (Inside t) = inl (refl, omega arith)
+  alive_or_spent (Meeting met) = inl (refl, omega arith)
+
   pub alive_or_idle : (st : Stage E) → (alive st ≡ 1) ⊎ (busy st ≡ 0)
-  alive_or_idle Spent = inr refl
-  alive_or_idle Outside = inl refl
-  alive_or_idle (Waiting t) = inl refl
-  alive_or_idle (Turn t es) = inl refl
-  alive_or_idle (Inside t) = inl refl
-  alive_or_idle (Meeting met) = inl refl
+  alive_or_idle st = ⊎_elim (λ lives. inl lives.0) (λ idle. inr idle) (alive_or_spent st)
 
   pub holds_busy : (st : Stage E) → Holds st → busy st ≡ 1
   holds_busy Spent h = absurd h
@@ -107,12 +111,7 @@ module _ {E : Type 0} where
   holds_busy (Meeting met) h = absurd h
 
   busy_alive : (st : Stage E) → busy st ≤ alive st
-  busy_alive Spent = omega arith
-  busy_alive Outside = omega arith
-  busy_alive (Waiting t) = omega arith
-  busy_alive (Turn t es) = omega arith
-  busy_alive (Inside t) = omega arith
-  busy_alive (Meeting met) = omega arith
+  busy_alive st = ⊎_elim (λ lives. let a = lives.0 in let b = lives.1 in omega arith) (λ idle. omega arith) (alive_or_spent st)
 
   pub clean-append : (marks : List ℕ) (xs ys : List (Marked E)) → AreByOthers marks xs → AreByOthers marks ys → AreByOthers marks (xs ++ ys)
   clean-append marks [] ys a b = b

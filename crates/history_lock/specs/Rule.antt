@@ -131,29 +131,32 @@ listed (Meeting met) = []
 abbrev pub LockState : Type 0 → Type 0 → Type 0 → Type 0
 LockState S E L = State (Option S) (View E L)
 
-module _ {S E L : Type 0} where
-  -- the first words are the history's length and the turns drawn and served, and no two passes have one turn; the two others may be anything
-  pub record KeptTurns (name : L) (log : List (Marked E)) (drawn served : ℕ) (s : LockState S E L) : Type 0 where
-    pub wide : length s.words ≡ 5
-    pub count_is : slice_index s.words 0 ≡ length log
-    pub ticket_is : slice_index s.words 1 ≡ drawn % 2 ^ 64
-    pub serving_is : slice_index s.words 2 ≡ served % 2 ^ 64
-    pub turns : drawn ≡ served + waiting s.views
-    pub each : (j : ℕ) (v : View E L) → get_elem? s.views j ≡ some v → Knows drawn served log v v.stage
-    pub named : (j : ℕ) (v : View E L) → get_elem? s.views j ≡ some v → alive v.stage ≡ 1 → v.label ≡ Some name
-    pub apart : (t i j : ℕ) (v w : View E L) → get_elem? s.views i ≡ some v → get_elem? s.views j ≡ some w
+-- the first words are the history's length and the turns drawn and served; the two others may be anything
+pub record KeptWords {E : Type 0} (log : List (Marked E)) (drawn served : ℕ) (words : List ℕ) : Type 0 where
+  pub wide : length words ≡ 5
+  pub count_is : slice_index words 0 ≡ length log
+  pub ticket_is : slice_index words 1 ≡ drawn % 2 ^ 64
+  pub serving_is : slice_index words 2 ≡ served % 2 ^ 64
+
+module _ {E L : Type 0} where
+  -- as many turns are out as passes have one, and no two passes have the same
+  pub record KeptTurns (name : L) (log : List (Marked E)) (drawn served : ℕ) (views : List (View E L)) : Type 0 where
+    pub balance : drawn ≡ served + waiting views
+    pub each : (j : ℕ) (v : View E L) → get_elem? views j ≡ some v → Knows drawn served log v v.stage
+    pub named : (j : ℕ) (v : View E L) → get_elem? views j ≡ some v → alive v.stage ≡ 1 → v.label ≡ Some name
+    pub apart : (t i j : ℕ) (v w : View E L) → get_elem? views i ≡ some v → get_elem? views j ≡ some w
         → HasTurn t v.stage → HasTurn t w.stage → i ≡ j
 
   -- no two passes have one mark, and the first one has given each that there is
-  pub record KeptMarks (log : List (Marked E)) (s : LockState S E L) : Type 0 where
+  pub record KeptMarks (log : List (Marked E)) (views : List (View E L)) : Type 0 where
     pub first : View E L
-    pub first_here : get_elem? s.views 0 ≡ some first
+    pub first_here : get_elem? views 0 ≡ some first
     pub first_lives : alive first.stage ≡ 1
     pub first_mark : first.mark ≡ 0
-    pub badges : (j : ℕ) (v : View E L) → get_elem? s.views j ≡ some v → j ≢ 0 → alive v.stage ≡ 1 → IsBadge first v
-    pub own_marks : (i j : ℕ) (v w : View E L) → get_elem? s.views i ≡ some v → get_elem? s.views j ≡ some w
+    pub badges : (j : ℕ) (v : View E L) → get_elem? views j ≡ some v → j ≢ 0 → alive v.stage ≡ 1 → IsBadge first v
+    pub own_marks : (i j : ℕ) (v w : View E L) → get_elem? views i ≡ some v → get_elem? views j ≡ some w
         → alive v.stage ≡ 1 → alive w.stage ≡ 1 → v.mark ≡ w.mark → i ≡ j
-    pub census : living s.views + length first.joined ≡ first.given + 1
+    pub census : living views + length first.joined ≡ first.given + 1
     pub few : first.given + 1 < 2 ^ 64
     pub joined_given : (m : ℕ) → first.given < m → IsNoneOf m first.joined
     pub given_marks : HaveMarksUpTo first.given log
@@ -171,9 +174,10 @@ module _ {S E L : Type 0} (history : S → List E) (label : S → L) (name : L) 
     pub log : List (Marked E)
     pub drawn : ℕ
     pub served : ℕ
-    pub words : KeptTurns name log drawn served s
+    pub words : KeptWords log drawn served s.words
+    pub turns : KeptTurns name log drawn served s.views
     pub slot : KeptSlot log s.homes s.views
-    pub marks : KeptMarks log s
+    pub marks : KeptMarks log s.views
 
   -- in every state that the lock can be in, a whole first pass is the only one that was not joined
   abbrev pub WholeIsAlone : Type 0

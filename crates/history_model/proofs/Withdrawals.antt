@@ -1,5 +1,5 @@
 -- The positions of a series after a run was taken back: the samples of its step go.
-use Rattle.std.proofs.Common.{◌≡◌, ℕ, suc, ◌+◌, ◌≤◌, ◌<◌, Bool, true, false, cond, not, ◌&&◌, ◌||◌, ◌==◌, List, [], ◌∷◌, ◌++◌, length, map, refl, sym, ap, ◌∙◌, subst, Option, inl, inr, arith}
+use Rattle.std.proofs.Common.{◌≡◌, ℕ, suc, ◌+◌, ◌≤◌, ◌<◌, Bool, true, false, cond, not, ◌&&◌, ◌==◌, List, [], ◌∷◌, ◌++◌, length, map, refl, sym, ap, ◌∙◌, subst, Option, inl, inr, arith}
 use Rattle.std.specs.Prelude.{Some, None, find, is_none, bytes_eq, filter}
 use Rattle.std.specs.Option.{option_or}
 use Rattle.std.specs.List.{list_any}
@@ -19,7 +19,7 @@ use Rattle.sample_model.specs.Samples.{Measurement}
 use Rattle.history_model.specs.Entries.{chosen_from}
 use Rattle.history_model.proofs.Growth.{legal-each}
 use Rattle.history_model.proofs.Chosen.{chosen-push, chosen-skip}
-use Rattle.history_model.proofs.Lists.{same-bytes}
+use Rattle.history_model.proofs.Lists.{same-bytes, filter-none}
 use Rattle.history_model.proofs.Removals.{positions-without}
 
 -- ---- no name stands in two acceptances
@@ -204,22 +204,12 @@ module _ (s : Series) (run : List ℕ) (a : Acceptance) where
         ]
       ]
 
-none-of : (s : Series) (xs : List Measurement) → list_any (is_of s) xs ≡ false → filter (is_of s) xs ≡ []
-none-of s [] none = refl
-none-of s (x ∷ xs) none =
-    let two = split (is_of s x) (list_any (is_of s) xs) none in
-    ap (λ b. cond b (x ∷ filter (is_of s) xs) (filter (is_of s) xs)) two.0 ∙ none-of s xs two.1
-  where
-    split : (a b : Bool) → (a || b) ≡ false → (a ≡ false) × (b ≡ false)
-    split true b e = absurd (let no : true ≡ false = e in cc)
-    split false b e = (refl, e)
-
 pub positions-untouched : (h : List Entry) (run : List ℕ) (a : Acceptance) (s : Series) → Legal h → accepted run h ≡ Some a → list_any (is_of s) a.run.samples ≡ false
     → positions (h ++ entry.Retract run ∷ []) s ≡ positions h s
 unfolding Once
 positions-untouched h run a s legal known none =
     let tell : Tells run a (acceptances h) = tells run a 1 (acceptances h) (steps-of 1 h) (legal-each Once tt once-grown h legal) known in
-    let empty : brought_by s a ≡ [] = ap (map (λ (x : Measurement). let y : Brought = record { commit = a.run.commit; step = a.step; value = x.value } in y)) (none-of s a.run.samples none) in
+    let empty : brought_by s a ≡ [] = ap (map (λ (x : Measurement). let y : Brought = record { commit = a.run.commit; step = a.step; value = x.value } in y)) (filter-none (is_of s) a.run.samples none) in
     rw (chosen-skip acceptance h (entry.Retract run) refl, chosen-push retraction h (entry.Retract run))
     (ap positions_of (brought-same s run a (retractions h) (length h + 1) (acceptances h) tell empty))
 

@@ -1,5 +1,6 @@
 //! What reading is in the middle of.
 ghost use Rattle.std.specs.Prelude.{◌≡◌};
+ghost use Rattle.json_text.specs.declared.state.Stop.{Stop};
 
 use crate::NoMemory;
 use crate::shared::SharedText;
@@ -72,22 +73,18 @@ pub(crate) enum Stop {
     NoMemory,
 }
 
-impl From<AllocError> for Stop {
-    ghost use Rattle.json_text.specs.declared.state.Stop.{Stop};
-
+impl<T: Drop> From<AllocFailed<T>> for Stop {
     ghost from_gives = { λ _ stop. stop ≡ Stop.NoMemory };
 
-    fn from(_: AllocError) -> Stop {
+    fn from(_: AllocFailed<T>) -> Stop {
         Stop::NoMemory
     }
 }
 
-impl<T: Drop> From<AllocFailed<T>> for Stop {
-    ghost use Rattle.json_text.specs.declared.state.Stop.{Stop};
-
+impl From<AllocError> for Stop {
     ghost from_gives = { λ _ stop. stop ≡ Stop.NoMemory };
 
-    fn from(_: AllocFailed<T>) -> Stop {
+    fn from(_: AllocError) -> Stop {
         Stop::NoMemory
     }
 }

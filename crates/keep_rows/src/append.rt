@@ -17,31 +17,6 @@ pub enum AppendFault {
     NoMemory,
 }
 
-impl From<OutError> for AppendFault {
-    ghost use Rattle.std.specs.Prelude.{◌≡◌};
-    ghost use Rattle.keep_rows.specs.Faults.{append_fault};
-
-    ghost from_gives = { λ e f. f ≡ append_fault e };
-
-    fn from(error: OutError) -> AppendFault {
-        match error {
-            OutError::Failed => AppendFault::KeepFault,
-            OutError::NoMemory => AppendFault::NoMemory,
-        }
-    }
-}
-
-impl From<NoMemory> for AppendFault {
-    ghost use Rattle.std.specs.Prelude.{◌≡◌};
-    ghost use Rattle.keep_rows.specs.declared.append.AppendFault.TheVariants as fault;
-
-    ghost from_gives = { λ _ f. f ≡ fault.NoMemory };
-
-    fn from(_: NoMemory) -> AppendFault {
-        AppendFault::NoMemory
-    }
-}
-
 /// What new rows are made of.
 pub trait Recorded {
     /// Its new rows, in order.
@@ -67,9 +42,14 @@ pub fn append_each<K: Keeper, R: Recorded>(
     ensures rose { result ≡ Err fault.KeepFault → Rose (K.faults keeper.old) (K.faults keeper.new) }
 {
     let mut rows = Vec::new(alloc);
-    put_each(alloc, &mut rows, items)?;
-    keeper.append(alloc, &rows)?;
-    Ok(())
+    if put_each(alloc, &mut rows, items).is_err() {
+        return Err(AppendFault::NoMemory);
+    }
+    match keeper.append(alloc, &rows) {
+        Ok(()) => Ok(()),
+        Err(OutError::Failed) => Err(AppendFault::KeepFault),
+        Err(OutError::NoMemory) => Err(AppendFault::NoMemory),
+    }
 }
 
 // The new rows of each, in order.

@@ -1,15 +1,15 @@
 //! Rows that are read from a keeper, one after another.
-ghost use Rattle.std.specs.Prelude.{◌≡◌, ◌≢◌, ℕ, ◌≤◌, [], ◌∷◌, length, List, IfOk, IfErr, IfSome, OnOk, OnErr, Option, Some};
+ghost use Rattle.std.specs.Prelude.{◌≡◌, ◌≢◌, ℕ, ◌≤◌, [], ◌∷◌, length, IfSome, OnOk, Some};
 ghost use Rattle.track_outside.specs.Counts.{Rose};
 ghost use Rattle.track_outside.specs.Kept.{with_more};
+ghost use Rattle.keep_rows.specs.Faults.{load_fault};
 ghost use Rattle.keep_rows.specs.Laws.{IsDetermined, HasOneOutcome};
 ghost use Rattle.keep_rows.specs.Loading.{LeadsTo, IsBad, Takes, IsRefused};
 ghost use Rattle.keep_rows.specs.declared.load.LoadFault.TheVariants as fault;
 
-use crate::NoMemory;
 use crate::restored::Restored;
 use std::alloc::Global;
-use track_outside::{Failed, Keeper, OutError};
+use track_outside::{Keeper, OutError};
 
 /// Why rows were not loaded.
 #[derive(Clone, Copy, Debug, PartialEq, Eq)]
@@ -23,9 +23,6 @@ pub enum LoadFault {
 }
 
 impl From<OutError> for LoadFault {
-    ghost use Rattle.std.specs.Prelude.{◌≡◌};
-    ghost use Rattle.keep_rows.specs.Faults.{load_fault};
-
     ghost from_gives = { λ e f. f ≡ load_fault e };
 
     fn from(error: OutError) -> LoadFault {
@@ -33,28 +30,6 @@ impl From<OutError> for LoadFault {
             OutError::Failed => LoadFault::KeepFault,
             OutError::NoMemory => LoadFault::NoMemory,
         }
-    }
-}
-
-impl From<Failed> for LoadFault {
-    ghost use Rattle.std.specs.Prelude.{◌≡◌};
-    ghost use Rattle.keep_rows.specs.declared.load.LoadFault.TheVariants as fault;
-
-    ghost from_gives = { λ _ f. f ≡ fault.KeepFault };
-
-    fn from(_: Failed) -> LoadFault {
-        LoadFault::KeepFault
-    }
-}
-
-impl From<NoMemory> for LoadFault {
-    ghost use Rattle.std.specs.Prelude.{◌≡◌};
-    ghost use Rattle.keep_rows.specs.declared.load.LoadFault.TheVariants as fault;
-
-    ghost from_gives = { λ _ f. f ≡ fault.NoMemory };
-
-    fn from(_: NoMemory) -> LoadFault {
-        LoadFault::NoMemory
     }
 }
 
@@ -77,7 +52,9 @@ pub fn load_into<K: Keeper, S: Restored>(
     ensures rose { result ≡ Err fault.KeepFault → Rose (K.faults keeper.old) (K.faults keeper.new) }
 {
     keeper.start(alloc, name)?;
-    let count = keeper.count()?;
+    let Ok(count) = keeper.count() else {
+        return Err(LoadFault::KeepFault);
+    };
     for k in 0..count {
         take_row(alloc, keeper, k + 1, value)?;
     }
@@ -102,10 +79,10 @@ fn take_row<K: Keeper, S: Restored>(
     ensures rose { result ≡ Err fault.KeepFault → Rose (K.faults keeper.old) (K.faults keeper.new) }
 {
     let row = keeper.row(alloc, k)?;
-    if value.take(alloc, &row)? {
-        Ok(())
-    } else {
-        Err(LoadFault::BadRow(k))
+    match value.take(alloc, &row) {
+        Ok(true) => Ok(()),
+        Ok(false) => Err(LoadFault::BadRow(k)),
+        Err(_) => Err(LoadFault::NoMemory),
     }
 }
 

@@ -1,5 +1,5 @@
 //! The text of a row, both ways.
-ghost use Rattle.std.specs.Prelude.{◌≡◌, ◌≢◌, ◌↔◌, ℕ, ◌<◌, ◌+◌, List, [], ◌∷◌, ◌++◌, drop, length, slice_index, IsTrue, IfOk, OnOk, OnErr, IfSome, IfNone};
+ghost use Rattle.std.specs.Prelude.{◌≡◌, ◌≢◌, ◌↔◌, ℕ, ◌<◌, ◌+◌, List, ◌∷◌, ◌++◌, drop, length, slice_index, IsTrue, IfOk, IfSome, IfNone};
 ghost use Rattle.line_text.specs.Names.{spelling, IsName};
 ghost use Rattle.keep_rows.specs.Laws.{RowsAreUnique};
 ghost use Rattle.keep_rows.specs.Rows.{Row, machine_row, entry_row, row_text, row_at, IsRowOf};
@@ -25,17 +25,6 @@ pub enum RowFault {
     NotRow,
     /// There was no memory for the machine's name.
     NoMemory,
-}
-
-impl From<NoMemory> for RowFault {
-    ghost use Rattle.std.specs.Prelude.{◌≡◌};
-    ghost use Rattle.keep_rows.specs.declared.row.RowFault.TheVariants as fault;
-
-    ghost from_gives = { λ _ e. e ≡ fault.NoMemory };
-
-    fn from(_: NoMemory) -> RowFault {
-        RowFault::NoMemory
-    }
 }
 
 /// What the bytes of a row say: `machine M`, or `entry M TEXT`, with the canonical spelling of the machine and a single
@@ -118,12 +107,20 @@ fn read_spelling(alloc: Global, names: &mut Names, word: &[u8]) -> Result<Name, 
         Err(NameError::NoMemory) => return Err(RowFault::NoMemory),
     };
     name.bytes_law();
-    let mut spelt = Vec::with_capacity(alloc, word.len())?;
-    put_name(alloc, &mut spelt, &name)?;
-    if !is_same(&spelt, word) {
-        return Err(RowFault::NotRow);
+    match is_spelling(alloc, &name, word) {
+        Ok(true) => Ok(name),
+        Ok(false) => Err(RowFault::NotRow),
+        Err(_) => Err(RowFault::NoMemory),
     }
-    Ok(name)
+}
+
+// Whether a word is the canonical spelling of a name.
+fn is_spelling(alloc: Global, name: &Name, word: &[u8]) -> Result<bool, NoMemory>
+    ensures { IfOk result (λ same. IsTrue same ↔ (word.now ≡ spelling name.now)) }
+{
+    let mut spelt = Vec::with_capacity(alloc, word.len())?;
+    put_name(alloc, &mut spelt, name)?;
+    Ok(is_same(&spelt, word))
 }
 
 // What stands behind a prefix.

@@ -1,5 +1,5 @@
 //! Names that have been met, so that one that comes again is shared.
-ghost use Rattle.std.specs.Prelude.{◌≡◌, ℕ, List, IfOk, IfSome, OnOk};
+ghost use Rattle.std.specs.Prelude.{◌≡◌, ◌≢◌, ℕ, List, IfOk, IfSome, OnOk};
 ghost use Rattle.line_text.specs.Names.{IsName, Spells};
 
 use crate::NoMemory;
@@ -49,23 +49,22 @@ impl Names {
         ensures spelt { IfOk result (λ name. Spells word.now name) }
         ensures bad { result ≡ Err NameError.BadName → (name : List ℕ) → ¬ Spells word.now name }
     {
-        if let Some(name) = self.again(alloc, word)? {
-            return Ok(name);
+        if let Some(name) = self.again(word) {
+            return shared(alloc, name);
         }
         match decoded(alloc, word)? {
-            Some(CowSlice::Borrowed(bytes)) => self.name_of_bytes(alloc, bytes),
-            Some(CowSlice::Owned(bytes)) => self.name_of_bytes(alloc, &bytes),
-            None => Err(NameError::BadName),
+            CowSlice::Borrowed(bytes) => self.name_of_bytes(alloc, bytes),
+            CowSlice::Owned(bytes) => self.name_of_bytes(alloc, &bytes),
         }
     }
 
     // The name that was read last of a word of this length, if the word is its own bytes, which spell it.
-    fn again(&self, alloc: Global, word: &[u8]) -> Result<Option<Name>, NoMemory>
-        ensures { IfOk result (λ found. IfSome found (λ name. Spells word.now name)) }
+    fn again(&self, word: &[u8]) -> Option<&Name>
+        ensures { IfSome result (λ name. Spells word.now name.now) }
     {
         match self.at(self.last[word.len() % 16]) {
-            Some(kept) if kept.is_word(word) => Ok(Some(kept.name().copy(alloc)?)),
-            _ => Ok(None),
+            Some(kept) if kept.is_word(word) => Some(kept.name()),
+            _ => None,
         }
     }
 
@@ -91,11 +90,13 @@ impl Names {
         ensures named { OnOk result (IsName text.now) }
         ensures bad { result ≡ Err NameError.BadName → ¬ IsName text.now }
     {
-        if let Some(name) = self.kept(alloc, hash, text)? {
-            return Ok(name);
+        if let Some(name) = self.kept(hash, text) {
+            return shared(alloc, name);
         }
         let name = Name::of_str(alloc, text)?;
-        self.keep(alloc, hash, &name)?;
+        if self.keep(alloc, hash, &name).is_err() {
+            return Err(NameError::NoMemory);
+        }
         Ok(name)
     }
 
@@ -113,16 +114,16 @@ impl Names {
     }
 
     // The name of a text with this hash, if it is kept.
-    fn kept(&self, alloc: Global, hash: u64, text: &str) -> Result<Option<Name>, NoMemory>
-        ensures same { IfOk result (λ kept. IfSome kept (λ name. name ≡ text.now)) }
-        ensures named { IfOk result (λ kept. IfSome kept (λ name. IsName text.now)) }
+    fn kept(&self, hash: u64, text: &str) -> Option<&Name>
+        ensures same { IfSome result (λ name. name.now ≡ text.now) }
+        ensures named { IfSome result (λ name. IsName text.now) }
     {
         match self.at(hash) {
             Some(kept) if kept.is_text(hash, text) => {
                 kept.name().bytes_law();
-                Ok(Some(kept.name().copy(alloc)?))
+                Some(kept.name())
             }
-            _ => Ok(None),
+            _ => None,
         }
     }
 
@@ -148,6 +149,17 @@ impl Names {
             self.places.push(None)?;
         }
         Ok(())
+    }
+}
+
+// A name that is kept, once more.
+fn shared(alloc: Global, name: &Name) -> Result<Name, NameError>
+    ensures same { IfOk result (λ made. made ≡ name.now) }
+    ensures never_bad { result ≢ Err NameError.BadName }
+{
+    match name.copy(alloc) {
+        Ok(made) => Ok(made),
+        Err(_) => Err(NameError::NoMemory),
     }
 }
 

@@ -1,4 +1,7 @@
 //! Why bytes are no LNT run that can be read.
+ghost use Rattle.std.specs.Prelude.{◌≡◌};
+ghost use Rattle.lnt_report.specs.declared.fault.ReportFault.TheVariants as fault;
+
 use crate::NoMemory;
 use line_text::Text;
 use metric_table::Limit;
@@ -35,9 +38,6 @@ pub enum ReportFault {
 }
 
 impl From<NoMemory> for ReportFault {
-    ghost use Rattle.std.specs.Prelude.{◌≡◌};
-    ghost use Rattle.lnt_report.specs.declared.fault.ReportFault.TheVariants as fault;
-
     ghost from_gives = { λ _ e. e ≡ fault.NoMemory };
 
     fn from(_: NoMemory) -> ReportFault {

@@ -1,5 +1,4 @@
 //! Why a value was not put in.
-use crate::NoMemory;
 
 /// Why a value was not put in.
 #[derive(Clone, Copy, Debug, PartialEq, Eq)]
@@ -10,15 +9,4 @@ pub enum PointFault {
     PositionsFull,
     /// There was no memory.
     NoMemory,
-}
-
-impl From<NoMemory> for PointFault {
-    ghost use Rattle.std.specs.Prelude.{◌≡◌};
-    ghost use Rattle.point_list.specs.declared.fault.PointFault.TheVariants as fault;
-
-    ghost from_gives = { λ _ e. e ≡ fault.NoMemory };
-
-    fn from(_: NoMemory) -> PointFault {
-        PointFault::NoMemory
-    }
 }

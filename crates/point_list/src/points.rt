@@ -1,5 +1,5 @@
 //! The list of positions: values put in and taken out.
-ghost use Rattle.std.specs.Prelude.{◌≡◌, ◌≢◌, ◌+◌, ◌<◌, ◌≤◌, ◌↔◌, ℕ, List, [], ◌∷◌, length, OnOk, OnErr, IfOk, IsTrue, slice_index, Err, false, true, get_or, nat_lt, All};
+ghost use Rattle.std.specs.Prelude.{◌≡◌, ◌+◌, ◌<◌, ◌≤◌, ◌↔◌, ℕ, List, [], length, OnOk, OnErr, IfOk, slice_index, Err, false, true, get_or, nat_lt, All};
 ghost use Rattle.std.specs.List.Sorted.{IsStrictlyIncreasing};
 ghost use Rattle.segment_model.specs.Segments.{Position, segment, values_of};
 ghost use Rattle.segment_model.specs.Limits.{commits_of, HasValue, WithinLimits};
@@ -68,13 +68,6 @@ impl Points {
         self.positions.len()
     }
 
-    /// Whether there are no positions.
-    pub fn is_empty(&self) -> bool
-        ensures { IsTrue result ↔ (self.now ≡ []) }
-    {
-        self.positions.is_empty()
-    }
-
     /// How many values there are. Constant time.
     pub fn count(&self) -> usize
         ensures { result ≡ length (values_of self.now) }
@@ -141,7 +134,9 @@ impl Points {
         if !there && self.positions.len() >= MOST_POSITIONS {
             return Err(PointFault::PositionsFull);
         }
-        put_in(self.alloc, &mut self.positions, place, commit, step, value)?;
+        let Ok(()) = put_in(self.alloc, &mut self.positions, place, commit, step, value) else {
+            return Err(PointFault::NoMemory);
+        };
         self.values += 1;
         Ok(())
     }

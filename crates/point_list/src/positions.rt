@@ -1,5 +1,5 @@
 //! The positions in order, kept in the order in which they came.
-ghost use Rattle.std.specs.Prelude.{◌≡◌, ℕ, ◌+◌, ◌<◌, ◌≤◌, ◌↔◌, [], length, map, OnOk, OnErr, IfOk, IsTrue, slice_index_or, slice_set, filter, insert, remove};
+ghost use Rattle.std.specs.Prelude.{◌≡◌, ◌+◌, ◌<◌, ◌≤◌, [], length, map, OnOk, OnErr, IfOk, slice_index_or, slice_set, filter, insert, remove};
 ghost use Rattle.segment_model.specs.Segments.{Position};
 ghost use Rattle.segment_model.specs.Edits.{with_value, by_another};
 ghost use Rattle.point_list.specs.Slots.{AreBelow, AreOnce, renamed};
@@ -44,12 +44,6 @@ impl PositionList {
         ensures { result ≡ length self.now }
     {
         self.order.len()
-    }
-
-    pub fn is_empty(&self) -> bool
-        ensures { IsTrue result ↔ (self.now ≡ []) }
-    {
-        self.order.is_empty()
     }
 
     // Position i, from 0.

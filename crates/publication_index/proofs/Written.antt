@@ -1,20 +1,12 @@
 -- What one write to a map makes of what is kept by name.
-use Rattle.std.proofs.Common.{◌≡◌, ℕ, Bool, true, false, cond, ◌&&◌, List, [], refl, sym, ap, ◌∙◌, Option, Some, None, inl, inr}
-use Rattle.std.specs.Prelude.{unwrap_or, bytes_eq, IsSome, OnErr, Result, Ok, Err}
+use Rattle.std.proofs.Common.{◌≡◌, ℕ, Bool, true, false, cond, ◌&&◌, List, [], refl, sym, ap, ◌∙◌, Option, Some, inl, inr}
+use Rattle.std.specs.Prelude.{unwrap_or, bytes_eq}
 use Rattle.std.proofs.lemmas.Bool.{cases_Bool}
 use Rattle.std.proofs.lemmas.Map.Text.{is_eq-slice_cmp}
 use Rattle.std.proofs.lemmas.Slice.Eq.{bytes_eq-Decides}
 use Rattle.history_model.specs.Runs.{Series}
 use Rattle.segment_cost.specs.declared.done.Done.{Done}
 use Rattle.publication_index.specs.Kept.{is_same, kept_of}
-
-pub some-is : {A : Type 0} (o : Option A) (x : A) → o ≡ Some x → IsSome o
-some-is None x e = absurd (cc)
-some-is (Some y) x e = refl
-
-pub any-err : {T E : Type 0} (r : Result T E) {P : Type 0} → P → OnErr r P
-any-err (Ok v) p = tt
-any-err (Err e) p = p
 
 -- names that are the same are equal
 same-name : (one other : List ℕ) → is_same one other ≡ true → one ≡ other

@@ -2,7 +2,7 @@
 use Rattle.std.proofs.Common.{◌≡◌, ℕ, ◌+◌, ◌<◌, ◌≤◌, Bool, true, false, List, [], ◌∷◌, ◌++◌, length, refl, sym, ap, ◌∙◌, arith, inl, inr, append-nil, length-append, Option, Some, None}
 use Rattle.request_words.specs.Bodies.{Item}
 use Rattle.request_words.specs.Items.{IsSkipped, Asks, Counts, Gives}
-use Rattle.request_text.specs.Scripts.{input_limit, IsLine, IsBefore, end, cut_off, last, inside, Reads}
+use Rattle.request_text.specs.Scripts.{input_limit, IsLine, end, cut_off, last, Reads}
 use Rattle.request_text.specs.declared.asked.Asked.{Asked}
 use Rattle.request_text.specs.declared.asked.Asked.TheVariants as asked
 use Rattle.request_text.specs.declared.line.LineEnd.TheVariants.{Input}
@@ -12,6 +12,7 @@ use Rattle.request_text.specs.Parts.{TakesNext}
 use Rattle.request_text.specs.LineEnds.{FindsEnd}
 use Rattle.request_text.specs.LastLines.{HasEnded, AsksLast}
 use Rattle.request_text.proofs.Stops.{some_same}
+use Rattle.request_text.proofs.WholePieces.{cut_reads}
 use Rattle.request_words.proofs.Skipped.{skipped_counts}
 
 last_reads : (at : ℕ) (bytes : List ℕ) (items : List Item) → IsLine bytes → Counts bytes 0 → Gives bytes [] items → Reads true at bytes items end
@@ -28,19 +29,7 @@ last_item at bytes item line short asked counts asks =
     record { none = refl; short = short; reads = last_reads at bytes (item ∷ []) line counts (inr (asked, item, asks, refl)) }
 
 pub last_cut : (at : ℕ) (bytes : List ℕ) (count : ℕ) → IsLine bytes → Counts bytes count → 0 < count → Reads true at bytes [] (cut_off at)
-last_cut at bytes count line counts some =
-    let same : at + 0 ≡ at = omega arith in
-    let before : IsBefore bytes = record { line = line; count = count; counted = counts; some = some } in
-    record {
-      front = [];
-      back = bytes;
-      asked = [];
-      last = [];
-      split = refl;
-      told = refl;
-      pieces = ([], (refl, refl));
-      ends = inside refl (inr before) refl (ap cut_off (sym same));
-    }
+last_cut at bytes count line counts some = cut_reads at bytes (inr (record { line = line; count = count; counted = counts; some = some }))
 
 -- ---- the line that ends the input, behind what the source gave
 

@@ -1,8 +1,8 @@
 mod Stops
 mod Looks
 pub mod PieceLists
-mod LastLines
 pub mod WholePieces
+mod LastLines
 mod Moving
 mod Passing
 mod OneReading

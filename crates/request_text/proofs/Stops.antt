@@ -1,7 +1,6 @@
 -- Why reading stops at the line that bytes begin with.
-use Rattle.std.proofs.Common.{◌≡◌, ℕ, ◌+◌, ◌-◌, ◌<◌, ◌≤◌, inl, inr, Bool, true, false, List, [], ◌++◌, length, take, refl, sym, ap, ◌∙◌, subst, arith, append_assoc, append-nil, length-append, Option, Some, None}
-use Rattle.std.specs.Prelude.{nat_le}
-use Rattle.std.proofs.lemmas.Bool.{leb-true, leb-false}
+use Rattle.std.proofs.Common.{◌≡◌, ℕ, ◌+◌, ◌-◌, ◌<◌, ◌≤◌, inl, inr, ⊎_elim, Bool, true, false, List, [], ◌++◌, length, take, refl, sym, ap, ◌∙◌, subst, arith, append_assoc, append-nil, length-append, Option, Some, None}
+use Rattle.std.proofs.lemmas.Bool.{cases_lt}
 use Rattle.std.specs.Io.KnownBytes.{prepend_known}
 use Rattle.std.proofs.lemmas.List.{take-append-le}
 use Rattle.std.proofs.Math.Seq.{take-append_seam, take-append-add}
@@ -55,11 +54,7 @@ stops_long old (Some left) after f g over within =
     (λ many. inr (many, long_reads false old.before (take (input_limit - old.before) all) (cut_to_limit old left over within)))
   where
     by_le : (m n : ℕ) (P : Type 0) → (m ≤ n → P) → (n < m → P) → P
-    by_le m n P few many = by_test (nat_le m n) refl
-      where
-        by_test : (b : Bool) → b ≡ nat_le m n → P
-        by_test true is = few (leb-true m n (sym is))
-        by_test false is = many (leb-false m n (sym is))
+    by_le m n P few many = ⊎_elim many few (cases_lt n m)
 
     cut_to_limit : (old : Unread) (left : List ℕ) → IsTooLong old.kept → old.before + length old.kept ≤ input_limit → IsTooLong (take (input_limit - old.before) (old.kept ++ left))
     cut_to_limit old left over within =

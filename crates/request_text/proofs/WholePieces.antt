@@ -1,5 +1,5 @@
 -- A line that has come with its line feed, and the bytes that belong to it.
-use Rattle.std.proofs.Common.{◌≡◌, ℕ, ◌+◌, ◌-◌, ◌<◌, ◌≤◌, true, false, List, [], ◌∷◌, ◌++◌, length, take, drop, refl, sym, ap, ◌∙◌, arith, inl, inr, append_assoc, append-nil, length-append, Option, Some, None, slice_range, suc}
+use Rattle.std.proofs.Common.{◌≡◌, ℕ, ◌+◌, ◌-◌, ◌<◌, ◌≤◌, ◌⊎◌, true, false, List, [], ◌∷◌, ◌++◌, length, take, drop, refl, sym, ap, ◌∙◌, arith, inl, inr, append_assoc, append-nil, length-append, Option, Some, None, slice_range, suc}
 use Rattle.std.specs.Prelude.{IfSome}
 use Rattle.std.proofs.Math.Seq.{take-append-add, drop-append-add}
 use Rattle.std.proofs.lemmas.List.{take-append-drop, length-take-le}
@@ -7,7 +7,7 @@ use Rattle.request_text.specs.declared.asked.Asked.{Asked}
 use Rattle.request_text.specs.declared.stop.ReadStop.TheVariants.{CutOff}
 use Rattle.request_words.specs.Bodies.{Item}
 use Rattle.request_words.specs.Items.{IsSkipped, Asks, Counts}
-use Rattle.request_text.specs.Scripts.{input_limit, IsLine, IsInside, cut_off, inside, more, Reads, Piece, IsPiece, ArePieces}
+use Rattle.request_text.specs.Scripts.{input_limit, IsLine, IsInside, IsBefore, cut_off, inside, more, Reads, Piece, IsPiece, ArePieces}
 use Rattle.request_text.specs.Unread.{Unread}
 use Rattle.request_text.specs.Next.{items_of, TellsEnd, TakesWhole, ReadsNext, Gave}
 use Rattle.request_text.specs.Reading.{StopsReading}
@@ -40,9 +40,9 @@ needs_body old ended total count line has counted is behind few =
       ends = more refl (inl (inside_of old.kept line has.rest behind count has.split has.whole counted within)) refl refl;
     }
 
--- the input ends among them
-inside_reads : (at : ℕ) (bytes : List ℕ) → IsInside bytes → Reads true at bytes [] (cut_off at)
-inside_reads at bytes within =
+-- the input ends among them, or before the first of them
+pub cut_reads : (at : ℕ) (bytes : List ℕ) → IsInside bytes ⊎ IsBefore bytes → Reads true at bytes [] (cut_off at)
+cut_reads at bytes ends =
     let same : at + 0 ≡ at = omega arith in
     record {
       front = [];
@@ -52,7 +52,7 @@ inside_reads at bytes within =
       split = refl;
       told = refl;
       pieces = ([], (refl, refl));
-      ends = inside refl (inl within) refl (ap cut_off (sym same));
+      ends = inside refl ends refl (ap cut_off (sym same));
     }
 
 pub stops_inside : (old new : Unread) (before after : Option (List ℕ)) (f g ended total count : ℕ) (line : List ℕ)
@@ -66,7 +66,7 @@ stops_inside old new (Some left) (Some rest) f g ended total count line has coun
     let size = ap length kept in
     let few : length (old.kept ++ left) < length line + 1 + count = omega (arith, gathers.has.0, size, is, has.size) in
     let within : old.before + length (old.kept ++ left) ≤ input_limit = omega (arith, gathers.gains.within, gathers.gains.place, size) in
-    inl (within, inside_reads old.before (old.kept ++ left) (inside_of old.kept line has.rest left count has.split has.whole counted few))
+    inl (within, cut_reads old.before (old.kept ++ left) (inl (inside_of old.kept line has.rest left count has.split has.whole counted few)))
 
 -- the line and the bytes that belong to it are one piece
 pub one_piece : (line body used : List ℕ) (item : Item) → used ≡ line ++ 10 ∷ body → IsLine line → (¬ IsSkipped line) → Counts line (length body)

@@ -1,6 +1,6 @@
 mod FormWords
 mod HeadLines
-mod Digits
+mod TooGreat
 pub mod Skipped
 pub mod OneForm
 mod OneItem

@@ -1,8 +1,7 @@
 -- A line asks one thing with its body.
-use Rattle.std.proofs.Common.{◌≡◌, ℕ, ◌-◌, ◌<◌, ◌≤◌, Bool, true, false, List, [], length, Result, Ok, Err, refl, sym, ap, ◌∙◌, subst, arith}
-use Rattle.std.specs.Prelude.{nat_le}
+use Rattle.std.proofs.Common.{◌≡◌, ℕ, ◌-◌, ◌<◌, ◌≤◌, List, [], length, Result, Ok, Err, refl, sym, ap, ◌∙◌, subst, arith, ⊎_elim}
 use Rattle.std.specs.Str.{IsUtf8, IsValidUpTo}
-use Rattle.std.proofs.lemmas.Bool.{leb-true, leb-false}
+use Rattle.std.proofs.lemmas.Bool.{cases_lt}
 use Rattle.std.proofs.lemmas.List.{take_all}
 use Rattle.line_text.specs.Lines.{lines_of}
 use Rattle.metric_table.specs.declared.limits.Limit.TheVariants.{RunSamples}
@@ -66,11 +65,7 @@ not_over : (bytes : List ℕ) (samples : List Measurement) (ignored number : ℕ
 not_over bytes samples ignored number read told = read.in_range (number - 1) (omega (arith, told.from_one, told.within)) told.over
 
 by_le : (m n : ℕ) (P : Type 0) → (m ≤ n → P) → (n < m → P) → P
-by_le m n P few many = by_test (nat_le m n) refl
-  where
-    by_test : (b : Bool) → b ≡ nat_le m n → P
-    by_test true is = few (leb-true m n (sym is))
-    by_test false is = many (leb-false m n (sym is))
+by_le m n P few many = ⊎_elim many few (cases_lt n m)
 
 same_place : (m n : ℕ) → (m < n → ⊥) → (n < m → ⊥) → m ≡ n
 same_place m n below above = by_le m n (m ≡ n) (λ few. by_le n m (m ≡ n) (λ more. omega (arith, few, more)) (λ less. absurd (below less))) (λ less. absurd (above less))

@@ -1,7 +1,6 @@
 //! Words of a request line that are numbers of any size.
-ghost use Rattle.std.specs.Prelude.{◌≡◌, ◌<◌, ◌≤◌, ◌^◌, ◌↔◌, IsTrue, IfSome, IfNone, length, slice_index, pos};
-ghost use Rattle.std.specs.Char.{digit_value};
-ghost use Rattle.std.specs.Str.Parse.{AllDigits, digits_value};
+ghost use Rattle.std.specs.Prelude.{◌≡◌, ◌<◌, ◌≤◌, ◌^◌, ◌↔◌, IsTrue, IfSome, IfNone, pos};
+ghost use Rattle.std.specs.Str.Parse.{digits_value};
 ghost use Rattle.line_text.specs.Numbers.{IsNumber};
 ghost use Rattle.request_model.specs.Factors.{IsFactor};
 
@@ -18,43 +17,6 @@ pub(crate) fn is_factor(factor: u64) -> bool
     ensures { IsTrue result ↔ IsFactor factor }
 {
     1 <= factor && factor <= FACTOR_LIMIT
-}
-
-// Whether a word is a number, of whatever size.
-pub(crate) fn is_number(word: &[u8]) -> bool
-    ensures { IsTrue result ↔ IsNumber word.now }
-{
-    begins_as_number(word) && are_digits(word)
-}
-
-// Whether there are bytes, and a `0` comes first in `0` alone.
-fn begins_as_number(word: &[u8]) -> bool
-    ensures { IsTrue result
-        ↔ ((0 < length word.now) × (slice_index word.now 0 ≡ 48 → length word.now ≡ 1)) }
-{
-    match word {
-        [] | [b'0', _, ..] => false,
-        _ => true,
-    }
-}
-
-// Whether each byte is a digit.
-fn are_digits(word: &[u8]) -> bool
-    ensures { IsTrue result ↔ AllDigits 10 word.now }
-{
-    for byte in word {
-        if !is_digit(*byte) {
-            return false;
-        }
-    }
-    true
-}
-
-// Whether a byte is a digit.
-fn is_digit(byte: u8) -> bool
-    ensures { IsTrue result ↔ (digit_value byte < 10) }
-{
-    byte.is_ascii_digit()
 }
 
 // The penalty that a number is, where it is in range.

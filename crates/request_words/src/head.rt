@@ -7,7 +7,7 @@ ghost use Rattle.request_words.specs.Heads.{IsHead, IsHeadBehind, line_refusal};
 ghost use Rattle.request_words.specs.Items.{Asks, Counts};
 
 use crate::NoMemory;
-use crate::amounts::{is_factor, is_number, penalty_of};
+use crate::amounts::{is_factor, penalty_of};
 use crate::body::{go_asked, lnt_asked};
 use crate::found_head::{
     answer_head, bisect_head, job_head, regress_head, report_head, state_head,
@@ -15,7 +15,7 @@ use crate::found_head::{
 use crate::names::{machine_named, metric_named, series_named, three_named, two_named};
 use crate::verb::{SeriesVerb, Verb, read_verb};
 use crate::words::Words;
-use line_text::{Name, Names, read_u64};
+use line_text::{Name, Names, is_number, read_u64};
 use request_model::{Refusal, Request};
 use std::alloc::Global;
 

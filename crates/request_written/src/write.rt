@@ -32,7 +32,9 @@ pub fn put_request(alloc: Global, out: &mut Vec<u8>, request: &Request) -> Resul
     words_law();
     sound(request);
     let body = body_of(alloc, request)?;
-    let text = text_with(alloc, request, &body)?;
+    let Ok(text) = text_with(alloc, request, &body) else {
+        return Err(PutFault::NoMemory);
+    };
     if out.extend_from_slice(&text).is_err() {
         return Err(PutFault::NoMemory);
     }

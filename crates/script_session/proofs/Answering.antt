@@ -1,12 +1,11 @@
 -- The output of items one after another, and what a sink took of it.
-use Rattle.std.proofs.Common.{◌≡◌, ℕ, ◌+◌, ◌≤◌, Err, List, [], ◌∷◌, ◌++◌, length, take, Option, None, Some, refl, sym, ap, subst, ◌∙◌, arith, append_assoc, append-nil, length-append}
+use Rattle.std.proofs.Common.{◌≡◌, ℕ, ◌+◌, Err, List, [], ◌∷◌, ◌++◌, Option, refl, sym, ap, subst, ◌∙◌, arith, append_assoc, append-nil}
 use Rattle.std.specs.Prelude.{option_to_list}
 use Rattle.std.specs.List.{flat_map}
-use Rattle.std.specs.Io.KnownBytes.{append_known}
 use Rattle.std.proofs.lemmas.Grind.{flat_map-append}
-use Rattle.std.proofs.Math.Seq.{take-append-add}
 use Rattle.track_outside.specs.declared.sink.Sink.{Ghosts}
 use Rattle.track_outside.specs.Calls.{Took, FailedIn, TookPart}
+use Rattle.track_outside.proofs.InParts.{took_none, took_more, failed_more, part_more}
 use Rattle.request_model.specs.declared.requests.Request.{Request}
 use Rattle.request_model.specs.declared.replies.Reply.{Reply}
 use Rattle.reply_text.specs.Replies.{text_of}
@@ -46,51 +45,10 @@ module _ {S : Type 0} (does : S → Request → Option Reply → S → Type 0) w
     told = ap (λ t. t ++ others) one.told ∙ ap (λ t. flat_map text_of one.replies ++ t) two.told ∙ sym (flat_map-append text_of one.replies two.replies);
   }
 
-append_known-append : (before : Option (List ℕ)) (part more : List ℕ) → append_known (append_known before part) more ≡ append_known before (part ++ more)
-append_known-append None part more = refl
-append_known-append (Some bytes) part more = ap Some (append_assoc bytes part more)
-
-append_known-nil : (before : Option (List ℕ)) → before ≡ append_known before []
-append_known-nil None = refl
-append_known-nil (Some bytes) = ap Some (sym (append-nil bytes))
-
 module _ {O : Type 0} (g : Ghosts O) where
-  pub took_none : (old new : O) → g.taken new ≡ g.taken old → g.faults old ≤ g.faults new → Took g old new []
-  took_none old new same counts = record { taken = same ∙ append_known-nil (g.taken old); counts = counts }
-
-  module _ (old between new : O) (part more : List ℕ) (took : Took g old between part) where
-    pub took_more : Took g between new more → Took g old new (part ++ more)
-    took_more next = record {
-      taken = next.taken ∙ ap (λ known. append_known known more) took.taken ∙ append_known-append (g.taken old) part more;
-      counts = omega (arith, took.counts, next.counts);
-    }
-
-    pub failed_more : FailedIn g between new more → FailedIn g old new (part ++ more)
-    failed_more failed = record {
-      part = (
-        length part + failed.part.0,
-        omega (arith, failed.part.1, length-append part more),
-        failed.part.2 ∙ ap (λ known. append_known known (take failed.part.0 more)) took.taken ∙ append_known-append (g.taken old) part (take failed.part.0 more)
-            ∙ ap (append_known (g.taken old)) (sym (take-append-add part more failed.part.0)),
-      );
-      rose = omega (arith, took.counts, failed.rose);
-      counts = omega (arith, took.counts, failed.counts);
-    }
-
-    pub part_more : TookPart g between new more → TookPart g old new (part ++ more)
-    part_more some = record {
-      part = (
-        length part + some.part.0,
-        omega (arith, some.part.1, length-append part more),
-        some.part.2 ∙ ap (λ known. append_known known (take some.part.0 more)) took.taken ∙ append_known-append (g.taken old) part (take some.part.0 more)
-            ∙ ap (append_known (g.taken old)) (sym (take-append-add part more some.part.0)),
-      );
-      counts = omega (arith, took.counts, some.counts);
-    }
-
   -- ---- what is gathered behind what a sink took
   pub gathers_none : (old : O) (pending : List ℕ) → pending ≡ [] → Gathers g old old [] pending
-  gathers_none old pending none = record { handed = []; parts = sym none; took = took_none old old refl (omega arith) }
+  gathers_none old pending none = record { handed = []; parts = sym none; took = took_none g old old refl (omega arith) }
 
   pub gathers_more : (old new : O) (text pending more now : List ℕ) → Gathers g old new text pending → now ≡ pending ++ more → Gathers g old new (text ++ more) now
   gathers_more old new text pending more now told is = record {
@@ -104,17 +62,17 @@ module _ {O : Type 0} (g : Ghosts O) where
     gathers_on rest next = record {
       handed = told.handed ++ next.handed;
       parts = told.parts ∙ ap (λ t. told.handed ++ t) next.parts ∙ sym (append_assoc told.handed next.handed rest);
-      took = took_more old between new told.handed next.handed told.took next.took;
+      took = took_more g old between new told.handed next.handed told.took next.took;
     }
 
     pub took_all : Took g between new pending → Took g old new text
-    took_all next = subst (Took g old new) (sym told.parts) (took_more old between new told.handed pending told.took next)
+    took_all next = subst (Took g old new) (sym told.parts) (took_more g old between new told.handed pending told.took next)
 
     pub failed_on : FailedIn g between new pending → FailedIn g old new text
-    failed_on failed = subst (FailedIn g old new) (sym told.parts) (failed_more old between new told.handed pending told.took failed)
+    failed_on failed = subst (FailedIn g old new) (sym told.parts) (failed_more g old between new told.handed pending told.took failed)
 
     pub part_of : TookPart g between new pending → TookPart g old new text
-    part_of some = subst (TookPart g old new) (sym told.parts) (part_more old between new told.handed pending told.took some)
+    part_of some = subst (TookPart g old new) (sym told.parts) (part_more g old between new told.handed pending told.took some)
 
   -- reading stopped, and all that was read is answered
   pub stands_read : {S : Type 0} (why : ReadStop) (now : S) → Stands now now (Err (stop_of why))

@@ -64,10 +64,14 @@ fn answer_all<D: Desk, I: Source, O: Sink>(
     ensures counts { I.faults input.old ≤ I.faults input.new }
 {
     pieces_law();
-    let mut lines = Lines::new(alloc)?;
+    let Ok(mut lines) = Lines::new(alloc) else {
+        return Err(Stop::NoMemory);
+    };
     loop {
         let asked = read_request(alloc, &mut lines, input)?;
-        answer_next(alloc, desk, asked, replies)?;
+        let Ok(()) = answer_next(alloc, desk, asked, replies) else {
+            return Err(Stop::NoMemory);
+        };
         if lines.has_ended() {
             return Ok(());
         }

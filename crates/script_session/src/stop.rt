@@ -1,6 +1,8 @@
 //! Why the answering of a script ends early.
+ghost use Rattle.std.specs.Prelude.{◌≡◌};
+ghost use Rattle.script_session.specs.Stops.{stop_of};
+
 use request_text::ReadStop;
-use std::alloc::AllocError;
 
 /// Why the answering of a script ends early.
 #[derive(Clone, Copy, Debug, PartialEq, Eq)]
@@ -18,9 +20,6 @@ pub enum Stop {
 }
 
 impl From<ReadStop> for Stop {
-    ghost use Rattle.std.specs.Prelude.{◌≡◌};
-    ghost use Rattle.script_session.specs.Stops.{stop_of};
-
     ghost from_gives = { λ why stop. stop ≡ stop_of why };
 
     fn from(why: ReadStop) -> Stop {
@@ -30,16 +29,5 @@ impl From<ReadStop> for Stop {
             ReadStop::InputTooLong => Stop::InputTooLong,
             ReadStop::NoMemory => Stop::NoMemory,
         }
-    }
-}
-
-impl From<AllocError> for Stop {
-    ghost use Rattle.std.specs.Prelude.{◌≡◌};
-    ghost use Rattle.script_session.specs.declared.stop.Stop.TheVariants as stop;
-
-    ghost from_gives = { λ _ e. e ≡ stop.NoMemory };
-
-    fn from(_: AllocError) -> Stop {
-        Stop::NoMemory
     }
 }

@@ -1,4 +1,8 @@
 //! Why no entry was read.
+ghost use Rattle.std.specs.Prelude.{◌≡◌};
+ghost use Rattle.line_text.specs.declared.name.NameError.TheVariants as error;
+ghost use Rattle.track_entry.specs.declared.fault.EntryFault.TheVariants as fault;
+
 use crate::NoMemory;
 use line_text::NameError;
 
@@ -11,22 +15,7 @@ pub enum EntryFault {
     NoMemory,
 }
 
-impl From<NoMemory> for EntryFault {
-    ghost use Rattle.std.specs.Prelude.{◌≡◌};
-    ghost use Rattle.track_entry.specs.declared.fault.EntryFault.TheVariants as fault;
-
-    ghost from_gives = { λ _ made. made ≡ fault.NoMemory };
-
-    fn from(_: NoMemory) -> EntryFault {
-        EntryFault::NoMemory
-    }
-}
-
 impl From<NameError> for EntryFault {
-    ghost use Rattle.std.specs.Prelude.{◌≡◌};
-    ghost use Rattle.line_text.specs.declared.name.NameError.TheVariants as error;
-    ghost use Rattle.track_entry.specs.declared.fault.EntryFault.TheVariants as fault;
-
     ghost from_gives = { λ e made. (e ≡ error.BadName → made ≡ fault.NotEntry)
         × (e ≡ error.NoMemory → made ≡ fault.NoMemory) };
 
@@ -35,5 +24,13 @@ impl From<NameError> for EntryFault {
             NameError::BadName => EntryFault::NotEntry,
             NameError::NoMemory => EntryFault::NoMemory,
         }
+    }
+}
+
+impl From<NoMemory> for EntryFault {
+    ghost from_gives = { λ _ made. made ≡ fault.NoMemory };
+
+    fn from(_: NoMemory) -> EntryFault {
+        EntryFault::NoMemory
     }
 }

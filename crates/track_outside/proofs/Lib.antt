@@ -1,2 +1,3 @@
+pub mod InParts
 pub mod Places
 pub mod Repeats

@@ -1,7 +1,10 @@
 //! Why a call on the outside gave nothing.
+ghost use Rattle.std.specs.Prelude.{◌≡◌};
+ghost use Rattle.track_outside.specs.declared.out_error.OutError.TheVariants as error;
+
 use crate::NoMemory;
 use crate::source::Failed;
-use std::alloc::{AllocError, AllocFailed};
+use std::alloc::AllocError;
 
 /// Why a call on an object of the outside gave nothing.
 #[derive(Clone, Copy, Debug, PartialEq, Eq)]
@@ -13,9 +16,6 @@ pub enum OutError {
 }
 
 impl From<Failed> for OutError {
-    ghost use Rattle.std.specs.Prelude.{◌≡◌};
-    ghost use Rattle.track_outside.specs.declared.out_error.OutError.TheVariants as error;
-
     ghost from_gives = { λ _ e. e ≡ error.Failed };
 
     fn from(_: Failed) -> OutError {
@@ -24,23 +24,9 @@ impl From<Failed> for OutError {
 }
 
 impl From<AllocError> for OutError {
-    ghost use Rattle.std.specs.Prelude.{◌≡◌};
-    ghost use Rattle.track_outside.specs.declared.out_error.OutError.TheVariants as error;
-
     ghost from_gives = { λ _ e. e ≡ error.NoMemory };
 
     fn from(_: AllocError) -> OutError {
-        OutError::NoMemory
-    }
-}
-
-impl<T: Drop> From<AllocFailed<T>> for OutError {
-    ghost use Rattle.std.specs.Prelude.{◌≡◌};
-    ghost use Rattle.track_outside.specs.declared.out_error.OutError.TheVariants as error;
-
-    ghost from_gives = { λ _ e. e ≡ error.NoMemory };
-
-    fn from(_: AllocFailed<T>) -> OutError {
         OutError::NoMemory
     }
 }

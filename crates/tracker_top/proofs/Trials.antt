@@ -1,9 +1,9 @@
 -- How the answering of a script that is whole in memory ends.
-use Rattle.std.proofs.Common.{◌≡◌, ◌≢◌, ℕ, List, [], Option, None, Some, Result, Ok, Err, IfSome, subst, sym, ap, arith, inl, refl, append-nil}
-use Rattle.std.specs.Io.KnownBytes.{append_known}
+use Rattle.std.proofs.Common.{◌≡◌, ◌≢◌, ℕ, List, [], None, Some, Result, Ok, Err, IfSome, subst, sym, ap, arith, inl, refl}
 use Rattle.std.proofs.lemmas.List.Elements.{All-nil}
 use Rattle.track_outside.specs.declared.source.Source as source
 use Rattle.track_outside.specs.declared.sink.Sink as sink
+use Rattle.track_outside.proofs.InParts.{append_known-nil}
 use Rattle.request_words.specs.Bodies.{Item}
 use Rattle.script_session.specs.declared.stop.Stop.{Stop}
 use Rattle.script_session.specs.declared.stop.Stop.TheVariants as stop
@@ -81,10 +81,6 @@ module _ {I O : Type 0} (g : source.Ghosts I) (h : sink.Ghosts O) (old new : I) 
       whole = λ is. absurd (not_done why is);
     }
 
-same_known : (known : Option (List ℕ)) → known ≡ append_known known []
-same_known None = refl
-same_known (Some bytes) = ap Some (sym (append-nil bytes))
-
 -- nothing was read, for want of memory
 pub runs_none : {O : Type 0} (h : sink.Ghosts O) (before : O) (bytes : List ℕ) → RunsScript h bytes before before NoMemory
 runs_none h before bytes = record {
@@ -96,7 +92,7 @@ runs_none h before bytes = record {
   read = inl ([], bytes, refl, omega arith, ([], (refl, refl)));
   cause = tt;
   answered = record { after = new_state; output = record { replies = []; answers = (refl, refl); told = refl }; stands = tt };
-  wrote = record { part = (0, omega arith, same_known (h.taken before)); counts = omega arith };
+  wrote = record { part = (0, omega arith, append_known-nil (h.taken before)); counts = omega arith };
   published = All-nil PublishesWell;
   whole = λ is. cc;
 }

@@ -1,7 +1,8 @@
 //! How a command ends.
 ghost use Rattle.std.specs.Prelude.{◌≡◌};
 ghost use Rattle.std.specs.Process.{exit_status};
-ghost use Rattle.tracker_top.specs.Statuses.{number_of};
+ghost use Rattle.tracker_top.specs.Statuses.{append_status_of, load_status_of, number_of, script_status_of, status_of};
+ghost use Rattle.tracker_top.specs.declared.status.Status.{Status};
 
 use cut_lines::{Refusal, Stop as CutStop};
 use kept_machines::{AppendFault, LoadFault};
@@ -66,9 +67,6 @@ impl Status {
 }
 
 impl From<AllocError> for Status {
-    ghost use Rattle.std.specs.Prelude.{◌≡◌};
-    ghost use Rattle.tracker_top.specs.declared.status.Status.{Status};
-
     ghost from_gives = { λ _ status. status ≡ Status.NoMemory };
 
     fn from(_: AllocError) -> Status {
@@ -78,9 +76,6 @@ impl From<AllocError> for Status {
 
 /// How a command ends where reading of its cut lines stops.
 impl From<CutStop> for Status {
-    ghost use Rattle.std.specs.Prelude.{◌≡◌};
-    ghost use Rattle.tracker_top.specs.Statuses.{status_of};
-
     ghost from_gives = { λ stop status. status ≡ status_of stop };
 
     fn from(stop: CutStop) -> Status {
@@ -96,9 +91,6 @@ impl From<CutStop> for Status {
 
 /// How a command ends where the answering of the script on standard input stops.
 impl From<ScriptStop> for Status {
-    ghost use Rattle.std.specs.Prelude.{◌≡◌};
-    ghost use Rattle.tracker_top.specs.Statuses.{script_status_of};
-
     ghost from_gives = { λ stop status. status ≡ script_status_of stop };
 
     fn from(stop: ScriptStop) -> Status {
@@ -114,9 +106,6 @@ impl From<ScriptStop> for Status {
 
 /// How a command ends where the rows of its store are not loaded.
 impl From<LoadFault> for Status {
-    ghost use Rattle.std.specs.Prelude.{◌≡◌};
-    ghost use Rattle.tracker_top.specs.Statuses.{load_status_of};
-
     ghost from_gives = { λ fault status. status ≡ load_status_of fault };
 
     fn from(fault: LoadFault) -> Status {
@@ -130,9 +119,6 @@ impl From<LoadFault> for Status {
 
 /// How a command ends where the new rows of its store are not appended.
 impl From<AppendFault> for Status {
-    ghost use Rattle.std.specs.Prelude.{◌≡◌};
-    ghost use Rattle.tracker_top.specs.Statuses.{append_status_of};
-
     ghost from_gives = { λ fault status. status ≡ append_status_of fault };
 
     fn from(fault: AppendFault) -> Status {

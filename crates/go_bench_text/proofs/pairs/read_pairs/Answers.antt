@@ -12,7 +12,7 @@ loop-value-preserved c =
     let before = subst (λ (rest : List (List ℕ)). Taken (fields_of c.args.text.now) rest c.loop-value.pairs.items) split c.loop-value.invariant.taken in
     record {
       text = c.in-Some-next_field.ensures.more;
-      taken = taken_more (fields_of c.args.text.now) (fields_of c.in-Some-next_field.more.now) c.in-Some.value.now c.in-Some-next_field.unit.now c.loop-value.pairs.items c.push.new.self.items c.in-InRange.pair before c.in-InRange.ensures c.in_ok-push-in-InRange.ensures.ok;
+      taken = taken_more (fields_of c.args.text.now) (fields_of c.in-Some-next_field.more.now) c.in-Some.value.now c.in-Some-next_field.unit.now c.loop-value.pairs.items c.push.new.self.items c.in-InRange.pair before c.in-InRange.ensures c.in-Ok.ensures.ok;
     }
 
 pub returns-clause-read : goal.returns-clause-read

@@ -12,7 +12,7 @@ loop-place-preserved c =
     let is : c.sample-item.result ≡ get_or c.as_slice-sample-items.result.now c.loop-place.place nowhere = get_or_read c.as_slice-sample-items.result.now c.loop-place.place c.sample-item.result less c.sample-item.is nowhere in
     let longer : take (c.loop-place.place + 1) c.as_slice-sample-items.result.now ≡ take c.loop-place.place c.as_slice-sample-items.result.now ++ c.sample-item.result ∷ [] =
     take_more c.as_slice-sample-items.result.now c.loop-place.place nowhere less ∙ ap (λ (s : Measurement). take c.loop-place.place c.as_slice-sample-items.result.now ++ s ∷ []) (sym is) in
-    let put = c.in_ok-put_sample.ensures in
+    let put = c.in-Ok.ensures in
     let here : HasSpelling c.sample-item.result = record { pkg = c.in-Some.pkg.now; name = c.in-Some.name.now; written = c.in-Some.ensures.some; unit = c.in-Some.ensures.unit } in
     record {
       spelled = subst (λ (done : List Measurement). AreSpelled done c.put_sample.new.out.items) (sym longer) (subst (AreSpelled (take c.loop-place.place c.as_slice-sample-items.result.now ++ c.sample-item.result ∷ [])) (sym put.2) (spelled_more (take c.loop-place.place c.as_slice-sample-items.result.now) c.sample-item.result c.loop-place.out.items put.0 c.loop-place.invariant.spelled put.1));

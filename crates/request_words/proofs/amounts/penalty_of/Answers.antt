@@ -1,5 +1,5 @@
 use Rattle.std.proofs.Common.{Option, Some, None, IfNone}
-use Rattle.request_words.proofs.Digits.{too_great}
+use Rattle.request_words.proofs.TooGreat.{too_great}
 use Rattle.request_words.proofs.amounts.penalty_of.Goals as goal
 
 given : {A : Type 0} (o : Option A) (P : Type 0) → P → IfNone o P

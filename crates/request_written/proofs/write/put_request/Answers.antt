@@ -12,8 +12,8 @@ returns-clause-ok c =
     let body : List ℕ = c.in_ok-body.body.items in
     let text : List ℕ = line_of (words_in (form_of q (length body))) ++ body in
     let same : c.deref.result.now ≡ body = search rules in
-    let is : c.in_ok-text.text.items ≡ text = rw same at c.in_ok-text.ensures in
-    let added : c.extend_from_slice.new.self.items ≡ c.args.out.now.items ++ c.in_ok-text.text.items = search rules in
+    let is : c.in-Ok.text.items ≡ text = rw same at c.in-Ok.ensures in
+    let added : c.extend_from_slice.new.self.items ≡ c.args.out.now.items ++ c.in-Ok.text.items = search rules in
     let written : IsWritten q text = record { body = body; of_request = c.in_ok-body.ensures.ok; is = refl } in (
       text,
       record {

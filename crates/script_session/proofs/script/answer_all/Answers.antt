@@ -6,32 +6,30 @@ use Rattle.script_session.proofs.Answering.{output_none, output_join, gathers_no
 use Rattle.script_session.proofs.Sources.{taken_none, taken_next, asks_none, asks_these, asks_more, ends_here, nothing_left, stops, few_stop, few_next}
 use Rattle.script_session.proofs.script.answer_all.Goals as goal
 
-pub returns-in_err-lines-clause-ends : goal.returns-in_err-lines-clause-ends
-returns-in_err-lines-clause-ends g c =
-    let p = err_from_is_err_and c.from_residual.result c.from_residual.ensures.1 in
-    rw (p.1, p.2) (record {
-      items = [];
-      text = [];
-      read = asks_none g.I.Source c.args.input.now;
-      asks = asks_none g.I.Source c.args.input.now;
-      answered = record { after = c.args.desk.now; output = output_none g.D.Desk.answers c.args.desk.now; stands = tt };
-      wrote = gathers_none g.O.Sink c.args.out.now c.args.replies.now c.requires.none;
-    })
+pub returns-in_default-clause-ends : goal.returns-in_default-clause-ends
+returns-in_default-clause-ends g c = record {
+  items = [];
+  text = [];
+  read = asks_none g.I.Source c.args.input.now;
+  asks = asks_none g.I.Source c.args.input.now;
+  answered = record { after = c.args.desk.now; output = output_none g.D.Desk.answers c.args.desk.now; stands = tt };
+  wrote = gathers_none g.O.Sink c.args.out.now c.args.replies.now c.requires.none;
+}
 
 pub loop-lines-init : goal.loop-lines-init
 loop-lines-init g c = record {
   items = [];
   text = [];
-  taken = taken_none g.I.Source c.args.input.now c.in_ok-lines.lines c.in_ok-lines.ensures;
+  taken = taken_none g.I.Source c.args.input.now c.in-Ok.lines c.in-Ok.ensures;
   output = output_none g.D.Desk.answers c.args.desk.now;
   wrote = gathers_none g.O.Sink c.args.out.now c.args.replies.now c.requires.none;
-  goes_on = ap (λ l. l.stopped) c.in_ok-lines.ensures;
-  more = ap (λ l. l.ended) c.in_ok-lines.ensures;
+  goes_on = ap (λ l. l.stopped) c.in-Ok.ensures;
+  more = ap (λ l. l.ended) c.in-Ok.ensures;
 }
 
 pub returns-in_err-asked-clause-ends : goal.returns-in_err-asked-clause-ends
 returns-in_err-asked-clause-ends g c =
-    let p = err_from_is_err_and c.from_residual-in_err-asked.result c.from_residual-in_err-asked.ensures.1 in
+    let p = err_from_is_err_and c.from_residual.result c.from_residual.ensures.1 in
     let inv = c.loop-lines.invariant in
     let why = c.in_err-asked.field-0.0 in
     rw (p.1, p.2) (record {
@@ -48,22 +46,21 @@ returns-in_err-asked-clause-few g c =
     let inv = c.loop-lines.invariant in
     few_stop g.I.Source c.args.input.now c.loop-lines.input c.read_request.new.source c.loop-lines.lines c.loop-lines.lines inv.items inv.taken c.in_err-asked.ensures.gave
 
-pub returns-in_err-answer_next-clause-ends : goal.returns-in_err-answer_next-clause-ends
-returns-in_err-answer_next-clause-ends g c =
-    let p = err_from_is_err_and c.from_residual-in_err-answer_next.result c.from_residual-in_err-answer_next.ensures.1 in
+pub returns-in_default-answer_next-clause-ends : goal.returns-in_default-answer_next-clause-ends
+returns-in_default-answer_next-clause-ends g c =
     let inv = c.loop-lines.invariant in
     let asks = asks_these g.I.Source c.args.input.now c.loop-lines.input c.loop-lines.input c.loop-lines.lines c.loop-lines.lines inv.items inv.taken in
-    rw (p.1, p.2) (record {
+    record {
       items = inv.items;
       text = inv.text;
       read = asks;
       asks = asks;
       answered = record { after = c.loop-lines.desk; output = inv.output; stands = tt };
-      wrote = subst (Gathers g.O.Sink c.args.out.now c.loop-lines.out inv.text) (sym c.in_err-answer_next.ensures.err) inv.wrote;
-    })
+      wrote = subst (Gathers g.O.Sink c.args.out.now c.loop-lines.out inv.text) (sym c.in_default-answer_next.ensures.err) inv.wrote;
+    }
 
-pub returns-in_err-answer_next-clause-few : goal.returns-in_err-answer_next-clause-few
-returns-in_err-answer_next-clause-few g c =
+pub returns-in_default-answer_next-clause-few : goal.returns-in_default-answer_next-clause-few
+returns-in_default-answer_next-clause-few g c =
     let inv = c.loop-lines.invariant in
     few_next g.I.Source c.args.input.now c.loop-lines.input c.read_request.new.source c.loop-lines.lines c.read_request.new.lines inv.items inv.taken c.in_ok-asked.ensures.gave
 
@@ -71,7 +68,7 @@ pub returns-then-has_ended-clause-ends : goal.returns-then-has_ended-clause-ends
 returns-then-has_ended-clause-ends g c =
     let inv = c.loop-lines.invariant in
     let asked = c.in_ok-asked.asked in
-    let told = c.in_ok-answer_next.ensures.ok in
+    let told = c.in-Ok-answer_next.ensures.ok in
     let ended : c.read_request.new.lines.ended ≡ true = sym c.has_ended.ensures ∙ c.if-has_ended.true in
     record {
       items = inv.items ++ items_of asked;
@@ -102,7 +99,7 @@ returns-in_err-hand_out_in_time-clause-ends g c =
     let p = err_from_is_err_and c.from_residual-in_err-hand_out_in_time.result c.from_residual-in_err-hand_out_in_time.ensures.1 in
     let inv = c.loop-lines.invariant in
     let asked = c.in_ok-asked.asked in
-    let told = c.in_ok-answer_next.ensures.ok in
+    let told = c.in-Ok-answer_next.ensures.ok in
     let fails = c.in_err-hand_out_in_time.ensures.err in
     let asks = asks_more g.I.Source c.args.input.now c.loop-lines.input c.read_request.new.source c.loop-lines.lines c.read_request.new.lines inv.items inv.taken c.pieces_law.ensures.first c.pieces_law.ensures.join asked
     (c.in_ok-asked.ensures.next inv.more) c.in_ok-asked.ensures.gave c.in_ok-asked.ensures.counts in
@@ -129,7 +126,7 @@ pub loop-lines-preserved : goal.loop-lines-preserved
 loop-lines-preserved g c =
     let inv = c.loop-lines.invariant in
     let asked = c.in_ok-asked.asked in
-    let told = c.in_ok-answer_next.ensures.ok in
+    let told = c.in-Ok-answer_next.ensures.ok in
     let goes : c.read_request.new.lines.ended ≡ false = sym c.has_ended.ensures ∙ c.if-has_ended.false in
     record {
       items = inv.items ++ items_of asked;

@@ -1,23 +1,14 @@
-use Rattle.std.proofs.Common.{◌≡◌, true, false, cond, ◌||◌, Bool, List, [], ◌∷◌, refl, sym, ap, ◌∙◌, inl, inr}
+use Rattle.std.proofs.Common.{◌≡◌, cond, Bool, List, sym, ap, ◌∙◌, inl, inr}
 use Rattle.std.specs.Prelude.{filter}
 use Rattle.std.specs.List.{list_any}
 use Rattle.std.proofs.lemmas.Bool.{cases_Bool}
 use Rattle.sample_model.specs.Samples.{Measurement}
-use Rattle.history_model.specs.Runs.{Series, is_of}
+use Rattle.history_model.specs.Runs.{is_of}
+use Rattle.history_model.proofs.Lists.{filter-none}
 use Rattle.series_index.specs.Seen.{seen, undone}
 use Rattle.series_index.specs.Taken.{of_series, with_samples}
 use Rattle.series_index.specs.declared.tracked.Tracked.{Tracked}
 use Rattle.track_state.proofs.follow.accept.Goals as goal
-
-none-of : (s : Series) (xs : List Measurement) → list_any (is_of s) xs ≡ false → of_series s xs ≡ []
-none-of s [] none = refl
-none-of s (x ∷ xs) none =
-    let two = split (is_of s x) (list_any (is_of s) xs) none in
-    ap (λ b. cond b (x ∷ filter (is_of s) xs) (filter (is_of s) xs)) two.0 ∙ none-of s xs two.1
-  where
-    split : (a b : Bool) → (a || b) ≡ false → (a ≡ false) × (b ≡ false)
-    split true b e = absurd (let no : true ≡ false = e in cc)
-    split false b e = (refl, e)
 
 pub undo_all-requires : goal.undo_all-requires
 undo_all-requires c s =
@@ -38,5 +29,5 @@ returns-in-Err-clause-same_series c s =
           ∙ ap (undone c.args.run.now.commit c.args.step) mid_is ∙ c.undo_law.ensures c.args.run.now.commit c.args.step xs t ∙ c.requires.series.fresh s
       | inr none ↦
           ap (λ b. cond b (undone c.args.run.now.commit c.args.step mid) mid) none
-          ∙ mid_is ∙ ap (λ ys. with_samples c.args.run.now.commit c.args.step ys t) (none-of s c.args.run.now.samples none)
+          ∙ mid_is ∙ ap (λ ys. with_samples c.args.run.now.commit c.args.step ys t) (filter-none (is_of s) c.args.run.now.samples none)
     ]

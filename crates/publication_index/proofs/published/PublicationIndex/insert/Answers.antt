@@ -6,7 +6,8 @@ use Rattle.std.specs.Map.{lookup}
 use Rattle.history_model.specs.Runs.{same_series}
 use Rattle.segment_cost.specs.declared.done.Done.{Done}
 use Rattle.publication_index.specs.Kept.{is_same, kept_of, kept, series_of}
-use Rattle.publication_index.proofs.Written.{some-is, any-err, kept-within, same-within}
+use Rattle.history_model.proofs.Cases.{some-is, any-err}
+use Rattle.publication_index.proofs.Written.{kept-within, same-within}
 use Rattle.publication_index.proofs.published.PublicationIndex.insert.Goals as goal
 
 pub returns-in_err-insert-clause-err : goal.returns-in_err-insert-clause-err

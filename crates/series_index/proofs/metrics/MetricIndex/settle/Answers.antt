@@ -4,7 +4,8 @@ use Rattle.std.specs.BTreeMap.{BTreeMap}
 use Rattle.std.specs.Map.{lookup}
 use Rattle.series_index.specs.declared.tracked.Tracked.{Tracked}
 use Rattle.series_index.specs.Seen.{is_same, unseen, seen_of}
-use Rattle.series_index.proofs.Written.{seen-same, some-is}
+use Rattle.history_model.proofs.Cases.{some-is}
+use Rattle.series_index.proofs.Written.{seen-same}
 use Rattle.series_index.proofs.metrics.MetricIndex.settle.Goals as goal
 
 pub returns-in-Some : goal.returns-in-Some

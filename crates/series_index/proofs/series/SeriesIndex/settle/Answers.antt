@@ -4,7 +4,8 @@ use Rattle.std.specs.BTreeMap.{BTreeMap}
 use Rattle.std.specs.Map.{lookup}
 use Rattle.series_index.specs.declared.tracked.Tracked.{Tracked}
 use Rattle.series_index.specs.Seen.{is_same, seen}
-use Rattle.series_index.proofs.Written.{same-within, some-is}
+use Rattle.history_model.proofs.Cases.{some-is}
+use Rattle.series_index.proofs.Written.{same-within}
 use Rattle.series_index.proofs.series.SeriesIndex.settle.Goals as goal
 
 pub returns-in-Some : goal.returns-in-Some

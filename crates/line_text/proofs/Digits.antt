@@ -1,10 +1,8 @@
--- The digits of a word, one after another, and a number that is none of 128 bits.
-use Rattle.std.proofs.Common.{◌≡◌, ◌≢◌, ◌↔◌, ℕ, ◌+◌, ◌^◌, ◌<◌, ◌≤◌, Bool, true, false, List, ◌∷◌, length, drop, get_or, decimal, nat_le, refl, sym, subst, arith}
+-- The digits of a word, one after another.
+use Rattle.std.proofs.Common.{◌↔◌, ℕ, ◌+◌, ◌<◌, ◌≤◌, List, ◌∷◌, length, drop, get_or, sym, subst}
 use Rattle.std.specs.Char.{digit_value}
-use Rattle.std.specs.Str.Parse.{AllDigits, digits_value}
-use Rattle.std.proofs.lemmas.Bool.{leb-true, leb-false}
+use Rattle.std.specs.Str.Parse.{AllDigits}
 use Rattle.std.proofs.lemmas.List.{drop_more, drop_all}
-use Rattle.line_text.specs.Numbers.{IsNumber, NumbersAreSpelled}
 
 -- all are digits where those from place i on are
 abbrev pub GoesOn : List ℕ → ℕ → Type 0
@@ -23,12 +21,3 @@ no_digit word i within other before whole = other ((at_byte word i within before
 
 pub all_digits : (word : List ℕ) (i : ℕ) → length word ≤ i → GoesOn word i → AllDigits 10 word
 all_digits word i end before = before.1 (subst (AllDigits 10) (sym (drop_all i word end)) tt)
-
-pub too_great : (word : List ℕ) → IsNumber word → NumbersAreSpelled → ((n : ℕ) → n < 2 ^ 128 → word ≢ decimal n) → 10 ^ 36 < digits_value 10 word
-too_great word is law none = by (nat_le (digits_value 10 word) (10 ^ 36)) refl
-  where
-    by : (b : Bool) → nat_le (digits_value 10 word) (10 ^ 36) ≡ b → 10 ^ 36 < digits_value 10 word
-    by true small =
-        let le = leb-true (digits_value 10 word) (10 ^ 36) small in
-        absurd (none (digits_value 10 word) (omega (arith, le)) ((law (digits_value 10 word) word (omega (arith, le))).1 (is, refl)))
-    by false great = leb-false (digits_value 10 word) (10 ^ 36) great

@@ -1,4 +1,4 @@
-use Rattle.request_words.proofs.amounts.is_number.Goals as goal
+use Rattle.line_text.proofs.numbers.is_number.Goals as goal
 
 pub returns-then-begins_as_number : goal.returns-then-begins_as_number
 returns-then-begins_as_number c =

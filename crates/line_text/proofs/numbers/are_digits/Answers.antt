@@ -1,7 +1,7 @@
 use Rattle.std.proofs.Common.{refl, sym, ◌∙◌}
 use Rattle.std.proofs.lemmas.Bool.{false≢true}
-use Rattle.request_words.proofs.Digits.{one_digit, no_digit, all_digits}
-use Rattle.request_words.proofs.amounts.are_digits.Goals as goal
+use Rattle.line_text.proofs.Digits.{one_digit, no_digit, all_digits}
+use Rattle.line_text.proofs.numbers.are_digits.Goals as goal
 
 pub returns-then-not-is_digit : goal.returns-then-not-is_digit
 returns-then-not-is_digit c = (

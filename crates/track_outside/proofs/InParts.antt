@@ -1,0 +1,61 @@
+-- What a sink took of bytes that are written in parts.
+use Rattle.std.proofs.Common.{◌≡◌, ℕ, ◌+◌, ◌≤◌, List, [], ◌++◌, length, take, Option, None, Some, refl, sym, ap, ◌∙◌, arith, append_assoc, append-nil, length-append}
+use Rattle.std.specs.Io.KnownBytes.{append_known}
+use Rattle.std.proofs.lemmas.List.{take-append-le}
+use Rattle.std.proofs.Math.Seq.{take-append-add}
+use Rattle.track_outside.specs.declared.sink.Sink.{Ghosts}
+use Rattle.track_outside.specs.Calls.{Took, FailedIn, TookPart}
+
+append_known-append : (before : Option (List ℕ)) (part more : List ℕ) → append_known (append_known before part) more ≡ append_known before (part ++ more)
+append_known-append None part more = refl
+append_known-append (Some bytes) part more = ap Some (append_assoc bytes part more)
+
+pub append_known-nil : (before : Option (List ℕ)) → before ≡ append_known before []
+append_known-nil None = refl
+append_known-nil (Some bytes) = ap Some (sym (append-nil bytes))
+
+module _ {O : Type 0} (g : Ghosts O) where
+  pub took_none : (old new : O) → g.taken new ≡ g.taken old → g.faults old ≤ g.faults new → Took g old new []
+  took_none old new same counts = record { taken = same ∙ append_known-nil (g.taken old); counts = counts }
+
+  module _ (old between new : O) (part more : List ℕ) (took : Took g old between part) where
+    pub took_more : Took g between new more → Took g old new (part ++ more)
+    took_more next = record {
+      taken = next.taken ∙ ap (λ known. append_known known more) took.taken ∙ append_known-append (g.taken old) part more;
+      counts = omega (arith, took.counts, next.counts);
+    }
+
+    pub failed_more : FailedIn g between new more → FailedIn g old new (part ++ more)
+    failed_more failed = record {
+      part = (
+        length part + failed.part.0,
+        omega (arith, failed.part.1, length-append part more),
+        failed.part.2 ∙ ap (λ known. append_known known (take failed.part.0 more)) took.taken ∙ append_known-append (g.taken old) part (take failed.part.0 more)
+            ∙ ap (append_known (g.taken old)) (sym (take-append-add part more failed.part.0)),
+      );
+      rose = omega (arith, took.counts, failed.rose);
+      counts = omega (arith, took.counts, failed.counts);
+    }
+
+    pub part_more : TookPart g between new more → TookPart g old new (part ++ more)
+    part_more some = record {
+      part = (
+        length part + some.part.0,
+        omega (arith, some.part.1, length-append part more),
+        some.part.2 ∙ ap (λ known. append_known known (take some.part.0 more)) took.taken ∙ append_known-append (g.taken old) part (take some.part.0 more)
+            ∙ ap (append_known (g.taken old)) (sym (take-append-add part more some.part.0)),
+      );
+      counts = omega (arith, took.counts, some.counts);
+    }
+
+  -- what it took a first part of goes on
+  pub failed_first : (old new : O) (part more : List ℕ) → FailedIn g old new part → FailedIn g old new (part ++ more)
+  failed_first old new part more failed = record {
+    part = (
+      failed.part.0,
+      omega (arith, failed.part.1, length-append part more),
+      failed.part.2 ∙ ap (append_known (g.taken old)) (sym (take-append-le failed.part.0 part more failed.part.1)),
+    );
+    rose = failed.rose;
+    counts = failed.counts;
+  }
