@@ -1,5 +1,4 @@
-use Rattle.std.proofs.Common.{◌≡◌, cond, Bool, List, sym, ap, ◌∙◌, inl, inr}
-use Rattle.std.specs.Prelude.{filter}
+use Rattle.std.proofs.Common.{◌≡◌, cond, List, sym, ap, ◌∙◌, inl, inr}
 use Rattle.std.specs.List.{list_any}
 use Rattle.std.proofs.lemmas.Bool.{cases_Bool}
 use Rattle.sample_model.specs.Samples.{Measurement}
