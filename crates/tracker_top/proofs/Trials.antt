@@ -1,5 +1,5 @@
 -- How the answering of a script that is whole in memory ends.
-use Rattle.std.proofs.Common.{◌≡◌, ◌≢◌, ℕ, List, [], None, Some, Result, Ok, Err, IfSome, subst, sym, ap, arith, inl, refl}
+use Rattle.std.proofs.Common.{◌≡◌, ◌≢◌, ℕ, List, [], Some, Result, Ok, Err, IfSome, subst, sym, arith, inl, refl}
 use Rattle.std.proofs.lemmas.List.Elements.{All-nil}
 use Rattle.track_outside.specs.declared.source.Source as source
 use Rattle.track_outside.specs.declared.sink.Sink as sink

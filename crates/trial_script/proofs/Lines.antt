@@ -1,7 +1,6 @@
 -- Each line of the script of a number is a piece, which asks its request.
 use Rattle.std.proofs.Common.{◌≡◌, ℕ, pos, zero, suc, ◌*◌, ◌^◌, ◌<◌, ◌≤◌, inl, List, [], ◌∷◌, ◌++◌, length, refl, sym, ap, ◌∙◌, subst, arith, lit<, length-append, append_assoc, append-nil, Ok}
 use Rattle.std.specs.Prelude.{codes, decimal}
-use Rattle.std.specs.List.{AllByRecursion}
 use Rattle.std.specs.Str.Parse.{digits_value}
 use Rattle.std.proofs.lemmas.Fmt.{decimal_is_IsNumeral, length-decimal-le}
 use Rattle.std.proofs.lemmas.Int.Digits.{digits_value-lt}
@@ -10,9 +9,9 @@ use Rattle.line_text.specs.Names.{IsName, NamesAreSpelledBack}
 use Rattle.line_text.specs.Numbers.{IsNumber, NumbersAreSpelled}
 use Rattle.request_model.specs.Lines.{spaced}
 use Rattle.request_model.specs.declared.requests.Request.TheVariants as request
-use Rattle.request_words.specs.Forms.{Form, machine, commit, submit_go, retract, tune, words_in, names_in, numbers_in, body_length, amounts_in, HasStatus, IsOfForm, SpellsName, HasShortMetric, IsInRange, name_of}
+use Rattle.request_words.specs.Forms.{Form, machine, commit, submit_go, retract, tune, IsOfForm, name_of}
 use Rattle.request_words.specs.Bodies.{Item, AsksNamed}
-use Rattle.request_words.specs.Items.{formed, named, body_limit}
+use Rattle.request_words.specs.Items.{formed, named}
 use Rattle.request_text.specs.Scripts.{ArePieces}
 use Rattle.request_words.proofs.Skipped.{skipped_formless}
 use Rattle.request_text.proofs.WholePieces.{one_piece}
