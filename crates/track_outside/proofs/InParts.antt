@@ -4,7 +4,7 @@ use Rattle.std.specs.Io.KnownBytes.{append_known}
 use Rattle.std.proofs.lemmas.List.{take-append-le}
 use Rattle.std.proofs.Math.Seq.{take-append-add}
 use Rattle.track_outside.specs.declared.sink.Sink.{Ghosts}
-use Rattle.track_outside.specs.Calls.{Took, FailedIn, TookPart}
+use Rattle.track_outside.specs.Calls.{Took, TookFront, FailedIn, TookPart}
 
 append_known-append : (before : Option (List ℕ)) (part more : List ℕ) → append_known (append_known before part) more ≡ append_known before (part ++ more)
 append_known-append None part more = refl
@@ -25,28 +25,20 @@ module _ {O : Type 0} (g : Ghosts O) where
       counts = omega (arith, took.counts, next.counts);
     }
 
+    -- a first part of what comes next goes on behind what was taken
+    front_more : TookFront (g.taken between) (g.taken new) more → TookFront (g.taken old) (g.taken new) (part ++ more)
+    front_more front = (
+      length part + front.0,
+      omega (arith, front.1, length-append part more),
+      front.2 ∙ ap (λ known. append_known known (take front.0 more)) took.taken ∙ append_known-append (g.taken old) part (take front.0 more)
+          ∙ ap (append_known (g.taken old)) (sym (take-append-add part more front.0)),
+    )
+
     pub failed_more : FailedIn g between new more → FailedIn g old new (part ++ more)
-    failed_more failed = record {
-      part = (
-        length part + failed.part.0,
-        omega (arith, failed.part.1, length-append part more),
-        failed.part.2 ∙ ap (λ known. append_known known (take failed.part.0 more)) took.taken ∙ append_known-append (g.taken old) part (take failed.part.0 more)
-            ∙ ap (append_known (g.taken old)) (sym (take-append-add part more failed.part.0)),
-      );
-      rose = omega (arith, took.counts, failed.rose);
-      counts = omega (arith, took.counts, failed.counts);
-    }
+    failed_more failed = record { part = front_more failed.part; rose = omega (arith, took.counts, failed.rose); counts = omega (arith, took.counts, failed.counts) }
 
     pub part_more : TookPart g between new more → TookPart g old new (part ++ more)
-    part_more some = record {
-      part = (
-        length part + some.part.0,
-        omega (arith, some.part.1, length-append part more),
-        some.part.2 ∙ ap (λ known. append_known known (take some.part.0 more)) took.taken ∙ append_known-append (g.taken old) part (take some.part.0 more)
-            ∙ ap (append_known (g.taken old)) (sym (take-append-add part more some.part.0)),
-      );
-      counts = omega (arith, took.counts, some.counts);
-    }
+    part_more some = record { part = front_more some.part; counts = omega (arith, took.counts, some.counts) }
 
   -- what it took a first part of goes on
   pub failed_first : (old new : O) (part more : List ℕ) → FailedIn g old new part → FailedIn g old new (part ++ more)
