@@ -11,13 +11,14 @@ pub fn last_centre(alloc: Global, done: &Done) -> Result<Option<i64>, NoMemory>
     ensures { IfOk result
         (λ centre. IsLastCentre done.now.points done.now.cert.cuts centre) }
 {
-    let n = done.points.len();
+    let points = done.points.points();
+    let n = points.len();
     if n == 0 {
         return Ok(None);
     }
     cuts_law(done);
-    let square = Square::of_points(alloc, &done.points)?;
+    let square = Square::of_points(alloc, points)?;
     let cuts = done.cert.cuts.as_slice();
     let low = low_of(cuts, cuts.len());
-    Ok(Some(centre_at(&done.points, &square, low, n)))
+    Ok(Some(centre_at(points, &square, low, n)))
 }

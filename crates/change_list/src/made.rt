@@ -21,15 +21,16 @@ pub fn changes(alloc: Global, done: &Done) -> Result<ChangeItems, NoMemory>
         AreChanges done.now.points done.now.metric done.now.cert.cuts made) }
 {
     cuts_law(done);
-    let square = Square::of_points(alloc, &done.points)?;
+    let points = done.points.points();
+    let square = Square::of_points(alloc, points)?;
     let larger = larger_is_better(done.metric.as_str().as_bytes());
     let cuts = done.cert.cuts.as_slice();
-    let n = done.points.len();
+    let n = points.len();
     let mut made = ChangeItems::new(alloc);
     for i in 0..cuts.len() {
         let low = low_of(cuts, i);
         let high = high_of(cuts, n, i);
-        made.push(change_at(&done.points, &square, larger, low, cuts[i] as usize, high))?;
+        made.push(change_at(points, &square, larger, low, cuts[i] as usize, high))?;
     }
     Ok(made)
 }

@@ -66,7 +66,7 @@ fn total_of(least: &[i128], n: usize) -> i128
 }
 
 // Whether the three lists are the tables of the positions for that penalty.
-fn are_tables(square: &Square, penalty: i128, least: &[i128], back: &[u64], pruned: &[u64]) -> bool
+fn are_tables(square: &Square, penalty: i128, least: &[i128], back: &[u16], pruned: &[u16]) -> bool
     requires low { pos 0 ≤ℤ penalty }
     requires high { penalty ≤ℤ pos (10 ^ 36) }
     ensures { IsTrue result
@@ -121,7 +121,7 @@ fn is_first(total: i128, penalty: i128) -> bool
 }
 
 // Whether there is no last cut.
-fn is_none(last_cut: u64) -> bool
+fn is_none(last_cut: u16) -> bool
     ensures { IsTrue result ↔ (last_cut ≡ 0) }
 {
     last_cut == 0

@@ -126,7 +126,7 @@ fn needs_look(floor: i128, penalty: i128, total: i128, s: usize, last_cut: usize
 }
 
 // Whether a number is that place.
-fn is_place(number: u64, t: usize) -> bool
+fn is_place(number: u16, t: usize) -> bool
     ensures { IsTrue result ↔ (number ≡ t) }
 {
     number as usize == t

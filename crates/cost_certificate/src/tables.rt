@@ -14,8 +14,8 @@ pub struct Tables<'a> {
     pub square: &'a Square,
     pub penalty: i128,
     pub least: &'a [i128],
-    pub back: &'a [u64],
-    pub pruned: &'a [u64],
+    pub back: &'a [u16],
+    pub pruned: &'a [u16],
     ghost few: { length square.now.positions ≤ 16_384 },
     ghost merges: { Merges (cost_between least_sum_of square.now.positions)
         (length square.now.positions) },

@@ -4,7 +4,7 @@ ghost use Rattle.std.specs.Fmt.{signed_decimal};
 ghost use Rattle.cost_certificate.specs.Text.{row, text_of};
 
 use line_text::{Numbers, put_i128, put_u64};
-use segment_cost::{Cert, Costs, NoMemory};
+use segment_cost::{Cert, Costs, NoMemory, Places};
 use std::alloc::Global;
 
 /// Puts a certificate's text behind some bytes: seven lines, each a name and numbers after single spaces.
@@ -18,8 +18,8 @@ pub fn put_cert(alloc: Global, out: &mut Vec<u8>, cert: &Cert) -> Result<(), NoM
     put_numbers(alloc, out, b"cuts", &cert.cuts)?;
     put_cost(alloc, out, b"total", cert.total)?;
     put_costs(alloc, out, b"least", &cert.least)?;
-    put_numbers(alloc, out, b"back", &cert.back)?;
-    put_numbers(alloc, out, b"pruned", &cert.pruned)
+    put_places(alloc, out, b"back", &cert.back)?;
+    put_places(alloc, out, b"pruned", &cert.pruned)
 }
 
 // A line of one number behind a name.
@@ -59,6 +59,25 @@ fn put_numbers(
     for number in numbers.as_slice() {
         out.push(b' ')?;
         put_u64(alloc, out, *number)?;
+    }
+    out.push(b'\n')?;
+    Ok(())
+}
+
+// A line of places behind a name.
+fn put_places(
+    alloc: Global,
+    out: &mut Vec<u8>,
+    name: &[u8],
+    places: &Places,
+) -> Result<(), NoMemory>
+    ensures { OnOk result
+        (out.new.items ≡ out.old.items ++ row name.now (map decimal places.now)) }
+{
+    out.extend_from_slice(name)?;
+    for place in places.as_slice() {
+        out.push(b' ')?;
+        put_u64(alloc, out, u64::from(*place))?;
     }
     out.push(b'\n')?;
     Ok(())

@@ -3,7 +3,7 @@ ghost use Rattle.std.specs.Prelude.{◌≡◌, ℕ, ◌<◌, ◌⊎◌, length, 
 ghost use Rattle.segment_model.specs.Tables.{IsWalk};
 
 // Whether the cuts are those that a table of last cuts gives from place n down.
-pub fn cuts_hold(cuts: &[u64], back: &[u64], n: usize) -> bool
+pub fn cuts_hold(cuts: &[u64], back: &[u16], n: usize) -> bool
     requires below { (s : ℕ) → s < length back.now
         → (slice_index back.now s < s) ⊎ (slice_index back.now s ≡ 0) }
     requires placed { n < length back.now }
@@ -22,8 +22,8 @@ pub fn cuts_hold(cuts: &[u64], back: &[u64], n: usize) -> bool
 }
 
 // Whether a cut is the last cut, and is one.
-fn is_step(last_cut: u64, cut: u64) -> bool
+fn is_step(last_cut: u16, cut: u64) -> bool
     ensures { IsTrue result ↔ ((last_cut ≡ cut) × (0 < cut)) }
 {
-    last_cut == cut && cut > 0
+    last_cut as u64 == cut && cut > 0
 }

@@ -7,7 +7,7 @@ use change_list::{Change, ChangeItems, changes};
 use cost_certificate::check;
 use line_text::Name;
 use part_core::part;
-use segment_cost::{Cert, Done, Points, Square};
+use segment_cost::{Cert, Done, Points, SharedPoints, Square};
 use std::alloc::Global;
 
 // The points of the values 0 0 10 10 -5 -5.
@@ -33,6 +33,7 @@ fn done_of(alloc: Global, test: Name, metric: Name) -> Option<Done> {
     if !stands(alloc, &cert, &points) {
         return None;
     }
+    let points = SharedPoints::of(alloc, points).ok()?;
     Some(Done {
         test,
         metric,

@@ -1,5 +1,7 @@
 -- How the count of open bisections changes with one of them, and which one asks a place.
-use Rattle.std.proofs.Common.{◌≡◌, ℕ, zero, suc, ◌+◌, ◌-◌, ◌≤◌, Bool, true, false, cond, List, [], ◌∷◌, ◌++◌, length, set, get_or, Option, Some, None, refl, sym, subst, ap, ◌∙◌, arith, eq-eqb}
+use Rattle.std.proofs.Common.{◌≡◌, ℕ, zero, suc, ◌+◌, ◌-◌, ◌≤◌, Bool, true, false, cond, not, List, [], ◌∷◌, ◌++◌, length, set, get_or, Option, Some, None, refl, sym, subst, ap, ◌∙◌, arith, eq-eqb, ne_eqb}
+use Rattle.std.specs.Prelude.{◌==◌, filter}
+use Rattle.follow_index.specs.Numbered.{open_from, open_numbers}
 use Rattle.std.proofs.lemmas.Option.{get_or_from_slice_get}
 use Rattle.std.specs.List.{slice_get}
 use Rattle.bisect_core.specs.Bisections.{Bisection, is_open, asked_by, answer_to}
@@ -86,3 +88,97 @@ asks_place (suc k) place now xs one are asks read = by (slice_get xs k) refl
         let known : slice_get xs k ≡ Some one = is ∙ ap Some same in
         let facts = asking one.outcome place (subst (λ o. place_asked o ≡ Some place) known (subst (λ ys. place_asked (slice_get ys k) ≡ Some place) (sym are) asks)) in
         record { there = known; at = subst (λ n. slice_get xs n ≡ Some one) (sym first) known; under_way = facts.0; answers = facts.1 }
+
+-- ---- the numbers of the open ones
+pub counted_open : (k : ℕ) (xs : List Bisection) → length (open_from k xs) ≡ open_count xs
+counted_open k [] = refl
+counted_open k (x ∷ xs) = by (is_under_way x) refl (counted_open (k + 1) xs)
+  where
+    by : (b : Bool) → is_under_way x ≡ b → length (open_from (k + 1) xs) ≡ open_count xs → length (open_from k (x ∷ xs)) ≡ open_count (x ∷ xs)
+    by true is rest = rw is (ap suc rest)
+    by false is rest = rw is rest
+
+pub open-push : (k : ℕ) (xs : List Bisection) (x : Bisection) → open_from k (xs ++ x ∷ []) ≡ open_from k xs ++ cond (is_under_way x) ((k + length xs) ∷ []) []
+open-push k [] x =
+    let first : k + 0 ≡ k = omega arith in
+    ap (λ (n : ℕ). cond (is_under_way x) (n ∷ []) []) (sym first)
+open-push k (y ∷ xs) x =
+    let next : k + 1 + length xs ≡ k + length (y ∷ xs) = omega arith in
+    let rest : open_from (k + 1) (xs ++ x ∷ []) ≡ open_from (k + 1) xs ++ cond (is_under_way x) ((k + length (y ∷ xs)) ∷ []) [] =
+    open-push (k + 1) xs x ∙ ap (λ (n : ℕ). open_from (k + 1) xs ++ cond (is_under_way x) (n ∷ []) []) next in
+    by (is_under_way y) refl rest
+  where
+    by : (b : Bool) → is_under_way y ≡ b → open_from (k + 1) (xs ++ x ∷ []) ≡ open_from (k + 1) xs ++ cond (is_under_way x) ((k + length (y ∷ xs)) ∷ []) []
+        → open_from k (y ∷ xs ++ x ∷ []) ≡ open_from k (y ∷ xs) ++ cond (is_under_way x) ((k + length (y ∷ xs)) ∷ []) []
+    by true is rest = rw is (ap (λ (ns : List ℕ). k ∷ ns) rest)
+    by false is rest = rw is rest
+
+abbrev others : ℕ → List ℕ → List ℕ
+others m ns = filter (λ (n : ℕ). not (n == m)) ns
+
+none-below : (m k : ℕ) (xs : List Bisection) → m + 1 ≤ k → others m (open_from k xs) ≡ open_from k xs
+none-below m k [] le = refl
+none-below m k (x ∷ xs) le =
+    let rest : others m (open_from (k + 1) xs) ≡ open_from (k + 1) xs = none-below m (k + 1) xs (omega (arith, le)) in
+    let apart : (k == m) ≡ false = ne_eqb k m (λ same. omega (arith, le, same)) in
+    by (is_under_way x) refl rest apart
+  where
+    by : (b : Bool) → is_under_way x ≡ b → others m (open_from (k + 1) xs) ≡ open_from (k + 1) xs → (k == m) ≡ false
+        → others m (open_from k (x ∷ xs)) ≡ open_from k (x ∷ xs)
+    by true is rest apart = rw is (ap (λ b. cond (not b) (k ∷ others m (open_from (k + 1) xs)) (others m (open_from (k + 1) xs))) apart ∙ ap (λ (ns : List ℕ). k ∷ ns) rest)
+    by false is rest apart = rw is rest
+
+-- an open one that an open one takes the place of
+pub open-stays : (k : ℕ) (xs : List Bisection) (i : ℕ) (one later : Bisection) → slice_get xs i ≡ Some one → is_under_way one ≡ true → is_under_way later ≡ true
+    → open_from k (set xs i later) ≡ open_from k xs
+open-stays k [] i one later there under_way stays = absurd (nothing i there)
+  where
+    nothing : (i : ℕ) → slice_get {X = Bisection} [] i ≡ Some one → ⊥
+    nothing i is = cc
+open-stays k (x ∷ xs) zero one later there under_way stays =
+    let same : x ≡ one = cc in
+    rw (stays, ap is_under_way same ∙ under_way) refl
+open-stays k (x ∷ xs) (suc i) one later there under_way stays =
+    ap (λ (ns : List ℕ). cond (is_under_way x) (k ∷ ns) ns) (open-stays (k + 1) xs i one later there under_way stays)
+
+-- and one that a closed one takes the place of
+pub open-leaves : (k : ℕ) (xs : List Bisection) (i : ℕ) (one later : Bisection) → slice_get xs i ≡ Some one → is_under_way one ≡ true → is_under_way later ≡ false
+    → open_from k (set xs i later) ≡ filter (λ (n : ℕ). not (n == k + i)) (open_from k xs)
+open-leaves k [] i one later there under_way ends = absurd (nothing i there)
+  where
+    nothing : (i : ℕ) → slice_get {X = Bisection} [] i ≡ Some one → ⊥
+    nothing i is = cc
+open-leaves k (x ∷ xs) zero one later there under_way ends =
+    let same : x ≡ one = cc in
+    let asks : is_under_way x ≡ true = ap is_under_way same ∙ under_way in
+    let first : k ≡ k + 0 = omega arith in
+    let here : (k == k + 0) ≡ true = eq-eqb k (k + 0) first in
+    let rest : open_from (k + 1) xs ≡ others (k + 0) (open_from (k + 1) xs) = sym (none-below (k + 0) (k + 1) xs (omega arith)) in
+    rw (ends, asks, here) rest
+open-leaves k (x ∷ xs) (suc i) one later there under_way ends =
+    let next : k + 1 + i ≡ k + suc i = omega arith in
+    let rest : open_from (k + 1) (set xs i later) ≡ filter (λ (n : ℕ). not (n == k + suc i)) (open_from (k + 1) xs) =
+    open-leaves (k + 1) xs i one later there under_way ends ∙ ap (λ (m : ℕ). filter (λ (n : ℕ). not (n == m)) (open_from (k + 1) xs)) next in
+    let apart : (k == k + suc i) ≡ false = ne_eqb k (k + suc i) (λ same. omega (arith, same)) in
+    by (is_under_way x) refl rest apart
+  where
+    by : (b : Bool) → is_under_way x ≡ b → open_from (k + 1) (set xs i later) ≡ filter (λ (n : ℕ). not (n == k + suc i)) (open_from (k + 1) xs)
+        → (k == k + suc i) ≡ false → open_from k (set (x ∷ xs) (suc i) later) ≡ filter (λ (n : ℕ). not (n == k + suc i)) (open_from k (x ∷ xs))
+    by true is rest apart = rw (is, apart) (ap (λ (ns : List ℕ). k ∷ ns) rest)
+    by false is rest apart = rw is rest
+
+-- the numbers after the one of a number went on
+pub open-after : (number : ℕ) (xs : List Bisection) (one later : Bisection) → job_in number xs ≡ Some one → is_under_way one ≡ true
+    → open_numbers (set xs (number - 1) later) ≡ cond (is_under_way later) (open_numbers xs) (filter (λ (n : ℕ). not (n == number)) (open_numbers xs))
+open-after zero xs one later there under_way = absurd (cc)
+open-after (suc i) xs one later there under_way =
+    let place : suc i - 1 ≡ i = omega arith in
+    let it : 1 + i ≡ suc i = omega arith in
+    ap (λ (n : ℕ). open_numbers (set xs n later)) place ∙ by (is_under_way later) refl it
+  where
+    by : (b : Bool) → is_under_way later ≡ b → 1 + i ≡ suc i
+        → open_numbers (set xs i later) ≡ cond (is_under_way later) (open_numbers xs) (filter (λ (n : ℕ). not (n == suc i)) (open_numbers xs))
+    by true is it = open-stays 1 xs i one later there under_way is ∙ sym (ap (λ c. cond c (open_numbers xs) (filter (λ (n : ℕ). not (n == suc i)) (open_numbers xs))) is)
+    by false is it =
+        open-leaves 1 xs i one later there under_way is ∙ ap (λ (m : ℕ). filter (λ (n : ℕ). not (n == m)) (open_numbers xs)) it
+        ∙ sym (ap (λ c. cond c (open_numbers xs) (filter (λ (n : ℕ). not (n == suc i)) (open_numbers xs))) is)

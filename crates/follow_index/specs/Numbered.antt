@@ -1,9 +1,9 @@
 -- Regressions and bisections by number, and what becomes of one of them.
-use Rattle.std.specs.Prelude.{◌≡◌, ℕ, zero, suc, ◌-◌, List, set, slice_get, Option, Some, None}
+use Rattle.std.specs.Prelude.{◌≡◌, ℕ, zero, suc, ◌+◌, ◌-◌, if◌then◌else◌, List, [], ◌∷◌, set, slice_get, Option, Some, None}
 use Rattle.regression_state.specs.declared.states.State.{State}
 use Rattle.bisect_core.specs.Bisections.{Bisection, IsRecorded}
 use Rattle.bisect_core.specs.Turns.{Turn}
-use Rattle.history_model.specs.Jobs.{job_in}
+use Rattle.history_model.specs.Jobs.{job_in, is_under_way}
 use Rattle.follow_index.specs.declared.regressions.Followed.{Followed}
 
 -- the one of this number among some regressions
@@ -24,3 +24,12 @@ pub record GoesOn (number : ℕ) (turn : Turn) (before after : List Bisection) :
   pub there : job_in number before ≡ Some one
   pub recorded : IsRecorded turn one later
   pub gone_on : after ≡ set before (number - 1) later
+
+-- the numbers of the open ones among some bisections, which are numbered from this one on
+abbrev pub open_from : ℕ → List Bisection → List ℕ
+open_from number [] = []
+open_from number (b ∷ bs) = if is_under_way b then number ∷ open_from (number + 1) bs else open_from (number + 1) bs
+
+-- the numbers of all that are open, which rise
+abbrev pub open_numbers : List Bisection → List ℕ
+open_numbers js = open_from 1 js

@@ -2,7 +2,7 @@
 ghost use Rattle.std.specs.Prelude.{◌≡◌, ◌≢◌, ℕ, ◌≤◌, [], ◌∷◌, length, IfSome, OnOk, Some};
 ghost use Rattle.track_outside.specs.Counts.{Rose};
 ghost use Rattle.track_outside.specs.Kept.{with_more};
-ghost use Rattle.keep_rows.specs.Faults.{load_fault};
+ghost use Rattle.keep_rows.specs.Faults.{MayHaveName, load_fault};
 ghost use Rattle.keep_rows.specs.Laws.{IsDetermined, HasOneOutcome};
 ghost use Rattle.keep_rows.specs.Loading.{LeadsTo, IsBad, Takes, IsRefused};
 ghost use Rattle.keep_rows.specs.declared.load.LoadFault.TheVariants as fault;
@@ -48,6 +48,7 @@ pub fn load_into<K: Keeper, S: Restored>(
     ensures rows { K.kept keeper.new ≡ K.kept keeper.old }
     ensures named { result ≢ Err fault.NoMemory →
         K.started keeper.new ≡ with_more (K.started keeper.old) (name.now ∷ []) }
+    ensures once { MayHaveName name.now (K.started keeper.old) (K.started keeper.new) }
     ensures counts { K.faults keeper.old ≤ K.faults keeper.new }
     ensures rose { result ≡ Err fault.KeepFault → Rose (K.faults keeper.old) (K.faults keeper.new) }
 {

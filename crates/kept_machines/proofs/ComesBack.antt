@@ -1,4 +1,6 @@
 -- What was kept comes back.
+use Rattle.std.specs.FinSet as set
+use Rattle.history_model.specs.SeriesOrder.{series_cmp}
 use Rattle.std.proofs.Common.{◌≡◌, ℕ, ◌+◌, ◌<◌, ◌≤◌, inl, inr, Bool, true, false, cond, List, [], ◌∷◌, ◌++◌, length, map, Some, None, refl, sym, ap, ap₂, subst, ◌∙◌, arith, append_assoc, append-nil, length-append}
 use Rattle.std.specs.Prelude.{find, bytes_eq, filter}
 use Rattle.std.specs.List.{AllByRecursion}
@@ -65,7 +67,7 @@ change_between machine f (x ∷ front) back t none is = by (is_track machine x) 
 
 -- a track with entries of the store more
 abbrev with_kept : Track → List Entry → Track
-with_kept t es = record { machine = t.machine; kept = t.kept; history = t.history ++ map kept es }
+with_kept t es = record { machine = t.machine; kept = t.kept; history = t.history ++ map kept es; home = t.home }
 
 same_name : (name : List ℕ) → bytes_eq name name ≡ true
 same_name name = nat_list_eq_equiv.refl name
@@ -77,7 +79,7 @@ module _ (machine : List ℕ) (name : IsName machine) (front back : List Track) 
   entries_lead t [] is spelled are allowed = ap (λ (h : List Placed). front ++ (the_track t h) ∷ back) (append-nil t.history)
     where
       the_track : Track → List Placed → Track
-      the_track t h = record { machine = t.machine; kept = t.kept; history = h }
+      the_track t h = record { machine = t.machine; kept = t.kept; history = h; home = t.home }
   entries_lead t (p ∷ ps) is spelled are allowed =
       let here : is_track machine t ≡ true = rw is (same_name machine) in
       let next : Track = with_entry author.Kept t p.entry in
@@ -171,15 +173,15 @@ module _ (s u : Track) (added : List Placed) (stored : s ≡ kept_of s) (history
       rw fresh (subst (λ (t : Track). LeadsTo AddsRow (front ++ s ∷ back) (map (row_of u.machine) (filter is_new added)) (front ++ t ∷ back)) is
       (entries_lead u.machine may.named front back none s (filter is_new added) (sym same) spelled plain allowed))
     where
-      the_track : List ℕ → Bool → List Placed → Track
-      the_track m b h = record { machine = m; kept = b; history = h }
+      the_track : List ℕ → Bool → List Placed → set.FinSet series_cmp → Track
+      the_track m b h hs = record { machine = m; kept = b; history = h; home = hs }
 
       after : (es : List Entry) → with_kept s (entries_of (filter is_new added)) ≡ kept_of u
       after es =
-          ap₂ (λ (b : Bool) (h : List Placed). the_track s.machine b h) (ap (λ (t : Track). t.kept) stored)
+          ap₂ (λ (b : Bool) (h : List Placed). the_track s.machine b h s.home) (ap (λ (t : Track). t.kept) stored)
           (ap (λ h. h ++ map kept (entries_of (filter is_new added))) (ap (λ (t : Track). t.history) stored ∙ ap (map kept) before_are)
           ∙ sym (map-append kept (entries_of s.history) (entries_of (filter is_new added))) ∙ ap (map kept) (sym all_are))
-          ∙ ap (λ m. the_track m true (kept_of u).history) (sym same)
+          ∙ ap₂ (λ (m : List ℕ) (hs : set.FinSet series_cmp). the_track m true (kept_of u).history hs) (sym same) (ap (λ (t : Track). t.home) stored)
 
 -- ---- one machine after another
 miss : (one other : List ℕ) → IsOther one other → bytes_eq one other ≡ false

@@ -1,6 +1,7 @@
 -- The rows that a session adds, and those that a later one does.
 use Rattle.std.proofs.Common.{◌≡◌, ℕ, pos, false, List, [], ◌∷◌, refl}
 use Rattle.std.specs.Prelude.{codes}
+use Rattle.std.specs.FinSet as set
 use Rattle.std.specs.Fmt.{digits}
 use Rattle.history_model.specs.declared.entries.Author.{Author}
 use Rattle.history_model.specs.declared.entries.Author.TheVariants as author
@@ -22,6 +23,7 @@ session = record {
   machine = m;
   kept = false;
   history = by (author.Script 1) (entry.Commit 10 (codes "a")) ∷ by (author.Script 1) (entry.Tune (codes "B/op") (pos 50)) ∷ [];
+  home = set.empty;
 }
 
 rows_are_added : new_rows (session ∷ []) ≡ codes "machine m1" ∷ codes "entry m1 commit 10 a" ∷ codes "entry m1 tune B/op 50" ∷ []

@@ -1,4 +1,6 @@
 -- The machines of rows stay as a store keeps them.
+use Rattle.std.specs.FinSet as set
+use Rattle.history_model.specs.SeriesOrder.{series_cmp}
 use Rattle.std.proofs.Common.{◌≡◌, ℕ, suc, ◌<◌, inl, inr, Bool, true, false, cond, List, [], ◌∷◌, ◌++◌, length, map, Some, None, refl, sym, ap, ap₂, subst, ◌∙◌, arith, length-append}
 use Rattle.std.specs.Prelude.{find, bytes_eq, filter}
 use Rattle.std.specs.List.{AllByRecursion}
@@ -58,10 +60,10 @@ entry_kept t e is same =
     let stored : t.kept ≡ true = ap (λ (u : Track). u.kept) same in
     let history : t.history ++ kept e ∷ [] ≡ map kept (filter is_kept (entries_of (t.history ++ kept e ∷ []))) =
     ap (λ (u : Track). u.history ++ kept e ∷ []) same ∙ sym (kept_last t.history e is) in
-    ap₂ (λ (b : Bool) (h : List Placed). the_track t b h) stored history
+    ap₂ (λ (b : Bool) (h : List Placed). the_track t b h t.home) stored history ∙ ap (the_track t true (kept_of (with_entry author.Kept t e)).history) (ap (λ (u : Track). u.home) same)
   where
-    the_track : Track → Bool → List Placed → Track
-    the_track t b h = record { machine = t.machine; kept = b; history = h }
+    the_track : Track → Bool → List Placed → set.FinSet series_cmp → Track
+    the_track t b h hs = record { machine = t.machine; kept = b; history = h; home = hs }
 
 module _ (machine : List ℕ) (e : Entry) (is : is_kept e ≡ true) where
   grown : Track → Track

@@ -1,5 +1,6 @@
 -- What a store keeps of a machine: its history without the publications, as entries that were kept.
 use Rattle.std.specs.Prelude.{◌≡◌, ◌≤◌, Bool, true, false, List, map, filter, length}
+use Rattle.std.specs.FinSet as set
 use Rattle.std.specs.List.{AllByRecursion}
 use Rattle.metric_table.specs.Limits.{most}
 use Rattle.metric_table.specs.declared.limits.Limit.TheVariants.{Machines}
@@ -24,9 +25,9 @@ kept_entries h = filter is_kept h
 abbrev pub kept : Entry → Placed
 kept e = record { author = author.Kept; entry = e }
 
--- a machine as a store keeps it
+-- a machine as a store keeps it; no table is home then
 abbrev pub kept_of : Track → Track
-kept_of t = record { machine = t.machine; kept = true; history = map kept (kept_entries (entries_of t.history)) }
+kept_of t = record { machine = t.machine; kept = true; history = map kept (kept_entries (entries_of t.history)); home = set.empty }
 
 -- the tracks are as a store keeps them: each as it is kept, of different machines, no more than there may be
 pub record AreKept (tracks : List Track) : Type 0 where

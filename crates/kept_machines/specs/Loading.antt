@@ -7,7 +7,7 @@ use Rattle.history_model.specs.declared.entries.Entry.{Entry}
 use Rattle.history_model.specs.Allowed.{Allowed}
 use Rattle.history_model.specs.Entries.{entries_of}
 use Rattle.track_entry.specs.Texts.{SpellsEntry}
-use Rattle.track_model.specs.Tracks.{Track, with_entry}
+use Rattle.track_model.specs.Tracks.{Track, new_track, with_entry}
 use Rattle.keep_rows.specs.Rows.{Row, machine_row, entry_row, IsRowOf}
 use Rattle.keep_rows.specs.Loading.{LeadsTo, IsBad}
 use Rattle.kept_machines.specs.Machines.{is_track, changed}
@@ -15,7 +15,7 @@ use Rattle.kept_machines.specs.Kept.{is_kept}
 
 -- a kept machine of no entries
 abbrev pub stored_track : List ℕ → Track
-stored_track machine = record { machine = machine; kept = true; history = [] }
+stored_track machine = new_track machine true
 
 -- a machine's row: it has none before, there is room, and it comes last
 pub record AddsMachine (before : List Track) (machine : List ℕ) (after : List Track) : Type 0 where

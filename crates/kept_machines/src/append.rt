@@ -42,9 +42,12 @@ struct Machines<'a> {
 
 impl<'a> Model for Machines<'a> {
     ghost use Rattle.std.specs.Prelude.{List};
-    ghost use Rattle.track_model.specs.Tracks.{Track};
+    ghost use Rattle.std.specs.Coded.{codes};
+    ghost use Rattle.track_model.specs.Tracks.{Track, coded_home};
 
     ghost Value = { List Track };
+
+    ghost coded = { Prim.hlevel (codes, coded_home) };
 
     ghost view = { λ m. m.machines.now };
 }

@@ -2,6 +2,7 @@
 ghost use Rattle.std.specs.Prelude.{◌≡◌, ◌≢◌, ℕ, ◌≤◌, [], ◌∷◌, IfOk, IfSome};
 ghost use Rattle.track_outside.specs.Counts.{Rose};
 ghost use Rattle.track_outside.specs.Kept.{with_more};
+ghost use Rattle.keep_rows.specs.Faults.{MayHaveName};
 ghost use Rattle.keep_rows.specs.declared.load.LoadFault.TheVariants as fault;
 ghost use Rattle.kept_machines.specs.Kept.{AreKept};
 ghost use Rattle.kept_machines.specs.Loading.{LeadTo, IsFirstBad};
@@ -28,6 +29,7 @@ pub fn load<K: Keeper>(
     ensures rows { K.kept keeper.new ≡ K.kept keeper.old }
     ensures named { result ≢ Err fault.NoMemory →
         K.started keeper.new ≡ with_more (K.started keeper.old) (name.now ∷ []) }
+    ensures once { MayHaveName name.now (K.started keeper.old) (K.started keeper.new) }
     ensures counts { K.faults keeper.old ≤ K.faults keeper.new }
     ensures rose { result ≡ Err fault.KeepFault → Rose (K.faults keeper.old) (K.faults keeper.new) }
 {

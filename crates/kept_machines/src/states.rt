@@ -32,10 +32,13 @@ pub(crate) struct States {
 
 impl Model for States {
     ghost use Rattle.std.specs.Prelude.{List};
-    ghost use Rattle.track_model.specs.Tracks.{Track};
+    ghost use Rattle.std.specs.Coded.{codes};
+    ghost use Rattle.track_model.specs.Tracks.{Track, coded_home};
     ghost use Rattle.kept_machines.specs.Kept.{AreKept};
 
     ghost Value = { List Track };
+
+    ghost coded = { Prim.hlevel (codes, coded_home) };
 
     ghost view = { λ s. s.machines.items };
 

@@ -17,7 +17,7 @@ use Rattle.history_model.specs.Positions.{positions}
 use Rattle.history_model.specs.Runs.{Series, is_known}
 use Rattle.track_model.specs.Forms.{tune}
 use Rattle.track_model.specs.Outcomes.{Outcome, added_unless}
-use Rattle.track_model.specs.Publishing.{OfKnown, publication, publish, segmented, IsPublished, SegmentComesTo, is_factor, OfFactor, OfMany, IsCalibrated, CalibrateComesTo}
+use Rattle.track_model.specs.Publishing.{OfKnown, publication, publish, redone_since, segmented, IsPublished, SegmentComesTo, is_factor, OfFactor, OfMany, IsCalibrated, CalibrateComesTo}
 use Rattle.kept_machines.specs.Kept.{is_kept, kept_entries}
 use Rattle.kept_replies.specs.Replies.{kept_outcome, HasRoom, is_refused, TellSameCuts, PublishSameCuts}
 use Rattle.kept_machines.proofs.Choices.{same_plain}
@@ -86,44 +86,46 @@ module _ (by_values : ValuesOfPoints) (h : List Entry) (s : Series) where
   -- ---- segment
 
   -- one that isn't refused is published
-  found_in : (g : List Entry) (known : Bool) (o : Outcome) → OfKnown known (IsPublished g s) o → is_refused o.answer ≡ false → IsPublished g s o
-  found_in g false o comes told = absurd cc
-  found_in g true o comes told = comes
+  found_in : (g : List Entry) (base : ℕ) (known : Bool) (o : Outcome) → OfKnown known (IsPublished g base s) o → is_refused o.answer ≡ false → IsPublished g base s o
+  found_in g base false o comes told = absurd cc
+  found_in g base true o comes told = comes
 
-  -- the certificate is told, and published, at a version
+  -- the certificate is told, and published, at a version and from a base
   abbrev Finds : Cert → Outcome → Type 0
-  Finds cert o = (version : ℕ) × ((o.answer ≡ segmented version cert) × (o.adds ≡ Some (entry.Publish (publication s version cert))))
+  Finds cert o =
+      (version : ℕ) × (base : ℕ) × (redone : ℕ) × ((o.answer ≡ segmented version base redone cert) × (o.adds ≡ Some (entry.Publish (publication s version base cert))))
 
-  abbrev published_unless : Option Limit → ℕ → Cert → Outcome
-  published_unless passed version cert = added_unless passed (entry.Publish (publication s version cert)) (segmented version cert)
+  abbrev published_unless : Option Limit → ℕ → ℕ → ℕ → Cert → Outcome
+  published_unless passed version base redone cert = added_unless passed (entry.Publish (publication s version base cert)) (segmented version base redone cert)
 
-  added : (passed : Option Limit) (version : ℕ) (cert : Cert) → is_refused (published_unless passed version cert).answer ≡ false
-      → Finds cert (published_unless passed version cert)
-  added None version cert told = (version, (refl, refl))
-  added (Some l) version cert told = absurd cc
+  added : (passed : Option Limit) (version base redone : ℕ) (cert : Cert) → is_refused (published_unless passed version base redone cert).answer ≡ false
+      → Finds cert (published_unless passed version base redone cert)
+  added None version base redone cert told = (version, base, redone, (refl, refl))
+  added (Some l) version base redone cert told = absurd cc
 
-  finds : (g : List Entry) (o : Outcome) (cert : Cert) → o ≡ publish g (publication s (length g) cert) (segmented (length g) cert)
+  finds : (g : List Entry) (base redone : ℕ) (o : Outcome) (cert : Cert) → o ≡ publish g (publication s (length g) base cert) (segmented (length g) base redone cert)
       → is_refused o.answer ≡ false → Finds cert o
-  finds g o cert same told =
+  finds g base redone o cert same told =
       subst (λ (x : Outcome). is_refused x.answer ≡ false → Finds cert x) (sym same)
-      (added (first_passed (Steps ∷ Cuts ∷ []) g (entry.Publish (publication s (length g) cert))) (length g) cert) told
+      (added (first_passed (Steps ∷ Cuts ∷ []) g (entry.Publish (publication s (length g) base cert))) (length g) base redone cert) told
 
   same_cuts : (one other : Outcome) (cert : Cert) → Finds cert one → Finds cert other
       → TellSameCuts one.answer other.answer × PublishSameCuts one.adds other.adds
   same_cuts one other cert first last =
-      let told : TellSameCuts (segmented first.0 cert) (segmented last.0 cert) = (refl, refl, refl) in
-      (rw (first.1.0, last.1.0) told, rw (first.1.1, last.1.1) (refl, refl))
+      let told : TellSameCuts (segmented first.0 first.1 first.2 cert) (segmented last.0 last.1 last.2 cert) = (refl, refl, refl) in
+      (rw (first.3.0, last.3.0) told, rw (first.3.1, last.3.1) (refl, refl))
 
-  pub segment_so : OneCertificate → (o kept : Outcome) → SegmentComesTo h s o → SegmentComesTo (kept_entries h) s kept
+  pub segment_so : OneCertificate → (base kept_base : ℕ) (o kept : Outcome) → SegmentComesTo h base s o → SegmentComesTo (kept_entries h) kept_base s kept
       → is_refused o.answer ≡ false → is_refused kept.answer ≡ false → TellSameCuts o.answer kept.answer × PublishSameCuts o.adds kept.adds
-  segment_so unique o kept comes kept_comes told kept_told =
+  segment_so unique base kept_base o kept comes kept_comes told kept_told =
       let k : List Entry = kept_entries h in
-      let one : IsPublished h s o = found_in h (is_known s h) o comes told in
-      let other : IsPublished k s kept = found_in k (is_known s k) kept kept_comes kept_told in
+      let one : IsPublished h base s o = found_in h base (is_known s h) o comes told in
+      let other : IsPublished k kept_base s kept = found_in k kept_base (is_known s k) kept kept_comes kept_told in
       let stands : StandsFor (positions k s) (penalty_of s.metric k) one.0 =
       subst (λ (b : ℤ). StandsFor (positions k s) b one.0) (sym (penalty_so s.metric h))
       (same_stands by_values (positions h s) (positions k s) same_points (penalty_of s.metric h) one.0 one.1) in
       let same : other.0 ≡ one.0 = unique (positions k s) (penalty_of s.metric k) other.0 one.0 other.1 stands in
-      let told_again : kept ≡ publish k (publication s (length k) one.0) (segmented (length k) one.0) =
-      other.2 ∙ ap (λ (c : Cert). publish k (publication s (length k) c) (segmented (length k) c)) same in
-      same_cuts o kept one.0 (finds h o one.0 one.2 told) (finds k kept one.0 told_again kept_told)
+      let redone : ℕ = redone_since k kept_base s in
+      let told_again : kept ≡ publish k (publication s (length k) kept_base one.0) (segmented (length k) kept_base redone one.0) =
+      other.2 ∙ ap (λ (c : Cert). publish k (publication s (length k) kept_base c) (segmented (length k) kept_base redone c)) same in
+      same_cuts o kept one.0 (finds h base (redone_since h base s) o one.0 one.2 told) (finds k kept_base redone kept one.0 told_again kept_told)

@@ -65,20 +65,25 @@ IsOfKept q = Unit {0}
 abbrev pub HasRoom : Outcome → Type 0
 HasRoom o = o.answer ≢ answer.Refused (refusal.Full Steps)
 
--- a request comes on the kept history to what it comes to on the history, but for the numbers of steps
+-- a request comes on the kept history to what it comes to on the history, but for the numbers of steps; such a request
+-- segments nothing, so it looks at no base
 abbrev pub AnswersAlike : Type 0
-AnswersAlike = (h : List Entry) (q : Request) (o : Outcome) → IsOfKept q → ComesTo h q o → HasRoom o → ComesTo (kept_entries h) q (kept_outcome h o)
+AnswersAlike =
+    (h : List Entry) (base kept_base : ℕ) (q : Request) (o : Outcome) → IsOfKept q → ComesTo h base q o → HasRoom o
+    → ComesTo (kept_entries h) kept_base q (kept_outcome h o)
 
 -- so is its reply, which counts the steps of the history behind it
 abbrev pub RepliesAlike : Type 0
 RepliesAlike =
-    (h : List Entry) (q : Request) (o kept : Outcome) → IsOfKept q → ComesTo h q o → ComesTo (kept_entries h) q kept → HasRoom o
+    (h : List Entry) (base kept_base : ℕ) (q : Request) (o kept : Outcome) → IsOfKept q
+    → ComesTo h base q o → ComesTo (kept_entries h) kept_base q kept → HasRoom o
     → reply_of (kept_entries h) kept ≡ kept_reply (behind h o) (reply_of h o)
 
 -- and the kept history goes on as the history does
 abbrev pub HistoriesAlike : Type 0
 HistoriesAlike =
-    (h : List Entry) (q : Request) (o kept : Outcome) → IsOfKept q → ComesTo h q o → ComesTo (kept_entries h) q kept → HasRoom o
+    (h : List Entry) (base kept_base : ℕ) (q : Request) (o kept : Outcome) → IsOfKept q
+    → ComesTo h base q o → ComesTo (kept_entries h) kept_base q kept → HasRoom o
     → behind (kept_entries h) kept ≡ kept_entries (behind h o)
 
 -- ---- segmentations
@@ -102,10 +107,11 @@ abbrev pub PublishSameCuts : Option Entry → Option Entry → Type 0
 PublishSameCuts (Some (entry.Publish one)) (Some (entry.Publish other)) = (one.cuts ≡ other.cuts) × (one.total ≡ other.total)
 PublishSameCuts one other = ⊥
 
--- where a segmentation is refused neither on the history nor on the kept one, both find the same
+-- where a segmentation is refused neither on the history nor on the kept one, both find the same, from whatever bases
 abbrev pub SegmentsAlike : Type 0
 SegmentsAlike =
-    (h : List Entry) (machine test metric : List ℕ) (o kept : Outcome)
-    → ComesTo h (request.Segment machine test metric) o → ComesTo (kept_entries h) (request.Segment machine test metric) kept
+    (h : List Entry) (base kept_base : ℕ) (machine test metric : List ℕ) (o kept : Outcome)
+    → ComesTo h base (request.Segment machine test metric) o
+    → ComesTo (kept_entries h) kept_base (request.Segment machine test metric) kept
     → is_refused o.answer ≡ false → is_refused kept.answer ≡ false
     → TellSameCuts o.answer kept.answer × PublishSameCuts o.adds kept.adds

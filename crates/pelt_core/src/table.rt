@@ -6,7 +6,7 @@ use crate::rows::Rows;
 use crate::steps::Steps;
 use crate::walk::cuts_back;
 use line_text::Numbers;
-use segment_cost::{Cert, Cost, Costs, NoMemory, Points};
+use segment_cost::{Cert, Cost, Costs, NoMemory, Places, Points};
 use segment_model::{
     agreeing_costs_law, best_list_law, table_law, value_costs_law, values_law, walk_law,
 };
@@ -57,8 +57,12 @@ impl<C: Cost + Drop> Table<C> {
         })
     }
 
-    /// The table of all positions of some points. O(n² + v) time at most, for n positions with v values.
-    pub fn of_points(alloc: Global, points: &Points, penalty: i128) -> Result<Table<C>, NoMemory>
+    // The table of all positions of some points, uncounted. O(n² + v) time at most, for n positions with v values.
+    pub(crate) fn of_points(
+        alloc: Global,
+        points: &Points,
+        penalty: i128,
+    ) -> Result<Table<C>, NoMemory>
         requires low { pos 0 ≤ℤ penalty }
         requires high { penalty ≤ℤ pos (10 ^ 36) }
         ensures { IfOk result (λ table. table ≡ table_of (values_by_position points.now) penalty) }
@@ -118,7 +122,7 @@ impl<C: Cost + Drop> Table<C> {
         Ok(())
     }
 
-    /// The table of the first k positions. O(k) time, and O(1) for each position that goes.
+    /// The table of the first k positions. O(k) time, and O(1) for each position that goes; O(1) where none goes.
     pub fn rewind(&mut self, k: usize)
         requires { k ≤ length self.old.positions }
         ensures { self.new ≡ table_of (take k self.old.positions) self.old.penalty }
@@ -126,6 +130,9 @@ impl<C: Cost + Drop> Table<C> {
         agreeing_costs_law();
         values_law();
         value_costs_law();
+        if k == self.cost.len() {
+            return;
+        }
         self.cost.cut_back(k);
         self.rows.cut_back(k);
     }
@@ -159,14 +166,14 @@ impl<C: Cost + Drop> Table<C> {
             cuts: Numbers::of(best.cuts),
             total: best.total,
             least: Costs::of(Vec::from_slice(alloc, &self.rows.least)?),
-            back: Numbers::of(widened(alloc, &self.rows.back)?),
-            pruned: Numbers::of(widened(alloc, &self.rows.pruned)?),
+            back: Places::of(Vec::from_slice(alloc, &self.rows.back)?),
+            pruned: Places::of(Vec::from_slice(alloc, &self.rows.pruned)?),
         })
     }
 
-    /// The same of a table that is done with, which is given back before the certificate's lists of places are made.
+    /// The same of a table that is done with, whose lists the certificate takes.
     ///
-    /// O(n) time and memory for n positions.
+    /// O(c) time and memory for c cuts.
     pub fn into_certificate(self, alloc: Global) -> Result<Cert, NoMemory>
         ensures { IfOk result (λ cert. IsCertificate
             (cost_between C.cost_of self.positions) (length self.positions) self.penalty cert) }
@@ -178,25 +185,20 @@ impl<C: Cost + Drop> Table<C> {
             rows,
         } = self;
         let points = cost.len() as u64;
-        drop(cost);
         let Rows {
             least,
             back,
             pruned,
-            candidates,
-            bounds,
             ..
         } = rows;
-        drop(candidates);
-        drop(bounds);
         Ok(Cert {
             points,
             penalty,
             cuts: Numbers::of(best.cuts),
             total: best.total,
             least: Costs::of(least),
-            back: Numbers::of(widened(alloc, &back)?),
-            pruned: Numbers::of(widened(alloc, &pruned)?),
+            back: Places::of(back),
+            pruned: Places::of(pruned),
         })
     }
 
@@ -216,17 +218,6 @@ impl<C: Cost + Drop> Table<C> {
         let total = if n == 0 { 0 } else { self.rows.least[n] };
         Ok(Best { cuts, total })
     }
-}
-
-// The places, in as many bits as a certificate has.
-fn widened(alloc: Global, places: &[u16]) -> Result<Vec<u64>, NoMemory>
-    ensures { IfOk result (λ made. made.items ≡ places.now) }
-{
-    let mut made = Vec::with_capacity(alloc, places.len())?;
-    for place in places {
-        made.push(u64::from(*place))?;
-    }
-    Ok(made)
 }
 
 // A best cut list, and its total.

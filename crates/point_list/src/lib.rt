@@ -2,7 +2,8 @@
 //!
 //! `Points` is a list of positions, each a commit with its values and the steps that brought them. Its type keeps the
 //! limits, and [`Points::limits`] says so. A value is put into its position, or a new position in its place, and all
-//! values of one step are taken away again; each finds its position by a binary search.
+//! values of one step are taken away again; each finds its position by a binary search. `SharedPoints` are positions that
+//! don't change any more, with several owners.
 //!
 //! Stands on the definitions of `segment_model`.
 #![tactic(auto)]
@@ -11,11 +12,13 @@ mod fault;
 mod points;
 mod positions;
 mod prefix;
+mod shared;
 mod steps;
 mod stored;
 
 pub use fault::PointFault;
 pub use points::Points;
 pub use prefix::common_prefix;
+pub use shared::SharedPoints;
 pub use std::alloc::AllocError as NoMemory;
 pub use steps::steps_law;

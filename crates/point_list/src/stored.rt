@@ -106,9 +106,19 @@ impl StoredPosition {
         Ok(StoredPosition {
             commit: self.commit,
             count: self.count,
-            cells: SmallVec::from_slice(alloc, self.cells.as_slice())?,
+            cells: copy_of(alloc, self.cells.as_slice())?,
         })
     }
+}
+
+// Equal cells of their own. Two, which is what most positions have, are copied without a call.
+fn copy_of(alloc: Global, cells: &[i64]) -> Result<SmallVec<i64, 2>, NoMemory>
+    ensures { IfOk result (λ made. made.items ≡ cells.now) }
+{
+    if cells.len() == 2 {
+        return Ok(SmallVec::from_buf(alloc, [cells[0], cells[1]]));
+    }
+    SmallVec::from_slice(alloc, cells)
 }
 
 // Makes both halves of the cells twice as long where all are in use; what the new cells hold means nothing.

@@ -1,15 +1,15 @@
--- What one write to a map makes of what is kept by name.
+-- What one write to a map makes of what is held by name.
 use Rattle.std.proofs.Common.{◌≡◌, ℕ, Bool, true, false, cond, ◌&&◌, List, [], refl, sym, ap, ◌∙◌, Option, Some, inl, inr}
 use Rattle.std.specs.Prelude.{unwrap_or, bytes_eq}
 use Rattle.std.proofs.lemmas.Bool.{cases_Bool}
 use Rattle.std.proofs.lemmas.Map.Text.{is_eq-slice_cmp}
 use Rattle.std.proofs.lemmas.Slice.Eq.{bytes_eq-Decides}
 use Rattle.history_model.specs.Runs.{Series}
-use Rattle.segment_cost.specs.declared.done.Done.{Done}
-use Rattle.publication_index.specs.Kept.{is_same, kept_of}
+use Rattle.publication_index.specs.declared.held.Held.{Held}
+use Rattle.publication_index.specs.Kept.{is_same, held_of}
 
 -- names that are the same are equal
-same-name : (one other : List ℕ) → is_same one other ≡ true → one ≡ other
+pub same-name : (one other : List ℕ) → is_same one other ≡ true → one ≡ other
 same-name one other same = (bytes_eq-Decides one other).0 (sym (is_eq-slice_cmp one other) ∙ same)
 
 -- a choice by name, by the bytes
@@ -21,29 +21,52 @@ pub either-or : {A : Type 0} (b : Bool) (x none : A) (o : Option A) → unwrap_o
 either-or true x none o = refl
 either-or false x none o = refl
 
+-- what is read of a choice
+pub read-cond : {A B : Type 0} (g : A → B) (b : Bool) (x y : A) → g (cond b x y) ≡ cond b (g x) (g y)
+read-cond g true x y = refl
+read-cond g false x y = refl
+
+-- what is read of a name after a write to one that is there
+pub written-there : {A : Type 0} (g : Option Held → A) (name m : List ℕ) (new : Option Held) (es : List (List ℕ × Held)) (after : Option Held)
+    → after ≡ cond (is_same name m) new (held_of m es) → g after ≡ cond (bytes_eq name m) (g new) (g (held_of m es))
+written-there g name m new es after written =
+    ap g written ∙ read-cond g (is_same name m) new (held_of m es) ∙ by-bytes name m (g new) (g (held_of m es))
+
+-- where the write leaves what is read of it, that stays of every name
+pub keeps-there : {A : Type 0} (g : Option Held → A) (name m : List ℕ) (x y : Held) (es : List (List ℕ × Held)) (after : Option Held)
+    → held_of name es ≡ Some x → after ≡ cond (is_same name m) (Some y) (held_of m es) → g (Some y) ≡ g (Some x) → g after ≡ g (held_of m es)
+keeps-there g name m x y es after found written same = ap g written ∙ elim (cases_Bool (is_same name m)) [
+  | inl hit ↦ ap (λ b. g (cond b (Some y) (held_of m es))) hit ∙ same ∙ ap g (sym found) ∙ ap (λ (n : List ℕ). g (held_of n es)) (same-name name m hit)
+  | inr miss ↦ ap (λ b. g (cond b (Some y) (held_of m es))) miss
+]
+
 -- ---- the metrics of a test
-module _ (before after : List ℕ → Option (List (List ℕ × Done))) (test : List ℕ) (v new : List (List ℕ × Done)) (here : unwrap_or (before test) [] ≡ v)
+module _ (before after : List ℕ → Option (List (List ℕ × Held))) (test : List ℕ) (v new : List (List ℕ × Held)) (here : unwrap_or (before test) [] ≡ v)
     (written : (q : List ℕ) → after q ≡ cond (is_same test q) (Some new) (before q)) where
   at-test : (s : Series) → is_same test s.test ≡ true → v ≡ unwrap_or (before s.test) []
   at-test s hit = sym here ∙ ap (λ (n : List ℕ). unwrap_or (before n) []) (same-name test s.test hit)
 
-  pub kept-within : (metric : List ℕ) (x : Done) → ((m : List ℕ) → kept_of m new ≡ cond (bytes_eq metric m) (Some x) (kept_of m v))
-      → (s : Series) → kept_of s.metric (unwrap_or (after s.test) [])
-      ≡ cond (bytes_eq test s.test && bytes_eq metric s.metric) (Some x) (kept_of s.metric (unwrap_or (before s.test) []))
-  kept-within metric x inner s =
-      ap (λ (o : Option (List (List ℕ × Done))). kept_of s.metric (unwrap_or o [])) (written s.test) ∙ elim (cases_Bool (is_same test s.test)) [
+  -- what is read of one metric of one test becomes this
+  pub read-within : {A : Type 0} (g : Option Held → A) (metric : List ℕ) (x : A) → ((m : List ℕ) → g (held_of m new) ≡ cond (bytes_eq metric m) x (g (held_of m v)))
+      → (s : Series) → g (held_of s.metric (unwrap_or (after s.test) []))
+      ≡ cond (bytes_eq test s.test && bytes_eq metric s.metric) x (g (held_of s.metric (unwrap_or (before s.test) [])))
+  read-within {A = A} g metric x inner s =
+      let old : A = g (held_of s.metric (unwrap_or (before s.test) [])) in
+      ap (λ (o : Option (List (List ℕ × Held))). g (held_of s.metric (unwrap_or o []))) (written s.test) ∙ elim (cases_Bool (is_same test s.test)) [
         | inl hit ↦
-            ap (λ b. kept_of s.metric (unwrap_or (cond b (Some new) (before s.test)) [])) hit
+            ap (λ b. g (held_of s.metric (unwrap_or (cond b (Some new) (before s.test)) []))) hit
             ∙ inner s.metric
-            ∙ ap (λ (es : List (List ℕ × Done)). cond (bytes_eq metric s.metric) (Some x) (kept_of s.metric es)) (at-test s hit)
-            ∙ ap (λ b. cond (b && bytes_eq metric s.metric) (Some x) (kept_of s.metric (unwrap_or (before s.test) []))) (sym (sym (is_eq-slice_cmp test s.test) ∙ hit))
+            ∙ ap (λ (es : List (List ℕ × Held)). cond (bytes_eq metric s.metric) x (g (held_of s.metric es))) (at-test s hit)
+            ∙ ap (λ b. cond (b && bytes_eq metric s.metric) x old) (sym (sym (is_eq-slice_cmp test s.test) ∙ hit))
         | inr miss ↦
-            ap (λ b. kept_of s.metric (unwrap_or (cond b (Some new) (before s.test)) [])) miss
-            ∙ ap (λ b. cond (b && bytes_eq metric s.metric) (Some x) (kept_of s.metric (unwrap_or (before s.test) []))) (sym (sym (is_eq-slice_cmp test s.test) ∙ miss))
+            ap (λ b. g (held_of s.metric (unwrap_or (cond b (Some new) (before s.test)) []))) miss
+            ∙ ap (λ b. cond (b && bytes_eq metric s.metric) x old) (sym (sym (is_eq-slice_cmp test s.test) ∙ miss))
       ]
 
-  pub same-within : ((m : List ℕ) → kept_of m new ≡ kept_of m v) → (s : Series) → kept_of s.metric (unwrap_or (after s.test) []) ≡ kept_of s.metric (unwrap_or (before s.test) [])
-  same-within inner s = ap (λ (o : Option (List (List ℕ × Done))). kept_of s.metric (unwrap_or o [])) (written s.test) ∙ elim (cases_Bool (is_same test s.test)) [
-    | inl hit ↦ ap (λ b. kept_of s.metric (unwrap_or (cond b (Some new) (before s.test)) [])) hit ∙ inner s.metric ∙ ap (kept_of s.metric) (at-test s hit)
-    | inr miss ↦ ap (λ b. kept_of s.metric (unwrap_or (cond b (Some new) (before s.test)) [])) miss
+  -- or stays
+  pub same-within : {A : Type 0} (g : Option Held → A) → ((m : List ℕ) → g (held_of m new) ≡ g (held_of m v))
+      → (s : Series) → g (held_of s.metric (unwrap_or (after s.test) [])) ≡ g (held_of s.metric (unwrap_or (before s.test) []))
+  same-within g inner s = ap (λ (o : Option (List (List ℕ × Held))). g (held_of s.metric (unwrap_or o []))) (written s.test) ∙ elim (cases_Bool (is_same test s.test)) [
+    | inl hit ↦ ap (λ b. g (held_of s.metric (unwrap_or (cond b (Some new) (before s.test)) []))) hit ∙ inner s.metric ∙ ap (λ (es : List (List ℕ × Held)). g (held_of s.metric es)) (at-test s hit)
+    | inr miss ↦ ap (λ b. g (held_of s.metric (unwrap_or (cond b (Some new) (before s.test)) []))) miss
   ]

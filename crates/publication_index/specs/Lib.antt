@@ -1,2 +1,4 @@
+pub mod Standing
 pub mod Kept
+pub mod Homes
 pub mod Given

@@ -1,10 +1,13 @@
 //! The finished segmentations of one test, by metric.
-ghost use Rattle.std.specs.Prelude.{◌≡◌, ℕ, List, [], bytes_eq, if◌then◌else◌, OnOk, OnErr, option_copied, Some};
-ghost use Rattle.publication_index.specs.Kept.{kept_of};
+ghost use Rattle.std.specs.Prelude.{◌≡◌, ℕ, List, [], bytes_eq, if◌then◌else◌, OnOk, OnErr, option_copied, Some, None, IfSome};
+ghost use Rattle.publication_index.specs.Kept.{done_at_home, done_in, held_of, table_in};
+ghost use Rattle.publication_index.specs.Standing.{IsKeptTable, table_for};
 
 use crate::NoMemory;
+use crate::held::Held;
 use line_text::Name;
-use segment_cost::Done;
+use pelt_core::Table;
+use segment_cost::{Done, Square};
 use std::alloc::Global;
 use std::collections::BTreeMap;
 use std::marker::Model;
@@ -13,14 +16,14 @@ use std::marker::Model;
 #[derive(Drop)]
 pub struct MetricIndex {
     alloc: Global,
-    entries: BTreeMap<Name, Done>,
+    entries: BTreeMap<Name, Held>,
 }
 
 impl Model for MetricIndex {
     ghost use Rattle.std.specs.Prelude.{ℕ, List};
-    ghost use Rattle.segment_cost.specs.declared.done.Done.{Done};
+    ghost use Rattle.publication_index.specs.declared.held.Held.{Held};
 
-    ghost Value = { List (List ℕ × Done) };
+    ghost Value = { List (List ℕ × Held) };
 
     ghost view = { λ m. m.entries.entries };
 }
@@ -37,19 +40,52 @@ impl MetricIndex {
 
     // What is kept of a metric.
     pub fn get(&self, metric: &Name) -> Option<&Done>
-        ensures { option_copied result ≡ kept_of metric.now self.now }
+        ensures { option_copied result ≡ done_in (held_of metric.now self.now) }
     {
-        self.entries.get(metric)
+        match self.entries.get(metric) {
+            Some(held) => Some(&held.done),
+            None => None,
+        }
     }
 
-    // Puts it in the place of its metric's earlier one; changes nothing where there is no memory.
-    pub fn insert(&mut self, done: Done) -> Result<(), NoMemory>
-        ensures ok { OnOk result ((m : List ℕ) → kept_of m self.new
-            ≡ (if bytes_eq done.metric m then Some done else kept_of m self.old)) }
-        ensures err { OnErr result ((m : List ℕ) → kept_of m self.new ≡ kept_of m self.old) }
+    // What is kept of a metric whose table is home.
+    pub fn at_home(&self, metric: &Name) -> Option<&Done>
+        ensures { option_copied result ≡ done_at_home (held_of metric.now self.now) }
+    {
+        match self.entries.get(metric) {
+            Some(held) => held.at_home(),
+            None => None,
+        }
+    }
+
+    // Puts it in the place of its metric's earlier one, with its table; changes nothing where there is no memory.
+    pub fn insert(&mut self, done: Done, table: Table<Square>) -> Result<(), NoMemory>
+        requires { table ≡ table_for done }
+        ensures done { OnOk result ((m : List ℕ) → done_in (held_of m self.new)
+            ≡ (if bytes_eq done.metric m then Some done else done_in (held_of m self.old))) }
+        ensures table { OnOk result ((m : List ℕ) → table_in (held_of m self.new)
+            ≡ (if bytes_eq done.metric m then Some table else table_in (held_of m self.old))) }
+        ensures err { OnErr result ((m : List ℕ) → held_of m self.new ≡ held_of m self.old) }
     {
         let key = done.metric.copy(self.alloc)?;
-        self.entries.insert(key, done)?;
+        let table = Some(table);
+        self.entries.insert(key, Held { done, table })?;
         Ok(())
+    }
+
+    // Takes the metric's table, if it is home.
+    pub fn take_table(&mut self, metric: &Name) -> Option<Table<Square>>
+        ensures taken { result ≡ table_in (held_of metric.now self.old) }
+        ensures stands { IfSome result (λ table.
+            IsKeptTable table (done_in (held_of metric.now self.old))) }
+        ensures done { (m : List ℕ) → done_in (held_of m self.new) ≡ done_in (held_of m self.old) }
+        ensures left { (m : List ℕ) → table_in (held_of m self.new)
+            ≡ (if bytes_eq metric.now m then None else table_in (held_of m self.old)) }
+    {
+        if let Some(held) = self.entries.get_mut(metric) {
+            let table = held.take_table();
+            return table;
+        }
+        None
     }
 }

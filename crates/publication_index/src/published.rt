@@ -1,17 +1,21 @@
 //! The last finished segmentation of each series.
-ghost use Rattle.std.specs.Prelude.{◌≡◌, [], if◌then◌else◌, OnOk, OnErr, option_copied, Some};
+ghost use Rattle.std.specs.Prelude.{◌≡◌, [], if◌then◌else◌, OnOk, OnErr, option_copied, Some, IfSome};
+ghost use Rattle.std.specs.FinSet as set;
 ghost use Rattle.history_model.specs.Runs.{Series, same_series};
-ghost use Rattle.publication_index.specs.Kept.{kept, series_of};
+ghost use Rattle.publication_index.specs.Homes.{homes};
+ghost use Rattle.publication_index.specs.Kept.{home, kept, kept_at_home, series_of};
+ghost use Rattle.publication_index.specs.Standing.{IsKeptTable, table_for};
 
 use crate::NoMemory;
 use crate::metrics::MetricIndex;
 use line_text::Name;
-use segment_cost::Done;
+use pelt_core::Table;
+use segment_cost::{Done, Square};
 use std::alloc::Global;
 use std::collections::BTreeMap;
 use std::marker::Model;
 
-/// The last finished segmentation of each series, in order of test and metric.
+/// The last finished segmentation of each series, in order of test and metric, with its table where that is home.
 #[derive(Drop)]
 pub struct PublicationIndex {
     alloc: Global,
@@ -20,9 +24,9 @@ pub struct PublicationIndex {
 
 impl Model for PublicationIndex {
     ghost use Rattle.std.specs.Prelude.{ℕ, List};
-    ghost use Rattle.segment_cost.specs.declared.done.Done.{Done};
+    ghost use Rattle.publication_index.specs.declared.held.Held.{Held};
 
-    ghost Value = { List (List ℕ × List (List ℕ × Done)) };
+    ghost Value = { List (List ℕ × List (List ℕ × Held)) };
 
     ghost view = { λ s. s.tests.entries };
 }
@@ -49,21 +53,52 @@ impl PublicationIndex {
         }
     }
 
-    /// Puts it in the place of its series' earlier one; where there is no memory, what is kept of each series stays.
-    /// Logarithmic time.
-    pub fn insert(&mut self, done: Done) -> Result<(), NoMemory>
-        ensures ok { OnOk result ((s : Series) → kept s self.new
+    /// What is kept of a series whose table is home. Logarithmic time; takes no memory.
+    pub fn at_home(&self, test: &Name, metric: &Name) -> Option<&Done>
+        ensures { option_copied result
+            ≡ kept_at_home (record { test = test.now; metric = metric.now }) self.now }
+    {
+        match self.tests.get(test) {
+            Some(metrics) => metrics.at_home(metric),
+            None => None,
+        }
+    }
+
+    /// Puts it, with its table, in the place of its series' earlier one; where there is no memory, what is kept of each
+    /// series stays. Logarithmic time.
+    pub fn insert(&mut self, done: Done, table: Table<Square>) -> Result<(), NoMemory>
+        requires { table ≡ table_for done }
+        ensures kept { OnOk result ((s : Series) → kept s self.new
             ≡ (if same_series (series_of done) s then Some done else kept s self.old)) }
-        ensures err { OnErr result ((s : Series) → kept s self.new ≡ kept s self.old) }
+        ensures home { OnOk result
+            (homes self.new ≡ set.insert (homes self.old) (series_of done)) }
+        ensures same { OnErr result ((s : Series) → kept s self.new ≡ kept s self.old) }
+        ensures stay { OnErr result (homes self.new ≡ homes self.old) }
     {
         if let Some(metrics) = self.tests.get_mut(&done.test) {
-            metrics.insert(done)?;
+            metrics.insert(done, table)?;
             return Ok(());
         }
         let key = done.test.copy(self.alloc)?;
         let mut metrics = MetricIndex::new(self.alloc);
-        metrics.insert(done)?;
+        metrics.insert(done, table)?;
         self.tests.insert(key, metrics)?;
         Ok(())
+    }
+
+    /// Takes the table of a series, if it is home; what is kept of each series stays. Logarithmic time; takes no memory.
+    pub fn take_table(&mut self, test: &Name, metric: &Name) -> Option<Table<Square>>
+        ensures taken { result ≡ home (record { test = test.now; metric = metric.now }) self.old }
+        ensures stands { IfSome result (λ table. IsKeptTable table
+            (kept (record { test = test.now; metric = metric.now }) self.old)) }
+        ensures kept { (s : Series) → kept s self.new ≡ kept s self.old }
+        ensures left { homes self.new ≡ set.remove (homes self.old)
+            (record { test = test.now; metric = metric.now }) }
+    {
+        if let Some(metrics) = self.tests.get_mut(test) {
+            let table = metrics.take_table(metric);
+            return table;
+        }
+        None
     }
 }

@@ -60,11 +60,13 @@ pub(crate) fn put_refusal(
         }
         Refusal::BadPenalty => put_kind(out, "E22", "BadPenalty"),
         Refusal::TooFewPoints(points) => put_numbered(alloc, out, "E23", "TooFewPoints", *points),
+        Refusal::Stale(version) => put_numbered(alloc, out, "E24", "Stale", *version),
         Refusal::JobClosed(outcome) => {
             put_kind(out, "E25", "JobClosed")?;
             put_outcome(alloc, out, outcome)
         }
         Refusal::BodyTooLong => put_kind(out, "E26", "BodyTooLong"),
+        Refusal::OnlyAlone => put_kind(out, "E27", "OnlyAlone"),
         Refusal::TooDeep(offset) => put_numbered(alloc, out, "E28", "TooDeep", *offset),
         Refusal::JobOpen(commit) => put_of_commit(alloc, out, "E29", "JobOpen", commit),
     }

@@ -3,6 +3,7 @@ use Rattle.std.specs.Prelude.{◌≡◌, ℕ, ℤ, List, length, map, All, Optio
 use Rattle.segment_model.specs.Segments.{values_of}
 use Rattle.segment_cost.specs.declared.done.Done.{Done}
 use Rattle.change_list.specs.Last.{IsLastCentre}
+use Rattle.publication_index.specs.declared.held.Held.{Held}
 use Rattle.publication_index.specs.Kept.{kept}
 use Rattle.report_model.specs.declared.items.SeriesLine.{SeriesLine}
 use Rattle.series_index.specs.Known.{AreKnown}
@@ -15,7 +16,7 @@ abbrev pub Tests : Type 0
 Tests = List (List ℕ × List (List ℕ × Tracked))
 
 abbrev pub Segmentations : Type 0
-Segmentations = List (List ℕ × List (List ℕ × Done))
+Segmentations = List (List ℕ × List (List ℕ × Held))
 
 -- how many cuts the segmentation has, and the centre of its last segment; neither where there is none
 abbrev pub IsOfKept : Option Done → Option ℕ → Option ℤ → Type 0

@@ -85,10 +85,14 @@ pub enum Refusal {
     BadPenalty,
     /// The series has so few positions that no noise can be told.
     TooFewPoints(u64),
+    /// This later version of the series was published meanwhile.
+    Stale(u64),
     /// The job is closed, and stands so.
     JobClosed(Told),
     /// The body is longer than a body may be.
     BodyTooLong,
+    /// Machines are declared by a script that runs alone.
+    OnlyAlone,
     /// The byte of the body at this place opens a level too many.
     TooDeep(u64),
     /// The job is open, and asks this commit.

@@ -102,3 +102,10 @@ ReadsLeft at bytes items ending =
 -- what the bytes of a script ask, and how it ends
 abbrev pub IsScript : List ℕ → List Item → Ending → Type 0
 IsScript bytes items ending = ReadsLeft 0 bytes items ending
+
+-- the bytes of a script ask these items first: its first pieces do, or all of it does
+abbrev pub AsksFirst : List ℕ → List Item → Type 0
+AsksFirst bytes items =
+    ((used : List ℕ) × (rest : List ℕ) × (bytes ≡ used ++ rest)
+    × (length used ≤ input_limit) × ArePieces used items)
+    ⊎ IsScript bytes items end

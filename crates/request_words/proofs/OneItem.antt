@@ -51,11 +51,13 @@ told_by body (refusal.IllegalMove before after) told = absurd told
 told_by body refusal.UnknownJob told = absurd told
 told_by body (refusal.NotAsked asked) told = absurd told
 told_by body refusal.BadRange told = absurd told
+told_by body (refusal.Stale version) told = absurd told
 told_by body (refusal.JobClosed outcome) told = absurd told
 told_by body (refusal.JobOpen asked) told = absurd told
 told_by body refusal.BadPenalty told = absurd told
 told_by body (refusal.TooFewPoints points) told = absurd told
 told_by body refusal.BodyTooLong told = absurd told
+told_by body refusal.OnlyAlone told = absurd told
 told_by body (refusal.TooDeep offset) told = absurd told
 
 not_cut : (bytes : List ℕ) (offset : ℕ) → IsValidUpTo bytes offset → IsUtf8 bytes → ⊥
@@ -141,6 +143,8 @@ tells_fault body (refusal.NoSuchChange count) due = absurd due.2
 tells_fault body refusal.UnknownRegression due = absurd due.2
 tells_fault body (refusal.IllegalMove before after) due = absurd due.2
 tells_fault body refusal.UnknownJob due = absurd due.2
+tells_fault body (refusal.Stale version) due = absurd due.2
+tells_fault body refusal.OnlyAlone due = absurd due.2
 tells_fault body (refusal.NotAsked asked) due = absurd due.2
 tells_fault body refusal.BadRange due = absurd due.2
 tells_fault body (refusal.JobClosed outcome) due = absurd due.2

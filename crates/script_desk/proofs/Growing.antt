@@ -1,6 +1,6 @@
 -- What a session leaves of the tracks that it began with.
 use Rattle.std.proofs.Common.{◌≡◌, ℕ, suc, ◌<◌, Bool, true, false, cond, List, [], ◌∷◌, ◌++◌, length, Option, None, Some, Ok, Err, refl, sym, ap, subst, ◌∙◌, arith, append_assoc, append-nil, length-append}
-use Rattle.std.specs.Prelude.{find, bytes_eq, nat_le}
+use Rattle.std.specs.Prelude.{find, bytes_eq, nat_eq, nat_le}
 use Rattle.std.specs.List.{AllByRecursion}
 use Rattle.std.proofs.lemmas.Bool.{leb-false}
 use Rattle.std.specs.Cmp.Lexicographic.{nat_list_eq_equiv}
@@ -17,9 +17,12 @@ use Rattle.history_model.specs.declared.entries.Entry.{Entry}
 use Rattle.history_model.specs.declared.entries.Placed.{Placed}
 use Rattle.track_model.specs.Outcomes.{Outcome, tells, refuses}
 use Rattle.track_model.specs.Replies.{machine_of, apart}
-use Rattle.track_model.specs.Tracks.{Track, with_added, with_outcome}
+use Rattle.std.specs.FinSet as set
+use Rattle.history_model.specs.Runs.{Series}
+use Rattle.request_model.specs.declared.replies.Answer.{Answer}
+use Rattle.track_model.specs.Tracks.{Track, base_of, with_added, with_answered, with_home, with_segmented, with_taken}
 use Rattle.script_desk.specs.Sessions.{Answered, is_track, changed, untouched, new_track, added, unknown, AnswersAbout, Answers, State, AnswersFor}
-use Rattle.script_desk.specs.Folds.{AnswersItem}
+use Rattle.script_loop.specs.Folds.{AnswersItem}
 use Rattle.script_desk.specs.Growth.{AreBy, Continues, IsNew, Grows, IsOther, AreDifferent, names_of, Stays, SessionsStay}
 
 by_join : (author : Author) (xs ys : List Placed) → AreBy author xs → AreBy author ys → AreBy author (xs ++ ys)
@@ -61,40 +64,63 @@ module _ (author : Author) where
   added_continues t None = continues_same t
   added_continues t (Some e) = record { machine = refl; kept = refl; added = record { author = author; entry = e } ∷ []; history = refl; by = (refl, tt) }
 
-  -- ---- a machine's track with the entry of an outcome
-  module _ (machine : List ℕ) (o : Outcome) where
-    change : Track → Track
-    change u = with_outcome author u o
+  taken_continues : (t : Track) (s : Series) → Continues author t (with_taken s t)
+  taken_continues t s = by (nat_eq (base_of t s) 0)
+    where
+      by : (b : Bool) → Continues author t (cond b t (with_home (set.remove t.home s) t))
+      by true = continues_same t
+      by false = record { machine = refl; kept = refl; added = []; history = sym (append-nil t.history); by = tt }
 
-    changed_grows : (tracks : List Track) → Grows author tracks (changed machine (λ u. with_outcome author u o) tracks)
+  segmented_continues : (t : Track) (s : Series) (answer : Answer) (adds : Option Entry) → Continues author t (with_segmented author s t (record { answer = answer; adds = adds }))
+  segmented_continues t s answer None = taken_continues t s
+  segmented_continues t s answer (Some e) = record { machine = refl; kept = refl; added = record { author = author; entry = e } ∷ []; history = refl; by = (refl, tt) }
+
+  answered_continues : (q : Request) (o : Outcome) (t : Track) → Continues author t (with_answered author q t o)
+  answered_continues (request.Machine machine) o t = added_continues t o.adds
+  answered_continues (request.Commit machine number name) o t = added_continues t o.adds
+  answered_continues (request.Submit machine commit run samples ignored stated) o t = added_continues t o.adds
+  answered_continues (request.Retract machine run) o t = added_continues t o.adds
+  answered_continues (request.Tune machine metric penalty) o t = added_continues t o.adds
+  answered_continues (request.Calibrate machine test metric factor) o t = added_continues t o.adds
+  answered_continues (request.Segment machine test metric) o t = segmented_continues t (record { test = test; metric = metric }) o.answer o.adds
+  answered_continues (request.Changes machine test metric) o t = added_continues t o.adds
+  answered_continues (request.Verify machine test metric) o t = added_continues t o.adds
+  answered_continues (request.Regress machine test metric change) o t = added_continues t o.adds
+  answered_continues (request.SetState machine number state) o t = added_continues t o.adds
+  answered_continues (request.Bisect machine lo hi) o t = added_continues t o.adds
+  answered_continues (request.Answer machine number commit status) o t = added_continues t o.adds
+  answered_continues (request.Resume machine number) o t = added_continues t o.adds
+  answered_continues (request.Job machine number) o t = added_continues t o.adds
+  answered_continues (request.Runs machine) o t = added_continues t o.adds
+  answered_continues (request.Report machine json) o t = added_continues t o.adds
+
+  -- ---- a machine's track with what a request makes of it
+  module _ (machine : List ℕ) (change : Track → Track) (continues : (t : Track) → Continues author t (change t)) where
+    changed_grows : (tracks : List Track) → Grows author tracks (changed machine change tracks)
     changed_grows [] = tt
     changed_grows (t ∷ tracks) = by (is_track machine t) (changed_grows tracks)
       where
-        by : (b : Bool) → Grows author tracks (changed machine (λ u. with_outcome author u o) tracks) → Grows author (t ∷ tracks) (cond b (with_outcome author t o ∷ tracks) (t ∷ changed machine (λ u. with_outcome author u o) tracks))
-        by true rest = (added_continues t o.adds, grows_same tracks)
+        by : (b : Bool) → Grows author tracks (changed machine change tracks) → Grows author (t ∷ tracks) (cond b (change t ∷ tracks) (t ∷ changed machine change tracks))
+        by true rest = (continues t, grows_same tracks)
         by false rest = (continues_same t, rest)
 
-    same_name : (t : Track) (adds : Option Entry) → (with_added author t adds).machine ≡ t.machine
-    same_name t None = refl
-    same_name t (Some e) = refl
-
-    changed_names : (tracks : List Track) → names_of (changed machine (λ u. with_outcome author u o) tracks) ≡ names_of tracks
+    changed_names : (tracks : List Track) → names_of (changed machine change tracks) ≡ names_of tracks
     changed_names [] = refl
     changed_names (t ∷ tracks) = by (is_track machine t) (changed_names tracks)
       where
-        by : (b : Bool) → names_of (changed machine (λ u. with_outcome author u o) tracks) ≡ names_of tracks → names_of (cond b (with_outcome author t o ∷ tracks) (t ∷ changed machine (λ u. with_outcome author u o) tracks)) ≡ t.machine ∷ names_of tracks
-        by true rest = ap (λ n. n ∷ names_of tracks) (same_name t o.adds)
+        by : (b : Bool) → names_of (changed machine change tracks) ≡ names_of tracks → names_of (cond b (change t ∷ tracks) (t ∷ changed machine change tracks)) ≡ t.machine ∷ names_of tracks
+        by true rest = ap (λ n. n ∷ names_of tracks) ((continues t).machine)
         by false rest = ap (λ ns. t.machine ∷ ns) rest
 
-    changed_length : (tracks : List Track) → length (changed machine (λ u. with_outcome author u o) tracks) ≡ length tracks
+    changed_length : (tracks : List Track) → length (changed machine change tracks) ≡ length tracks
     changed_length [] = refl
     changed_length (t ∷ tracks) = by (is_track machine t) (changed_length tracks)
       where
-        by : (b : Bool) → length (changed machine (λ u. with_outcome author u o) tracks) ≡ length tracks → length (cond b (with_outcome author t o ∷ tracks) (t ∷ changed machine (λ u. with_outcome author u o) tracks)) ≡ suc (length tracks)
+        by : (b : Bool) → length (changed machine change tracks) ≡ length tracks → length (cond b (change t ∷ tracks) (t ∷ changed machine change tracks)) ≡ suc (length tracks)
         by true rest = refl
         by false rest = ap suc rest
 
-    changed_stays : (tracks : List Track) → Stays author tracks (changed machine (λ u. with_outcome author u o) tracks)
+    changed_stays : (tracks : List Track) → Stays author tracks (changed machine change tracks)
     changed_stays tracks = record {
       grows = changed_grows tracks;
       different = λ d. subst AreDifferent (sym (changed_names tracks)) d;
@@ -160,7 +186,7 @@ module _ (author : Author) where
   about_stays : (found : Option Track) (tracks : List Track) (q : Request) (a : Answered) → find (is_track (machine_of q)) tracks ≡ found
       → AnswersAbout found author tracks q a → Stays author tracks a.tracks
   about_stays None tracks q a none told = subst (λ (b : Answered). Stays author tracks b.tracks) (sym told) (unknown_stays tracks q none)
-  about_stays (Some t) tracks q a found told = subst (λ (b : Answered). Stays author tracks b.tracks) (sym told.2) (changed_stays (machine_of q) told.0 tracks)
+  about_stays (Some t) tracks q a found told = subst (λ (b : Answered). Stays author tracks b.tracks) (sym told.2) (changed_stays (machine_of q) (λ u. with_answered author q u told.0) (answered_continues q told.0) tracks)
 
   answered_stays : (tracks : List Track) (q : Request) (a : Answered) → Answers author tracks q a → Stays author tracks a.tracks
   answered_stays tracks q a told = about_stays (find (is_track (machine_of q)) tracks) tracks q a refl told

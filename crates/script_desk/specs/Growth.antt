@@ -14,7 +14,7 @@ use Rattle.kept_machines.specs.Loading.{LeadTo}
 use Rattle.kept_machines.specs.Rows.{is_of_session, new_rows}
 pub use Rattle.kept_machines.specs.Machines.{IsOther, AreDifferent, names_of}
 use Rattle.script_desk.specs.Sessions.{State, AnswersFor}
-use Rattle.script_desk.specs.Folds.{AreAnswers}
+use Rattle.script_loop.specs.Folds.{AreAnswers}
 
 abbrev pub AreBy : Author → List Placed → Type 0
 AreBy author entries = AllByRecursion (λ (p : Placed). p.author ≡ author) entries

@@ -1,3 +1,3 @@
 pub mod Sessions
-pub mod Folds
+pub mod Counting
 pub mod Growth

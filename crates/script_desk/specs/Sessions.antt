@@ -1,6 +1,7 @@
 -- What one request of a script makes of the machines of a session: its reply, and their histories
 -- after it.
 use Rattle.std.specs.Prelude.{◌≡◌, ℕ, Bool, true, false, nat_le, if◌then◌else◌, List, [], ◌∷◌, ◌++◌, length, find, Option, Some, None}
+use Rattle.std.specs.List.{AllZip}
 use Rattle.metric_table.specs.Limits.{most}
 use Rattle.metric_table.specs.declared.limits.Limit.TheVariants.{Machines}
 use Rattle.request_model.specs.declared.requests.Request.{Request}
@@ -13,7 +14,7 @@ use Rattle.history_model.specs.Allowed.{Legal}
 use Rattle.history_model.specs.Entries.{entries_of}
 use Rattle.track_model.specs.Outcomes.{Outcome, tells, refuses}
 use Rattle.track_model.specs.Replies.{machine_of, reply_of, apart}
-use Rattle.track_model.specs.Tracks.{Track, with_outcome, ComesTo}
+use Rattle.track_model.specs.Tracks.{Track, ComesTo, IsSameButTables, base_asked, with_answered, new_track as empty_track}
 pub use Rattle.kept_machines.specs.Machines.{is_track, changed}
 
 -- a reply, and the tracks after it, in order of declaration
@@ -27,7 +28,7 @@ untouched tracks o = record { reply = apart o; tracks = tracks }
 
 -- ---- a machine more, where there is room
 abbrev pub new_track : List ℕ → Track
-new_track machine = record { machine = machine; kept = false; history = [] }
+new_track machine = empty_track machine false
 
 abbrev pub added : List Track → List ℕ → Answered
 added tracks machine =
@@ -48,14 +49,15 @@ abbrev pub stepped : Author → List Track → Request → Track → Outcome →
 stepped author tracks q t o =
     record {
       reply = reply_of (entries_of t.history) o;
-      tracks = changed (machine_of q) (λ u. with_outcome author u o) tracks;
+      tracks = changed (machine_of q) (λ u. with_answered author q u o) tracks;
     }
 
 -- ---- any request
 abbrev pub AnswersAbout : Option Track → Author → List Track → Request → Answered → Type 0
 AnswersAbout None author tracks q answered = answered ≡ unknown tracks q
 AnswersAbout (Some t) author tracks q answered =
-    (o : Outcome) × ComesTo (entries_of t.history) q o × (answered ≡ stepped author tracks q t o)
+    (o : Outcome) × ComesTo (entries_of t.history) (base_asked t q) q o
+    × (answered ≡ stepped author tracks q t o)
 
 abbrev pub Answers : Author → List Track → Request → Answered → Type 0
 Answers author tracks q answered =
@@ -75,6 +77,11 @@ abbrev pub RepliesTo : State → Request → Reply → State → Type 0
 RepliesTo before q reply after =
     (after.author ≡ before.author)
     × Answers before.author before.tracks q (record { reply = reply; tracks = after.tracks })
+
+-- where there is no memory for an answer all stands as it was, but for a table that went
+pub record Keeps (before after : State) : Type 0 where
+  pub author : after.author ≡ before.author
+  pub tracks : AllZip IsSameButTables before.tracks after.tracks
 
 -- so it is by a session that tells each reply
 abbrev pub AnswersFor : State → Request → Option Reply → State → Type 0

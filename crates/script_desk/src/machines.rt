@@ -1,6 +1,9 @@
 //! Requests, answered on the machine that each is about.
 ghost use Rattle.std.specs.Prelude.{◌≡◌, IfOk, OnErr};
+ghost use Rattle.std.specs.List.{AllZip};
+ghost use Rattle.track_model.specs.Counts.{Counts};
 ghost use Rattle.track_model.specs.Replies as replies;
+ghost use Rattle.track_model.specs.Tracks.{IsSameButTables};
 ghost use Rattle.script_desk.specs.Sessions.{added, unknown, Answers};
 
 use crate::NoMemory;
@@ -8,27 +11,31 @@ use history_model::Author;
 use kept_machines::place_of;
 use line_text::Name;
 use metric_table::Limit;
+use pelt_core::Steps;
 use request_model::{Answer, Refusal, Reply, Request};
 use std::alloc::Global;
+use std::sync::ledger::Ledger;
 use track_state::TrackState;
-use track_step::step;
+use track_step::answer;
 
-// Answers a request of a script, and adds what it adds: a machine, or an entry of one. Where there is no memory nothing
-// changes.
-pub(crate) fn answer_request(
+// Answers a request of a script, and adds what it adds: a machine, or an entry of one; by as many steps as a segmentation
+// says.
+pub(crate) fn answer_request<L: Ledger>(
     alloc: Global,
     author: Author,
     machines: &mut Vec<TrackState>,
     request: &Request,
+    steps: &mut Steps<L>,
 ) -> Result<Reply, NoMemory>
-    ensures ok { IfOk result (λ reply. Answers author machines.old.items request.now
+    ensures answered { IfOk result (λ reply. Answers author machines.old.items request.now
         (record { reply = reply; tracks = machines.new.items })) }
-    ensures err { OnErr result (machines.new.items ≡ machines.old.items) }
+    ensures steps { IfOk result (λ reply. Counts request.now reply.answer steps.old steps.new) }
+    ensures left { OnErr result (AllZip IsSameButTables machines.old.items machines.new.items) }
 {
-    match place_of(machines, machine_of(request)) {
-        Some(i) => step(&mut machines[i], author, request),
-        None => answer_unknown(alloc, machines, request),
+    if let Some(i) = place_of(machines, machine_of(request)) {
+        return answer(&mut machines[i], author, request, steps);
     }
+    answer_unknown(alloc, machines, request)
 }
 
 // Answers a request about a machine that isn't declared.

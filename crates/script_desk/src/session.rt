@@ -1,16 +1,19 @@
 //! The machines of one thread.
-ghost use Rattle.std.specs.Prelude.{◌≡◌, All, IfOk};
+ghost use Rattle.std.specs.Prelude.{◌≡◌, All, IfOk, OnErr};
+ghost use Rattle.track_model.specs.Counts.{Counts};
 ghost use Rattle.script_desk.specs.Growth.{ComesBack};
-ghost use Rattle.script_desk.specs.Sessions.{HasLegalHistory, RepliesTo};
+ghost use Rattle.script_desk.specs.Sessions.{HasLegalHistory, Keeps, RepliesTo};
 
 use crate::NoMemory;
-use crate::desk::Desk;
+use crate::counting::CountingDesk;
 use crate::machines::answer_request;
 use history_model::Author;
 use kept_machines::{comes_back_law, may_be_kept_law};
+use pelt_core::Steps;
 use request_model::{Reply, Request};
 use std::alloc::Global;
 use std::marker::Model;
+use std::sync::ledger::Ledger;
 use track_state::TrackState;
 
 /// The machines of one thread, with the author of the entries that are added. Contracts see the author and the tracks, in
@@ -23,9 +26,13 @@ pub struct Session {
 }
 
 impl Model for Session {
+    ghost use Rattle.std.specs.Coded.{codes};
+    ghost use Rattle.track_model.specs.Tracks.{coded_home};
     ghost use Rattle.script_desk.specs.Sessions.{State};
 
     ghost Value = { State };
+
+    ghost coded = { Prim.hlevel (codes, coded_home) };
 
     ghost view = { λ s. record { author = s.author; tracks = s.machines.items } };
 }
@@ -43,10 +50,17 @@ impl Session {
     }
 
     // Answers a request.
-    pub(crate) fn reply_to(&mut self, request: &Request) -> Result<Reply, NoMemory>
-        ensures { IfOk result (λ reply. RepliesTo self.old request.now reply self.new) }
+    pub(crate) fn reply_to<L: Ledger>(
+        &mut self,
+        request: &Request,
+        steps: &mut Steps<L>,
+    ) -> Result<Reply, NoMemory>
+        ensures replied { IfOk result (λ reply. RepliesTo self.old request.now reply self.new) }
+        ensures steps { IfOk result (λ reply.
+            Counts request.now reply.answer steps.old steps.new) }
+        ensures left { OnErr result (Keeps self.old self.new) }
     {
-        answer_request(self.alloc, self.author, &mut self.machines, request)
+        answer_request(self.alloc, self.author, &mut self.machines, request, steps)
     }
 
     /// Says what the machines keep: each has a legal history. Changes nothing: its contract is what it is for.
@@ -75,13 +89,19 @@ impl Session {
     }
 }
 
-impl Desk for Session {
-    ghost use Rattle.script_desk.specs.Sessions.{AnswersFor};
+impl CountingDesk for Session {
+    ghost use Rattle.script_desk.specs.Sessions.{AnswersFor, Keeps};
 
     ghost answers = { AnswersFor };
 
-    fn answer(&mut self, request: &Request) -> Result<Option<Reply>, NoMemory> {
-        let reply = self.reply_to(request)?;
+    ghost fails = { Keeps };
+
+    fn answer<L: Ledger>(
+        &mut self,
+        request: &Request,
+        steps: &mut Steps<L>,
+    ) -> Result<Option<Reply>, NoMemory> {
+        let reply = self.reply_to(request, steps)?;
         Ok(Some(reply))
     }
 }

@@ -3,10 +3,12 @@ ghost use Rattle.std.specs.Prelude.{◌≡◌, All, Some, None, if◌then◌else
 ghost use Rattle.script_desk.specs.Sessions.{HasLegalHistory, is_of_segmentations};
 
 use crate::NoMemory;
-use crate::desk::Desk;
+use crate::counting::CountingDesk;
 use crate::session::Session;
+use pelt_core::Steps;
 use request_model::{Reply, Request};
 use std::marker::Model;
+use std::sync::ledger::Ledger;
 
 /// A session that tells the replies about segmentations alone: to requests for the segmentation of a series, or for its
 /// changes. It answers all requests. Contracts see it as the session.
@@ -16,9 +18,13 @@ pub struct Trial {
 }
 
 impl Model for Trial {
+    ghost use Rattle.std.specs.Coded.{codes};
+    ghost use Rattle.track_model.specs.Tracks.{coded_home};
     ghost use Rattle.script_desk.specs.Sessions.{State};
 
     ghost Value = { State };
+
+    ghost coded = { Prim.hlevel (codes, coded_home) };
 
     ghost view = { λ s. s.session };
 }
@@ -57,13 +63,19 @@ fn told_if(is_told: bool, reply: Reply) -> Option<Reply>
     if is_told { Some(reply) } else { None }
 }
 
-impl Desk for Trial {
-    ghost use Rattle.script_desk.specs.Sessions.{AnswersSome};
+impl CountingDesk for Trial {
+    ghost use Rattle.script_desk.specs.Sessions.{AnswersSome, Keeps};
 
     ghost answers = { AnswersSome };
 
-    fn answer(&mut self, request: &Request) -> Result<Option<Reply>, NoMemory> {
-        let reply = self.session.reply_to(request)?;
+    ghost fails = { Keeps };
+
+    fn answer<L: Ledger>(
+        &mut self,
+        request: &Request,
+        steps: &mut Steps<L>,
+    ) -> Result<Option<Reply>, NoMemory> {
+        let reply = self.session.reply_to(request, steps)?;
         Ok(told_if(is_of_segmentations(request), reply))
     }
 }

@@ -1,5 +1,5 @@
 -- The answers to items, computed, where each request is of a form whose outcome is a function of the history.
-use Rattle.std.proofs.Common.{List, [], ◌∷◌, refl, Option, Some, None, Ok, Err}
+use Rattle.std.proofs.Common.{ℕ, List, [], ◌∷◌, refl, Option, Some, None, Ok, Err}
 use Rattle.std.specs.Prelude.{find}
 use Rattle.std.specs.List.{AllByRecursion, flat_map}
 use Rattle.request_model.specs.declared.requests.Request.{Request}
@@ -16,9 +16,9 @@ use Rattle.track_model.specs.Following as following
 use Rattle.track_model.specs.Forms as forms
 use Rattle.track_model.specs.Outcomes.{Outcome, tells, refuses}
 use Rattle.track_model.specs.Replies.{machine_of}
-use Rattle.track_model.specs.Tracks.{Track, ComesTo}
+use Rattle.track_model.specs.Tracks.{Track, ComesTo, base_asked}
 use Rattle.script_desk.specs.Sessions.{Answered, is_track, untouched, unknown, stepped, AnswersAbout, State, AnswersFor}
-use Rattle.script_desk.specs.Folds.{AnswersItem, AreAnswers}
+use Rattle.script_loop.specs.Folds.{AnswersItem, AreAnswers}
 use Rattle.script_session.specs.Laws.{IsComputed, AsksComputed, OutputsExist}
 
 -- what a request of these forms comes to; of the other forms it is anything
@@ -55,28 +55,28 @@ after author tracks (item ∷ items) = after author (answered author tracks item
 abbrev state : Author → List Track → State
 state author tracks = record { author = author; tracks = tracks }
 
-comes : (h : List Entry) (q : Request) → IsComputed q → ComesTo h q (computed h q)
-comes h (request.Machine machine) is = refl
-comes h (request.Commit machine number name) is = refl
-comes h (request.Submit machine commit run samples ignored stated) is = refl
-comes h (request.Retract machine run) is = refl
-comes h (request.Tune machine metric penalty) is = refl
-comes h (request.Calibrate machine test metric factor) is = absurd is
-comes h (request.Segment machine test metric) is = absurd is
-comes h (request.Changes machine test metric) is = absurd is
-comes h (request.Verify machine test metric) is = absurd is
-comes h (request.Regress machine test metric change) is = absurd is
-comes h (request.SetState machine number state) is = refl
-comes h (request.Bisect machine lo hi) is = refl
-comes h (request.Answer machine number commit status) is = refl
-comes h (request.Resume machine number) is = refl
-comes h (request.Job machine number) is = refl
-comes h (request.Runs machine) is = refl
-comes h (request.Report machine json) is = absurd is
+comes : (h : List Entry) (base : ℕ) (q : Request) → IsComputed q → ComesTo h base q (computed h q)
+comes h base (request.Machine machine) is = refl
+comes h base (request.Commit machine number name) is = refl
+comes h base (request.Submit machine commit run samples ignored stated) is = refl
+comes h base (request.Retract machine run) is = refl
+comes h base (request.Tune machine metric penalty) is = refl
+comes h base (request.Calibrate machine test metric factor) is = absurd is
+comes h base (request.Segment machine test metric) is = absurd is
+comes h base (request.Changes machine test metric) is = absurd is
+comes h base (request.Verify machine test metric) is = absurd is
+comes h base (request.Regress machine test metric change) is = absurd is
+comes h base (request.SetState machine number state) is = refl
+comes h base (request.Bisect machine lo hi) is = refl
+comes h base (request.Answer machine number commit status) is = refl
+comes h base (request.Resume machine number) is = refl
+comes h base (request.Job machine number) is = refl
+comes h base (request.Runs machine) is = refl
+comes h base (request.Report machine json) is = absurd is
 
 about_is : (found : Option Track) (author : Author) (tracks : List Track) (q : Request) → IsComputed q → AnswersAbout found author tracks q (about found author tracks q)
 about_is None author tracks q is = refl
-about_is (Some t) author tracks q is = (computed (entries_of t.history) q, comes (entries_of t.history) q is, refl)
+about_is (Some t) author tracks q is = (computed (entries_of t.history) q, comes (entries_of t.history) (base_asked t q) q is, refl)
 
 answered_is : (author : Author) (tracks : List Track) (item : Item) → AsksComputed item
     → AnswersItem AnswersFor (state author tracks) item (Some (answered author tracks item).reply) (state author (answered author tracks item).tracks)

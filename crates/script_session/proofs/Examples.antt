@@ -15,7 +15,8 @@ use Rattle.sample_model.specs.Samples.{Measurement}
 use Rattle.request_words.specs.Bodies.{Item}
 use Rattle.history_model.specs.declared.entries.Author.TheVariants as author
 use Rattle.history_model.specs.declared.entries.Entry.TheVariants as entry
-use Rattle.track_model.specs.Tracks.{Track}
+use Rattle.std.specs.FinSet as set
+use Rattle.track_model.specs.Tracks.{Track, new_track}
 use Rattle.script_session.proofs.Computed.{answered, replies}
 
 -- ---- a session in which identities come again: a duplicate, a clash, a retraction, and the duplicate of a retracted run
@@ -105,7 +106,7 @@ the_text_is_written = refl
 -- ---- the 17th machine
 machines : ℕ → List Track
 machines zero = []
-machines (suc n) = record { machine = n ∷ []; kept = false; history = [] } ∷ machines n
+machines (suc n) = new_track (n ∷ []) false ∷ machines n
 
 a_machine_too_many : answered (author.Script 1) (machines 16) (Ok (request.Machine m)) ≡ record { reply = said 0 (answer.Refused (refusal.Full Machines)); tracks = machines 16 }
 unfolding m said machines
@@ -113,7 +114,7 @@ a_machine_too_many = refl
 
 -- ---- a machine that the store had
 kept : List Track
-kept = record { machine = m; kept = true; history = record { author = author.Kept; entry = entry.Commit 10 (codes "a") } ∷ [] } ∷ []
+kept = record { machine = m; kept = true; history = record { author = author.Kept; entry = entry.Commit 10 (codes "a") } ∷ []; home = set.empty } ∷ []
 
 it_was_there : replies (author.Script 1) kept (Ok (request.Commit m 10 (codes "a")) ∷ []) ≡ said 1 (answer.Duplicate 1) ∷ []
 unfolding kept m said

@@ -1,9 +1,7 @@
-mod Answering
-mod Ending
-mod Reading
 mod Opening
-mod Sources
 mod Once
 mod Parted
 mod Computed
+mod Rising
+mod Seen
 mod Examples

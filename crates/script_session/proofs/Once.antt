@@ -14,17 +14,17 @@ use Rattle.history_model.specs.declared.entries.Author.{Author}
 use Rattle.history_model.specs.Entries.{entries_of}
 use Rattle.track_model.specs.Laws.{OneOutcome}
 use Rattle.track_model.specs.Replies.{machine_of}
-use Rattle.track_model.specs.Tracks.{Track}
+use Rattle.track_model.specs.Tracks.{Track, base_asked}
 use Rattle.script_desk.specs.Sessions.{Answered, is_track, stepped, AnswersAbout, Answers, State, RepliesTo, AnswersFor, is_of_segmentations, AnswersSome}
-use Rattle.script_desk.specs.Folds.{AnswersItem, AreAnswers}
-use Rattle.script_session.specs.Outputs.{IsOutput, AsksFirst}
+use Rattle.script_loop.specs.Folds.{AnswersItem, AreAnswers}
+use Rattle.script_loop.specs.Outputs.{IsOutput, AsksFirst}
 use Rattle.script_session.specs.Laws.{AnswersOnce, OutputsOnce, OneScript, ScriptsOnce, BeginsOutput}
 
 -- ---- the machines of a session, over whatever request comes to one outcome
 about_once : OneOutcome → (found : Option Track) (author : Author) (tracks : List Track) (q : Request) (a b : Answered)
     → AnswersAbout found author tracks q a → AnswersAbout found author tracks q b → a ≡ b
 about_once outcome None author tracks q a b one two = one ∙ sym two
-about_once outcome (Some t) author tracks q a b one two = one.2 ∙ ap (stepped author tracks q t) (outcome (entries_of t.history) q one.0 two.0 one.1 two.1) ∙ sym two.2
+about_once outcome (Some t) author tracks q a b one two = one.2 ∙ ap (stepped author tracks q t) (outcome (entries_of t.history) (base_asked t q) q one.0 two.0 one.1 two.1) ∙ sym two.2
 
 answered_once : OneOutcome → (author : Author) (tracks : List Track) (q : Request) (a b : Answered) → Answers author tracks q a → Answers author tracks q b → a ≡ b
 answered_once outcome author tracks q a b one two = about_once outcome (find (is_track (machine_of q)) tracks) author tracks q a b one two

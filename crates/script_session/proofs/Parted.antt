@@ -6,7 +6,7 @@ use Rattle.request_model.specs.declared.replies.Reply.{Reply}
 use Rattle.reply_text.specs.Replies.{text_of}
 use Rattle.request_words.specs.Bodies.{Item}
 use Rattle.script_desk.specs.Sessions.{State, AnswersFor, AnswersSome}
-use Rattle.script_desk.specs.Folds.{AnswersItem}
+use Rattle.script_loop.specs.Folds.{AnswersItem}
 use Rattle.script_session.specs.Part.{is_of_part, part, IsPart, OneReplyEach, TellsPart, TellsNoMore, OutputsAreParts, PartsAreOfOutputs, PartOfEach}
 use Rattle.script_session.specs.Laws.{ScriptsOnce}
 

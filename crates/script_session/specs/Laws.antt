@@ -6,8 +6,8 @@ use Rattle.request_model.specs.declared.requests.Request.TheVariants as request
 use Rattle.request_model.specs.declared.replies.Reply.{Reply}
 use Rattle.request_words.specs.Bodies.{Item}
 use Rattle.request_text.specs.Scripts.{Ending, IsScript}
-use Rattle.script_session.specs.Outputs.{IsOutput, Out, AsksFirst}
-use Rattle.script_session.specs.Endings.{GaveOpen}
+use Rattle.script_loop.specs.Outputs.{IsOutput, Out, AsksFirst}
+use Rattle.script_loop.specs.Endings.{GaveOpen}
 
 -- a request has one answer
 abbrev pub AnswersOnce : {S : Type 0} → (S → Request → Option Reply → S → Type 0) → Type 0

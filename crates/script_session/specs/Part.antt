@@ -6,8 +6,8 @@ use Rattle.reply_text.specs.Replies.{text_of}
 use Rattle.request_words.specs.Bodies.{Item}
 use Rattle.request_text.specs.Scripts.{Ending, IsScript}
 use Rattle.script_desk.specs.Sessions.{State, AnswersFor, AnswersSome, is_of_segmentations}
-use Rattle.script_desk.specs.Folds.{AreAnswers}
-use Rattle.script_session.specs.Outputs.{Out}
+use Rattle.script_loop.specs.Folds.{AreAnswers}
+use Rattle.script_loop.specs.Outputs.{Out}
 
 -- the reply to the item is told: the item asks for a segmentation or for changes, or could not be
 -- read

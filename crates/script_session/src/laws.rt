@@ -1,5 +1,6 @@
 //! Laws of the definitions, as public functions that do nothing: their contracts are what they are for.
 ghost use Rattle.script_desk.specs.Sessions.{AnswersFor, AnswersSome};
+ghost use Rattle.script_session.specs.Counts.{SessionsCount, TrialsCount};
 ghost use Rattle.script_session.specs.Laws.{
   AnswersOnce,
   OutputsExist,
@@ -61,3 +62,11 @@ pub fn part_law()
 {
     output_law();
 }
+
+/// A session whose steps are counted answers as ever, and so does one that tells the replies about segmentations alone; the
+/// steps rise by exactly the positions that the answers to segmentations say were looked at anew, where none of these was
+/// refused a limit. Does nothing: its contract is what it is for.
+pub fn count_law()
+    ensures session { SessionsCount }
+    ensures trial { TrialsCount }
+{}

@@ -21,9 +21,12 @@ pub use cert::Cert;
 pub use cost::Cost;
 pub use done::Done;
 pub use laws::{certificate_law, one_certificate_law};
-pub use point_list::{PointFault, Points};
+pub use point_list::{PointFault, Points, SharedPoints};
 pub use square::Square;
 pub use std::alloc::AllocError as NoMemory;
 
 /// A list of whole numbers of 128 bits: costs and totals.
 pub type Costs = line_text::Items<i128>;
+
+/// A list of places, of which there are at most 16,385.
+pub type Places = line_text::Items<u16>;

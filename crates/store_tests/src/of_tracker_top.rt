@@ -1,6 +1,11 @@
 //! Scripts on the machines of a SQLite file that is opened again for each run.
+ghost use Rattle.std.specs.Prelude.{◌≡◌, ◌<◌};
+
 use keep_sqlite::SqliteKeeper;
+use pelt_core::Steps;
 use std::alloc::{AllocError, Global};
+use std::marker::Brand;
+use std::sync::ledger::{Blank, Ledger};
 use track_outside::{MemFiles, MemSink, MemSource};
 use tracker_top::{Status, alone};
 
@@ -60,19 +65,36 @@ fn answer(
     script: &[u8],
 ) -> Result<(Status, MemSink), AllocError> {
     let words = words_for(alloc, name)?;
+    answer_counted::<Brand>(rt, alloc, &words, script, Blank::new(1))
+}
+
+// The same, with steps that are counted in a new ledger.
+fn answer_counted<L: Ledger>(
+    rt: &HostRuntime,
+    alloc: Global,
+    words: &[String],
+    script: &[u8],
+    blank: Blank,
+) -> Result<(Status, MemSink), AllocError>
+    requires name { blank.name ≡ L.name }
+    requires parts { blank.parts ≡ L.parts }
+    requires some { 0 < L.parts }
+{
     let mut input = MemSource::new(alloc, script, &[])?;
     let mut out = MemSink::new(alloc, 10_000, &[])?;
     let mut err = MemSink::new(alloc, 1_000, &[])?;
     let mut files = MemFiles::new(alloc, 0, &[])?;
     let mut keeper = SqliteKeeper::new(rt, alloc);
+    let mut steps = Steps::<L>::start(blank);
     let status = alone(
         alloc,
-        &words,
+        words,
         &mut input,
         &mut out,
         &mut err,
         &mut files,
         &mut keeper,
+        &mut steps,
     );
     Ok((status, out))
 }

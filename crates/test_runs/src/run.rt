@@ -1,6 +1,11 @@
 //! Runs of commands. Each function makes one object, and answers false where there is no memory.
+ghost use Rattle.std.specs.Prelude.{◌≡◌, ◌<◌};
+
 use crate::closed::Closed;
+use pelt_core::Steps;
 use std::alloc::{AllocError, Global};
+use std::marker::Brand;
+use std::sync::ledger::{Blank, Ledger};
 use track_outside::{MemKeeper, MemSink, MemSource, Source};
 use tracker_top::{Status, alone};
 
@@ -112,11 +117,32 @@ fn status_of<I: Source + Send + Drop>(
 ) -> Option<Status> {
     match texts_of(alloc, words) {
         Ok(texts) => {
-            let mut files = Closed::<I>::new();
-            Some(alone(alloc, &texts, source, out, err, &mut files, keeper))
+            status_counted::<I, Brand>(alloc, &texts, source, out, err, keeper, Blank::new(1))
         }
         Err(_) => None,
     }
+}
+
+// The same, with steps that are counted in a new ledger.
+fn status_counted<I: Source + Send + Drop, L: Ledger>(
+    alloc: Global,
+    texts: &[String],
+    source: &mut I,
+    out: &mut MemSink,
+    err: &mut MemSink,
+    keeper: &mut MemKeeper,
+    blank: Blank,
+) -> Option<Status>
+    requires name { blank.name ≡ L.name }
+    requires parts { blank.parts ≡ L.parts }
+    requires some { 0 < L.parts }
+{
+    let mut steps = Steps::<L>::start(blank);
+    let mut files = Closed::<I>::new();
+    let status = alone(
+        alloc, texts, source, out, err, &mut files, keeper, &mut steps,
+    );
+    Some(status)
 }
 
 fn texts_of(alloc: Global, words: &[&str]) -> Result<Vec<String>, AllocError> {

@@ -22,7 +22,7 @@ use Rattle.request_model.specs.declared.replies.Answer.TheVariants as answer
 use Rattle.track_model.specs.Following.{raise}
 use Rattle.track_model.specs.Forms as forms
 use Rattle.track_model.specs.Outcomes.{Outcome, tells}
-use Rattle.track_model.specs.Publishing.{OfKnown, OfPublished, OfFactor, OfMany, publication, publish, segmented, IsPublished, named, TellsChanges, TellsCertificate, is_factor, IsCalibrated}
+use Rattle.track_model.specs.Publishing.{OfKnown, OfPublished, OfFactor, OfMany, publication, publish, redone_since, segmented, IsPublished, named, TellsChanges, TellsCertificate, is_factor, IsCalibrated}
 use Rattle.track_model.specs.Tracks.{ComesTo}
 use Rattle.report_model.specs.declared.pages.Pages.{Pages}
 use Rattle.track_model.proofs.Orders.{same-items}
@@ -81,10 +81,10 @@ one-list unique points metric cuts xs ys p q =
 
 -- ---- the forms
 module _ (unique : CentreIsUnique) (certificate : OneCertificate) (noise : OneNoise) (h : List Entry) where
-  one-segment : (s : Series) → IsOne (IsPublished h s)
-  one-segment s one other p q =
+  one-segment : (base : ℕ) (s : Series) → IsOne (IsPublished h base s)
+  one-segment base s one other p q =
       let same = certificate (positions h s) (penalty_of s.metric h) p.0 q.0 p.1 q.1 in
-      p.2 ∙ ap (λ (cert : Cert). publish h (publication s (length h) cert) (segmented (length h) cert)) same ∙ sym q.2
+      p.2 ∙ ap (λ (cert : Cert). publish h (publication s (length h) base cert) (segmented (length h) base (redone_since h base s) cert)) same ∙ sym q.2
 
   one-changes : (s : Series) (x : Publication) → IsOne (TellsChanges h s x)
   one-changes s x one other p q =
@@ -101,36 +101,36 @@ module _ (unique : CentreIsUnique) (certificate : OneCertificate) (noise : OneNo
       let same = noise (positions h s) p.0 q.0 p.1 q.1 in
       p.2 ∙ ap (λ (n : ℕ). forms.tune h s.metric (pos (factor * max 1 (n * n)))) same ∙ sym q.2
 
-  pub one-outcome : (q : Request) → IsOne (ComesTo h q)
-  one-outcome (request.Machine machine) one other p q = p ∙ sym q
-  one-outcome (request.Commit machine number name) one other p q = p ∙ sym q
-  one-outcome (request.Submit machine commit run samples ignored stated) one other p q = p ∙ sym q
-  one-outcome (request.Retract machine run) one other p q = p ∙ sym q
-  one-outcome (request.Tune machine metric penalty) one other p q = p ∙ sym q
-  one-outcome (request.Calibrate machine test metric factor) one other p q =
+  pub one-outcome : (base : ℕ) (q : Request) → IsOne (ComesTo h base q)
+  one-outcome base (request.Machine machine) one other p q = p ∙ sym q
+  one-outcome base (request.Commit machine number name) one other p q = p ∙ sym q
+  one-outcome base (request.Submit machine commit run samples ignored stated) one other p q = p ∙ sym q
+  one-outcome base (request.Retract machine run) one other p q = p ∙ sym q
+  one-outcome base (request.Tune machine metric penalty) one other p q = p ∙ sym q
+  one-outcome base (request.Calibrate machine test metric factor) one other p q =
       let s : Series = record { test = test; metric = metric } in
       let few : Bool = nat_lt (length (positions h s)) 3 in
       one-factor (OfKnown (is_known s h) (OfMany few (length (positions h s)) (IsCalibrated h s factor)))
       (one-known (OfMany few (length (positions h s)) (IsCalibrated h s factor))
       (one-of-many (IsCalibrated h s factor) (one-calibrated s factor) few (length (positions h s))) (is_known s h)) (is_factor factor) one other p q
-  one-outcome (request.Segment machine test metric) one other p q =
+  one-outcome base (request.Segment machine test metric) one other p q =
       let s : Series = record { test = test; metric = metric } in
-      one-known (IsPublished h s) (one-segment s) (is_known s h) one other p q
-  one-outcome (request.Changes machine test metric) one other p q =
+      one-known (IsPublished h base s) (one-segment base s) (is_known s h) one other p q
+  one-outcome base (request.Changes machine test metric) one other p q =
       let s : Series = record { test = test; metric = metric } in
       one-known (OfPublished (last_publication s h) (TellsChanges h s)) (one-published (TellsChanges h s) (one-changes s) (last_publication s h)) (is_known s h) one other p q
-  one-outcome (request.Verify machine test metric) one other p q =
+  one-outcome base (request.Verify machine test metric) one other p q =
       let s : Series = record { test = test; metric = metric } in
       one-known (OfPublished (last_publication s h) (TellsCertificate h s)) (one-published (TellsCertificate h s) (one-verified s) (last_publication s h)) (is_known s h) one other p q
-  one-outcome (request.Regress machine test metric change) one other p q =
+  one-outcome base (request.Regress machine test metric change) one other p q =
       let s : Series = record { test = test; metric = metric } in
       let Comes : Publication → Outcome → Type 0 = λ x raised. raised ≡ raise h s change x in
       one-known (OfPublished (last_publication s h) Comes) (one-published Comes (λ x one other p q. p ∙ sym q) (last_publication s h)) (is_known s h) one other p q
-  one-outcome (request.SetState machine number state) one other p q = p ∙ sym q
-  one-outcome (request.Bisect machine lo hi) one other p q = p ∙ sym q
-  one-outcome (request.Answer machine number commit status) one other p q = p ∙ sym q
-  one-outcome (request.Resume machine number) one other p q = p ∙ sym q
-  one-outcome (request.Job machine number) one other p q = p ∙ sym q
-  one-outcome (request.Runs machine) one other p q = p ∙ sym q
-  one-outcome (request.Report machine json) one other p q =
+  one-outcome base (request.SetState machine number state) one other p q = p ∙ sym q
+  one-outcome base (request.Bisect machine lo hi) one other p q = p ∙ sym q
+  one-outcome base (request.Answer machine number commit status) one other p q = p ∙ sym q
+  one-outcome base (request.Resume machine number) one other p q = p ∙ sym q
+  one-outcome base (request.Job machine number) one other p q = p ∙ sym q
+  one-outcome base (request.Runs machine) one other p q = p ∙ sym q
+  one-outcome base (request.Report machine json) one other p q =
       p.2 ∙ ap (λ (pages : Pages). tells (answer.Report pages)) (one-report unique h machine json p.0 q.0 p.1 q.1) ∙ sym q.2

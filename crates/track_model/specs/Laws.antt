@@ -185,6 +185,6 @@ GiveUpIsAllowed =
 
 -- ---- all forms
 
--- a request comes to one outcome
+-- a request comes to one outcome, a segmentation from one base
 abbrev pub OneOutcome : Type 0
-OneOutcome = (h : List Entry) (q : Request) (one other : Outcome) → ComesTo h q one → ComesTo h q other → one ≡ other
+OneOutcome = (h : List Entry) (base : ℕ) (q : Request) (one other : Outcome) → ComesTo h base q one → ComesTo h base q other → one ≡ other

@@ -6,3 +6,4 @@ pub mod Reports
 pub mod Replies
 pub mod Tracks
 pub mod Laws
+pub mod Counts

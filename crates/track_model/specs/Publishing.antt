@@ -1,19 +1,20 @@
 -- What the forms about segmentations come to on the history of their machine. Each outcome is determined; it is said by a
 -- relation, since a best cut list is one list among all.
-use Rattle.std.specs.Prelude.{◌≡◌, ℕ, pos, ◌*◌, Bool, true, false, nat_lt, ◌&&◌, nat_le, max, List, [], ◌∷◌, map, length, unwrap_or, Option, Some, None}
+use Rattle.std.specs.Prelude.{◌≡◌, ℕ, pos, ◌*◌, ◌-◌, Bool, true, false, nat_lt, ◌&&◌, nat_le, max, if◌then◌else◌, List, [], ◌∷◌, map, length, take, unwrap_or, Option, Some, None}
 use Rattle.metric_table.specs.declared.limits.Limit.TheVariants.{Cuts, Steps}
 use Rattle.segment_cost.specs.Certificate.{StandsFor}
 use Rattle.segment_cost.specs.declared.cert.Cert.{Cert}
 use Rattle.change_list.specs.Changes.{AreChanges}
 use Rattle.change_list.specs.declared.change.Change.{Change}
 use Rattle.series_noise.specs.Noise.{IsNoise}
+use Rattle.point_list.specs.Places.{common}
 use Rattle.history_model.specs.declared.entries.Entry.{Entry}
 use Rattle.history_model.specs.declared.entries.Entry.TheVariants as entry
 use Rattle.history_model.specs.declared.publication.Publication.{Publication}
 use Rattle.history_model.specs.Commits.{name_of}
 use Rattle.history_model.specs.Penalties.{penalty_of}
 use Rattle.history_model.specs.Positions.{positions}
-use Rattle.history_model.specs.Publications.{last_publication, spoken_of}
+use Rattle.history_model.specs.Publications.{IsBaseAt, last_publication, spoken_of}
 use Rattle.history_model.specs.Runs.{Series, is_known}
 use Rattle.request_model.specs.declared.changes.NamedChange.{NamedChange}
 use Rattle.request_model.specs.declared.replies.Answer.{Answer}
@@ -34,27 +35,59 @@ OfPublished (Some p) Comes o = Comes p o
 
 -- ---- segment M TEST METRIC
 
--- what is published of a series at a version, as its certificate shows it
-abbrev pub publication : Series → ℕ → Cert → Publication
-publication s version cert =
-    record { test = s.test; metric = s.metric; version = version; base = 0; total = cert.total; cuts = cert.cuts }
+-- what is published of a series at a version, as its certificate shows it, where it began with the table of a base
+abbrev pub publication : Series → (version base : ℕ) → Cert → Publication
+publication s version base cert =
+    record { test = s.test; metric = s.metric; version = version; base = base; total = cert.total; cuts = cert.cuts }
 
 -- the outcome of a publication: first the steps are full, then the cuts
 abbrev pub publish : List Entry → Publication → Answer → Outcome
 publish h p told = adds_within (Steps ∷ Cuts ∷ []) h (entry.Publish p) told
 
--- what is told of it: all positions were looked at anew
-abbrev pub segmented : ℕ → Cert → Answer
-segmented version cert = answer.Segmented version 0 cert.points (length cert.cuts) cert.points cert.total
+-- how many positions a version has past those that it has in common with the base's, by commits and values
+abbrev pub redone_since : List Entry → ℕ → Series → ℕ
+redone_since version base s = length (positions version s) - common (positions (take base version) s) (positions version s)
 
--- the certificate that stands for all that the history has of the series, at its metric's penalty, is published
-abbrev pub IsPublished : List Entry → Series → Outcome → Type 0
-IsPublished h s o =
-    (cert : Cert) × StandsFor (positions h s) (penalty_of s.metric h) cert
-    × (o ≡ publish h (publication s (length h) cert) (segmented (length h) cert))
+-- what is told of it, and how many positions were looked at anew
+abbrev pub segmented : (version base redone : ℕ) → Cert → Answer
+segmented version base redone cert = answer.Segmented version base cert.points (length cert.cuts) redone cert.total
 
-abbrev pub SegmentComesTo : List Entry → Series → Outcome → Type 0
-SegmentComesTo h s o = OfKnown (is_known s h) (IsPublished h s) o
+-- the certificate that stands for all that a version of the history has of the series, at its metric's penalty there, is
+-- published, where it began with the table of a base
+abbrev pub IsPublishedOf : List Entry → ℕ → List Entry → Series → Outcome → Type 0
+IsPublishedOf version base h s o =
+    (cert : Cert) × StandsFor (positions version s) (penalty_of s.metric version) cert
+    × (o ≡ publish h (publication s (length version) base cert) (segmented (length version) base (redone_since version base s) cert))
+
+-- on one thread the version is the whole history
+abbrev pub IsPublished : List Entry → ℕ → Series → Outcome → Type 0
+IsPublished h base s o = IsPublishedOf h base h s o
+
+abbrev pub SegmentComesTo : List Entry → ℕ → Series → Outcome → Type 0
+SegmentComesTo h base s o = OfKnown (is_known s h) (IsPublished h base s) o
+
+-- the version of a publication, where it is above this one
+abbrev pub later : ℕ → Option Publication → Option ℕ
+later version None = None
+later version (Some p) = if nat_lt version p.version then Some p.version else None
+
+-- nothing is published where a later version of the series was
+abbrev pub OfLatest : Option ℕ → (Outcome → Type 0) → Outcome → Type 0
+OfLatest None Comes o = Comes o
+OfLatest (Some version) Comes o = o ≡ refuses (refusal.Stale version)
+
+-- a version is published on a longer history, from a base that the version allows
+abbrev pub IsPublishedFrom : List Entry → ℕ → List Entry → Series → Outcome → Type 0
+IsPublishedFrom version base h s o =
+    (cert : Cert) × StandsFor (positions version s) (penalty_of s.metric version) cert
+    × IsBaseAt version (publication s (length version) base cert)
+    × (o ≡ publish h (publication s (length version) base cert) (segmented (length version) base (redone_since version base s) cert))
+
+-- what it comes to where this version was segmented from a base, and others may have published since
+abbrev pub SegmentComesFrom : List Entry → ℕ → List Entry → Series → Outcome → Type 0
+SegmentComesFrom version base h s o =
+    OfKnown (is_known s h)
+    (OfLatest (later (length version) (last_publication s h)) (IsPublishedFrom version base h s)) o
 
 -- ---- changes M TEST METRIC
 

@@ -1,1 +1,4 @@
-mod Segmenting
+pub mod Segmenting
+mod Beginning
+mod Computed
+pub mod Besides

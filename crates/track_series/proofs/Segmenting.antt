@@ -1,10 +1,16 @@
 -- What a segmentation comes to.
-use Rattle.std.proofs.Common.{◌≡◌, ℕ, ℤ, ◌+◌, List, length, ap, subst, ◌∙◌, Option, Some, None, arith}
+use Rattle.std.proofs.Common.{◌≡◌, ℕ, ℤ, ◌+◌, ◌-◌, true, false, cond, List, length, take, refl, sym, ap, ap₂, subst, ◌∙◌, Option, Some, None, inl, inr, arith}
+use Rattle.std.specs.Prelude.{nat_eq, not, ◌&&◌}
+use Rattle.std.specs.FinSet as set
+use Rattle.std.specs.Ordering.{eq_by_cmp}
+use Rattle.std.proofs.lemmas.Bool.{cases_Bool}
+use Rattle.std.proofs.Math.Seq.{take-length}
 use Rattle.metric_table.specs.declared.limits.Limit.{Limit}
 use Rattle.metric_table.specs.declared.limits.Limit.TheVariants.{Steps}
 use Rattle.segment_model.specs.Segments.{Position}
 use Rattle.segment_cost.specs.Certificate.{StandsFor}
 use Rattle.segment_cost.specs.declared.done.Done.{Done}
+use Rattle.point_list.specs.Places.{common}
 use Rattle.history_model.specs.declared.entries.Author.{Author}
 use Rattle.history_model.specs.declared.entries.Entry.{Entry}
 use Rattle.history_model.specs.declared.publication.Publication.{Publication}
@@ -13,23 +19,58 @@ use Rattle.history_model.specs.Entries.{entries_of}
 use Rattle.history_model.specs.Laws.{LastStands}
 use Rattle.history_model.specs.Penalties.{penalty_of}
 use Rattle.history_model.specs.Positions.{positions}
-use Rattle.history_model.specs.Publications.{last_publication, IsUpTo}
+use Rattle.history_model.specs.Publications.{last_publication, IsBaseAt, IsUpTo}
 use Rattle.history_model.specs.Runs.{Series, is_known}
+use Rattle.history_model.specs.SeriesOrder.{series_cmp}
 use Rattle.request_model.specs.declared.replies.Answer.{Answer}
 use Rattle.request_model.specs.declared.replies.Answer.TheVariants as answer
 use Rattle.request_model.specs.declared.replies.Refusal.TheVariants as refusal
 use Rattle.request_model.specs.declared.replies.Reply.{Reply}
+use Rattle.publication_index.specs.Kept.{series_of}
+use Rattle.publication_index.proofs.Homes.{series-total}
 use Rattle.track_model.specs.Outcomes.{tells, added_unless}
-use Rattle.track_model.specs.Publishing.{SegmentComesTo, IsPublished, publication, publish, segmented}
+use Rattle.track_model.specs.Publishing.{SegmentComesTo, IsPublished, publication, publish, redone_since, segmented}
 use Rattle.track_model.specs.Replies.{reply_of}
-use Rattle.track_model.specs.Tracks.{Track, IsStep}
-use Rattle.track_state.specs.Made.{publication_from, entry_of}
+use Rattle.track_model.specs.Tracks.{Track, IsSameButTables, IsSegmentStep, base_of, with_entry, with_home, with_publication, with_taken}
+use Rattle.track_state.specs.Made.{publication_from, entry_of, IsMadeFrom}
 use Rattle.track_series.specs.Publications.{IsAdded}
-use Rattle.track_series.specs.Snapshots.{IsTakenAt, IsSegmented}
+use Rattle.track_series.specs.Snapshots.{IsTakenAt, IsRedone}
 use Rattle.track_series.specs.declared.publishing.Published.{Published}
 use Rattle.track_series.specs.declared.publishing.Published.TheVariants as published
+use Rattle.track_series.specs.declared.redone.Redone.{Redone}
 use Rattle.track_series.specs.declared.snapshot.Snapshot.{Snapshot}
 use Rattle.track_state.proofs.Told.{known}
+use Rattle.track_series.proofs.Beginning.{base-lawful}
+
+-- ---- a track once a segmentation took its table
+module _ (t : Track) (s : Series) where
+  -- it is what it was, or that without a table
+  by-base : (P : Track → Type 0) → P t → P (with_home (set.remove t.home s) t) → P (with_taken s t)
+  by-base P same less = elim (cases_Bool (nat_eq (base_of t s) 0)) [
+    | inl hit ↦ subst P (ap (λ b. cond b t (with_home (set.remove t.home s) t)) (sym hit)) same
+    | inr miss ↦ subst P (ap (λ b. cond b t (with_home (set.remove t.home s) t)) (sym miss)) less
+  ]
+
+  fewer : (q : Series) → set.contains (set.remove t.home s) q ≡ true → set.contains t.home q ≡ true
+  fewer q is = second (not (eq_by_cmp series_cmp q s)) (set.contains t.home q) (sym (set.contains-remove series-total t.home s q) ∙ is)
+    where
+      second : (a b : _) → (a && b) ≡ true → b ≡ true
+      second true b h = h
+      second false b h = absurd (let no : false ≡ true = h in cc)
+
+  pub same-tables : IsSameButTables t t
+  same-tables = record { machine = refl; kept = refl; history = refl; fewer = set.contains-is_subset series-total t.home t.home (λ q is. is) }
+
+  pub taken-tables : IsSameButTables t (with_taken s t)
+  taken-tables =
+      by-base (IsSameButTables t) same-tables
+      (record { machine = refl; kept = refl; history = refl; fewer = set.contains-is_subset series-total (set.remove t.home s) t.home fewer })
+
+  pub taken-history : (with_taken s t).history ≡ t.history
+  taken-history = by-base (λ (u : Track). u.history ≡ t.history) refl refl
+
+  taken-entry : (author : Author) (e : Entry) (home : set.FinSet series_cmp) → with_home home (with_entry author (with_taken s t) e) ≡ with_home home (with_entry author t e)
+  taken-entry author e home = by-base (λ (u : Track). with_home home (with_entry author u e) ≡ with_home home (with_entry author t e)) refl refl
 
 -- ---- what was put as a step
 step_in : Published → ℕ
@@ -40,48 +81,103 @@ limit_in : Published → Limit
 limit_in (published.Full limit) = limit
 limit_in other = Steps
 
-module _ (old : Track) (author : Author) (done : Done) (new : Track) (told : Answer) (reply : Reply) where
+-- where no later version was published, none is told
+pub not-stale : (l : Option Limit) (old : Track) (author : Author) (done : Done) (version : ℕ) (new : Track) → IsAdded l old author done (published.Stale version) new → ⊥
+not-stale (Some limit) old author done version new put = let no : published.Stale version ≡ published.Full limit = put.0 in absurd (cc)
+not-stale None old author done version new put = let no : published.Stale version ≡ published.Ok (length (entries_of old.history) + 1) = put.0 in absurd (cc)
+
+module _ (t : Track) (s : Series) (author : Author) (done : Done) (series-is : series_of done ≡ s) (old new : Track) (begun : old ≡ with_taken s t) (told : Answer) (reply : Reply) where
+  entries-are : entries_of old.history ≡ entries_of t.history
+  entries-are = ap (λ (u : Track). entries_of u.history) begun ∙ ap entries_of (taken-history t s)
+
   pub ok-step : (step : ℕ) (l : Option Limit) → IsAdded l old author done (published.Ok step) new → reply ≡ record { step = step; answer = told }
-      → IsStep old author (added_unless l (entry_of done) told) new reply
+      → IsSegmentStep t author s (added_unless l (entry_of done) told) new reply
   unfolding step_in
   ok-step step (Some limit) put is = absurd (let no : published.Ok step ≡ published.Full limit = put.0 in cc)
   ok-step step None put is =
-      let step_is : step ≡ length (entries_of old.history) + 1 = ap step_in put.0 in
-      record { track = put.1; told = is ∙ ap (λ (n : ℕ). let r : Reply = record { step = n; answer = told } in r) step_is }
+      let step_is : step ≡ length (entries_of t.history) + 1 = ap step_in put.0 ∙ ap (λ (h : List Entry). length h + 1) entries-are in
+      record {
+        track = put.1
+            ∙ ap (λ (u : Track). with_publication author u (publication_from done)) begun
+            ∙ ap (λ (u : Series). with_home (set.insert (with_taken s t).home u) (with_entry author (with_taken s t) (entry_of done))) series-is
+            ∙ taken-entry t s author (entry_of done) (set.insert (with_taken s t).home s);
+        told = is ∙ ap (λ (n : ℕ). let r : Reply = record { step = n; answer = told } in r) step_is;
+      }
 
   pub full-same : (limit : Limit) (l : Option Limit) → IsAdded l old author done (published.Full limit) new → new ≡ old
   full-same limit None put = absurd (let no : published.Full limit ≡ published.Ok (length (entries_of old.history) + 1) = put.0 in cc)
   full-same limit (Some other) put = put.1
 
   pub full-step : (limit : Limit) (l : Option Limit) → IsAdded l old author done (published.Full limit) new → reply ≡ reply_of (entries_of old.history) (tells (answer.Refused (refusal.Full limit)))
-      → IsStep old author (added_unless l (entry_of done) told) new reply
+      → IsSegmentStep t author s (added_unless l (entry_of done) told) new reply
   unfolding limit_in
   full-step limit None put is = absurd (let no : published.Full limit ≡ published.Ok (length (entries_of old.history) + 1) = put.0 in cc)
   full-step limit (Some other) put is =
       let same : limit ≡ other = ap limit_in put.0 in
-      record { track = put.1; told = is ∙ ap (λ (m : Limit). reply_of (entries_of old.history) (tells (answer.Refused (refusal.Full m)))) same }
+      record {
+        track = put.1 ∙ begun;
+        told = is
+            ∙ ap (λ (h : List Entry). reply_of h (tells (answer.Refused (refusal.Full limit)))) entries-are
+            ∙ ap (λ (m : Limit). reply_of (entries_of t.history) (tells (answer.Refused (refusal.Full m)))) same;
+      }
 
 -- ---- the segmentation of a snapshot
-module _ (h : List Entry) (s : Series) (x : Snapshot) (done : Done) (taken : IsTakenAt h s x) (made : IsSegmented x done) where
-  publication-is : publication_from done ≡ publication s (length h) done.cert
-  publication-is =
-      ap (λ (n : List ℕ). let p : Publication = record { test = n; metric = done.metric; version = done.version; base = done.base; total = done.cert.total; cuts = done.cert.cuts } in p) (made.test ∙ taken.test)
-      ∙ ap (λ (n : List ℕ). let p : Publication = record { test = s.test; metric = n; version = done.version; base = done.base; total = done.cert.total; cuts = done.cert.cuts } in p) (made.metric ∙ taken.metric)
-      ∙ ap (λ (n : ℕ). let p : Publication = record { test = s.test; metric = s.metric; version = n; base = done.base; total = done.cert.total; cuts = done.cert.cuts } in p) (made.version ∙ taken.version)
-      ∙ ap (λ (n : ℕ). let p : Publication = record { test = s.test; metric = s.metric; version = length h; base = n; total = done.cert.total; cuts = done.cert.cuts } in p) made.from_start
+module _ (t : Track) (s : Series) (x : Snapshot) (made : Redone) (taken : IsTakenAt t s x) (is : IsRedone x made) where
+  abbrev h : List Entry
+  h = entries_of t.history
 
-  stands : StandsFor (positions h s) (penalty_of s.metric h) done.cert
+  pub series-is : series_of made.done ≡ s
+  series-is = ap₂ (λ (a b : List ℕ). let u : Series = record { test = a; metric = b } in u) (is.test ∙ taken.test) (is.metric ∙ taken.metric)
+
+  version-is : made.done.version ≡ length h
+  version-is = is.version ∙ taken.version
+
+  base-is : made.done.base ≡ base_of t s
+  base-is = is.base ∙ taken.base
+
+  front : take made.done.version h ≡ h
+  front = ap (λ (v : ℕ). take v h) version-is ∙ take-length h
+
+  redone-is : made.done.redone ≡ redone_since h x.base s
+  redone-is = is.redone ∙ ap₂ (λ (old new : List Position). length new - common old new) taken.old taken.points
+
+  stands : StandsFor (positions h s) (penalty_of s.metric h) made.done.cert
   stands =
-      subst (λ (z : ℤ). StandsFor (positions h s) z done.cert) taken.penalty
-      (subst (λ (ps : List Position). StandsFor ps x.penalty done.cert) taken.points made.stands)
+      subst (λ (z : ℤ). StandsFor (positions h s) z made.done.cert) taken.penalty
+      (subst (λ (ps : List Position). StandsFor ps x.penalty made.done.cert) taken.points is.stands)
 
-  pub comes : (told : Answer) → told ≡ segmented done.version done.cert → SegmentComesTo h s (publish h (publication_from done) told)
-  comes told is =
-      let told_is : told ≡ segmented (length h) done.cert = is ∙ ap (λ (n : ℕ). segmented n done.cert) (made.version ∙ taken.version) in
-      known (IsPublished h s) (publish h (publication_from done) told) (is_known s h) taken.known (
-        done.cert,
+  pub made-from : LastStands → Legal h → IsMadeFrom h made.done
+  made-from last legal =
+      let lawful : IsBaseAt h (publication_from made.done) = base-lawful last t s legal (publication_from made.done) series-is base-is in
+      record {
+        past = omega (arith, version-is);
+        known = ap (is_known (series_of made.done)) front ∙ ap (λ (u : Series). is_known u h) series-is ∙ taken.known;
+        points = is.points ∙ taken.points ∙ sym (ap (λ (g : List Entry). positions g (series_of made.done)) front ∙ ap (positions h) series-is);
+        penalty = is.stands.same_penalty ∙ taken.penalty ∙ sym (ap (penalty_of made.done.metric) front ∙ ap (λ (u : Series). penalty_of u.metric h) series-is);
+        based = subst (λ (g : List Entry). IsBaseAt g (publication_from made.done)) (sym front) lawful;
+        redone = redone-is ∙ sym (
+            ap (λ (g : List Entry). redone_since g made.done.base (series_of made.done)) front
+            ∙ ap (λ (u : Series). redone_since h made.done.base u) series-is
+            ∙ ap (λ (b : ℕ). redone_since h b s) is.base);
+        stands = subst (λ (z : ℤ). StandsFor made.done.points z made.done.cert) (sym is.stands.same_penalty)
+            (subst (λ (ps : List Position). StandsFor ps x.penalty made.done.cert) (sym is.points) is.stands);
+      }
+
+  publication-is : publication_from made.done ≡ publication s (length h) (base_of t s) made.done.cert
+  publication-is =
+      ap (λ (u : Series). publication u made.done.version made.done.base made.done.cert) series-is
+      ∙ ap₂ (λ (v b : ℕ). publication s v b made.done.cert) version-is base-is
+
+  pub comes : (told : Answer) → told ≡ segmented made.done.version made.done.base made.done.redone made.done.cert
+      → SegmentComesTo h (base_of t s) s (publish h (publication_from made.done) told)
+  comes told told-is =
+      let redone : made.done.redone ≡ redone_since h (base_of t s) s = redone-is ∙ ap (λ (b : ℕ). redone_since h b s) taken.base in
+      let answered : told ≡ segmented (length h) (base_of t s) (redone_since h (base_of t s) s) made.done.cert =
+      told-is ∙ ap₂ (λ (v b : ℕ). segmented v b made.done.redone made.done.cert) version-is base-is ∙ ap (λ (n : ℕ). segmented (length h) (base_of t s) n made.done.cert) redone in
+      known (IsPublished h (base_of t s) s) (publish h (publication_from made.done) told) (is_known s h) taken.known (
+        made.done.cert,
         stands,
-        ap (λ (p : Publication). publish h p told) publication-is ∙ ap (λ (a : Answer). publish h (publication s (length h) done.cert) a) told_is,
+        ap₂ (publish h) publication-is answered,
       )
 
 -- no publication of a series speaks of more than the history

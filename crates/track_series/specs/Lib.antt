@@ -1,2 +1,4 @@
+pub mod Begun
 pub mod Snapshots
 pub mod Publications
+pub mod Beside

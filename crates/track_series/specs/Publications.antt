@@ -1,29 +1,26 @@
 -- What becomes of a finished segmentation that is handed in.
-use Rattle.std.specs.Prelude.{◌≡◌, ℕ, ◌+◌, nat_lt, if◌then◌else◌, List, [], ◌∷◌, length, Option, Some, None}
+use Rattle.std.specs.Prelude.{◌≡◌, ℕ, ◌+◌, List, [], ◌∷◌, length, Option, Some, None}
 use Rattle.metric_table.specs.declared.limits.Limit.{Limit}
 use Rattle.metric_table.specs.declared.limits.Limit.TheVariants.{Steps, Cuts}
 use Rattle.segment_cost.specs.declared.done.Done.{Done}
 use Rattle.history_model.specs.declared.entries.Author.{Author}
 use Rattle.history_model.specs.declared.entries.Entry.{Entry}
-use Rattle.history_model.specs.declared.publication.Publication.{Publication}
 use Rattle.history_model.specs.Allowed.{first_passed}
 use Rattle.history_model.specs.Entries.{entries_of}
 use Rattle.history_model.specs.Publications.{last_publication}
 use Rattle.publication_index.specs.Kept.{series_of}
-use Rattle.track_model.specs.Tracks.{Track, with_entry}
+pub use Rattle.track_model.specs.Publishing.{later}
+use Rattle.track_model.specs.Tracks.{Track, with_publication}
 use Rattle.track_series.specs.declared.publishing.Published.{Published}
 use Rattle.track_series.specs.declared.publishing.Published.TheVariants as published
-use Rattle.track_state.specs.Made.{entry_of}
+use Rattle.track_state.specs.Made.{entry_of, publication_from}
 
--- the version of a publication, where it is above this one
-abbrev pub later : ℕ → Option Publication → Option ℕ
-later version None = None
-later version (Some p) = if nat_lt version p.version then Some p.version else None
-
--- where it passes a limit that is told and nothing changes, else it is added
+-- where it passes a limit that is told and nothing changes, else it is added, and its table is home
 abbrev pub IsAdded : Option Limit → Track → Author → Done → Published → Track → Type 0
 IsAdded (Some limit) old author done told new = (told ≡ published.Full limit) × (new ≡ old)
-IsAdded None old author done told new = (told ≡ published.Ok (length (entries_of old.history) + 1)) × (new ≡ with_entry author old (entry_of done))
+IsAdded None old author done told new =
+    (told ≡ published.Ok (length (entries_of old.history) + 1))
+    × (new ≡ with_publication author old (publication_from done))
 
 -- the first limit that the history passes with it
 abbrev pub passed : List Entry → Done → Option Limit

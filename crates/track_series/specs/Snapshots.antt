@@ -1,33 +1,39 @@
--- What a history has of a series, as a segmentation needs it.
-use Rattle.std.specs.Prelude.{◌≡◌, true, false, List, length, Option, Some, None}
+-- What a machine has of a series, as a segmentation needs it.
+use Rattle.std.specs.Prelude.{◌≡◌, ◌-◌, true, false, length, take, Option, Some, None}
 use Rattle.segment_cost.specs.Certificate.{StandsFor}
-use Rattle.segment_cost.specs.declared.done.Done.{Done}
-use Rattle.history_model.specs.declared.entries.Entry.{Entry}
+use Rattle.point_list.specs.Places.{common}
+use Rattle.history_model.specs.Entries.{entries_of}
 use Rattle.history_model.specs.Penalties.{penalty_of}
 use Rattle.history_model.specs.Positions.{positions}
 use Rattle.history_model.specs.Runs.{Series, is_known}
+use Rattle.publication_index.specs.Standing.{table_for}
+use Rattle.track_model.specs.Tracks.{Track, base_of}
+use Rattle.track_series.specs.declared.redone.Redone.{Redone}
 use Rattle.track_series.specs.declared.snapshot.Snapshot.{Snapshot}
 
--- the series with its positions and the penalty of its metric, at the history's length
-pub record IsTakenAt (h : List Entry) (s : Series) (x : Snapshot) : Type 0 where
-  pub known : is_known s h ≡ true
+-- the series with its positions and the penalty of its metric, at the history's length; and the positions of its base
+pub record IsTakenAt (t : Track) (s : Series) (x : Snapshot) : Type 0 where
+  pub known : is_known s (entries_of t.history) ≡ true
   pub test : x.test ≡ s.test
   pub metric : x.metric ≡ s.metric
-  pub version : x.version ≡ length h
-  pub penalty : x.penalty ≡ penalty_of s.metric h
-  pub points : x.points ≡ positions h s
+  pub version : x.version ≡ length (entries_of t.history)
+  pub penalty : x.penalty ≡ penalty_of s.metric (entries_of t.history)
+  pub points : x.points ≡ positions (entries_of t.history) s
+  pub base : x.base ≡ base_of t s
+  pub old : x.old ≡ positions (take x.base (entries_of t.history)) s
 
 -- there is none of a series that isn't known
-abbrev pub IsSnapshot : List Entry → Series → Option Snapshot → Type 0
-IsSnapshot h s None = is_known s h ≡ false
-IsSnapshot h s (Some x) = IsTakenAt h s x
+abbrev pub IsSnapshot : Track → Series → Option Snapshot → Type 0
+IsSnapshot t s None = is_known s (entries_of t.history) ≡ false
+IsSnapshot t s (Some x) = IsTakenAt t s x
 
--- the best segmentation of a snapshot, of which all positions were looked at
-pub record IsSegmented (x : Snapshot) (done : Done) : Type 0 where
-  pub test : done.test ≡ x.test
-  pub metric : done.metric ≡ x.metric
-  pub version : done.version ≡ x.version
-  pub from_start : done.base ≡ 0
-  pub redone : done.redone ≡ length x.points
-  pub points : done.points ≡ x.points
-  pub stands : StandsFor x.points x.penalty done.cert
+-- the best segmentation of a snapshot, with its table; looked at anew were the positions past those in common with the old
+pub record IsRedone (x : Snapshot) (made : Redone) : Type 0 where
+  pub test : made.done.test ≡ x.test
+  pub metric : made.done.metric ≡ x.metric
+  pub version : made.done.version ≡ x.version
+  pub base : made.done.base ≡ x.base
+  pub redone : made.done.redone ≡ length x.points - common x.old x.points
+  pub points : made.done.points ≡ x.points
+  pub stands : StandsFor x.points x.penalty made.done.cert
+  pub tabled : made.table ≡ table_for made.done

@@ -3,13 +3,15 @@ ghost use Rattle.std.specs.Prelude.{◌≡◌, IfOk, OnErr};
 ghost use Rattle.history_model.specs.Entries.{entries_of};
 ghost use Rattle.history_model.specs.Publications.{IsUpTo, last_publication};
 ghost use Rattle.publication_index.specs.Kept.{series_of};
+ghost use Rattle.publication_index.specs.Standing.{table_for};
 ghost use Rattle.track_state.specs.Made.{IsMadeFrom, publication_from};
 ghost use Rattle.track_series.specs.Publications.{IsAdded, IsPublished, later, passed};
 
 use crate::NoMemory;
 use history_model::{Author, Publication, publication_law, within_law};
 use metric_table::Limit;
-use segment_cost::Done;
+use pelt_core::Table;
+use segment_cost::{Done, Square};
 use std::alloc::Global;
 use track_model::publish_law;
 use track_state::TrackState;
@@ -40,8 +42,14 @@ fn publication_of(alloc: Global, done: &Done) -> Result<Publication, NoMemory>
 }
 
 // Publishes it where it passes no limit; no later version of its series was published.
-pub(crate) fn put(track: &mut TrackState, author: Author, done: Done) -> Result<Published, NoMemory>
+pub(crate) fn put(
+    track: &mut TrackState,
+    author: Author,
+    done: Done,
+    table: Table<Square>,
+) -> Result<Published, NoMemory>
     requires made { IsMadeFrom (entries_of track.old.history) done }
+    requires tabled { table ≡ table_for done }
     requires latest { IsUpTo done.version
         (last_publication (series_of done) (entries_of track.old.history)) }
     ensures put { IfOk result (λ told. IsAdded (passed (entries_of track.old.history) done)
@@ -59,7 +67,7 @@ pub(crate) fn put(track: &mut TrackState, author: Author, done: Done) -> Result<
         return Ok(Published::Full(Limit::Cuts));
     }
     let publication = publication_of(track.alloc(), &done)?;
-    let step = track.add_publication(author, publication, done)?;
+    let step = track.add_publication(author, publication, done, table)?;
     Ok(Published::Ok(step))
 }
 
@@ -77,15 +85,21 @@ fn later(track: &TrackState, done: &Done) -> Option<u64>
     None
 }
 
-/// Publishes a segmentation that was made from the history, at its version or before. Linear in its cuts, but for
-/// look-ups.
-pub fn publish(track: &mut TrackState, author: Author, done: Done) -> Result<Published, NoMemory>
+/// Publishes a segmentation that was made from the history, at its version or before, and keeps its table, which is home
+/// then. Linear in its cuts, but for look-ups.
+pub fn publish(
+    track: &mut TrackState,
+    author: Author,
+    done: Done,
+    table: Table<Square>,
+) -> Result<Published, NoMemory>
     requires made { IsMadeFrom (entries_of track.old.history) done }
+    requires tabled { table ≡ table_for done }
     ensures published { IfOk result (λ told. IsPublished track.old author done told track.new) }
     ensures same { OnErr result (track.new ≡ track.old) }
 {
     if let Some(version) = later(track, &done) {
         return Ok(Published::Stale(version));
     }
-    put(track, author, done)
+    put(track, author, done, table)
 }

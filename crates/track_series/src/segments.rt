@@ -1,66 +1,77 @@
 //! Segmentations of series: what is segmented, and what is told of it.
-ghost use Rattle.std.specs.Prelude.{◌≡◌, IfOk, OnErr};
+ghost use Rattle.std.specs.Prelude.{◌≡◌, ◌≤◌, ◌≤ℤ◌, ◌^◌, IfOk, OnOk, OnErr, pos, length};
 ghost use Rattle.history_model.specs.Entries.{entries_of};
+ghost use Rattle.track_model.specs.Counts.{CountsOf};
 ghost use Rattle.track_model.specs.Outcomes.{Outcome};
 ghost use Rattle.track_model.specs.Publishing.{SegmentComesTo, segmented};
-ghost use Rattle.track_model.specs.Tracks.{IsStep};
-ghost use Rattle.track_series.specs.Snapshots.{IsSnapshot, IsSegmented};
+ghost use Rattle.track_model.specs.Tracks.{IsSameButTables, IsSegmentStep, base_of, with_taken};
+ghost use Rattle.track_series.specs.Snapshots.{IsSnapshot};
 
 use crate::NoMemory;
+use crate::computing::compute;
 use crate::publishing::{Published, put};
 use crate::snapshot::Snapshot;
 use history_model::{Author, publication_law};
 use line_text::Name;
-use pelt_core::segmentation;
+use pelt_core::Steps;
+use point_list::{Points, SharedPoints};
 use request_model::{Answer, Refusal, Reply};
 use segment_cost::Done;
-use std::alloc::Global;
+use std::sync::ledger::Ledger;
 use track_state::TrackState;
 
-/// What the history has of a series; none exactly where the series is unknown. Linear in the values of the series, but
-/// for samples that came since it was last read. Changes nothing that is seen.
+/// What the history has of a series; none exactly where the series is unknown. The table of its last publication goes with
+/// it, where that is home and has the present penalty. Where there is no memory, nothing changes. Linear in the values of
+/// the series, but for samples that came since it was last read.
 pub fn take_snapshot(
     track: &mut TrackState,
     test: &Name,
     metric: &Name,
 ) -> Result<Option<Snapshot>, NoMemory>
-    ensures taken { IfOk result (λ found. IsSnapshot (entries_of track.old.history)
-        (record { test = test.now; metric = metric.now }) found) }
-    ensures same { track.new ≡ track.old }
+    ensures snapshot { IfOk result (IsSnapshot track.old
+        (record { test = test.now; metric = metric.now })) }
+    ensures taken { OnOk result (track.new
+        ≡ with_taken (record { test = test.now; metric = metric.now }) track.old) }
+    ensures same { OnErr result (track.new ≡ track.old) }
 {
+    publication_law();
+    track.history_law();
+    let alloc = track.alloc();
     let Some(points) = track.points_of(test, metric)? else {
         return Ok(None);
     };
-    Ok(Some(Snapshot {
-        test: test.copy(track.alloc())?,
-        metric: metric.copy(track.alloc())?,
-        version: track.len(),
-        penalty: track.penalty(metric),
-        points,
-    }))
+    let version = track.len();
+    let penalty = track.penalty(metric);
+    let test_name = test.copy(alloc)?;
+    let metric_name = metric.copy(alloc)?;
+    let none = SharedPoints::of(alloc, Points::new(alloc))?;
+    match track.take_base(test, metric)? {
+        Some(base) => Ok(Some(Snapshot {
+            test: test_name,
+            metric: metric_name,
+            version,
+            penalty,
+            base: base.version,
+            points,
+            old: base.points,
+            table: Some(base.table),
+        })),
+        None => Ok(Some(Snapshot {
+            test: test_name,
+            metric: metric_name,
+            version,
+            penalty,
+            base: 0,
+            points,
+            old: none,
+            table: None,
+        })),
+    }
 }
 
-// The best segmentation of a snapshot, in a table of its own.
-fn finished(alloc: Global, snapshot: Snapshot) -> Result<Done, NoMemory>
-    ensures { IfOk result (λ done. IsSegmented snapshot done) }
-{
-    let cert = segmentation(alloc, &snapshot.points, snapshot.penalty)?;
-    Ok(Done {
-        test: snapshot.test,
-        metric: snapshot.metric,
-        version: snapshot.version,
-        base: 0,
-        redone: snapshot.points.len() as u64,
-        cert,
-        points: snapshot.points,
-    })
-}
-
-// What is told of it where it is published: all positions were looked at.
-fn segmented(done: &Done) -> Answer
-    requires from_start { done.now.base ≡ 0 }
-    requires redone { done.now.redone ≡ done.now.cert.points }
-    ensures { result ≡ segmented done.now.version done.now.cert }
+/// What is told of it where it is published.
+pub(crate) fn segmented(done: &Done) -> Answer
+    ensures { result ≡ segmented done.now.version done.now.base done.now.redone done.now.cert }
 {
     Answer::Segmented {
         version: done.version,
@@ -72,28 +83,34 @@ fn segmented(done: &Done) -> Answer
     }
 }
 
-/// `segment M TEST METRIC`: publishes the best segmentation of all that the history has of the series. At most
-/// O(n² + v) time for n positions with v values, O(n + v) where changes come at bounded distances.
-pub fn segment(
+/// `segment M TEST METRIC`: publishes the best segmentation of all that the history has of the series, redone from the
+/// table of its last publication. At most O(n² + v) time for n positions with v values where it begins anew, and O(n + v)
+/// where few positions stand past those in common and changes come at bounded distances. One step for each position that
+/// was redone.
+pub fn segment<L: Ledger>(
     track: &mut TrackState,
     author: Author,
     test: &Name,
     metric: &Name,
+    steps: &mut Steps<L>,
 ) -> Result<Reply, NoMemory>
     ensures step { IfOk result (λ reply. (o : Outcome)
         × SegmentComesTo (entries_of track.old.history)
+        (base_of track.old (record { test = test.now; metric = metric.now }))
         (record { test = test.now; metric = metric.now }) o
-        × IsStep track.old author o track.new reply) }
-    ensures same { OnErr result (track.new ≡ track.old) }
+        × IsSegmentStep track.old author (record { test = test.now; metric = metric.now })
+        o track.new reply) }
+    ensures steps { IfOk result (λ reply. CountsOf reply.answer steps.old steps.new) }
+    ensures left { OnErr result (IsSameButTables track.old track.new) }
 {
     let Some(snapshot) = take_snapshot(track, test, metric)? else {
         return Ok(track.told(Answer::Refused(Refusal::UnknownSeries)));
     };
     publication_law();
     track.history_law();
-    let done = finished(track.alloc(), snapshot)?;
-    let answer = segmented(&done);
-    match put(track, author, done)? {
+    let made = compute(track.alloc(), snapshot, steps)?;
+    let answer = segmented(&made.done);
+    match put(track, author, made.done, made.table)? {
         Published::Ok(step) => Ok(Reply { step, answer }),
         Published::Full(limit) => Ok(track.told(Answer::Refused(Refusal::Full(limit)))),
         Published::Stale(_) => unreachable!(),

@@ -1,10 +1,14 @@
 //! What a machine's history has of a series.
 ghost use Rattle.std.specs.Prelude.{◌≤ℤ◌, ◌^◌, pos};
+ghost use Rattle.track_series.specs.Begun.{Begins};
 
 use line_text::Name;
-use point_list::Points;
+use pelt_core::Table;
+use point_list::{Points, SharedPoints};
+use segment_cost::Square;
 
-/// The positions of a series at a version of a machine's history, and the penalty of a cut there.
+/// The positions of a series at a version of a machine's history, and the penalty of a cut there; with the table of an
+/// earlier publication, if there is one to begin with.
 #[derive(Drop)]
 pub struct Snapshot {
     /// The test of the series.
@@ -15,8 +19,15 @@ pub struct Snapshot {
     pub version: u64,
     /// What a cut costs.
     pub penalty: i128,
+    /// The version of the publication whose table it has, or 0.
+    pub base: u64,
     /// The positions of the series.
     pub points: Points,
+    /// Those that the table is of.
+    pub old: SharedPoints,
+    /// Their table, at the penalty.
+    pub table: Option<Table<Square>>,
     pub ghost low: { pos 0 ≤ℤ penalty },
     pub ghost high: { penalty ≤ℤ pos (10 ^ 36) },
+    pub ghost begins: { ∥ Begins base old penalty table ∥₁ },
 }

@@ -5,6 +5,7 @@ pub mod Publishing
 pub mod Published
 pub mod Told
 pub mod Named
+pub mod Bases
 mod OneMore
 mod Ready
 pub mod Series

@@ -13,11 +13,12 @@ use Rattle.history_model.specs.Penalties.{penalty_of, PenaltyIsSet, PenaltyStays
 use Rattle.history_model.specs.Positions.{positions}
 use Rattle.segment_model.specs.Segments.{Position}
 use Rattle.segment_cost.specs.Certificate.{StandsFor}
-use Rattle.history_model.specs.Publications.{publication_of, last_publication, cut_count, cuts_in, IsUpTo, MayPublish}
+use Rattle.history_model.specs.Publications.{publication_of, last_publication, cut_count, cuts_in, IsBaseAt, IsUpTo, MayPublish}
 use Rattle.track_state.specs.Made.{entry_of}
 use Rattle.history_model.specs.Runs.{Series, is_known, same_series}
 use Rattle.segment_cost.specs.declared.done.Done.{Done}
 use Rattle.publication_index.specs.Kept.{kept, series_of}
+use Rattle.track_model.specs.Publishing.{redone_since}
 use Rattle.track_state.specs.Indexes.{given_after}
 use Rattle.track_state.specs.Made.{Segmentations, publication_from, IsMadeFrom, IsPlain}
 use Rattle.track_state.specs.State.{IsKept}
@@ -62,7 +63,8 @@ made-later stay h more done made =
       known = ap (is_known (series_of done)) same ∙ made.known;
       points = made.points ∙ sym (ap (λ v. positions v (series_of done)) same);
       penalty = made.penalty ∙ sym (ap (penalty_of done.metric) same);
-      from_start = made.from_start;
+      based = subst (λ (v : List Entry). IsBaseAt v (publication_from done)) (sym same) made.based;
+      redone = made.redone ∙ sym (ap (λ (v : List Entry). redone_since v done.base (series_of done)) same);
       stands = made.stands;
     }
 
@@ -135,7 +137,7 @@ may-publish h done made latest =
         past = made.past;
         known = made.known;
         best = record { cost = x.cost; is_cost = x.is_cost; best = x.best; totalled = x.totalled };
-        based = inl made.from_start;
+        based = made.based;
       },
       latest,
     )

@@ -7,12 +7,15 @@ use Rattle.history_model.specs.declared.entries.Entry.TheVariants.{Publish}
 use Rattle.history_model.specs.declared.publication.Publication.{Publication}
 use Rattle.history_model.specs.Penalties.{penalty_of}
 use Rattle.history_model.specs.Positions.{positions}
+use Rattle.history_model.specs.Publications.{IsBaseAt}
 use Rattle.history_model.specs.Runs.{is_known}
+use Rattle.publication_index.specs.declared.held.Held.{Held}
 use Rattle.publication_index.specs.Kept.{series_of}
+use Rattle.track_model.specs.Publishing.{redone_since}
 
 -- the finished segmentations as an index keeps them
 abbrev pub Segmentations : Type 0
-Segmentations = List (List ℕ × List (List ℕ × Done))
+Segmentations = List (List ℕ × List (List ℕ × Held))
 
 -- what is published of it
 abbrev pub publication_from : Done → Publication
@@ -24,13 +27,14 @@ abbrev pub entry_of : Done → Entry
 entry_of done = Publish (publication_from done)
 
 -- it was made from a version of the history at which its series was known: from the positions and the penalty that the
--- version gives it, with no table before
+-- version gives it, and from the table of a base there
 pub record IsMadeFrom (h : List Entry) (done : Done) : Type 0 where
   pub past : done.version ≤ length h
   pub known : is_known (series_of done) (take done.version h) ≡ true
   pub points : done.points ≡ positions (take done.version h) (series_of done)
   pub penalty : done.cert.penalty ≡ penalty_of done.metric (take done.version h)
-  pub from_start : done.base ≡ 0
+  pub based : IsBaseAt (take done.version h) (publication_from done)
+  pub redone : done.redone ≡ redone_since (take done.version h) done.base (series_of done)
   pub stands : StandsFor done.points done.cert.penalty done.cert
 
 -- an entry that publishes nothing

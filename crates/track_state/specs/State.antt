@@ -1,5 +1,5 @@
 -- What the indexes of a state keep to.
-use Rattle.std.specs.Prelude.{◌≡◌, ◌≤◌, ℕ, true, false, List, length, Option, Some, None, is_some}
+use Rattle.std.specs.Prelude.{◌≡◌, ◌≤◌, ◌<◌, ℕ, true, false, List, length, take, Option, Some, None, is_some}
 use Rattle.segment_model.specs.Segments.{Position}
 use Rattle.history_model.specs.declared.entries.Declaration.{Declaration}
 use Rattle.history_model.specs.declared.entries.Entry.{Entry}
@@ -20,6 +20,11 @@ use Rattle.publication_index.specs.Kept.{kept, series_of}
 use Rattle.request_model.specs.declared.replies.Refusal.{Refusal}
 use Rattle.track_model.specs.Outcomes.{refuses}
 use Rattle.track_model.specs.Publishing.{OfKnown, OfPublished}
+use Rattle.history_model.specs.Entries.{entries_of}
+use Rattle.pelt_core.specs.Seen.{table_of}
+use Rattle.segment_model.specs.Values.{values_by_position}
+use Rattle.track_model.specs.Tracks.{Track, base_of}
+use Rattle.track_state.specs.declared.base.Base.{Base}
 use Rattle.track_state.specs.declared.following.Following.{Following}
 use Rattle.track_state.specs.Following.{AreFollowed}
 use Rattle.track_state.specs.Indexes.{Kept, Penalties, stored_runs}
@@ -48,6 +53,19 @@ IsKept h (Some p) (Some done) = (p ≡ publication_from done) × IsMadeFrom h do
 IsKept h None (Some done) = ⊥
 IsKept h (Some p) None = ⊥
 
+-- what the next segmentation of a series begins with: nothing where its base is 0, else the base, the positions there, and
+-- their table at the present penalty
+pub record BeginsWith (t : Track) (s : Series) (b : Base) : Type 0 where
+  pub some : 0 < b.version
+  pub version : b.version ≡ base_of t s
+  pub points : b.points ≡ positions (take b.version (entries_of t.history)) s
+  pub table : b.table
+      ≡ table_of (values_by_position b.points) (penalty_of s.metric (entries_of t.history))
+
+abbrev pub IsBegun : Track → Series → Option Base → Type 0
+IsBegun t s None = base_of t s ≡ 0
+IsBegun t s (Some b) = BeginsWith t s b
+
 -- what a request about a series' last publication finds: the segmentation that it was made from
 pub record IsLast (h : List Entry) (s : Series) (done : Done) : Type 0 where
   pub known : is_known s h ≡ true
@@ -57,7 +75,8 @@ pub record IsLast (h : List Entry) (s : Series) (done : Done) : Type 0 where
 
 -- or why it is refused, whatever it would tell of a publication
 abbrev pub HasNone : List Entry → Series → Refusal → Type 0
-HasNone h s why = OfKnown (is_known s h) (OfPublished (last_publication s h) (λ p o. ⊥)) (refuses why)
+HasNone h s why = OfKnown (is_known s h) (OfPublished (last_publication s h) (λ p o. ⊥))
+    (refuses why)
 
 -- the history is legal, and each index is what follows from it
 pub record StandsFor (h : List Entry) (commits : List Declaration) (runs : List Stored) (series : Kept) (known : ℕ) (penalties : Penalties) (published : Segmentations) (cuts : ℕ) (following : Following) : Type 0 where

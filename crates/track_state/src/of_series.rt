@@ -1,14 +1,17 @@
 //! What the indexes tell of a series.
-ghost use Rattle.std.specs.Prelude.{◌≡◌, IfErr, IfOk, option_copied};
+ghost use Rattle.std.specs.Prelude.{◌≡◌, ◌↔◌, true, Contains, IfErr, IfOk, OnErr, OnOk, option_copied};
+ghost use Rattle.std.specs.Ordering.{int_eq};
 ghost use Rattle.metric_table.specs.Table.{IsPenalty};
 ghost use Rattle.history_model.specs.Entries.{entries_of};
 ghost use Rattle.history_model.specs.Penalties.{penalty_of};
 ghost use Rattle.history_model.specs.Publications.{last_publication};
-ghost use Rattle.history_model.specs.Runs.{is_known};
+ghost use Rattle.history_model.specs.Runs.{Series, is_known};
 ghost use Rattle.track_model.specs.Reports.{AreSeriesLines};
-ghost use Rattle.track_state.specs.State.{HasNone, IsFound, IsKept, IsLast};
+ghost use Rattle.track_model.specs.Tracks.{with_taken};
+ghost use Rattle.track_state.specs.State.{HasNone, IsBegun, IsFound, IsKept, IsLast};
 
 use crate::NoMemory;
+use crate::base::Base;
 use crate::state::TrackState;
 use history_model::publication_law;
 use line_text::Name;
@@ -17,6 +20,7 @@ use report_lines::series_lines;
 use report_model::SeriesLines;
 use request_model::Refusal;
 use segment_cost::Done;
+use series_index::SeriesNames;
 
 impl TrackState {
     /// Whether the series ever had a sample.
@@ -28,6 +32,14 @@ impl TrackState {
             Some(tracked) => tracked.since.is_some(),
             None => false,
         }
+    }
+
+    /// The series that ever had a sample, by the bytes of test, then metric. Linear in their number.
+    pub fn known_series(&self) -> Result<SeriesNames, NoMemory>
+        ensures { IfOk result (λ names. (s : Series) →
+            (is_known s (entries_of self.now.history) ≡ true) ↔ Contains names s) }
+    {
+        Ok(self.series.known()?)
     }
 
     /// The penalty of a metric.
@@ -82,6 +94,35 @@ impl TrackState {
         }
     }
 
+    /// What the next segmentation of a series begins with: the table of its last publication, where that is home and has
+    /// the present penalty. It is home no longer then. Where there is no memory, nothing changes. Constant time, but for
+    /// look-ups.
+    pub fn take_base(&mut self, test: &Name, metric: &Name) -> Result<Option<Base>, NoMemory>
+        ensures begun { IfOk result (IsBegun self.old
+            (record { test = test.now; metric = metric.now })) }
+        ensures taken { OnOk result (self.new
+            ≡ with_taken (record { test = test.now; metric = metric.now }) self.old) }
+        ensures same { OnErr result (self.new ≡ self.old) }
+    {
+        publication_law();
+        let Some(done) = self.published.at_home(test, metric) else {
+            return Ok(None);
+        };
+        if !has_penalty(done, self.penalties.get(metric)) {
+            return Ok(None);
+        }
+        let version = done.version;
+        let points = done.points.share()?;
+        let Some(table) = self.published.take_table(test, metric) else {
+            unreachable!();
+        };
+        Ok(Some(Base {
+            version,
+            points,
+            table,
+        }))
+    }
+
     /// A line for each known series. Changes nothing that is seen.
     pub fn series_lines(&mut self) -> Result<SeriesLines, NoMemory>
         ensures lines { IfOk result (λ lines. AreSeriesLines (entries_of self.old.history) lines) }
@@ -91,4 +132,11 @@ impl TrackState {
         self.history_law();
         series_lines(self.alloc, &mut self.series, &self.published)
     }
+}
+
+// Whether a segmentation was made at this penalty.
+fn has_penalty(done: &Done, penalty: i128) -> bool
+    ensures { result ≡ int_eq done.now.cert.penalty penalty }
+{
+    done.cert.penalty == penalty
 }

@@ -6,7 +6,8 @@ ghost use Rattle.history_model.specs.Allowed.{Allowed};
 ghost use Rattle.history_model.specs.Entries.{entries_of};
 ghost use Rattle.history_model.specs.Publications.{cut_count};
 ghost use Rattle.history_model.specs.declared.entries.Entry.TheVariants as entry;
-ghost use Rattle.track_model.specs.Tracks.{with_entry};
+ghost use Rattle.publication_index.specs.Standing.{table_for};
+ghost use Rattle.track_model.specs.Tracks.{with_publication};
 ghost use Rattle.track_state.specs.Made.{IsMadeFrom, publication_from};
 
 use crate::NoMemory;
@@ -16,7 +17,8 @@ use history_model::{
     publication_law, regressions_law, retraction_law,
 };
 use line_text::Boxed;
-use segment_cost::Done;
+use pelt_core::Table;
+use segment_cost::{Done, Square};
 
 impl TrackState {
     /// How many cuts were published.
@@ -27,20 +29,21 @@ impl TrackState {
         self.cuts
     }
 
-    /// Adds a publication that is allowed, with the segmentation that it was made from, and gives its step. Where there is
-    /// no memory, nothing changes.
+    /// Adds a publication that is allowed, with the segmentation that it was made from and its table, which is home then,
+    /// and gives its step. Where there is no memory, nothing changes.
     pub fn add_publication(
         &mut self,
         author: Author,
         publication: Publication,
         done: Done,
+        table: Table<Square>,
     ) -> Result<u64, NoMemory>
         requires allowed { Allowed (entries_of self.old.history) (entry.Publish publication) }
         requires is { publication ≡ publication_from done }
         requires made { IsMadeFrom (entries_of self.old.history) done }
+        requires tabled { table ≡ table_for done }
         ensures step { IfOk result (λ step. step ≡ length (entries_of self.old.history) + 1) }
-        ensures track { OnOk result (self.new
-            ≡ with_entry author self.old (entry.Publish publication)) }
+        ensures track { OnOk result (self.new ≡ with_publication author self.old publication) }
         ensures same { OnErr result (self.new ≡ self.old) }
     {
         growth_law();
@@ -54,7 +57,7 @@ impl TrackState {
         self.history.reserve(1)?;
         let step = self.history.len() as u64 + 1;
         let cuts = done.cert.cuts.len() as u64;
-        self.published.insert(done)?;
+        self.published.insert(done, table)?;
         let entry = Entry::Publish { publication };
         self.history.push_reserved(Placed { author, entry });
         self.cuts += cuts;

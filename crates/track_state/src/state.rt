@@ -5,7 +5,7 @@ ghost use Rattle.history_model.specs.Allowed.{Allowed, KeepsLimits, Legal};
 ghost use Rattle.history_model.specs.Runs.{known_series};
 ghost use Rattle.track_model.specs.Outcomes.{tells};
 ghost use Rattle.track_model.specs.Replies.{reply_of};
-ghost use Rattle.track_model.specs.Tracks.{with_entry};
+ghost use Rattle.track_model.specs.Tracks.{new_track, with_entry};
 ghost use Rattle.track_state.specs.Made.{IsPlain};
 
 use crate::NoMemory;
@@ -44,11 +44,21 @@ pub struct TrackState {
 impl Model for TrackState {
     ghost use Rattle.history_model.specs.Entries.{entries_of};
     ghost use Rattle.track_model.specs.Tracks.{Track};
+    ghost use Rattle.std.specs.Coded.{codes};
+    ghost use Rattle.publication_index.specs.Homes.{homes};
+    ghost use Rattle.track_model.specs.Tracks.{coded_home};
     ghost use Rattle.track_state.specs.State.{StandsFor};
 
     ghost Value = { Track };
 
-    ghost view = { λ s. record { machine = s.machine; kept = s.kept; history = s.history.items } };
+    ghost coded = { Prim.hlevel (codes, coded_home) };
+
+    ghost view = { λ s. record {
+      machine = s.machine;
+      kept = s.kept;
+      history = s.history.items;
+      home = homes s.published;
+    } };
 
     ghost invariant = { λ s.
         StandsFor (entries_of s.history.items) s.commits s.runs s.series s.known
@@ -58,7 +68,7 @@ impl Model for TrackState {
 impl TrackState {
     /// A state of no entries. `kept` says whether the machine has a row in the store.
     pub fn new(alloc: Global, machine: Name, kept: bool) -> TrackState
-        ensures { result ≡ record { machine = machine; kept = kept; history = [] } }
+        ensures { result ≡ new_track machine kept }
     {
         TrackState {
             alloc,

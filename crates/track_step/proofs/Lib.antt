@@ -1,3 +1,4 @@
 mod Submits
 mod ToldAgain
 mod Listing
+mod Answered

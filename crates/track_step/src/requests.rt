@@ -1,27 +1,56 @@
 //! The answer to any request about a machine.
-ghost use Rattle.std.specs.Prelude.{◌≡◌, IfOk, OnErr};
+ghost use Rattle.std.specs.Prelude.{◌≡◌, IfOk, OnErr, false};
 ghost use Rattle.history_model.specs.Entries.{entries_of};
+ghost use Rattle.track_model.specs.Counts.{Counts, is_segment};
 ghost use Rattle.track_model.specs.Outcomes.{Outcome};
 ghost use Rattle.track_model.specs.Replies.{machine_of};
-ghost use Rattle.track_model.specs.Tracks.{ComesTo, IsStep};
+ghost use Rattle.track_model.specs.Tracks.{ComesTo, IsAnswered, IsSameButTables, IsStep};
 
 use crate::NoMemory;
 use crate::commits::{commit, retract};
 use crate::run_lines::runs;
 use crate::submissions::submit;
 use history_model::Author;
+use pelt_core::Steps;
 use request_model::{Answer, Reply, Request};
+use std::sync::ledger::Ledger;
 use track_follow::{answer_job, bisect, regress, resume, set_state};
 use track_penalties::{calibrate, tune};
 use track_reports::{changes, report, verify};
 use track_series::segment;
 use track_state::TrackState;
 
-/// Answers a request about this machine.
-pub fn step(track: &mut TrackState, author: Author, request: &Request) -> Result<Reply, NoMemory>
+/// Answers a request about this machine: `segment` by the steps that it takes, any other by [`step`].
+pub fn answer<L: Ledger>(
+    track: &mut TrackState,
+    author: Author,
+    request: &Request,
+    steps: &mut Steps<L>,
+) -> Result<Reply, NoMemory>
     requires { machine_of request.now ≡ track.old.machine }
+    ensures answered { IfOk result (λ reply.
+        IsAnswered track.old author request.now track.new reply) }
+    ensures steps { IfOk result (λ reply.
+        Counts request.now reply.answer steps.old steps.new) }
+    ensures left { OnErr result (IsSameButTables track.old track.new) }
+{
+    if let Request::Segment {
+        machine: _,
+        test,
+        metric,
+    } = request
+    {
+        return segment(track, author, test, metric, steps);
+    }
+    step(track, author, request)
+}
+
+/// Answers a request about this machine that segments nothing.
+pub fn step(track: &mut TrackState, author: Author, request: &Request) -> Result<Reply, NoMemory>
+    requires asked { machine_of request.now ≡ track.old.machine }
+    requires plain { is_segment request.now ≡ false }
     ensures step { IfOk result (λ reply. (o : Outcome)
-        × ComesTo (entries_of track.old.history) request.now o
+        × ComesTo (entries_of track.old.history) 0 request.now o
         × IsStep track.old author o track.new reply) }
     ensures same { OnErr result (track.new ≡ track.old) }
 {
@@ -67,11 +96,7 @@ pub fn step(track: &mut TrackState, author: Author, request: &Request) -> Result
             let factor = *factor;
             calibrate(track, author, test, metric, factor)
         }
-        Request::Segment {
-            machine: _,
-            test,
-            metric,
-        } => segment(track, author, test, metric),
+        Request::Segment { .. } => unreachable!(),
         Request::Changes {
             machine: _,
             test,

@@ -7,14 +7,15 @@ use Rattle.track_outside.specs.declared.keeper.Keeper as keeper
 use Rattle.track_outside.specs.Calls.{Took}
 use Rattle.request_words.specs.Bodies.{Item}
 use Rattle.request_text.specs.Scripts.{Ending, end, cut_off, unfinished, IsScript}
-use Rattle.script_session.specs.declared.stop.Stop.{Stop as ScriptStop}
-use Rattle.script_session.specs.declared.stop.Stop.TheVariants as script
-use Rattle.script_session.specs.Endings.{HasRead, HasWritten}
+use Rattle.script_loop.specs.declared.stop.Stop.{Stop as ScriptStop}
+use Rattle.script_loop.specs.declared.stop.Stop.TheVariants as script
+use Rattle.script_loop.specs.Endings.{HasRead, HasWritten}
 use Rattle.command_words.specs.declared.command.Command.{Command}
 use Rattle.command_words.specs.declared.command.Command.TheVariants.{Cut, Apply, Gen, Trial}
 use Rattle.tracker_top.specs.declared.status.Status.{Status}
 use Rattle.tracker_top.specs.declared.status.Status.TheVariants.{Done, BadWords, ReadFault, WriteFault, StoreFault, BadStore, CutOff, NoMemory, InputTooLong}
 use Rattle.command_words.specs.Commands.{IsSpelled, AreOneCommand}
+use Rattle.script_session.specs.Counts.{RoseByRedone}
 use Rattle.tracker_top.specs.Statuses.{script_status_of, script_status, ended, CutShows, ScriptShows, Shows, IsDue, OneStatusIsDue}
 use Rattle.tracker_top.specs.Endings.{HasCause, EndsOutput, AnswersScript, Begins, WasStarted, Keeps, Prints, AppendCause, LoadCause, EndsSo, EndsScript, EndsApply, IsOfOutput, HasAsked, Ends}
 use Rattle.tracker_top.specs.Answers.{IsCertificateText, state_of}
@@ -25,7 +26,7 @@ use Rattle.kept_machines.specs.Rows.{new_rows}
 use Rattle.script_desk.specs.Growth.{ComesBack}
 use Rattle.track_model.specs.Tracks.{Track}
 use Rattle.script_desk.specs.Sessions.{State, AnswersFor}
-use Rattle.script_session.specs.Outputs.{IsOutput}
+use Rattle.script_loop.specs.Outputs.{IsOutput}
 use Rattle.series_gen.specs.Script.{script as script_of}
 
 -- ---- what is due comes
@@ -38,7 +39,7 @@ if_some (Some bytes) all = all bytes
 abbrev Comes : Type 0 → Type 0 → Type 0 → Status → Status → Type 0
 Comes R W K result status = (result ≡ status) ⊎ ((result ≡ NoMemory) ⊎ (R ⊎ (W ⊎ K)))
 
-module _ {I O K : Type 0} (g : source.Ghosts I) (h : sink.Ghosts O) (k : keeper.Ghosts K) (words : List (List ℕ)) (old new : I) (before after : O) (first last : K) (one_command : AreOneCommand) (once : OneStatusIsDue) where
+module _ {I O K : Type 0} (g : source.Ghosts I) (h : sink.Ghosts O) (k : keeper.Ghosts K) (words : List (List ℕ)) (old new : I) (before after : O) (first last : K) (from to : ℕ) (one_command : AreOneCommand) (once : OneStatusIsDue) where
   abbrev DueComes : Option (List (List ℕ)) → Status → Type 0
   DueComes rows result =
       IfSome (g.left old) (λ bytes. (status : Status) → IsDue words rows bytes status
@@ -133,7 +134,7 @@ module _ {I O K : Type 0} (g : source.Ghosts I) (h : sink.Ghosts O) (k : keeper.
     unread_comes other cause = absurd cause
 
   apply_comes : (store : Option (List ℕ)) → IsSpelled words (Apply store) → (result : Status)
-      → EndsApply g h k store old new before after first last result → DueComes (k.kept first) result
+      → EndsApply g h k store old new before after first last from to result → DueComes (k.kept first) result
   apply_comes None spelled result e =
       ends_so_comes (k.kept first) (λ status shows. shown (k.kept first) (Apply None) spelled (g.left old) status _ _ _ shows)
       None e.answers.items e.answers.text e.result result e.answers.read e.answers.wrote e.ends
@@ -161,7 +162,7 @@ module _ {I O K : Type 0} (g : source.Ghosts I) (h : sink.Ghosts O) (k : keeper.
   trial_comes rows number spelled items text (Err script.InputTooLong) read wrote = absurd read
   trial_comes rows number spelled items text (Err script.NoMemory) read wrote = wanted rows
 
-  pub comes : (command : Command) (result : Status) → IsSpelled words command → Ends g h k command old new before after first last result
+  pub comes : (command : Command) (result : Status) → IsSpelled words command → Ends g h k command old new before after first last from to result
       → DueComes (k.kept first) result
   comes (Cut penalty) result spelled ends = cut_comes (k.kept first) penalty spelled (IsCertificateText penalty (g.left old)) result ends.0.input.cause ends.0.output
   comes (Apply store) result spelled ends = apply_comes store spelled result ends
@@ -174,21 +175,26 @@ not_done : (stop : ScriptStop) → script_status_of stop ≢ Done
 not_done script.ReadFault is = cc
 not_done other is = cc
 
-module _ {I O K : Type 0} (g : source.Ghosts I) (h : sink.Ghosts O) (k : keeper.Ghosts K) (machines : List Track) (now : State) (old new : I) (before after : O) (first last : K) where
+module _ {I O K : Type 0} (g : source.Ghosts I) (h : sink.Ghosts O) (k : keeper.Ghosts K) (machines : List Track) (now : State) (old new : I) (before after : O) (first last : K) (from to : ℕ) where
   prints : (items : List Item) (text : List ℕ) (known : Option (List ℕ)) → IfSome known (λ bytes. IsScript bytes items end)
       → IsOutput AnswersFor (state_of machines) items text now → Took h before after text → IfSome known (λ bytes. Prints h machines bytes now before after)
   prints items text None read output took = tt
   prints items text (Some bytes) read output took = (text, record { items = items; script = read; output = output }, took)
 
-  whole_of : (store : Option (List ℕ)) (why : Result (Unit {0}) ScriptStop) (status : Status) → AnswersScript g h (state_of machines) now old new before after why
+  whole_of : (store : Option (List ℕ)) (why : Result (Unit {0}) ScriptStop) (status : Status) → AnswersScript g h (state_of machines) now old new before after from to why
       → EndsSo k store first last why status → status ≡ Done → IfSome (g.left old) (λ bytes. Prints h machines bytes now before after)
   whole_of store (Ok done) status answers ends is =
       prints answers.items answers.text (g.left old) answers.read.0
       (subst (IsOutput AnswersFor (state_of machines) answers.items answers.text) (sym answers.answered.stands) answers.answered.output) answers.wrote
   whole_of store (Err stop) status answers ends is = absurd (not_done stop (sym ends ∙ is))
 
-  pub ends_script : (store : Option (List ℕ)) (why : Result (Unit {0}) ScriptStop) (status : Status) → Begins k store first machines → AnswersScript g h (state_of machines) now old new before after why
-      → EndsSo k store first last why status → Keeps k store now.tracks first last status → EndsScript g h k store old new before after first last status
+  counts_of : (store : Option (List ℕ)) (why : Result (Unit {0}) ScriptStop) (status : Status) (answers : AnswersScript g h (state_of machines) now old new before after from to why)
+      → EndsSo k store first last why status → status ≡ Done → RoseByRedone answers.items answers.answered.output.replies from to
+  counts_of store (Ok done) status answers ends is = answers.counted
+  counts_of store (Err stop) status answers ends is = absurd (not_done stop (sym ends ∙ is))
+
+  pub ends_script : (store : Option (List ℕ)) (why : Result (Unit {0}) ScriptStop) (status : Status) → Begins k store first machines → AnswersScript g h (state_of machines) now old new before after from to why
+      → EndsSo k store first last why status → Keeps k store now.tracks first last status → EndsScript g h k store old new before after first last from to status
   ends_script store why status begins answers ends keeps = record {
     machines = machines;
     begins = begins;
@@ -198,12 +204,13 @@ module _ {I O K : Type 0} (g : source.Ghosts I) (h : sink.Ghosts O) (k : keeper.
     ends = ends;
     keeps = keeps;
     whole = whole_of store why status answers ends;
+    counted = counts_of store why status answers ends;
   }
 
   -- with a store, where all is done
   ends_added : (name : List ℕ) (middle : K) (done : Unit {0}) → AreKept machines → IfSome (k.kept first) (λ rows. LeadTo rows machines)
-      → k.kept middle ≡ k.kept first → WasStarted k name first last → AnswersScript g h (state_of machines) now old new before after (Ok done)
-      → ComesBack now → k.kept last ≡ with_more (k.kept middle) (new_rows now.tracks) → EndsScript g h k (Some name) old new before after first last Done
+      → k.kept middle ≡ k.kept first → WasStarted k name first last → AnswersScript g h (state_of machines) now old new before after from to (Ok done)
+      → ComesBack now → k.kept last ≡ with_more (k.kept middle) (new_rows now.tracks) → EndsScript g h k (Some name) old new before after first last from to Done
   ends_added name middle done are led same started answers back is =
       let rows : k.kept last ≡ with_more (k.kept first) (new_rows now.tracks) = is ∙ ap (λ r. with_more r (new_rows now.tracks)) same in
       ends_script (Some name) (Ok done) Done (are, led) answers (inl refl) (record {
@@ -225,11 +232,17 @@ module _ {I O K : Type 0} (g : source.Ghosts I) (h : sink.Ghosts O) (k : keeper.
       → called ≡ name → begun ≡ state_of machines → left ≡ now.tracks
       → AreKept machines → IfSome (k.kept first) (λ rows. LeadTo rows machines) → k.kept middle ≡ k.kept first
       → k.started middle ≡ with_more (k.started first) (called ∷ []) → k.faults first ≤ k.faults middle
-      → AnswersScript g h begun now old new before after (Ok done) → ComesBack now
+      → AnswersScript g h begun now old new before after from to (Ok done) → ComesBack now
       → k.kept last ≡ with_more (k.kept middle) (new_rows left) → k.started last ≡ k.started middle → k.faults middle ≤ k.faults last
-      → EndsScript g h k (Some name) old new before after first last Done
+      → EndsScript g h k (Some name) old new before after first last from to Done
   ends_kept name called middle begun left done name_is begun_is left_is are led same named counts answers back added stays more =
       let started : k.started last ≡ with_more (k.started first) (name ∷ []) = stays ∙ named ∙ ap (λ n. with_more (k.started first) (n ∷ [])) name_is in
       ends_added name middle done are led same (record { named = started; counts = omega (arith, counts, more) })
-      (subst (λ s. AnswersScript g h s now old new before after (Ok done)) begun_is answers) back
+      (subst (λ s. AnswersScript g h s now old new before after from to (Ok done)) begun_is answers) back
       (added ∙ ap (λ ts. with_more (k.kept middle) (new_rows ts)) left_is)
+
+-- without a store
+pub ends-alone : {I O K : Type 0} (g : source.Ghosts I) (h : sink.Ghosts O) (k : keeper.Ghosts K) (now : State) (old new : I) (before after : O) (first : K) (from to : ℕ) (why : Result (Unit {0}) ScriptStop) (status : Status)
+    → status ≡ script_status why → AnswersScript g h (state_of []) now old new before after from to why → EndsScript g h k None old new before after first first from to status
+ends-alone g h k now old new before after first from to (Ok done) status is answers = ends_script g h k [] now old new before after first first from to None (Ok done) status refl answers is refl
+ends-alone g h k now old new before after first from to (Err stop) status is answers = ends_script g h k [] now old new before after first first from to None (Err stop) status refl answers is refl

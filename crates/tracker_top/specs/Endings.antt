@@ -2,13 +2,14 @@
 use Rattle.std.specs.Io.KnownBytes.{IsAtEnd}
 use Rattle.std.specs.List.{AllByRecursion}
 use Rattle.trial_script.specs.Accepted.{IsAccepted}
-use Rattle.std.specs.Prelude.{◌≡◌, ◌≢◌, ℕ, ◌+◌, ◌^◌, ◌≤◌, ◌⊎◌, List, [], ◌∷◌, map, Option, Some, None, Result, Ok, Err, IfSome}
+use Rattle.std.specs.Prelude.{◌≡◌, ◌≢◌, ℕ, ◌+◌, ◌^◌, ◌≤◌, ◌⊎◌, List, [], ◌∷◌, map, Option, Some, None, Result, Ok, Err, IfSome, OnOk}
 use Rattle.track_outside.specs.Counts.{Rose}
 use Rattle.track_outside.specs.declared.source.Source as source
 use Rattle.track_outside.specs.declared.sink.Sink as sink
 use Rattle.track_outside.specs.declared.keeper.Keeper as keeper
 use Rattle.track_outside.specs.Kept.{with_more}
 use Rattle.track_model.specs.Tracks.{Track}
+use Rattle.keep_rows.specs.Faults.{MayHaveName}
 use Rattle.kept_machines.specs.Kept.{kept_of, AreKept}
 use Rattle.kept_machines.specs.Loading.{LeadTo, IsFirstBad}
 use Rattle.kept_machines.specs.Rows.{new_rows}
@@ -16,10 +17,11 @@ use Rattle.track_outside.specs.Calls.{Took, FailedIn, IsUntouched, GaveAtMost}
 use Rattle.cut_lines.specs.Stops.{GaveMayGoOn}
 use Rattle.request_words.specs.Bodies.{Item}
 use Rattle.request_text.specs.Scripts.{Ending, end, IsScript}
-use Rattle.script_session.specs.declared.stop.Stop.{Stop}
-use Rattle.script_session.specs.declared.stop.Stop.TheVariants as stop
-use Rattle.script_session.specs.Endings.{HasRead, HasAnswered, HasWritten}
-use Rattle.script_session.specs.Outputs.{AsksFirst, Out}
+use Rattle.script_loop.specs.declared.stop.Stop.{Stop}
+use Rattle.script_loop.specs.declared.stop.Stop.TheVariants as stop
+use Rattle.script_loop.specs.Endings.{HasRead, HasAnswered, HasWritten}
+use Rattle.script_loop.specs.Outputs.{AsksFirst, Out}
+use Rattle.script_session.specs.Counts.{redone_by, RoseByRedone}
 use Rattle.script_session.specs.Part.{IsPart}
 use Rattle.script_desk.specs.Sessions.{State, AnswersFor, AnswersSome}
 use Rattle.series_gen.specs.Script.{script as script_of}
@@ -71,15 +73,17 @@ pub record EndsCut {I O : Type 0} (g : source.Ghosts I) (h : sink.Ghosts O) (pen
 
 -- the script was answered by a session: some items were read, with the result's cause, and answered
 -- by a text, the output took of the text what the result says, all that the machines published
--- stands, and what they bisected finished well
+-- stands, what they bisected finished well, and at the end of the script the steps rose by the
+-- positions that its segmentations looked at anew
 pub record AnswersScript {I O : Type 0} (g : source.Ghosts I) (h : sink.Ghosts O)
-    (begun now : State) (old new : I) (before after : O) (result : Result (Unit {0}) Stop)
-    : Type 0 where
+    (begun now : State) (old new : I) (before after : O) (from to : ℕ)
+    (result : Result (Unit {0}) Stop) : Type 0 where
   pub items : List Item
   pub text : List ℕ
   pub read : HasRead g old new items result
   pub answered : HasAnswered AnswersFor begun now items text result
   pub wrote : HasWritten h before after text result
+  pub counted : OnOk result (RoseByRedone items answered.output.replies from to)
   pub published : AllPublishWell now
   pub bisected : AllBisectWell now
   pub few : GaveAtMost (2 ^ 30 + 1) (g.left old) (g.left new)
@@ -138,16 +142,18 @@ EndsSo k (Some name) first last (Ok done) status = (status ≡ Done) ⊎ AppendC
 -- the script was answered
 pub record EndsScript {I O K : Type 0} (g : source.Ghosts I) (h : sink.Ghosts O)
     (k : keeper.Ghosts K) (store : Option (List ℕ)) (old new : I) (before after : O)
-    (first last : K) (status : Status) : Type 0 where
+    (first last : K) (from to : ℕ) (status : Status) : Type 0 where
   pub machines : List Track
   pub begins : Begins k store first machines
   pub now : State
   pub result : Result (Unit {0}) Stop
-  pub answers : AnswersScript g h (state_of machines) now old new before after result
+  pub answers : AnswersScript g h (state_of machines) now old new before after from to result
   pub ends : EndsSo k store first last result status
   pub keeps : Keeps k store now.tracks first last status
   pub whole : status ≡ Done
       → IfSome (g.left old) (λ bytes. Prints h machines bytes now before after)
+  pub counted : status ≡ Done
+      → RoseByRedone answers.items answers.answered.output.replies from to
 
 -- why the rows of the store were not loaded
 abbrev pub LoadCause : {K : Type 0} → keeper.Ghosts K → K → K → Status → Type 0
@@ -156,24 +162,26 @@ LoadCause k first last (BadStore row) = IfSome (k.kept first) (λ rows. IsFirstB
 LoadCause k first last NoMemory = Unit {0}
 LoadCause k first last status = ⊥
 
--- the rows were not loaded, so nothing was read or written
+-- the rows were not loaded, so nothing was read, written or counted
 pub record EndsUnread {I O K : Type 0} (k : keeper.Ghosts K) (name : List ℕ) (old new : I)
-    (before after : O) (first last : K) (status : Status) : Type 0 where
+    (before after : O) (first last : K) (from to : ℕ) (status : Status) : Type 0 where
   pub unread : new ≡ old
   pub unwritten : after ≡ before
+  pub uncounted : to ≡ from
   pub cause : LoadCause k first last status
   pub rows : k.kept last ≡ k.kept first
   pub named : status ≢ NoMemory → WasStarted k name first last
+  pub once : MayHaveName name (k.started first) (k.started last)
   pub counts : k.faults first ≤ k.faults last
 
--- the input, the output and the keeper, at this status of `apply`
+-- the input, the output, the keeper and the steps, at this status of `apply`
 abbrev pub EndsApply : {I O K : Type 0} → source.Ghosts I → sink.Ghosts O → keeper.Ghosts K
-    → Option (List ℕ) → I → I → O → O → K → K → Status → Type 0
-EndsApply g h k None old new before after first last status =
-    EndsScript g h k None old new before after first last status
-EndsApply g h k (Some name) old new before after first last status =
-    EndsUnread k name old new before after first last status
-    ⊎ EndsScript g h k (Some name) old new before after first last status
+    → Option (List ℕ) → I → I → O → O → K → K → ℕ → ℕ → Status → Type 0
+EndsApply g h k None old new before after first last from to status =
+    EndsScript g h k None old new before after first last from to status
+EndsApply g h k (Some name) old new before after first last from to status =
+    EndsUnread k name old new before after first last from to status
+    ⊎ EndsScript g h k (Some name) old new before after first last from to status
 
 -- ---- gen
 
@@ -213,21 +221,23 @@ RefusesNone bytes =
     → AllByRecursion IsAccepted out.output.replies
 
 -- the output took exactly the part about segmentations of what a session without machines answers
--- this whole script, of which no reply is a refusal
+-- this whole script, of which no reply is a refusal; the steps rose by exactly the positions that
+-- these segmentations looked at anew
 pub record PrintsPart {O : Type 0} (h : sink.Ghosts O) (bytes : List ℕ) (before after : O)
-    : Type 0 where
+    (from to : ℕ) : Type 0 where
   pub whole : List ℕ
   pub text : List ℕ
   pub last : State
   pub part : IsPart new_state bytes whole text last end
   pub accepted : AllByRecursion IsAccepted part.replies
   pub took : Took h before after text
+  pub counted : to ≡ from + redone_by part.items part.replies
 
 -- the output, at this status of `trial` on a script: some items were read, with the status' cause,
 -- and answered, beginning with no machine; a text is what is told of the answers, of which the
 -- output took what the status says; at the end it is the part of all that is answered
 pub record RunsScript {O : Type 0} (h : sink.Ghosts O) (bytes : List ℕ) (before after : O)
-    (status : Status) : Type 0 where
+    (from to : ℕ) (status : Status) : Type 0 where
   pub result : Result (Unit {0}) Stop
   pub told : status ≡ script_status result
   pub items : List Item
@@ -238,36 +248,38 @@ pub record RunsScript {O : Type 0} (h : sink.Ghosts O) (bytes : List ℕ) (befor
   pub answered : HasAnswered AnswersSome new_state now items text result
   pub wrote : HasWritten h before after text result
   pub published : AllPublishWell now
-  pub whole : status ≡ Done → PrintsPart h bytes before after
+  pub whole : status ≡ Done → PrintsPart h bytes before after from to
 
--- the input and the output, at this status of `trial`
+-- the input, the output and the steps, at this status of `trial`
 pub record EndsTrial {I O : Type 0} (h : sink.Ghosts O) (number : ℕ) (old new : I)
-    (before after : O) (status : Status) : Type 0 where
+    (before after : O) (from to : ℕ) (status : Status) : Type 0 where
   pub unread : new ≡ old
-  pub run : RunsScript h (script_of number) before after status
+  pub run : RunsScript h (script_of number) before after from to status
 
 -- ---- any command
 
--- the input, the output and the keeper, at this status of the command; only `apply` calls the
--- keeper
+-- the input, the output, the keeper and the steps, at this status of the command; only `apply` calls
+-- the keeper, and only it and `trial` take steps
 abbrev pub Ends : {I O K : Type 0} → source.Ghosts I → sink.Ghosts O → keeper.Ghosts K → Command → I
-    → I → O → O → K → K → Status → Type 0
-Ends g h k (Cut penalty) old new before after first last status =
-    EndsCut g h penalty old new before after status × (last ≡ first)
-Ends g h k (Apply store) old new before after first last status =
-    EndsApply g h k store old new before after first last status
-Ends g h k (Gen number) old new before after first last status =
-    EndsGen h number old new before after status × (last ≡ first)
-Ends g h k (Trial number) old new before after first last status =
-    EndsTrial h number old new before after status × (last ≡ first)
+    → I → O → O → K → K → ℕ → ℕ → Status → Type 0
+Ends g h k (Cut penalty) old new before after first last from to status =
+    EndsCut g h penalty old new before after status × (last ≡ first) × (to ≡ from)
+Ends g h k (Apply store) old new before after first last from to status =
+    EndsApply g h k store old new before after first last from to status
+Ends g h k (Gen number) old new before after first last from to status =
+    EndsGen h number old new before after status × (last ≡ first) × (to ≡ from)
+Ends g h k (Trial number) old new before after first last from to status =
+    EndsTrial h number old new before after from to status × (last ≡ first)
 
--- memory was wanting to read the words, so no command was begun: nothing was read, written or kept
+-- memory was wanting to read the words, so no command was begun: nothing was read, written, kept or
+-- counted
 pub record EndsUnbegun {I O K : Type 0} (old new : I) (before after : O) (first last : K)
-    (status : Status) : Type 0 where
+    (from to : ℕ) (status : Status) : Type 0 where
   pub wanting : status ≡ NoMemory
   pub unread : new ≡ old
   pub unwritten : after ≡ before
   pub unkept : last ≡ first
+  pub uncounted : to ≡ from
 
 -- the status' line was written, or a first part of it where that failed
 abbrev pub IsTold : {O : Type 0} → sink.Ghosts O → O → O → Status → Type 0

@@ -3,8 +3,8 @@ use Rattle.std.specs.Prelude.{◌≡◌, ℕ, ◌⊎◌, List, Option, Some, Non
 use Rattle.segment_model.specs.Segments.{Position}
 use Rattle.request_words.specs.Bodies.{Item}
 use Rattle.request_text.specs.Scripts.{Ending, end, cut_off, unfinished, IsScript}
-use Rattle.script_session.specs.declared.stop.Stop.{Stop as ScriptStop}
-use Rattle.script_session.specs.declared.stop.Stop.TheVariants as script
+use Rattle.script_loop.specs.declared.stop.Stop.{Stop as ScriptStop}
+use Rattle.script_loop.specs.declared.stop.Stop.TheVariants as script
 use Rattle.cut_lines.specs.declared.stop.Refusal.TheVariants as refusal
 use Rattle.cut_lines.specs.declared.stop.Stop.{Stop}
 use Rattle.cut_lines.specs.declared.stop.Stop.TheVariants as stop

@@ -2,7 +2,7 @@
 ghost use Rattle.std.specs.Prelude.{◌≡◌, ◌≢◌, ℕ, ◌^◌, ◌≤◌, ◌⊎◌, List, [], IfOk, IfSome, Result, Some};
 ghost use Rattle.track_outside.specs.Counts.{Rose};
 ghost use Rattle.script_desk.specs.Sessions.{State};
-ghost use Rattle.script_session.specs.declared.stop.Stop.{Stop};
+ghost use Rattle.script_loop.specs.declared.stop.Stop.{Stop};
 ghost use Rattle.command_words.specs.declared.command.Command.{Command};
 ghost use Rattle.command_words.specs.Commands.{texts, IsSpelled, IsInRange, AreNoCommand};
 ghost use Rattle.tracker_top.specs.Statuses.{script_status, IsDue, OneStatusIsDue};
@@ -17,13 +17,14 @@ use cost_certificate::put_cert;
 use cut_lines::{one_stop_law, read_points};
 use history_model::{Author, finished_law, publication_law};
 use kept_machines::{append_all, load, rows_law};
-use pelt_core::segmentation;
+use pelt_core::{Steps, segmentation};
 use script_desk::{Session, Trial};
-use script_session::{Stop, answer_script, output_law, part_law};
+use script_session::{Stop, answer_counted, count_law, output_law, part_law};
 use segment_cost::Points;
 use series_gen::put_script;
 use std::alloc::Global;
 use std::mem::forget;
+use std::sync::ledger::Ledger;
 use track_outside::{Files, Keeper, NoMemory, Sink, Source, SureSource, put_all};
 use track_state::TrackState;
 use trial_script::{accepted_law, script_law};
@@ -50,13 +51,14 @@ pub fn one_status_law()
 /// answers it. That script is whole and none of its requests is refused, so only the output and want of memory stop a trial. The words
 /// are read as those of command lines (`command_words`), which takes memory; where it is wanting, nothing else is touched but the
 /// status' line.
+/// `apply` and `trial` count their steps: one for each position that a segmentation looks at anew.
 /// The status' line goes to `err`; where that fails the status stands. At most 2^30 bytes of an input are read, and one
 /// more to see that there are no more. The texts are those of docs/FORMATS.md, the statuses those of docs/COMMANDS.md.
 ///
 /// Linear in the bytes read. `cut` is quadratic in the positions, and linear in the values for each position; its memory
 /// is linear in the values. `apply` takes what each request and each kept entry takes of its machine's state
 /// (`track_step::step`, `track_replay::replay`), and keeps the histories, one line and one body.
-pub fn alone<F: Files, K: Keeper>(
+pub fn alone<F: Files, K: Keeper, L: Ledger>(
     alloc: Global,
     words: &[String],
     input: &mut F::Input,
@@ -64,22 +66,25 @@ pub fn alone<F: Files, K: Keeper>(
     err: &mut F::Output,
     files: &mut F,
     keeper: &mut K,
+    steps: &mut Steps<L>,
 ) -> Status
-    // Bad words are no command, and then nothing is read, written or kept but the status' line.
+    // Bad words are no command, and then nothing is read, written, kept or counted but the status' line.
     ensures bad_words { result ≡ Status.BadWords → AreNoCommand (texts words.now) }
     ensures untouched { result ≡ Status.BadWords
-        → (input.new ≡ input.old) × (out.new ≡ out.old) × (keeper.new ≡ keeper.old) }
+        → (input.new ≡ input.old) × (out.new ≡ out.old) × (keeper.new ≡ keeper.old)
+        × (steps.new ≡ steps.old) }
 
     // No command opens or creates a file.
     ensures files { files.new ≡ files.old }
 
-    // Else memory was wanting to read them, or they are a command, which ends so on the input, the output and the keeper,
-    // as `Ends` says of each.
+    // Else memory was wanting to read them, or they are a command, which ends so on the input, the output, the keeper and
+    // the steps, as `Ends` says of each.
     ensures command { result ≢ Status.BadWords
-        → EndsUnbegun input.old input.new out.old out.new keeper.old keeper.new result
+        → EndsUnbegun input.old input.new out.old out.new keeper.old keeper.new
+        steps.old steps.new result
         ⊎ ((command : Command) × IsSpelled (texts words.now) command
         × Ends F.Input.Source F.Output.Sink K.Keeper command
-        input.old input.new out.old out.new keeper.old keeper.new result) }
+        input.old input.new out.old out.new keeper.old keeper.new steps.old steps.new result) }
 
     // What is due comes, unless an object fails or memory is wanting. So good words, rows and input are Done.
     ensures complete { IfSome (F.Input.left input.old) (λ bytes. (status : Status)
@@ -102,30 +107,30 @@ pub fn alone<F: Files, K: Keeper>(
         let _ = put_status(err, Status::BadWords);
         return Status::BadWords;
     };
-    let status = run_command(alloc, &command, input, out, keeper);
+    let status = run_command(alloc, &command, input, out, keeper, steps);
     // A status stands also where it can't be told.
     let _ = put_status(err, status);
     status
 }
 
 // Runs the command, and leaves the telling of its status to the caller.
-fn run_command<I: Source, O: Sink, K: Keeper>(
+fn run_command<I: Source, O: Sink, K: Keeper, L: Ledger>(
     alloc: Global,
     command: &Command<'_>,
     input: &mut I,
     out: &mut O,
     keeper: &mut K,
+    steps: &mut Steps<L>,
 ) -> Status
     requires { IsInRange command.now }
     ensures { Ends I.Source O.Sink K.Keeper command.now
-        input.old input.new out.old out.new keeper.old keeper.new result }
+        input.old input.new out.old out.new keeper.old keeper.new steps.old steps.new result }
 {
     match command {
         Command::Cut(penalty) => cut(alloc, *penalty, input, out),
-        Command::Apply(None) => apply(alloc, input, out),
-        Command::Apply(Some(store)) => apply_to(alloc, store, input, out, keeper),
+        Command::Apply(store) => apply_on(alloc, store, input, out, keeper, steps),
         Command::Gen(number) => generate(alloc, *number, out),
-        Command::Trial(number) => run_trial(alloc, *number, out),
+        Command::Trial(number) => run_trial(alloc, *number, out, steps),
     }
 }
 
@@ -160,13 +165,37 @@ fn certificate_text(alloc: Global, points: &Points, penalty: u128) -> Result<Vec
     Ok(text)
 }
 
+// Answers the script on the machines of a store, or on none where no store is named, and writes the replies.
+fn apply_on<I: Source, O: Sink, K: Keeper, L: Ledger>(
+    alloc: Global,
+    store: &Option<StoreName<'_>>,
+    input: &mut I,
+    out: &mut O,
+    keeper: &mut K,
+    steps: &mut Steps<L>,
+) -> Status
+    ensures { EndsApply I.Source O.Sink K.Keeper store.now
+        input.old input.new out.old out.new keeper.old keeper.new steps.old steps.new result }
+{
+    match store {
+        None => apply(alloc, input, out, steps),
+        Some(name) => apply_to(alloc, name, input, out, keeper, steps),
+    }
+}
+
 // Answers the script on no machines, and writes the replies.
-fn apply<I: Source, O: Sink>(alloc: Global, input: &mut I, out: &mut O) -> Status
+fn apply<I: Source, O: Sink, L: Ledger>(
+    alloc: Global,
+    input: &mut I,
+    out: &mut O,
+    steps: &mut Steps<L>,
+) -> Status
     ensures { (now : State) × (why : Result (Unit {0}) Stop) × (result ≡ script_status why)
-        × AnswersScript I.Source O.Sink (state_of []) now input.old input.new out.old out.new why }
+        × AnswersScript I.Source O.Sink (state_of []) now
+        input.old input.new out.old out.new steps.old steps.new why }
 {
     let mut session = session_on(alloc, Vec::new(alloc));
-    let answered = answer(alloc, &mut session, input, out);
+    let answered = answer(alloc, &mut session, input, out, steps);
     leave(session);
     match answered {
         Ok(()) => Status::Done,
@@ -180,22 +209,23 @@ fn leave(session: Session) {
 }
 
 // Answers the script on the machines of a store, writes the replies, and adds the new rows.
-fn apply_to<I: Source, O: Sink, K: Keeper>(
+fn apply_to<I: Source, O: Sink, K: Keeper, L: Ledger>(
     alloc: Global,
     store: &StoreName<'_>,
     input: &mut I,
     out: &mut O,
     keeper: &mut K,
+    steps: &mut Steps<L>,
 ) -> Status
     ensures { EndsApply I.Source O.Sink K.Keeper (Some store.now)
-        input.old input.new out.old out.new keeper.old keeper.new result }
+        input.old input.new out.old out.new keeper.old keeper.new steps.old steps.new result }
 {
     let machines = match load(alloc, keeper, store.as_str()) {
         Ok(machines) => machines,
         Err(fault) => return Status::from(fault),
     };
     let mut session = session_on(alloc, machines);
-    if let Err(stop) = answer(alloc, &mut session, input, out) {
+    if let Err(stop) = answer(alloc, &mut session, input, out, steps) {
         return Status::from(stop);
     }
     session.comes_back_law();
@@ -216,16 +246,18 @@ fn session_on(alloc: Global, machines: Vec<TrackState>) -> Session
 }
 
 // Answers the script, and writes the replies.
-fn answer<I: Source, O: Sink>(
+fn answer<I: Source, O: Sink, L: Ledger>(
     alloc: Global,
     session: &mut Session,
     input: &mut I,
     out: &mut O,
+    steps: &mut Steps<L>,
 ) -> Result<(), Stop>
     ensures { AnswersScript I.Source O.Sink session.old session.new
-        input.old input.new out.old out.new result }
+        input.old input.new out.old out.new steps.old steps.new result }
 {
-    let answered = answer_script(alloc, session, input, out);
+    count_law();
+    let answered = answer_counted(alloc, session, input, out, steps);
     publication_law();
     session.histories_law();
     finishes_law(session);
@@ -256,26 +288,38 @@ fn generate<O: Sink>(alloc: Global, number: u64, out: &mut O) -> Status
 }
 
 // Answers the script of a number, and writes the replies about segmentations.
-fn run_trial<O: Sink>(alloc: Global, number: u64, out: &mut O) -> Status
-    ensures { RunsScript O.Sink (script_of number) out.old out.new result }
+fn run_trial<O: Sink, L: Ledger>(
+    alloc: Global,
+    number: u64,
+    out: &mut O,
+    steps: &mut Steps<L>,
+) -> Status
+    ensures { RunsScript O.Sink (script_of number) out.old out.new steps.old steps.new result }
 {
     script_law();
     accepted_law();
     let Ok(mut script) = script_source(alloc, number) else {
         return Status::NoMemory;
     };
-    try_script(alloc, &mut script, out)
+    try_script(alloc, &mut script, out, steps)
 }
 
 // Answers a script that ends well and has no request to refuse, whose source tells its bytes and never fails, and writes
 // the replies about segmentations.
-fn try_script<I: Source, O: Sink>(alloc: Global, script: &mut I, out: &mut O) -> Status
+fn try_script<I: Source, O: Sink, L: Ledger>(
+    alloc: Global,
+    script: &mut I,
+    out: &mut O,
+    steps: &mut Steps<L>,
+) -> Status
     ensures { (bytes : List ℕ) → I.left script.old ≡ Some bytes → I.faults script.new ≡ 0
-        → EndsWell bytes → RefusesNone bytes → RunsScript O.Sink bytes out.old out.new result }
+        → EndsWell bytes → RefusesNone bytes
+        → RunsScript O.Sink bytes out.old out.new steps.old steps.new result }
 {
     part_law();
+    count_law();
     let mut trial = Trial::new(Session::new(alloc, Author::Script(1), Vec::new(alloc)));
-    let answered = answer_script(alloc, &mut trial, script, out);
+    let answered = answer_counted(alloc, &mut trial, script, out, steps);
     publication_law();
     trial.histories_law();
     match answered {

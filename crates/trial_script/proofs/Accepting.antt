@@ -26,7 +26,7 @@ use Rattle.track_model.specs.Forms as forms
 use Rattle.track_model.specs.Outcomes.{Outcome}
 use Rattle.track_model.specs.Laws.{CommitIsAdded, RetractIsAdded, TuneIsAdded, PublishIsAdded}
 use Rattle.track_model.specs.Tracks.{ComesTo}
-use Rattle.track_model.specs.Publishing.{OfKnown, OfPublished, IsPublished, TellsChanges, publication, segmented}
+use Rattle.track_model.specs.Publishing.{OfKnown, OfPublished, IsPublished, TellsChanges, publication, redone_since, segmented}
 use Rattle.series_gen.specs.Script.{place}
 use Rattle.trial_script.specs.Requests as asked
 use Rattle.trial_script.proofs.Lists.{filter_few}
@@ -90,7 +90,7 @@ module _ (declared : DeclarationsGrow) (accepts : AcceptancesGrow) (retracts : R
         }
 
     pub commit_good : (n : ℕ) (h : List Entry) (o : Outcome) → n < 500 → Reached n 0 0 0 h
-        → ComesTo h (request.Commit asked.machine n (asked.commit_name n)) o → Good (Reached (suc n) 0 0 0) h o
+        → ComesTo h 0 (request.Commit asked.machine n (asked.commit_name n)) o → Good (Reached (suc n) 0 0 0) h o
     commit_good n h o few now comes =
         let small : n < 2 ^ 64 = omega (arith, few) in
         let free : forms.commit_refusal (declarations h) n (asked.commit_name n) ≡ None = rw (no_number now.lists, no_name now.lists small) refl in
@@ -120,7 +120,7 @@ module _ (declared : DeclarationsGrow) (accepts : AcceptancesGrow) (retracts : R
           cuts = omega (arith, now.cuts, cuts_grow h e);
         }
 
-    pub tune_good : (h : List Entry) (o : Outcome) → Reached 500 0 0 0 h → ComesTo h (request.Tune asked.machine asked.metric (pos 300_000_000_000)) o
+    pub tune_good : (h : List Entry) (o : Outcome) → Reached 500 0 0 0 h → ComesTo h 0 (request.Tune asked.machine asked.metric (pos 300_000_000_000)) o
         → Good (Reached 500 0 0 1) h o
     tune_good h o now comes =
         let fits = tune_added h asked.metric (pos 300_000_000_000) refl (omega (arith, now.steps)) in
@@ -146,7 +146,7 @@ module _ (declared : DeclarationsGrow) (accepts : AcceptancesGrow) (retracts : R
         }
 
     pub retract_good : (i : ℕ) (h : List Entry) (o : Outcome) → i < 10 → Reached 500 2_000 i 1 h
-        → ComesTo h (request.Retract asked.machine (asked.run_name (200 * i))) o → Good (Reached 500 2_000 (suc i) 1) h o
+        → ComesTo h 0 (request.Retract asked.machine (asked.run_name (200 * i))) o → Good (Reached 500 2_000 (suc i) 1) h o
     retract_good i h o few now comes =
         let there = now.lists.accepted (200 * i) (omega (arith, few)) in
         let back : retracted (asked.run_name (200 * i)) h ≡ None = not_back now.lists (200 * i) (omega (arith, few)) (omega arith) in
@@ -220,7 +220,7 @@ module _ (declared : DeclarationsGrow) (accepts : AcceptancesGrow) (retracts : R
           less = now.few;
         }
 
-    pub submit_good : (j v : ℕ) (h : List Entry) (o : Outcome) → j < 2_000 → v < 10_000 → Reached 500 j 0 1 h → ComesTo h (asked.submit j v) o
+    pub submit_good : (j v : ℕ) (h : List Entry) (o : Outcome) → j < 2_000 → v < 10_000 → Reached 500 j 0 1 h → ComesTo h 0 (asked.submit j v) o
         → Good (Turned j) h o
     submit_good j v h o few below now comes =
         let small : j < 2 ^ 64 = omega (arith, few) in
@@ -267,12 +267,12 @@ module _ (declared : DeclarationsGrow) (accepts : AcceptancesGrow) (retracts : R
     known : (j r t : ℕ) (h : List Entry) → 0 < j → Reached 500 j r t h → is_known series h ≡ true
     known j r t h some now = known_there j (acceptances h) now.lists.taken (omega (arith, now.lists.runs, some))
 
-    published_of : (j r t : ℕ) (h : List Entry) (o : Outcome) (now : Reached 500 j r t h) → 0 < j → j ≤ 2_000 → r ≤ 10 → t ≤ 2
-        → ComesTo h asked.segment o → Published j r t h o now
-    published_of j r t h o now some runs back other comes =
-        let made : IsPublished h series o = subst (λ b. OfKnown b (IsPublished h series) o) (known j r t h some now) comes in
+    published_of : (j r t : ℕ) (h : List Entry) (base : ℕ) (o : Outcome) (now : Reached 500 j r t h) → 0 < j → j ≤ 2_000 → r ≤ 10 → t ≤ 2
+        → ComesTo h base asked.segment o → Published j r t h o now
+    published_of j r t h base o now some runs back other comes =
+        let made : IsPublished h base series o = subst (λ b. OfKnown b (IsPublished h base series) o) (known j r t h some now) comes in
         let cert : Cert = made.0 in
-        let p : Publication = publication series (length h) cert in
+        let p : Publication = publication series (length h) base cert in
         let few : length cert.cuts ≤ 16_384 = omega (
           arith,
           cuts_few 0 (length (positions h series)) cert.cuts (omega arith) made.1.best.is_cut_list,
@@ -280,8 +280,8 @@ module _ (declared : DeclarationsGrow) (accepts : AcceptancesGrow) (retracts : R
         ) in
         record {
           p = p;
-          told = segmented (length h) cert;
-          is = made.2 ∙ publish_added h p (segmented (length h) cert)
+          told = segmented (length h) base (redone_since h base series) cert;
+          is = made.2 ∙ publish_added h p (segmented (length h) base (redone_since h base series) cert)
               (record { steps = omega (arith, now.steps, now.few, runs, back, other); cuts = omega (arith, now.cuts, now.few, runs, other, few) });
           few = few;
           accepted = λ reason is. cc;
@@ -289,19 +289,19 @@ module _ (declared : DeclarationsGrow) (accepts : AcceptancesGrow) (retracts : R
         }
 
     -- after each hundredth run
-    pub segment_good : (j : ℕ) (h : List Entry) (o : Outcome) → j < 2_000 → (j + 1) % 100 ≡ 0 → Turned j h → ComesTo h asked.segment o
+    pub segment_good : (j : ℕ) (h : List Entry) (base : ℕ) (o : Outcome) → j < 2_000 → (j + 1) % 100 ≡ 0 → Turned j h → ComesTo h base asked.segment o
         → Good (Reached 500 (suc j) 0 1) h o
-    segment_good j h o few hundred turned comes =
+    segment_good j h base o few hundred turned comes =
         let now = turned.reached in
-        let made = published_of (suc j) 0 1 h o now (omega arith) (omega (arith, few)) (omega arith) (omega arith) comes in
+        let made = published_of (suc j) 0 1 h base o now (omega arith) (omega (arith, few)) (omega arith) (omega arith) comes in
         good_added (Reached 500 (suc j) 0 1) h o made.told (entry.Publish made.p) made.is made.accepted
         (publish_history (suc j) 0 1 1 (now.published + 1) h made.p now (omega (arith, few)) (omega arith) (omega arith) made.few (omega arith)
         (omega (arith, turned.less, hundred)))
 
     -- at the end
-    pub last_good : (h : List Entry) (o : Outcome) → Reached 500 2_000 10 1 h → ComesTo h asked.segment o → Good Ready h o
-    last_good h o now comes =
-        let made = published_of 2_000 10 1 h o now (omega arith) (omega arith) (omega arith) (omega arith) comes in
+    pub last_good : (h : List Entry) (base : ℕ) (o : Outcome) → Reached 500 2_000 10 1 h → ComesTo h base asked.segment o → Good Ready h o
+    last_good h base o now comes =
+        let made = published_of 2_000 10 1 h base o now (omega arith) (omega arith) (omega arith) (omega arith) comes in
         good_added Ready h o made.told (entry.Publish made.p) made.is made.accepted
         (record {
           reached = publish_history 2_000 10 1 2 now.published h made.p now (omega arith) (omega arith) (omega arith) made.few (omega arith) now.few;
@@ -309,7 +309,7 @@ module _ (declared : DeclarationsGrow) (accepts : AcceptancesGrow) (retracts : R
           last = made.last;
         })
 
-    pub changes_good : (h : List Entry) (o : Outcome) → Ready h → ComesTo h (request.Changes asked.machine asked.test asked.metric) o
+    pub changes_good : (h : List Entry) (o : Outcome) → Ready h → ComesTo h 0 (request.Changes asked.machine asked.test asked.metric) o
         → Good (λ now. Unit {0}) h o
     changes_good h o ready comes =
         let of_known : OfPublished (last_publication series h) (TellsChanges h series) o =

@@ -17,7 +17,7 @@ use Rattle.trial_script.specs.Requests.{asked_in_turn}
 use Rattle.trial_script.specs.Accepted.{EachIsAccepted, NoneIsRefused}
 use Rattle.trial_script.specs.Laws.{ScriptIsWhole}
 use Rattle.script_desk.specs.Sessions.{AnswersFor}
-use Rattle.script_desk.specs.Folds.{AreAnswers}
+use Rattle.script_loop.specs.Folds.{AreAnswers}
 use Rattle.trial_script.proofs.Reached.{Reached}
 use Rattle.trial_script.proofs.Passing.{Passes, Begins, one, behind, begun_then, nothing, in_turn, declared}
 use Rattle.trial_script.proofs.Accepting.{Turned, Ready, commit_good, tune_good, retract_good, submit_good, segment_good, last_good, changes_good}
@@ -68,24 +68,24 @@ module _ (declares : DeclarationsGrow) (accepts : AcceptancesGrow) (retracts : R
             → Passes (Turned j) (if test then asked.segment ∷ [] else []) (Reached 500 (suc j) 0 1)
         maybe_segment j few true is =
             let hundred : (j + 1) % 100 ≡ 0 = grind (arith, nat_tests) in
-            one asked.segment refl (λ h o now comes. segment_good declares accepts retracts cuts_grow publish_limits publish_added series_limits is_last j h o few hundred now comes)
+            one asked.segment refl (λ h base o now comes. segment_good declares accepts retracts cuts_grow publish_limits publish_added series_limits is_last j h base o few hundred now comes)
         maybe_segment j few false is = nothing (λ h now. now.reached)
 
         turn : (number j : ℕ) → j < 2_000 → Passes (Reached 500 j 0 1) (asked.turn number j) (Reached 500 (suc j) 0 1)
         turn number j few =
             let v : ℕ = value (place j) (state_after number (suc j)) in
             behind (asked.submit j v ∷ []) (if (j + 1) % 100 == 0 then asked.segment ∷ [] else [])
-            (one (asked.submit j v) refl (λ h o now comes. submit_good declares accepts retracts cuts_grow values counts samples_fit positions_fit kept run_limits_kept j v h o few (below j _) now comes))
+            (one (asked.submit j v) refl (λ h base o now comes. submit_good declares accepts retracts cuts_grow values counts samples_fit positions_fit kept run_limits_kept j v h o few (below j _) now comes))
             (maybe_segment j few ((j + 1) % 100 == 0) refl)
 
         commits : Passes (Reached 0 0 0 0) (asked_in_turn asked.commit 500) (Reached 500 0 0 0)
         commits = in_turn (λ n. Reached n 0 0 0) asked.commit 500
             (λ n few. one (request.Commit asked.machine n (asked.commit_name n)) refl
-            (λ h o now comes. commit_good declares accepts retracts cuts_grow commit_limits commit_added n h o few now comes))
+            (λ h base o now comes. commit_good declares accepts retracts cuts_grow commit_limits commit_added n h o few now comes))
 
         tuned : Passes (Reached 500 0 0 0) (request.Tune asked.machine asked.metric (pos 300_000_000_000) ∷ []) (Reached 500 0 0 1)
         tuned = one (request.Tune asked.machine asked.metric (pos 300_000_000_000)) refl
-            (λ h o now comes. tune_good declares accepts retracts cuts_grow tune_limits tune_added h o now comes)
+            (λ h base o now comes. tune_good declares accepts retracts cuts_grow tune_limits tune_added h o now comes)
 
         runs : (number : ℕ) → Passes (Reached 500 0 0 1) (asked_in_turn (asked.turn number) 2_000) (Reached 500 2_000 0 1)
         runs number = in_turn (λ j. Reached 500 j 0 1) (asked.turn number) 2_000 (turn number)
@@ -93,14 +93,14 @@ module _ (declares : DeclarationsGrow) (accepts : AcceptancesGrow) (retracts : R
         retracted : Passes (Reached 500 2_000 0 1) (asked_in_turn asked.retract 10) (Reached 500 2_000 10 1)
         retracted = in_turn (λ i. Reached 500 2_000 i 1) asked.retract 10
             (λ i few. one (request.Retract asked.machine (asked.run_name (200 * i))) refl
-            (λ h o now comes. retract_good declares accepts retracts cuts_grow retract_limits retract_added i h o few now comes))
+            (λ h base o now comes. retract_good declares accepts retracts cuts_grow retract_limits retract_added i h o few now comes))
 
         segmented : Passes (Reached 500 2_000 10 1) (asked.segment ∷ []) Ready
-        segmented = one asked.segment refl (λ h o now comes. last_good declares accepts retracts cuts_grow publish_limits publish_added series_limits is_last h o now comes)
+        segmented = one asked.segment refl (λ h base o now comes. last_good declares accepts retracts cuts_grow publish_limits publish_added series_limits is_last h base o now comes)
 
         changed : Passes Ready (request.Changes asked.machine asked.test asked.metric ∷ []) (λ h. Unit {0})
         changed = one (request.Changes asked.machine asked.test asked.metric) refl
-            (λ h o now comes. changes_good declares accepts retracts cuts_grow publish_limits publish_added series_limits is_last h o now comes)
+            (λ h base o now comes. changes_good declares accepts retracts cuts_grow publish_limits publish_added series_limits is_last h o now comes)
 
         all : (number : ℕ) → Begins (asked.requests number) (λ h. Unit {0})
         all number =

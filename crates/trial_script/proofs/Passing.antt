@@ -1,12 +1,12 @@
 -- Requests one after another on the history of the one machine: what holds before some of them leads to what holds after
 -- them, and none of them is refused.
-use Rattle.std.proofs.Common.{◌≡◌, ◌≢◌, ℕ, zero, suc, ◌<◌, false, List, [], ◌∷◌, ◌++◌, refl, sym, ap, ◌∙◌, subst, arith, append_assoc, append-nil, Option, Some, None, Ok}
-use Rattle.std.specs.Prelude.{find, option_to_list}
+use Rattle.std.proofs.Common.{◌≡◌, ◌≢◌, ℕ, zero, suc, ◌<◌, Bool, true, false, cond, List, [], ◌∷◌, ◌++◌, refl, sym, ap, ◌∙◌, subst, arith, append_assoc, append-nil, Option, Some, None, Ok}
+use Rattle.std.specs.FinSet as set
+use Rattle.std.specs.Prelude.{bytes_eq, find, nat_eq, option_to_list}
 use Rattle.std.specs.List.{AllByRecursion}
 use Rattle.std.proofs.lemmas.List.{map-append}
 use Rattle.history_model.specs.declared.entries.Author.{Author}
 use Rattle.history_model.specs.declared.entries.Entry.{Entry}
-use Rattle.history_model.specs.declared.entries.Placed.{Placed}
 use Rattle.history_model.specs.Entries.{entries_of}
 use Rattle.history_model.proofs.Chosen.{entries-push}
 use Rattle.request_model.specs.declared.requests.Request.{Request}
@@ -16,23 +16,22 @@ use Rattle.request_model.specs.declared.replies.Answer.TheVariants as answer
 use Rattle.request_model.specs.declared.replies.Reply.{Reply}
 use Rattle.track_model.specs.Outcomes.{Outcome}
 use Rattle.track_model.specs.Replies.{machine_of, reply_of}
-use Rattle.track_model.specs.Tracks.{Track, with_added, with_outcome, ComesTo}
+use Rattle.history_model.specs.Runs.{Series}
+use Rattle.request_model.specs.declared.replies.Answer.{Answer}
+use Rattle.track_model.specs.Tracks.{Track, new_track, with_added, with_answered, with_home, with_segmented, with_taken, base_of, base_asked, ComesTo}
 use Rattle.request_words.specs.Bodies.{Item}
 use Rattle.script_desk.specs.Sessions.{Answered, State, Answers, AnswersAbout, AnswersFor, is_track, stepped}
-use Rattle.script_desk.specs.Folds.{AreAnswers}
+use Rattle.script_loop.specs.Folds.{AreAnswers}
 use Rattle.trial_script.specs.Requests.{machine, asked_in_turn}
 use Rattle.trial_script.specs.Accepted.{IsAccepted}
 use Rattle.trial_script.proofs.Turns.{oks}
 
--- the one machine, with its history
-abbrev pub track : List Placed → Track
-track hist = record { machine = machine; kept = false; history = hist }
-
--- the session has that machine alone, with this history
+-- the session has the one machine alone, with this history
 pub record On (s : State) (h : List Entry) : Type 0 where
-  pub hist : List Placed
-  pub tracks : s.tracks ≡ track hist ∷ []
-  pub entries : entries_of hist ≡ h
+  pub sole : Track
+  pub tracks : s.tracks ≡ sole ∷ []
+  pub named : sole.machine ≡ machine
+  pub entries : entries_of sole.history ≡ h
 
 -- the replies refuse nothing, and this holds of the history after them
 pub record Passed (Q : List Entry → Type 0) (replies : List Reply) (after : State) : Type 0 where
@@ -52,46 +51,80 @@ pub record Good (Q : List Entry → Type 0) (h : List Entry) (o : Outcome) : Typ
   pub accepted : (reason : Refusal) → o.answer ≢ answer.Refused reason
   pub holds : Q (h ++ option_to_list o.adds)
 
-record Added (author : Author) (hist : List Placed) (adds : Option Entry) : Type 0 where
-  now : List Placed
-  tracks : with_added author (track hist) adds ≡ track now
-  entries : entries_of now ≡ entries_of hist ++ option_to_list adds
+-- a machine with an entry more, if there is one
+record Grown (t now : Track) (adds : Option Entry) : Type 0 where
+  named : now.machine ≡ t.machine
+  entries : entries_of now.history ≡ entries_of t.history ++ option_to_list adds
 
-added : (author : Author) (hist : List Placed) (adds : Option Entry) → Added author hist adds
-added author hist None = record { now = hist; tracks = refl; entries = sym (append-nil (entries_of hist)) }
-added author hist (Some e) =
-    record { now = hist ++ record { author = author; entry = e } ∷ []; tracks = refl; entries = entries-push hist (record { author = author; entry = e }) }
+added : (author : Author) (t : Track) (adds : Option Entry) → Grown t (with_added author t adds) adds
+added author t None = record { named = refl; entries = sym (append-nil (entries_of t.history)) }
+added author t (Some e) = record { named = refl; entries = entries-push t.history (record { author = author; entry = e }) }
+
+taken : (t : Track) (s : Series) → Grown t (with_taken s t) None
+taken t s = by (nat_eq (base_of t s) 0)
+  where
+    by : (b : Bool) → Grown t (cond b t (with_home (set.remove t.home s) t)) None
+    by true = record { named = refl; entries = sym (append-nil (entries_of t.history)) }
+    by false = record { named = refl; entries = sym (append-nil (entries_of t.history)) }
+
+segmented : (author : Author) (t : Track) (s : Series) (told : Answer) (adds : Option Entry) → Grown t (with_segmented author s t (record { answer = told; adds = adds })) adds
+segmented author t s told None = taken t s
+segmented author t s told (Some e) = record { named = refl; entries = entries-push t.history (record { author = author; entry = e }) }
+
+grown : (author : Author) (q : Request) (t : Track) (o : Outcome) → Grown t (with_answered author q t o) o.adds
+grown author (request.Machine m) t o = added author t o.adds
+grown author (request.Commit m number name) t o = added author t o.adds
+grown author (request.Submit m commit run samples ignored stated) t o = added author t o.adds
+grown author (request.Retract m run) t o = added author t o.adds
+grown author (request.Tune m metric penalty) t o = added author t o.adds
+grown author (request.Calibrate m test metric factor) t o = added author t o.adds
+grown author (request.Segment m test metric) t o = segmented author t (record { test = test; metric = metric }) o.answer o.adds
+grown author (request.Changes m test metric) t o = added author t o.adds
+grown author (request.Verify m test metric) t o = added author t o.adds
+grown author (request.Regress m test metric change) t o = added author t o.adds
+grown author (request.SetState m number state) t o = added author t o.adds
+grown author (request.Bisect m lo hi) t o = added author t o.adds
+grown author (request.Answer m number commit status) t o = added author t o.adds
+grown author (request.Resume m number) t o = added author t o.adds
+grown author (request.Job m number) t o = added author t o.adds
+grown author (request.Runs m) t o = added author t o.adds
+grown author (request.Report m json) t o = added author t o.adds
+
+is_there : (t : Track) → t.machine ≡ machine → is_track machine t ≡ true
+is_there t named = ap (λ (name : List ℕ). bytes_eq name machine) named
 
 -- the answer of the one machine
-about_one : (author : Author) (hist : List Placed) (tracks : List Track) (q : Request) (a : Answered) → machine_of q ≡ machine
-    → tracks ≡ track hist ∷ [] → Answers author tracks q a
-    → (o : Outcome) × ComesTo (entries_of hist) q o × (a ≡ stepped author tracks q (track hist) o)
-about_one author hist tracks q a same is answers =
-    let found : find (is_track (machine_of q)) tracks ≡ Some (track hist) = rw (same, is) refl in
+about_one : (author : Author) (t : Track) (tracks : List Track) (q : Request) (a : Answered) → machine_of q ≡ machine → t.machine ≡ machine
+    → tracks ≡ t ∷ [] → Answers author tracks q a
+    → (o : Outcome) × ComesTo (entries_of t.history) (base_asked t q) q o × (a ≡ stepped author tracks q t o)
+about_one author t tracks q a same named is answers =
+    let found : find (is_track (machine_of q)) tracks ≡ Some t = rw (same, is, is_there t named) refl in
     subst (λ found. AnswersAbout found author tracks q a) found answers
 
-left_track : (author : Author) (hist now : List Placed) (tracks : List Track) (q : Request) (o : Outcome) → machine_of q ≡ machine → tracks ≡ track hist ∷ []
-    → with_outcome author (track hist) o ≡ track now → (stepped author tracks q (track hist) o).tracks ≡ track now ∷ []
-left_track author hist now tracks q o same is made = rw (same, is) (ap (λ (t : Track). t ∷ []) made)
+left_track : (author : Author) (t : Track) (tracks : List Track) (q : Request) (o : Outcome) → machine_of q ≡ machine → t.machine ≡ machine → tracks ≡ t ∷ []
+    → (stepped author tracks q t o).tracks ≡ with_answered author q t o ∷ []
+left_track author t tracks q o same named is = rw (same, is, is_there t named) refl
 
-pub one : {P Q : List Entry → Type 0} (q : Request) → machine_of q ≡ machine → ((h : List Entry) (o : Outcome) → P h → ComesTo h q o → Good Q h o)
+pub one : {P Q : List Entry → Type 0} (q : Request) → machine_of q ≡ machine
+    → ((h : List Entry) (base : ℕ) (o : Outcome) → P h → ComesTo h base q o → Good Q h o)
     → Passes P (q ∷ []) Q
 one {Q = Q} q same good before after h replies on holds answers =
-    let about = about_one before.author on.hist before.tracks q (record { reply = answers.3.0; tracks = answers.1.tracks }) same on.tracks answers.3.1.1 in
+    let about = about_one before.author on.sole before.tracks q (record { reply = answers.3.0; tracks = answers.1.tracks }) same on.named on.tracks answers.3.1.1 in
     let o : Outcome = about.0 in
-    let is = good h o holds (subst (λ (hs : List Entry). ComesTo hs q o) on.entries about.1) in
-    let told : answers.3.0 ≡ reply_of (entries_of on.hist) o = ap (λ (a : Answered). a.reply) about.2 in
-    let more = added before.author on.hist o.adds in
-    let left : answers.1.tracks ≡ track more.now ∷ [] =
-    ap (λ (a : Answered). a.tracks) about.2 ∙ left_track before.author on.hist more.now before.tracks q o same on.tracks more.tracks in
+    let is = good h (base_asked on.sole q) o holds (subst (λ (hs : List Entry). ComesTo hs (base_asked on.sole q) q o) on.entries about.1) in
+    let told : answers.3.0 ≡ reply_of (entries_of on.sole.history) o = ap (λ (a : Answered). a.reply) about.2 in
+    let more = grown before.author q on.sole o in
+    let left : answers.1.tracks ≡ with_answered before.author q on.sole o ∷ [] =
+    ap (λ (a : Answered). a.tracks) about.2 ∙ left_track before.author on.sole before.tracks q o same on.named on.tracks in
     let all : replies ≡ answers.3.0 ∷ [] = answers.4 ∙ rw (answers.3.2, answers.5.0) refl in
     let accepted : IsAccepted answers.3.0 = λ reason refused. is.accepted reason (sym (ap (λ (r : Reply). r.answer) told) ∙ refused) in
     record {
       accepted = subst (AllByRecursion IsAccepted) (sym all) (accepted, tt);
       last = h ++ option_to_list o.adds;
       on = record {
-        hist = more.now;
+        sole = with_answered before.author q on.sole o;
         tracks = ap (λ (s : State). s.tracks) answers.5.1 ∙ left;
+        named = more.named ∙ on.named;
         entries = more.entries ∙ ap (λ (hs : List Entry). hs ++ option_to_list o.adds) on.entries;
       };
       holds = is.holds;
@@ -182,6 +215,11 @@ declared holds before after replies none answers =
     record {
       accepted = subst (AllByRecursion IsAccepted) (sym all) (accepted, tt);
       last = [];
-      on = record { hist = []; tracks = ap (λ (s : State). s.tracks) answers.5.1 ∙ ap (λ (b : Answered). b.tracks) is; entries = refl };
+      on = record {
+        sole = new_track machine false;
+        tracks = ap (λ (s : State). s.tracks) answers.5.1 ∙ ap (λ (b : Answered). b.tracks) is;
+        named = refl;
+        entries = refl;
+      };
       holds = holds;
     }

@@ -16,5 +16,5 @@ pub returns-clause-histories : goal.returns-clause-histories
 returns-clause-histories c = histories_alike c.values_law.ensures.of_points c.outcome_law.ensures
 
 pub returns-clause-segments : goal.returns-clause-segments
-returns-clause-segments c h machine test metric o kept comes kept_comes told kept_told =
-    segment_so c.values_law.ensures.of_points h (record { test = test; metric = metric }) c.one_certificate_law.ensures o kept comes kept_comes told kept_told
+returns-clause-segments c h base kept_base machine test metric o kept comes kept_comes told kept_told =
+    segment_so c.values_law.ensures.of_points h (record { test = test; metric = metric }) c.one_certificate_law.ensures base kept_base o kept comes kept_comes told kept_told

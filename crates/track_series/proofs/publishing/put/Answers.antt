@@ -1,4 +1,4 @@
-use Rattle.std.proofs.Common.{◌≡◌, ◌+◌, ◌≤◌, ◌<◌, List, [], ◌∷◌, ◌++◌, length, sym, ap, subst, ◌∙◌, arith, Option, None}
+use Rattle.std.proofs.Common.{◌≡◌, ◌+◌, ◌≤◌, ◌<◌, List, [], ◌∷◌, ◌++◌, length, sym, ap, subst, ◌∙◌, arith, refl, Option, Some, None}
 use Rattle.std.proofs.lemmas.List.{length-append, length-map}
 use Rattle.metric_table.specs.Limits.{most}
 use Rattle.metric_table.specs.declared.limits.Limit.{Limit}
@@ -10,7 +10,7 @@ use Rattle.history_model.specs.declared.publication.Publication.{Publication}
 use Rattle.history_model.specs.Allowed.{Allowed}
 use Rattle.history_model.specs.Entries.{entries_of}
 use Rattle.history_model.specs.Publications.{cut_count}
-use Rattle.track_model.specs.Tracks.{with_entry}
+use Rattle.track_model.specs.Tracks.{with_publication}
 use Rattle.track_state.specs.Made.{publication_from, entry_of}
 use Rattle.track_series.specs.Publications.{IsAdded, passed}
 use Rattle.track_series.specs.declared.publishing.Published.TheVariants as published
@@ -37,4 +37,16 @@ returns-clause-put c =
     let cuts : cut_count (h ++ e ∷ []) ≤ most limit.Cuts = omega (arith, more, c.cut_count.ensures.count, c.cut_count.ensures.few, c.len-2.ensures, c.most-2.ensures, c.if-len-most-2.false) in
     let none : passed h c.args.done ≡ None = c.within_law.ensures.kept limit.Steps (limit.Cuts ∷ []) h e steps ∙ c.within_law.ensures.kept limit.Cuts [] h e cuts in
     subst (λ (o : Option Limit). IsAdded o c.args.track.now c.args.author c.args.done (published.Ok c.in_ok-step.step) c.add_publication.new.self) (sym none)
-    (ap published.Ok c.in_ok-step.ensures.step, c.in_ok-step.ensures.track ∙ ap (λ (p : Publication). with_entry c.args.author c.args.track.now (entry.Publish p)) c.in_ok-publication.ensures)
+    (ap published.Ok c.in_ok-step.ensures.step, c.in_ok-step.ensures.track ∙ ap (λ (p : Publication). with_publication c.args.author c.args.track.now p) c.in_ok-publication.ensures)
+
+pub returns-then-len-most-2-clause-put : goal.returns-then-len-most-2-clause-put
+returns-then-len-most-2-clause-put c =
+    let h : List Entry = entries_of c.args.track.now.history in
+    let e : Entry = entry_of c.args.done in
+    let size : length h ≡ length c.args.track.now.history = length-map c.args.track.now.history (λ (p : Placed). p.entry) in
+    let one = length-append h (e ∷ []) in
+    let more = c.publication_law.ensures.cuts h e in
+    let steps : length (h ++ e ∷ []) ≤ most limit.Steps = omega (arith, one, c.len.ensures, size, c.if-len-most.false, c.most.ensures) in
+    let many : most limit.Cuts < cut_count (h ++ e ∷ []) = omega (arith, more, c.cut_count.ensures.count, c.cut_count.ensures.few, c.len-2.ensures, c.most-2.ensures, c.if-len-most-2.true) in
+    let full : passed h c.args.done ≡ Some limit.Cuts = c.within_law.ensures.kept limit.Steps (limit.Cuts ∷ []) h e steps ∙ c.within_law.ensures.passed limit.Cuts [] h e many in
+    subst (λ (o : Option Limit). IsAdded o c.args.track.now c.args.author c.args.done (published.Full limit.Cuts) c.args.track.now) (sym full) (refl, refl)

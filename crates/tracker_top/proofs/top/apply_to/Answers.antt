@@ -7,7 +7,7 @@ returns-in-Ok-append_all g c =
     let loaded = c.in-Ok.ensures in
     let added = c.append_all.ensures in
     inr (ends_kept g.I.Source g.O.Sink g.K.Keeper c.in-Ok.machines.items c.answer.new.session
-    c.args.input.now c.answer.new.input c.args.out.now c.answer.new.out c.args.keeper.now c.append_all.new.keeper
+    c.args.input.now c.answer.new.input c.args.out.now c.answer.new.out c.args.keeper.now c.append_all.new.keeper c.args.steps.now c.answer.new.steps
     c.args.store.now c.as_str.result.now c.load.new.keeper c.session_on-session.result c.machines.result.now c.in_default.field-0
     c.as_str.ensures c.session_on-session.ensures c.machines.ensures
     loaded.kept loaded.loaded loaded.rows (loaded.named (λ is. cc)) loaded.counts

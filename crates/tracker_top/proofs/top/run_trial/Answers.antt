@@ -5,7 +5,7 @@ use Rattle.tracker_top.proofs.Trials.{runs_none}
 use Rattle.tracker_top.proofs.top.run_trial.Goals as goal
 
 pub returns-in_default : goal.returns-in_default
-returns-in_default g c = runs_none g.O.Sink c.args.out.now (script_of c.args.number)
+returns-in_default g c = runs_none g.O.Sink c.args.out.now (script_of c.args.number) c.args.steps.now
 
 pub returns : goal.returns
 returns g c =

@@ -1,17 +1,18 @@
-use Rattle.std.proofs.Common.{◌≡◌, ◌-◌, ◌∙◌, Some, set, ap, subst, arith}
-use Rattle.history_model.specs.Jobs.{job_in}
-use Rattle.follow_index.proofs.Counts.{asks_place, replaced, some_open}
+use Rattle.std.proofs.Common.{◌≡◌, ℕ, ◌-◌, ◌∙◌, Bool, List, Some, cond, not, set, ap, sym, subst}
+use Rattle.std.specs.Prelude.{◌==◌, filter}
+use Rattle.bisect_core.specs.Bisections.{Bisection}
+use Rattle.history_model.specs.Jobs.{job_in, is_under_way}
+use Rattle.follow_index.proofs.Counts.{asks_place, open-after}
 use Rattle.follow_index.proofs.jobs.JobIndex.answer.Goals as goal
-
-pub overflow_sub-self : goal.overflow_sub-self
-overflow_sub-self c =
-    let one = asks_place c.args.number c.args.place _ _ _ c.self.view_is c.requires c.index_mut-job.ensures.value in
-    omega (arith, some_open c.self.inside.items.items (c.args.number - 1) c.index_mut-job.result.now one.at one.under_way, c.self.invariant)
 
 pub invariant_of-self : goal.invariant_of-self
 invariant_of-self c =
     let one = asks_place c.args.number c.args.place _ _ _ c.self.view_is c.requires c.index_mut-job.ensures.value in
-    omega (arith, some_open c.self.inside.items.items (c.args.number - 1) c.index_mut-job.result.now one.at one.under_way, replaced c.self.inside.items.items (c.args.number - 1) c.index_mut-job.result.now c.answer.new.self one.at one.under_way, c.self.invariant, c.open_of.ensures)
+    let number : ℕ = c.args.number in
+    let later : Bisection = c.answer.new.self in
+    c.keep_open.ensures
+    ∙ ap (λ (ns : List ℕ). cond (is_under_way later) ns (filter (λ (n : ℕ). not (n == number)) ns)) c.self.invariant
+    ∙ sym (open-after number c.self.inside.items.items c.index_mut-job.result.now later one.there one.under_way)
 
 pub returns : goal.returns
 returns c =

@@ -12,8 +12,8 @@ returns g c =
     let total_fits : FitsSigned w128 c.in_ok-best.best.total = search rules in
     let best = rw (← positions, ← penalty) at c.in_ok-best.ensures in
     let all : c.of-2.result ≡ c.self.inside.rows.least.items = c.of-2.ensures ∙ c.in_ok-from_slice.ensures.items ∙ c.deref.ensures.value in
-    let backs : c.of-3.result ≡ c.self.inside.rows.back.items = c.of-3.ensures ∙ c.in_ok-widened.ensures ∙ c.deref-2.ensures.value in
-    let marks : c.of-4.result ≡ c.self.inside.rows.pruned.items = c.of-4.ensures ∙ c.in_ok-widened-2.ensures ∙ c.deref-3.ensures.value in
+    let backs : c.of-3.result ≡ c.self.inside.rows.back.items = c.of-3.ensures ∙ c.in_ok-from_slice-2.ensures.items ∙ c.deref-2.ensures.value in
+    let marks : c.of-4.result ≡ c.self.inside.rows.pruned.items = c.of-4.ensures ∙ c.in_ok-from_slice-3.ensures.items ∙ c.deref-3.ensures.value in
     rw (← positions, ← penalty, to_z-of_z w128 c.in_ok-best.best.total total_fits, c.of.ensures, all, backs, marks) (record {
       counted = c.len.ensures;
       same_penalty = to_z-of_z w128 c.self.inside.penalty fits;

@@ -18,7 +18,7 @@ pub invariant_of-self-in_err-insert : goal.invariant_of-self-in_err-insert
 invariant_of-self-in_err-insert c =
     let x = c.self.inside in
     rw c.in_ok-reserve.ensures.items (stays (entries_of x.history.items) x.commits x.runs x.series x.series x.known x.penalties x.penalties x.published c.insert.new.self x.cuts x.following x.following
-    c.self.invariant (λ s. refl) (λ metric. refl) c.in_err-insert.ensures.err refl)
+    c.self.invariant (λ s. refl) (λ metric. refl) c.in_err-insert.ensures.same refl)
 
 pub overflow_add-self : goal.overflow_add-self
 overflow_add-self c =
@@ -47,5 +47,5 @@ invariant_of-self-2 c =
     c.penalty_law.ensures.set c.penalty_law.ensures.stays
     c.publication_law.ensures.last c.publication_law.ensures.stays c.publication_law.ensures.versions c.publication_law.ensures.cuts
     c.regressions_law.ensures.raised c.regressions_law.ensures.stays c.jobs_law.ensures.stay
-    h c.args.done x.commits x.runs x.series x.known x.penalties x.published c.insert.new.self x.cuts x.following c.self.invariant allowed made c.in_ok-insert.ensures.ok in
+    h c.args.done x.commits x.runs x.series x.known x.penalties x.published c.insert.new.self x.cuts x.following c.self.invariant allowed made c.in_ok-insert.ensures.kept in
     rw (entries_are, c.len-cuts.ensures) all

@@ -1,0 +1,22 @@
+-- What a type says of the table that it keeps.
+use Rattle.std.proofs.Common.{◌≡◌, Option, Some, None, sym, ap, ap₂, subst}
+use Rattle.std.proofs.Math.Logic.{∥∥₁_elim}
+use denote.Struct.Props.{props}
+use Rattle.std.specs.Prelude.{IfSome}
+use Rattle.segment_cost.specs.declared.done.Done.{Done}
+use Rattle.pelt_core.specs.Seen.{Tabled, table_of}
+use Rattle.publication_index.specs.Standing.{IsTableFor, IsKeptTable}
+
+pub stands-for : (done : Done) (table : Option Tabled) → ∥ IsTableFor done table ∥₁ → IsTableFor done table
+stands-for done None s = tt
+stands-for done (Some t) s =
+    ap₂ table_of (∥∥₁_elim s (search props) (λ x. ap (λ (u : Tabled). u.positions) x)) (∥∥₁_elim s (search props) (λ x. ap (λ (u : Tabled). u.penalty) x))
+
+-- the table of a segmentation is that of one that is kept, where it is kept
+pub kept-table : (done : Done) (o : Option Done) → o ≡ Some done → (table : Option Tabled) → IsTableFor done table → IfSome table (λ t. IsKeptTable t o)
+kept-table done o is None stands = tt
+kept-table done o is (Some t) stands = subst (λ (d : Option Done). IsKeptTable t d) (sym is) stands
+
+-- a test that is there has its metrics
+pub moved-table : (one other : Option Done) → one ≡ other → (table : Option Tabled) → IfSome table (λ t. IsKeptTable t one) → IfSome table (λ t. IsKeptTable t other)
+moved-table one other is table stands = subst (λ (d : Option Done). IfSome table (λ t. IsKeptTable t d)) is stands

@@ -1,0 +1,6 @@
+mod Answering
+mod Each
+mod Ending
+mod Landed
+mod Reading
+mod Sources

@@ -1,0 +1,15 @@
+-- The certificate of a table of points.
+use Rattle.std.proofs.Common.{◌≡◌, ℤ, List, length}
+use Rattle.std.proofs.lemmas.List.{length-map}
+use Rattle.segment_model.specs.Segments.{Position, position_values}
+use Rattle.segment_model.specs.Computed.{least_sum_of}
+use Rattle.segment_model.specs.Values.{values_by_position, cost_between}
+use Rattle.segment_cost.specs.declared.cert.Cert.{Cert}
+use Rattle.segment_cost.specs.Certificate.{IsCertificate, squares_between}
+use Rattle.pelt_core.specs.Seen.{Tabled, table_of}
+
+pub of-points : (points : List Position) (b : ℤ) (cert : Cert) (t : Tabled) → t ≡ table_of (values_by_position points) b
+    → IsCertificate (cost_between least_sum_of t.positions) (length t.positions) t.penalty cert → IsCertificate (squares_between points) (length points) b cert
+of-points points b cert t e is =
+    let is' = rw e at is in
+    rw (length-map points position_values) at is'
