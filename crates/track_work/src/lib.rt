@@ -1,0 +1,24 @@
+//! A machine's state with what workers have taken of it.
+//!
+//! A `WorkState` has a machine's state, which contracts see as its history, and the claims of those who work on it: a
+//! series may be taken, or refused by a limit, and a job may be taken. Claims stand in no history. Whoever wants work is
+//! given the first stale series that nobody claims, or the open job of the smallest number.
+//!
+//! The series that something touched are in an ordered index. It follows the history when work is asked for, once for
+//! each entry, so that a request pays nothing for it and a search looks at no series that is fresh.
+//!
+//! Stands on `track_state` for the state of a machine, on `track_series` and `track_follow` for what is added, and on
+//! `touch_model` and `touch_index` for what is stale.
+#![tactic(auto)]
+
+mod catching;
+mod publishing;
+mod questions;
+mod requests;
+mod state;
+mod taking;
+
+pub use questions::{Question, open_question};
+pub use state::WorkState;
+pub use std::alloc::AllocError as NoMemory;
+pub use taking::TakenSeries;

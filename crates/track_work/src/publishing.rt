@@ -1,0 +1,152 @@
+//! What becomes of a series that was taken.
+ghost use Rattle.std.specs.Prelude.{◌≡◌, IfOk, OnErr, OnOk, length, true};
+ghost use Rattle.history_model.specs.Entries.{entries_of};
+ghost use Rattle.history_model.specs.Runs.{is_known};
+ghost use Rattle.publication_index.specs.Standing.{table_for};
+ghost use Rattle.touch_index.specs.declared.mark.Claim.TheVariants as claim;
+ghost use Rattle.track_state.specs.Made.{IsMadeFrom};
+ghost use Rattle.track_series.specs.Beside.{IsBegun};
+ghost use Rattle.track_series.specs.declared.publishing.Published.{Published};
+ghost use Rattle.track_work.specs.Covering.{Covers, IsMarked, MakeSame};
+ghost use Rattle.track_work.specs.Taking.{Finishes, IsBegunOn, Publishes, claim_after};
+ghost use Rattle.track_work.specs.Work.{ClaimBecomes, IsSame, history_of, series_of};
+
+use crate::NoMemory;
+use crate::catching::catch_up;
+use crate::state::WorkState;
+use history_model::{Author, growth_law, publication_law};
+use line_text::Name;
+use pelt_core::Table;
+use request_model::Reply;
+use segment_cost::{Done, Square};
+use touch_index::{Claim, Mark, SeriesKey, TouchIndex};
+use touch_model::{stale_law, touch_law};
+use track_series::{Begun, Finished, Published, begin, finish};
+use track_state::TrackState;
+
+// The step that the mark of a known series has; where it has none, it is fresh and is given one.
+fn marked(track: &TrackState, touched: &mut TouchIndex, key: &SeriesKey) -> Result<u64, NoMemory>
+    requires covers { Covers (entries_of track.now.history)
+        (length (entries_of track.now.history)) touched.old }
+    requires known { is_known (series_of key.now) (entries_of track.now.history) ≡ true }
+    ensures covers { Covers (entries_of track.now.history)
+        (length (entries_of track.now.history)) touched.new }
+    ensures claims { MakeSame (entries_of track.now.history) touched.old touched.new }
+    ensures mark { IfOk result (λ step. IsMarked touched.new key.now step) }
+{
+    publication_law();
+    track.history_law();
+    if let Some(mark) = touched.get(key) {
+        return Ok(mark.touched);
+    }
+    let Some(done) = track.published(&key.test, &key.metric) else {
+        unreachable!();
+    };
+    let step = done.version;
+    let mark = Mark {
+        touched: step,
+        claim: Claim::Free,
+    };
+    touched.put(key, mark)?;
+    Ok(step)
+}
+
+// The claim on a series once a segmentation of a version was handed in.
+fn claim_after(told: Published, version: u64, touched: u64) -> Claim
+    ensures { result ≡ claim_after told version touched }
+{
+    match told {
+        Published::Full(_) if version >= touched => Claim::Refused,
+        _ => Claim::Free,
+    }
+}
+
+impl WorkState {
+    // Hands in a finished segmentation, and replies.
+    fn hand_in(
+        &mut self,
+        author: Author,
+        done: Done,
+        table: Table<Square>,
+    ) -> Result<Finished, NoMemory>
+        requires made { IsMadeFrom (history_of self.old) done }
+        requires tabled { table ≡ table_for done }
+        ensures published { IfOk result
+            (λ end. Publishes self.old author done end.told self.new) }
+        ensures step { IfOk result (λ end. Finishes self.old author done self.new end.reply) }
+        ensures same { OnErr result (IsSame self.old self.new) }
+    {
+        growth_law();
+        publication_law();
+        touch_law();
+        stale_law();
+        catch_up(&self.track, &mut self.touched, &mut self.seen)?;
+        let key = SeriesKey::of(self.track.alloc(), &done.test, &done.metric)?;
+        let touched = marked(&self.track, &mut self.touched, &key)?;
+        let version = done.version;
+        let end = finish(&mut self.track, author, done, table)?;
+        self.track.history_law();
+        self.touched
+            .set_claim(&key, claim_after(end.told, version, touched));
+        Ok(end)
+    }
+
+    /// Publishes a segmentation that was made from the history, at its version or before, and keeps its table, which is home
+    /// then. This ends a claim on its series, unless a limit refused it and no entry touched the series since that version.
+    /// Linear in its cuts and in the samples that came since the last search, but for look-ups.
+    pub fn publish(
+        &mut self,
+        author: Author,
+        done: Done,
+        table: Table<Square>,
+    ) -> Result<Published, NoMemory>
+        requires made { IsMadeFrom (history_of self.old) done }
+        requires tabled { table ≡ table_for done }
+        ensures published { IfOk result (λ told. Publishes self.old author done told self.new) }
+        ensures same { OnErr result (IsSame self.old self.new) }
+    {
+        let end = self.hand_in(author, done, table)?;
+        Ok(end.told)
+    }
+
+    /// As [`publish`](WorkState::publish), for a request to segment the series: replies as the version that was segmented
+    /// gives it.
+    pub fn finish(
+        &mut self,
+        author: Author,
+        done: Done,
+        table: Table<Square>,
+    ) -> Result<Reply, NoMemory>
+        requires made { IsMadeFrom (history_of self.old) done }
+        requires tabled { table ≡ table_for done }
+        ensures step { IfOk result (λ reply. Finishes self.old author done self.new reply) }
+        ensures claims { IfOk result (λ reply. (told : Published)
+            × Publishes self.old author done told self.new) }
+        ensures same { OnErr result (IsSame self.old self.new) }
+    {
+        let Finished { told: _, reply } = self.hand_in(author, done, table)?;
+        Ok(reply)
+    }
+
+    /// Begins the segmentation of a series, for a request. The table of its last publication goes with it, where that is
+    /// home and has the present penalty. All claims stay. Linear in the values of the series, but for samples that came
+    /// since it was last read.
+    pub fn begin(&mut self, test: &Name, metric: &Name) -> Result<Begun, NoMemory>
+        ensures begun { IfOk result (IsBegun self.old.track
+            (record { test = test.now; metric = metric.now })) }
+        ensures taken { OnOk result (IsBegunOn self.old
+            (record { test = test.now; metric = metric.now }) self.new) }
+        ensures same { OnErr result (self.new ≡ self.old) }
+    {
+        begin(&mut self.track, test, metric)
+    }
+
+    /// Ends the claim on a series, if there is one. Logarithmic time; takes no memory.
+    pub fn release(&mut self, key: &SeriesKey)
+        ensures track { self.new.track ≡ self.old.track }
+        ensures claims { ClaimBecomes (series_of key.now) claim.Free self.old self.new }
+        ensures jobs { self.new.jobs ≡ self.old.jobs }
+    {
+        self.touched.set_claim(key, Claim::Free);
+    }
+}

@@ -1,0 +1,36 @@
+//! Requests, answered on a machine with claims.
+ghost use Rattle.std.specs.Prelude.{◌≡◌, IfOk, OnErr, OnOk, false};
+ghost use Rattle.track_model.specs.Counts.{is_segment};
+ghost use Rattle.track_model.specs.Outcomes.{Outcome};
+ghost use Rattle.track_model.specs.Replies.{machine_of};
+ghost use Rattle.track_model.specs.Tracks.{ComesTo, IsStep};
+ghost use Rattle.track_work.specs.Kept.{KeepsClaims};
+ghost use Rattle.track_work.specs.Work.{history_of};
+
+use crate::NoMemory;
+use crate::state::WorkState;
+use history_model::{Author, publication_law};
+use request_model::{Reply, Request};
+use touch_model::{stale_law, touch_law};
+use track_step::step;
+
+impl WorkState {
+    /// Answers a request about this machine that segments nothing. All claims stay, but for those that a limit left on
+    /// series which the request touches.
+    pub fn step(&mut self, author: Author, request: &Request) -> Result<Reply, NoMemory>
+        requires asked { machine_of request.now ≡ self.old.track.machine }
+        requires plain { is_segment request.now ≡ false }
+        ensures step { IfOk result (λ reply. (o : Outcome)
+            × ComesTo (history_of self.old) 0 request.now o
+            × IsStep self.old.track author o self.new.track reply) }
+        ensures claims { OnOk result (KeepsClaims self.old self.new) }
+        ensures same { OnErr result (self.new ≡ self.old) }
+    {
+        publication_law();
+        touch_law();
+        stale_law();
+        let reply = step(&mut self.track, author, request)?;
+        self.track.history_law();
+        Ok(reply)
+    }
+}
