@@ -1,5 +1,6 @@
 -- What the clauses of a lock say of it and of its passes.
 use Rattle.std.specs.Prelude.{◌≡◌, ℕ, ◌<◌, ◌≤◌, ◌⊎◌, List, [], ◌∷◌, ◌++◌, length, Option, Some, None}
+use Rattle.atomic_table.specs.Seated.{TableId}
 use Rattle.history_lock.specs.declared.lock.Pass.{Pass}
 use Rattle.history_lock.specs.declared.lock.HistoryLock.{HistoryLock}
 use Rattle.history_lock.specs.declared.view.Marked.{Marked}
@@ -7,6 +8,14 @@ use Rattle.history_lock.specs.declared.view.Stage.TheVariants.{Outside, Inside}
 use Rattle.history_lock.specs.Marks.{IsNoneOf, marked, entries, Follows, IsLongerOf}
 
 module _ {S E L : Type 0} where
+  -- which lock it is: no two locks that are there at once are the same
+  abbrev pub identity : HistoryLock S E L → TableId
+  identity lock = lock.table.shared.table_id
+
+  -- which lock it is a pass of
+  abbrev pub lock_of : Pass S E L → TableId
+  lock_of p = p.seat.table_id
+
   -- the beginning of the lock's history that the pass has seen
   abbrev pub seen : Pass S E L → List (Marked E)
   seen p = p.seat.me.0.seen
@@ -33,7 +42,7 @@ module _ {S E L : Type 0} where
 
   -- it is a pass of this lock, and its count of splits is right
   abbrev pub IsPassOf : HistoryLock S E L → Pass S E L → Type 0
-  IsPassOf lock p = (p.seat.table_id ≡ lock.table.shared.table_id) × (p.splits ≡ given p)
+  IsPassOf lock p = (lock_of p ≡ identity lock) × (p.splits ≡ given p)
 
   -- it is the first pass of its lock
   abbrev pub IsFirst : Pass S E L → Type 0
@@ -53,7 +62,7 @@ module _ {S E L : Type 0} where
 
   -- the same pass of the same lock, with the same marks and label
   abbrev pub IsSame : Pass S E L → Pass S E L → Type 0
-  IsSame p q = (q.seat.table_id ≡ p.seat.table_id) × (q.splits ≡ p.splits) × (q.seat.id ≡ p.seat.id) × (mark q ≡ mark p) × (given q ≡ given p) × (joined q ≡ joined p) × (label q ≡ label p)
+  IsSame p q = (lock_of q ≡ lock_of p) × (q.splits ≡ p.splits) × (q.seat.id ≡ p.seat.id) × (mark q ≡ mark p) × (given q ≡ given p) × (joined q ≡ joined p) × (label q ≡ label p)
 
   -- a state with these entries may be given back: they are those that the pass has seen, or those and one more
   abbrev pub MayLeave : List E → Pass S E L → Type 0

@@ -139,7 +139,7 @@ impl<S: Historied> HistoryLock<S> {
         requires first { IsFirst pass.old × IsOutside pass.old }
         ensures ok { IfOk result (λ p. IsPassOf self.now p × IsOutside p
             × (seen p ≡ seen pass.old) × (label p ≡ label pass.old)
-            × (mark p ≡ given pass.old + 1) × (joined p ≡ [])) }
+            × (mark p ≡ given pass.old + 1) × (given p ≡ 0) × (joined p ≡ [])) }
         ensures pass { OnOk result (IsPassOf self.now pass.new × IsOutside pass.new
             × (seen pass.new ≡ seen pass.old) × (label pass.new ≡ label pass.old)
             × (mark pass.new ≡ mark pass.old) × (given pass.new ≡ given pass.old + 1)

@@ -1,0 +1,110 @@
+-- The first machine that has something to take.
+use Rattle.std.proofs.Common.{◌≡◌, ℕ, zero, suc, ◌+◌, ◌<◌, ◌≤◌, List, [], ◌∷◌, ◌++◌, length, take, drop, set, get_or, refl, sym, ap, subst, ◌∙◌, Option, Some, None, arith}
+use Rattle.std.specs.Prelude.{IfSome, slice_get}
+use Rattle.std.specs.List.{AllZip}
+use Rattle.track_room.specs.Sights.{Sight, Visits}
+use Rattle.history_model.specs.declared.entries.Entry.{Entry}
+use Rattle.history_model.specs.Allowed.{Legal}
+use Rattle.history_model.specs.Entries.{entries_of}
+use Rattle.track_model.specs.Tracks.{Track}
+use Rattle.track_work.specs.Work.{Work, history_of, series_of}
+use Rattle.track_work.specs.declared.questions.Question.{Question}
+use Rattle.track_work.specs.declared.taking.TakenSeries.{TakenSeries}
+use Rattle.track_work.proofs.Snapped.{entries-taken}
+use Rattle.track_room.specs.Taking.{IsQuestion, IsTaken, OfSeen, TakesAt, TakesFirst, TakesJob, TakesSeries, seen_of}
+use Rattle.track_room.proofs.Places.{zip-push}
+
+-- ---- parts of a list
+get-drop : {A : Type 0} (xs : List A) (i : ℕ) → slice_get xs i ≡ slice_get (drop i xs) 0
+get-drop xs zero = refl
+get-drop [] (suc i) = refl
+get-drop (x ∷ xs) (suc i) = get-drop xs i
+
+drop-next : {A : Type 0} (xs : List A) (i : ℕ) → drop (suc i) xs ≡ drop 1 (drop i xs)
+drop-next xs zero = refl
+drop-next [] (suc i) = refl
+drop-next (x ∷ xs) (suc i) = drop-next xs i
+
+take-next : {A : Type 0} (xs : List A) (i : ℕ) (x : A) → slice_get xs i ≡ Some x → take (suc i) xs ≡ take i xs ++ x ∷ []
+take-next [] i x is = absurd (let no : None ≡ Some x = is in cc)
+take-next (y ∷ xs) zero x is = let same : y ≡ x = cc in ap (λ (z : _). z ∷ []) same
+take-next (y ∷ xs) (suc i) x is = ap (λ zs. y ∷ zs) (take-next xs i x is)
+
+set-take : {A : Type 0} (xs : List A) (i : ℕ) (x : A) → take i (set xs i x) ≡ take i xs
+set-take xs zero x = refl
+set-take [] (suc i) x = refl
+set-take (y ∷ xs) (suc i) x = ap (λ zs. y ∷ zs) (set-take xs i x)
+
+set-drop : {A : Type 0} (xs : List A) (i : ℕ) (x : A) → drop (suc i) (set xs i x) ≡ drop (suc i) xs
+set-drop [] zero x = refl
+set-drop [] (suc i) x = refl
+set-drop (y ∷ xs) zero x = refl
+set-drop (y ∷ xs) (suc i) x = set-drop xs i x
+
+-- ---- so many machines had nothing to take, and the others weren't entered
+pub record HaveNone (Nothing : Work → Work → Type 0) (i : ℕ) (old now : List Sight) : Type 0 where
+  pub nothing : AllZip (Visits Nothing) (take i old) (take i now)
+  pub rest : drop i now ≡ drop i old
+
+pub none-first : (Nothing : Work → Work → Type 0) (old : List Sight) → HaveNone Nothing 0 old old
+none-first Nothing old = record { nothing = tt; rest = refl }
+
+module _ (Nothing : Work → Work → Type 0) (old now : List Sight) (i : ℕ) (have : HaveNone Nothing i old now) (p new : Sight) (at : slice_get now i ≡ Some p)
+    (stands : slice_get (set now i new) i ≡ Some new) where
+  at-old : slice_get old i ≡ Some p
+  at-old = get-drop old i ∙ ap (λ (xs : List Sight). slice_get xs 0) (sym have.rest) ∙ sym (get-drop now i) ∙ at
+
+  rest-is : drop (suc i) (set now i new) ≡ drop (suc i) old
+  rest-is = set-drop now i new ∙ drop-next now i ∙ ap (λ (xs : List Sight). drop 1 xs) have.rest ∙ sym (drop-next old i)
+
+  plus : i + 1 ≡ suc i
+  plus = omega arith
+
+  pub none-next : Visits Nothing p new → HaveNone Nothing (i + 1) old (set now i new)
+  none-next visit = subst (λ (n : ℕ). HaveNone Nothing n old (set now i new)) (sym plus)
+      (record {
+        nothing =
+            subst (λ (xs : List Sight). AllZip (Visits Nothing) xs (take (suc i) (set now i new))) (sym (take-next old i p at-old))
+            (subst (λ (ys : List Sight). AllZip (Visits Nothing) (take i old ++ p ∷ []) ys) (sym (take-next (set now i new) i new stands ∙ ap (λ (zs : List Sight). zs ++ new ∷ []) (set-take now i new)))
+            (zip-push (Visits Nothing) (take i old) (take i now) p new have.nothing visit));
+        rest = rest-is;
+      })
+
+  pub takes-at : (This : Work → Work → Type 0) → Visits This p new → TakesAt Nothing This i old (set now i new)
+  takes-at This visit = record {
+    nothing = subst (λ (ys : List Sight). AllZip (Visits Nothing) (take i old) ys) (sym (set-take now i new)) have.nothing;
+    before = p;
+    there = at-old;
+    after = new;
+    here = stands;
+    this = visit;
+    rest = subst (λ (n : ℕ). drop n (set now i new) ≡ drop n old) (sym plus) rest-is;
+  }
+
+take-whole : {A : Type 0} (n : ℕ) (xs : List A) → length xs ≤ n → take n xs ≡ xs
+take-whole zero [] le = refl
+take-whole zero (x ∷ xs) le = absurd (omega (arith, le))
+take-whole (suc n) [] le = refl
+take-whole (suc n) (x ∷ xs) le = ap (λ zs. x ∷ zs) (take-whole n xs (omega (arith, le)))
+
+pub none-all : (Nothing : Work → Work → Type 0) (old now : List Sight) (n : ℕ) → HaveNone Nothing n old now → length old ≤ n → length now ≤ n → AllZip (Visits Nothing) old now
+none-all Nothing old now n have one two =
+    subst (λ (xs : List Sight). AllZip (Visits Nothing) xs now) (take-whole n old one)
+    (subst (λ (ys : List Sight). AllZip (Visits Nothing) (take n old) ys) (take-whole n now two) have.nothing)
+
+-- ---- what the pass knows of what was taken
+pub known-series : (found : Option (ℕ × TakenSeries)) (old new : List Sight) → TakesFirst TakesSeries found old new → IfSome found (λ t. OfSeen t.0 new (λ h. IsTaken h t.1))
+known-series None old new is = tt
+known-series (Some x) old new is =
+    let v = is.this in
+    let same : history_of v.before ≡ seen_of is.after =
+    sym (entries-taken v.before.track (series_of x.1.key) v.after.track v.does.0.track) ∙ ap (λ (t : Track). entries_of t.history) v.left in
+    (is.after, is.here, (v.before.track, same, v.does.0.snapshot, subst (λ (h : List Entry). Legal h) same v.does.1))
+
+pub known-question : (found : Option (ℕ × Question)) (old new : List Sight) → TakesFirst TakesJob found old new → IfSome found (λ t. OfSeen t.0 new (λ h. IsQuestion h t.1))
+known-question None old new is = tt
+known-question (Some x) old new is =
+    let v = is.this in
+    let same : history_of v.before ≡ seen_of is.after =
+    ap (λ (t : Track). entries_of t.history) (sym v.does.0.track) ∙ ap (λ (t : Track). entries_of t.history) v.left in
+    (is.after, is.here, subst (λ (h : List Entry). IsQuestion h x.1) same (v.does.0.first.question, v.does.1))

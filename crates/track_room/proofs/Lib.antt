@@ -1,0 +1,10 @@
+pub mod Known
+pub mod Places
+pub mod Splits
+pub mod Visiting
+pub mod Replying
+pub mod Standing
+pub mod Segments
+pub mod Jobs
+pub mod Outs
+pub mod Firsts

@@ -1,0 +1,35 @@
+use Rattle.std.proofs.Common.{ℕ, List, length, take, sym, ap, subst, ◌∙◌, arith}
+use Rattle.history_lock.specs.Marks.{entries}
+use Rattle.history_model.specs.declared.entries.Entry.{Entry}
+use Rattle.history_model.specs.Entries.{entries_of}
+use Rattle.request_model.specs.declared.replies.Reply.{Reply}
+use Rattle.request_model.specs.declared.requests.Request.{Request}
+use Rattle.track_model.specs.Tracks.{ComesTo}
+use Rattle.track_work.specs.Work.{bare}
+use Rattle.track_room.specs.Asked.{IsReplied}
+use Rattle.track_room.specs.Sights.{Home, Sight, Visits}
+use Rattle.track_room.specs.Visits.{Answers}
+use Rattle.track_room.proofs.Replying.{beside, plain, replied, seen-entries, sees-long, step-seen}
+use Rattle.track_room.proofs.Visiting.{bare-added, if-ok}
+use Rattle.track_room.proofs.machine.MachineLock.ask.Goals as goal
+
+pub returns-in_default : goal.returns-in_default
+returns-in_default g c =
+    let q : Request = c.args.request.now in
+    let old : Sight = c.args.pass.now in
+    let new : Sight = c.answer.new.pass in
+    record {
+      ok = if-ok (λ (reply : Reply). Visits (Answers c.args.author q reply) old new) (λ (reply : Reply). IsReplied c.args.author q reply old new) c.answer.result
+          (λ reply v.
+          let h : List Entry = entries_of (entries v.found.seen) in
+          let version : ℕ = length v.found.seen in
+          let seen = seen-entries v.found v.before v.was in
+          replied c.args.author q reply old v.found new version 0 v.does.0 (ap (λ (home : Home). home.machine) c.requires.lock ∙ sym c.requires.machine) v.sees v.adds
+          (beside (take version h) 0 h q v.does.0 c.requires.asked c.in_default.not-Segment (subst (λ (g : List Entry). ComesTo g 0 q v.does.0) seen v.does.1)) (sees-long old v.found v.sees) (omega arith)
+          (step-seen c.args.author v.found new v.before v.after v.does.0 reply v.was v.left (ap bare v.does.2.track ∙ bare-added c.args.author v.before.track v.does.0.adds) v.does.2.told))
+          c.answer.ensures.ok;
+      err = c.answer.ensures.err;
+    }
+
+pub answer-requires-clause-plain : goal.answer-requires-clause-plain
+answer-requires-clause-plain g c = plain c.args.request.now c.in_default.not-Segment

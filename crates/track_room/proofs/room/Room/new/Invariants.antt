@@ -1,0 +1,11 @@
+use Rattle.std.specs.List.{AllZip}
+use Rattle.track_room.specs.Rooms.{IsPassOf}
+use Rattle.track_room.specs.Sights.{IsFirstOf}
+use Rattle.track_room.proofs.room.Room.new.Given as goal
+
+abbrev pub invariant-loop-state : goal.invariant-loop-state
+invariant-loop-state l =
+    (goal.iterator-loop-state).can_next l.state-iterator
+    × (goal.iterator-loop-state).is_finite l.state-iterator
+    × IsPassOf l.machines.items l.passes.items
+    × AllZip IsFirstOf l.yielded l.passes.items

@@ -1,0 +1,69 @@
+//! Requests, answered on one machine.
+ghost use Rattle.std.specs.Prelude.{◌≡◌, IfOk, OnErr};
+ghost use Rattle.request_model.specs.declared.requests.Request.TheVariants as request;
+ghost use Rattle.track_model.specs.Replies.{machine_of};
+ghost use Rattle.track_model.specs.Tracks.{IsAsked};
+ghost use Rattle.track_room.specs.Asked.{IsReplied};
+ghost use Rattle.track_room.specs.Sights.{SeesMore};
+
+use crate::NoMemory;
+use crate::machine::{MachineLock, MachinePass};
+use history_model::{Author, publication_law};
+use line_text::Name;
+use request_model::{Reply, Request};
+use std::alloc::Global;
+use std::sync::Wait;
+use track_series::{Begun, compute_apart};
+
+impl MachineLock {
+    // Answers a request about this machine.
+    pub(crate) fn ask<R: Wait>(
+        &self,
+        rt: &R,
+        alloc: Global,
+        pass: &mut MachinePass,
+        author: Author,
+        request: &Request,
+    ) -> Result<Reply, NoMemory>
+        requires lock { pass.old.home ≡ self.now }
+        requires machine { machine_of request.now ≡ self.now.machine }
+        requires asked { IsAsked request.now }
+        ensures ok { IfOk result (λ reply.
+            IsReplied author request.now reply pass.old pass.new) }
+        ensures err { OnErr result (SeesMore pass.old pass.new) }
+    {
+        match request {
+            Request::Segment {
+                machine: _,
+                test,
+                metric,
+            } => self.segment(rt, alloc, pass, author, test, metric),
+            _ => self.answer(rt, pass, author, request),
+        }
+    }
+
+    // Segments a series of what the pass has then seen, outside the lock, and publishes it.
+    pub(crate) fn segment<R: Wait>(
+        &self,
+        rt: &R,
+        alloc: Global,
+        pass: &mut MachinePass,
+        author: Author,
+        test: &Name,
+        metric: &Name,
+    ) -> Result<Reply, NoMemory>
+        requires lock { pass.old.home ≡ self.now }
+        ensures ok { IfOk result (λ reply. IsReplied author
+            (request.Segment self.now.machine test.now metric.now) reply pass.old pass.new) }
+        ensures err { OnErr result (SeesMore pass.old pass.new) }
+    {
+        publication_law();
+        match self.begin(rt, pass, test, metric)? {
+            Begun::Unknown(reply) => Ok(reply),
+            Begun::Known(snapshot) => {
+                let made = compute_apart(alloc, snapshot)?;
+                self.finish(rt, pass, author, made.done, made.table)
+            }
+        }
+    }
+}

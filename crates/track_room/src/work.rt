@@ -1,0 +1,168 @@
+//! What workers take of a room, and what they hand in.
+ghost use Rattle.std.specs.Prelude.{◌≡◌, ◌<◌, ◌≤◌, IfOk, IfSome, OnErr, length};
+ghost use Rattle.std.specs.List.{AllZip};
+ghost use Rattle.metric_table.specs.Limits.{most};
+ghost use Rattle.metric_table.specs.declared.limits.Limit.TheVariants.{Machines};
+ghost use Rattle.publication_index.specs.Standing.{table_for};
+ghost use Rattle.track_state.specs.Made.{IsMadeFrom};
+ghost use Rattle.track_room.specs.Asked.{ChangesAt};
+ghost use Rattle.track_room.specs.Rooms.{AreSame, IsPassOf};
+ghost use Rattle.track_room.specs.Sights.{SeesMore, Visits};
+ghost use Rattle.track_room.specs.Taking.{HasJob, IsQuestion, IsTaken, OfSeen, Publishes, Releases, Settles, TakesFirst, TakesJob, TakesSeries};
+
+use crate::NoMemory;
+use crate::machine::{MachineLock, MachinePass};
+use crate::room::{Room, RoomPass};
+use history_model::Author;
+use std::alloc::Global;
+use std::sync::Wait;
+use touch_index::SeriesKey;
+use track_follow::Settled;
+use track_series::{Published, Redone};
+use track_work::{Question, TakenSeries};
+
+// Takes a series of the first machine that has one.
+fn first_series<R: Wait>(
+    rt: &R,
+    machines: &[MachineLock],
+    passes: &mut [MachinePass],
+) -> Result<Option<(u8, TakenSeries)>, NoMemory>
+    requires locks { IsPassOf machines.now passes.old }
+    requires few { length machines.now ≤ most Machines }
+    ensures locks { IsPassOf machines.now passes.new }
+    ensures same { AreSame passes.old passes.new }
+    ensures sees { AllZip SeesMore passes.old passes.new }
+    ensures taken { IfOk result (λ found.
+        TakesFirst TakesSeries found passes.old passes.new) }
+    ensures known { IfOk result (λ found. IfSome found (λ t.
+        OfSeen t.0 passes.new (λ h. IsTaken h t.1))) }
+{
+    for i in 0..machines.len() {
+        if let Some(taken) = machines[i].take_series(rt, &mut passes[i])? {
+            return Ok(Some((i as u8, taken)));
+        }
+    }
+    Ok(None)
+}
+
+// Takes a question of the first machine that has one.
+fn first_question<R: Wait>(
+    rt: &R,
+    machines: &[MachineLock],
+    passes: &mut [MachinePass],
+) -> Result<Option<(u8, Question)>, NoMemory>
+    requires locks { IsPassOf machines.now passes.old }
+    requires few { length machines.now ≤ most Machines }
+    ensures locks { IsPassOf machines.now passes.new }
+    ensures same { AreSame passes.old passes.new }
+    ensures sees { AllZip SeesMore passes.old passes.new }
+    ensures taken { IfOk result (λ found. TakesFirst TakesJob found passes.old passes.new) }
+{
+    for i in 0..machines.len() {
+        if let Some(question) = machines[i].take_question(rt, &mut passes[i])? {
+            return Ok(Some((i as u8, question)));
+        }
+    }
+    Ok(None)
+}
+
+impl Room {
+    /// Takes the first stale series that nobody claims, of the first machine that has one, with the machine's place from 0.
+    /// Enters each machine up to that one, and may wait for other passes.
+    pub fn take_series<R: Wait>(
+        &self,
+        rt: &R,
+        alloc: Global,
+        pass: &mut RoomPass,
+    ) -> Result<Option<(u8, TakenSeries)>, NoMemory>
+        requires room { IsPassOf self.now pass.old }
+        ensures room { IsPassOf self.now pass.new }
+        ensures same { AreSame pass.old pass.new }
+        ensures sees { AllZip SeesMore pass.old pass.new }
+        ensures taken { IfOk result (λ found. TakesFirst TakesSeries found pass.old pass.new) }
+        ensures known { IfOk result (λ found. IfSome found (λ t.
+            OfSeen t.0 pass.new (λ h. IsTaken h t.1))) }
+    {
+        let _ = alloc;
+        first_series(rt, &self.machines, &mut pass.machines)
+    }
+
+    /// Publishes a segmentation that was made from what the pass has seen of a machine. May wait for other passes.
+    pub fn publish<R: Wait>(
+        &self,
+        rt: &R,
+        pass: &mut RoomPass,
+        author: Author,
+        machine: u8,
+        redone: Redone,
+    ) -> Result<Published, NoMemory>
+        requires room { IsPassOf self.now pass.old }
+        requires made { OfSeen machine pass.old (λ h. IsMadeFrom h redone.done) }
+        requires tabled { redone.table ≡ table_for redone.done }
+        ensures room { IsPassOf self.now pass.new }
+        ensures same { AreSame pass.old pass.new }
+        ensures ok { IfOk result (λ told. ChangesAt machine
+            (Visits (Publishes author redone.done told)) pass.old pass.new) }
+        ensures err { OnErr result (AllZip SeesMore pass.old pass.new) }
+    {
+        let i = machine as usize;
+        let Redone { done, table } = redone;
+        self.machines[i].publish(rt, &mut pass.machines[i], author, done, table)
+    }
+
+    /// Ends the claim on a series of a machine, if there is one. May wait for other passes; takes no memory.
+    pub fn release<R: Wait>(&self, rt: &R, pass: &mut RoomPass, machine: u8, key: &SeriesKey)
+        requires room { IsPassOf self.now pass.old }
+        requires there { machine < length pass.old }
+        ensures room { IsPassOf self.now pass.new }
+        ensures same { AreSame pass.old pass.new }
+        ensures sees { ChangesAt machine SeesMore pass.old pass.new }
+        ensures released { ChangesAt machine (Visits (Releases key.now)) pass.old pass.new }
+    {
+        let i = machine as usize;
+        self.machines[i].release(rt, &mut pass.machines[i], key);
+    }
+
+    /// Takes the question of the open job of the smallest number that nobody claims, of the first machine that has one, with
+    /// the machine's place from 0. Enters each machine up to that one, and may wait for other passes.
+    pub fn take_question<R: Wait>(
+        &self,
+        rt: &R,
+        alloc: Global,
+        pass: &mut RoomPass,
+    ) -> Result<Option<(u8, Question)>, NoMemory>
+        requires room { IsPassOf self.now pass.old }
+        ensures room { IsPassOf self.now pass.new }
+        ensures same { AreSame pass.old pass.new }
+        ensures sees { AllZip SeesMore pass.old pass.new }
+        ensures taken { IfOk result (λ found. TakesFirst TakesJob found pass.old pass.new) }
+        ensures known { IfOk result (λ found. IfSome found (λ t.
+            OfSeen t.0 pass.new (λ h. IsQuestion h t.1))) }
+    {
+        let _ = alloc;
+        first_question(rt, &self.machines, &mut pass.machines)
+    }
+
+    /// Settles what was said of a place of a job that the pass has seen; none as status gives it up. May wait for other
+    /// passes.
+    pub fn settle<R: Wait>(
+        &self,
+        rt: &R,
+        pass: &mut RoomPass,
+        author: Author,
+        machine: u8,
+        question: &Question,
+        status: Option<u8>,
+    ) -> Result<Settled, NoMemory>
+        requires room { IsPassOf self.now pass.old }
+        requires job { OfSeen machine pass.old (HasJob question.now.job) }
+        ensures room { IsPassOf self.now pass.new }
+        ensures same { AreSame pass.old pass.new }
+        ensures ok { IfOk result (λ told. ChangesAt machine
+            (Visits (Settles author question.now status told)) pass.old pass.new) }
+        ensures err { OnErr result (AllZip SeesMore pass.old pass.new) }
+    {
+        let i = machine as usize;
+        self.machines[i].settle(rt, &mut pass.machines[i], author, question, status)
+    }
+}
