@@ -1,5 +1,5 @@
 //! The trait of names that inputs are opened by, and outputs created.
-ghost use Rattle.std.specs.Prelude.{◌≡◌, ℕ, ◌<◌, ◌≤◌, List, [], Option, Some, true, false, option_map, IsSome, IfOk, IfSome, OnOk, OnErr};
+ghost use Rattle.std.specs.Prelude.{◌≡◌, ℕ, ◌<◌, ◌≤◌, List, [], Option, Some, true, false, option_map, IsSome, IsNone, IfOk, IfSome, IfNone, OnOk, OnErr};
 ghost use Rattle.track_outside.specs.Counts.{Rose};
 ghost use Rattle.track_outside.specs.Named.{NamedBytes, Call, bytes_at, with_bytes, with_call};
 ghost use Rattle.track_outside.specs.declared.out_error.OutError.TheVariants as error;
@@ -43,6 +43,8 @@ pub trait Files {
     fn create_output(&mut self, alloc: Global, name: &str) -> Result<Self::Output, OutError>
         ensures created { IfOk result (λ output. (Self.Output.name output ≡ name.now)
             × IfSome (Self.Output.taken output) (λ bytes. bytes ≡ [])) }
+        ensures told { IfOk result (λ output.
+            IfSome (contents self.old) (λ files. IsSome (Self.Output.taken output))) }
         ensures fresh { IfOk result (λ output. Self.Output.faults output ≡ 0) }
         ensures emptied { OnOk result (contents self.new
             ≡ option_map (with_bytes name.now []) (contents self.old)) }
@@ -69,6 +71,7 @@ pub trait Files {
         ensures set { IfSome (Self.Output.taken output) (λ bytes.
             contents self.new
             ≡ option_map (with_bytes (Self.Output.name output) bytes) (contents self.old)) }
+        ensures untold { IfNone (contents self.old) (IsNone (contents self.new)) }
         ensures noted { asked self.new ≡ asked self.old }
         ensures counts { write_faults self.old ≤ write_faults self.new }
         ensures rose { 0 < Self.Output.faults output

@@ -1,0 +1,4 @@
+mod Joined
+mod Turning
+pub mod Staying
+mod Besides

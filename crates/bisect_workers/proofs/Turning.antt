@@ -1,0 +1,138 @@
+-- One turn of a worker that bisects.
+use Rattle.std.proofs.Common.{◌≡◌, ℕ, ◌+◌, ◌≤◌, ◌<◌, Bool, true, false, cond, List, [], ◌∷◌, ◌++◌, length, take, refl, sym, ap, subst, ◌∙◌, Option, Some, None, arith, eq-eqb}
+use Rattle.std.specs.Prelude.{All, filter, min, option_map, option_to_list}
+use Rattle.std.proofs.lemmas.List.{append-nil, length-append, length-map, take-append-le, take_all}
+use Rattle.std.proofs.lemmas.List.Elements.{All-nil, All-cons}
+use Rattle.metric_table.specs.Limits.{most}
+use Rattle.metric_table.specs.declared.limits.Limit.{Limit}
+use Rattle.metric_table.specs.declared.limits.Limit.TheVariants as limit
+use Rattle.track_outside.specs.Asked.{Ask, with_ask}
+use Rattle.bisect_core.specs.Bisections.{Bisection, answer_to, asked_by}
+use Rattle.bisect_core.specs.declared.outcome.Answered.{Answered}
+use Rattle.bisect_core.specs.declared.outcome.Answered.TheVariants as answered
+use Rattle.bisect_core.specs.declared.outcome.Outcome.{Outcome}
+use Rattle.bisect_core.specs.declared.outcome.Outcome.TheVariants.{Asks, Found, Undecided, Faulted}
+use Rattle.history_model.specs.declared.entries.Author.{Author}
+use Rattle.history_model.specs.declared.entries.Entry.{Entry}
+use Rattle.history_model.specs.declared.entries.Placed.{Placed}
+use Rattle.history_model.specs.Allowed.{first_passed}
+use Rattle.history_model.specs.Entries.{entries_of}
+use Rattle.history_model.specs.Jobs.{asked, job_in, jobs}
+use Rattle.history_model.specs.Laws.{FirstKept}
+use Rattle.track_follow.specs.Settling.{IsPut, IsSettled, IsTaken, entry_said}
+use Rattle.track_follow.specs.declared.settling.Settled.{Settled}
+use Rattle.track_model.specs.Following.{asked_commit, named_by}
+use Rattle.track_model.specs.Tracks.{Track, with_entry}
+use Rattle.track_work.specs.Questions.{IsQuestion, NoneIsAsked}
+use Rattle.track_work.specs.declared.questions.Question.{Question}
+use Rattle.bisect_workers.specs.Bisecting.{IsBisected, IsDue, IsSaidBy, RoseBy}
+use Rattle.bisect_workers.specs.Failures.{failures}
+use Rattle.worker_model.specs.Findings.{AsksCommit, Finding, asked_name, finding_of, named_asked}
+use Rattle.bisect_workers.specs.Findings.{Use, asks_of, found_of, give_ups}
+use Rattle.bisect_workers.specs.Quiet.{NoneAsks}
+
+-- where no job is claimed and none is given, none asks
+pub none-asks : (h : List Entry) → NoneIsAsked h [] → NoneAsks h
+none-asks h none job = by (asked job h) refl
+  where
+    by : (o : Option ℕ) → asked job h ≡ o → asked job h ≡ None
+    by None is = is
+    by (Some place) is = absurd (let never : false ≡ true = none job place is in cc)
+
+-- ---- what was said is recorded
+takes : (o : Outcome) (place : ℕ) → asked_by o ≡ Some place → answer_to o place ≡ answered.Ok
+takes (Asks asked) place is =
+    let same : asked ≡ place = cc in
+    ap (λ b. cond b answered.Ok (answered.NotAsked asked)) (eq-eqb asked place same)
+takes (Found lo hi) place is = absurd (cc)
+takes (Undecided at status) place is = absurd (cc)
+takes (Faulted at) place is = absurd (cc)
+
+put-of : (o : Option Limit) (old : Track) (author : Author) (e : Entry) (told : Settled) (new : Track) → o ≡ None → IsPut o old author e told new → new ≡ with_entry author old e
+put-of None old author e told new none is = is.1
+put-of (Some l) old author e told new none is = absurd (cc)
+
+taken-of : (a : Answered) (old : Track) (author : Author) (e : Entry) (told : Settled) (new : Track) → a ≡ answered.Ok → IsTaken a old author e told new
+    → IsPut (first_passed (limit.Steps ∷ []) (entries_of old.history) e) old author e told new
+taken-of answered.Ok old author e told new ok is = is
+taken-of (answered.NotAsked place) old author e told new ok is = absurd (cc)
+taken-of (answered.Closed outcome) old author e told new ok is = absurd (cc)
+
+pub recorded : FirstKept → (old : Track) (author : Author) (q : Question) (status : Option ℕ) (told : Settled) (new : Track) → IsQuestion (entries_of old.history) q
+    → length (entries_of old.history) < most limit.Steps → IsSettled old author q.job q.place status told new → new ≡ with_entry author old (entry_said q.job q.place status)
+recorded kept old author q status told new question room settled =
+    let h : List Entry = entries_of old.history in
+    let e : Entry = entry_said q.job q.place status in
+    let same : settled.bisection ≡ question.bisection = let two : Some settled.bisection ≡ Some question.bisection = sym settled.there ∙ question.there in cc in
+    let ok : answer_to settled.bisection.outcome q.place ≡ answered.Ok =
+    ap (λ (b : Bisection). answer_to b.outcome q.place) same ∙ takes question.bisection.outcome q.place question.asks in
+    let size = length-append h (e ∷ []) in
+    let none : first_passed (limit.Steps ∷ []) h e ≡ None = kept limit.Steps [] h e (let few : length (h ++ e ∷ []) ≤ most limit.Steps = omega (arith, size, room) in few) in
+    put-of (first_passed (limit.Steps ∷ []) h e) old author e told new none
+    (taken-of (answer_to settled.bisection.outcome q.place) old author e told new ok settled.taken)
+
+-- ---- one ask
+module _ (author : Author) (word : List ℕ) (old : Track) (q : Question) (question : IsQuestion (entries_of old.history) q) (status : Option ℕ) where
+  abbrev ask : Ask
+  ask = record { test = word; commit = q.commit; status = status }
+
+  due-in : (more : List Placed) → IsDue word (old.history ++ more) ask
+  due-in more = record {
+    of_test = refl;
+    count = length old.history;
+    within = let size = length-append old.history more in omega (arith, size);
+    asked = subst (λ (ps : List Placed). AsksCommit (entries_of ps) q.commit)
+        (sym (take-append-le (length old.history) old.history more (omega arith) ∙ take_all (length old.history) old.history (omega arith)))
+        (record { job = q.job; bisection = question.bisection; there = question.there; place = q.place; asks = question.asks; commit_is = question.commit });
+  }
+
+  told-one : (asked : Option (List Ask)) (used : Bool) → with_ask ask asked ≡ option_map (λ (before : List Ask). before ++ asks_of (record { ask = ask; used = used } ∷ [])) asked
+  told-one None used = refl
+  told-one (Some asks) used = refl
+
+  -- it was asked, and nothing was added
+  pub unused : (asked asked' : Option (List Ask)) (before after : ℕ) → asked' ≡ with_ask ask asked → RoseBy (failures status) before after → before ≤ after
+      → IsBisected author word old old asked asked' before after
+  unused asked asked' before after told rose le = record {
+    machine = refl;
+    kept = refl;
+    more = [];
+    history = sym (append-nil old.history);
+    each = All-nil (IsSaidBy author);
+    uses = record { ask = ask; used = false } ∷ [];
+    told = told ∙ told-one asked false;
+    found = refl;
+    due = All-cons (IsDue word old.history) ask [] (subst (λ (ps : List Placed). IsDue word ps ask) (append-nil old.history) (due-in [])) (All-nil (IsDue word old.history));
+    given_up = omega (arith, le);
+  }
+
+  name-is : asked_name (entries_of old.history) q.job ≡ q.commit
+  name-is = ap (named_asked (entries_of old.history)) question.there ∙ sym question.commit
+
+  found-one : (status : Option ℕ) → finding_of (entries_of old.history) (entry_said q.job q.place status) ≡ Some (record { commit = q.commit; status = status })
+  found-one None = ap (λ (c : List ℕ). let f : Finding = record { commit = c; status = None } in Some f) name-is
+  found-one (Some n) = ap (λ (c : List ℕ). let f : Finding = record { commit = c; status = Some n } in Some f) name-is
+
+  given-one : (status : Option ℕ) → give_ups (record { author = author; entry = entry_said q.job q.place status } ∷ []) ≡ failures status
+  given-one None = refl
+  given-one (Some n) = refl
+
+  -- and what was found is said
+  pub used : (new : Track) → new ≡ with_entry author old (entry_said q.job q.place status) → (asked asked' : Option (List Ask)) (before after : ℕ) → asked' ≡ with_ask ask asked
+      → RoseBy (failures status) before after → IsBisected author word old new asked asked' before after
+  used new is asked asked' before after told rose =
+      let x : Placed = record { author = author; entry = entry_said q.job q.place status } in
+      let history : new.history ≡ old.history ++ x ∷ [] = ap (λ (t : Track). t.history) is in
+      record {
+        machine = ap (λ (t : Track). t.machine) is;
+        kept = ap (λ (t : Track). t.kept) is;
+        more = x ∷ [];
+        history = history;
+        each = All-cons (IsSaidBy author) x [] (record { author_is = refl; job = q.job; place = q.place; status = status; entry_is = refl }) (All-nil (IsSaidBy author));
+        uses = record { ask = ask; used = true } ∷ [];
+        told = told ∙ told-one asked true;
+        found = ap (λ (o : Option Finding). option_to_list o ++ []) (found-one status);
+        due = subst (λ (ps : List Placed). All (IsDue word ps) (ask ∷ [])) (sym history)
+            (All-cons (IsDue word (old.history ++ x ∷ [])) ask [] (due-in (x ∷ [])) (All-nil (IsDue word (old.history ++ x ∷ []))));
+        given_up = let one = given-one status in omega (arith, one, rose);
+      }

@@ -1,0 +1,5 @@
+pub mod Findings
+pub mod Bisecting
+pub mod Failures
+pub mod Quiet
+pub mod Beside

@@ -1,0 +1,158 @@
+-- A series is quiet once it was published, or refused by a limit.
+use Rattle.std.proofs.Common.{◌≡◌, ℕ, ℤ, ◌+◌, ◌≤◌, ◌<◌, Bool, true, false, cond, ◌&&◌, List, [], ◌∷◌, ◌++◌, length, refl, sym, ap, subst, ◌∙◌, ◌⊎◌, inl, inr, Option, Some, None, arith}
+use Rattle.std.specs.Prelude.{bytes_eq, nat_lt}
+use Rattle.std.proofs.lemmas.Bool.{cases_Bool}
+use Rattle.std.proofs.lemmas.Bool.Decides.{nat_tests}
+use Rattle.std.proofs.lemmas.List.{append-nil, append_assoc, length-append}
+use Rattle.std.proofs.lemmas.Slice.Eq.{bytes_eq-Decides}
+use Rattle.metric_table.specs.Limits.{most}
+use Rattle.metric_table.specs.declared.limits.Limit.{Limit}
+use Rattle.metric_table.specs.declared.limits.Limit.TheVariants as limit
+use Rattle.segment_model.specs.Segments.{Position}
+use Rattle.segment_cost.specs.Certificate.{StandsFor}
+use Rattle.segment_cost.specs.declared.done.Done.{Done}
+use Rattle.history_model.specs.declared.entries.Author.{Author}
+use Rattle.history_model.specs.declared.entries.Entry.{Entry}
+use Rattle.history_model.specs.declared.entries.Entry.TheVariants.{Publish}
+use Rattle.history_model.specs.declared.publication.Publication.{Publication}
+use Rattle.history_model.specs.Allowed.{Allowed, AllowedAfter, KeepsLimits, Legal, count_of, first_passed}
+use Rattle.history_model.specs.Entries.{entries_of}
+use Rattle.history_model.specs.Laws.{CutsGrow, LastStands, PublicationIsLast}
+use Rattle.history_model.specs.Penalties.{penalty_of}
+use Rattle.history_model.specs.Positions.{positions}
+use Rattle.history_model.specs.Publications.{AreBest, cut_count, last_publication}
+use Rattle.history_model.specs.Runs.{Series, is_known}
+use Rattle.publication_index.specs.Kept.{series_of}
+use Rattle.touch_model.specs.Laws.{KnownGrows, TouchesArePast, TouchesGrow}
+use Rattle.touch_model.specs.Stale.{is_behind, is_stale}
+use Rattle.touch_model.specs.Touches.{last_touch}
+use Rattle.track_model.specs.Tracks.{Track, with_entry}
+use Rattle.track_series.specs.Publications.{IsAdded, IsPublished, IsTaken, later, passed}
+use Rattle.track_series.specs.Snapshots.{IsRedone, IsTakenAt}
+use Rattle.track_series.specs.declared.publishing.Published.{Published}
+use Rattle.track_series.specs.declared.publishing.Published.TheVariants as published
+use Rattle.track_series.specs.declared.redone.Redone.{Redone}
+use Rattle.track_series.specs.declared.snapshot.Snapshot.{Snapshot}
+use Rattle.track_state.specs.Made.{IsMadeFrom, entry_of, publication_from}
+use Rattle.track_work.specs.Work.{bare}
+use Rattle.worker_model.specs.Quiet.{HasAllSteps, WouldPassCuts}
+use Rattle.recompute_workers.specs.Quiet.{IsQuiet}
+use Rattle.recompute_workers.specs.Recomputing.{AddsOne}
+use Rattle.recompute_workers.proofs.Quieting.{same-known, same-touch}
+
+-- ---- what was told
+added-of : (l : Option Limit) (old : Track) (author : Author) (done : Done) (told : Published) (new : Track) → IsAdded l old author done told new
+    → (bare new ≡ bare (with_entry author old (entry_of done))) ⊎ ((limit : Limit) × (l ≡ Some limit) × (bare new ≡ bare old))
+added-of None old author done told new is = inl (ap bare is.1)
+added-of (Some limit) old author done told new is = inr (limit, refl, ap bare is.1)
+
+taken-of : (o : Option ℕ) (old : Track) (author : Author) (done : Done) (told : Published) (new : Track) → o ≡ None → IsTaken o old author done told new
+    → IsAdded (passed (entries_of old.history) done) old author done told new
+taken-of None old author done told new none is = is
+taken-of (Some v) old author done told new none is = absurd (cc)
+
+-- no version after the present one was published
+up-to-date : LastStands → (h : List Entry) (s : Series) (version : ℕ) → Legal h → version ≡ length h → (o : Option Publication) → last_publication s h ≡ o → later version o ≡ None
+up-to-date stands h s version legal now None last = refl
+up-to-date stands h s version legal now (Some p) last =
+    let past = (stands h s p legal last).1.past in
+    let no : nat_lt version p.version ≡ false = not-less version p.version (omega (arith, past, now)) in
+    ap (λ b. cond b (Some p.version) None) no
+  where
+    not-less : (n m : ℕ) → m ≤ n → nat_lt n m ≡ false
+    not-less n m le = grind (arith, nat_tests)
+
+not-above : (n m : ℕ) → m ≤ n → nat_lt n m ≡ false
+not-above n m le = grind (arith, nat_tests)
+
+is-above : (n m : ℕ) → nat_lt n m ≡ true → n < m
+is-above n m is = grind (arith, nat_tests)
+
+-- either it was added, or a limit forbids it
+pub outcome : LastStands → (old : Track) (author : Author) (done : Done) (told : Published) (new : Track) → Legal (entries_of old.history) → done.version ≡ length (entries_of old.history)
+    → IsPublished old author done told new → (bare new ≡ bare (with_entry author old (entry_of done))) ⊎ ((limit : Limit) × (passed (entries_of old.history) done ≡ Some limit) × (bare new ≡ bare old))
+outcome stands old author done told new legal now is =
+    let h : List Entry = entries_of old.history in
+    added-of (passed h done) old author done told new
+    (taken-of (later done.version (last_publication (series_of done) h)) old author done told new
+    (up-to-date stands h (series_of done) done.version legal now (last_publication (series_of done) h) refl) is)
+
+pub adds-one : (old : Track) (author : Author) (done : Done) (new : Track) → (bare new ≡ bare (with_entry author old (entry_of done))) ⊎ ((limit : Limit) × (passed (entries_of old.history) done ≡ Some limit) × (bare new ≡ bare old))
+    → AddsOne author old new
+adds-one old author done new (inl is) = inr (publication_from done, is)
+adds-one old author done new (inr is) = inl is.2
+
+-- ---- a limit that a history passes with the publication
+which-limit : (h : List Entry) (e : Entry) (l : Limit) → first_passed (limit.Steps ∷ limit.Cuts ∷ []) h e ≡ Some l
+    → (nat_lt (most limit.Steps) (count_of limit.Steps (h ++ e ∷ [])) ≡ true) ⊎ (nat_lt (most limit.Cuts) (count_of limit.Cuts (h ++ e ∷ [])) ≡ true)
+which-limit h e l is = elim (cases_Bool (nat_lt (most limit.Steps) (count_of limit.Steps (h ++ e ∷ [])))) [
+  | inl steps ↦ inl steps
+  | inr few ↦ elim (cases_Bool (nat_lt (most limit.Cuts) (count_of limit.Cuts (h ++ e ∷ [])))) [
+    | inl cuts ↦ inr cuts
+    | inr fewer ↦ absurd (
+        let never : None ≡ Some l =
+        sym (ap (λ b. cond b (Some limit.Steps) (first_passed (limit.Cuts ∷ []) h e)) few ∙ ap (λ b. cond b (Some limit.Cuts) None) fewer) ∙ is in
+        cc)
+  ]
+]
+
+module _ (cuts : CutsGrow) (h : List Entry) (keeps : KeepsLimits h) (t : Track) (same : entries_of t.history ≡ h) (s : Series) (x : Snapshot) (taken : IsTakenAt t s x) (made : Redone) (is : IsRedone x made) where
+  abbrev done : Done
+  done = made.done
+
+  are-best : AreBest (positions h s) (penalty_of s.metric h) made.done.cert.cuts made.done.cert.total
+  are-best =
+      let stands : StandsFor (positions h s) (penalty_of s.metric h) made.done.cert =
+      subst (λ (g : List Entry). StandsFor (positions g s) (penalty_of s.metric g) made.done.cert) same
+      (subst (λ (z : ℤ). StandsFor (positions (entries_of t.history) s) z made.done.cert) taken.penalty (subst (λ (ps : List Position). StandsFor ps x.penalty made.done.cert) taken.points is.stands)) in
+      record { cost = stands.cost; is_cost = stands.is_cost; best = stands.best; totalled = stands.totalled }
+
+  pub full-quiet : (l : Limit) → passed h made.done ≡ Some l → IsQuiet h s
+  full-quiet l full = elim (which-limit h (entry_of made.done) l full) [
+    | inl steps ↦
+        let above : most limit.Steps < length (h ++ entry_of done ∷ []) = is-above (most limit.Steps) (length (h ++ entry_of done ∷ [])) steps in
+        let size = length-append h (entry_of done ∷ []) in
+        let few : length h ≤ most limit.Steps = keeps limit.Steps in
+        inr (inl (omega (arith, above, size, few)))
+    | inr many ↦
+        let above : most limit.Cuts < cut_count (h ++ entry_of done ∷ []) = is-above (most limit.Cuts) (cut_count (h ++ entry_of done ∷ [])) many in
+        let more = cuts h (entry_of done) in
+        inr (inr (record { cuts = done.cert.cuts; total = done.cert.total; best = are-best; passes = omega (arith, above, more) }))
+  ]
+
+-- ---- a publication of the present version
+eq-bytes : (xs : List ℕ) → bytes_eq xs xs ≡ true
+eq-bytes xs = (bytes_eq-Decides xs xs).1 refl
+
+its-own : (done : Done) (s : Series) → series_of done ≡ s → (bytes_eq done.test s.test && bytes_eq done.metric s.metric) ≡ true
+its-own done s is =
+    ap (λ (t : Series). bytes_eq done.test t.test && bytes_eq done.metric t.metric) (sym is)
+    ∙ ap (λ b. b && bytes_eq done.metric done.metric) (eq-bytes done.test) ∙ eq-bytes done.metric
+
+module _ (last : PublicationIsLast) (grow : TouchesGrow) (past : TouchesArePast) (h : List Entry) (s : Series) (done : Done) (is : series_of done ≡ s) (now : done.version ≡ length h) where
+  pub ok-quiet : IsQuiet (h ++ entry_of done ∷ []) s
+  ok-quiet =
+      let h' : List Entry = h ++ entry_of done ∷ [] in
+      let last_is : last_publication s h' ≡ Some (publication_from done) =
+      last h (entry_of done) s (publication_from done) (ap (λ b. cond b (Some (publication_from done)) None) (its-own done s is)) in
+      let le = past h s in
+      let fresh : is_behind (last_touch h' s) (last_publication s h') ≡ false =
+      ap (is_behind (last_touch h' s)) last_is
+      ∙ ap (λ (n : ℕ). nat_lt done.version n) (grow h (entry_of done) s) ∙ not-above done.version (last_touch h s) (omega (arith, le, now)) in
+      inl (ap (λ b. is_known s h' && b) fresh ∙ and-false (is_known s h'))
+    where
+      and-false : (b : Bool) → (b && false) ≡ false
+      and-false true = refl
+      and-false false = refl
+
+-- the last entry of a legal history is allowed
+last-allowed-from : (before es : List Entry) (e : Entry) → AllowedAfter before (es ++ e ∷ []) → Allowed (before ++ es) e
+last-allowed-from before [] e legal =
+    let P : List Entry → Type 0 = λ h. Allowed h e in
+    subst P (sym (append-nil before)) legal.0
+last-allowed-from before (x ∷ es) e legal =
+    let P : List Entry → Type 0 = λ h. Allowed h e in
+    subst P (append_assoc before (x ∷ []) es) (last-allowed-from (before ++ x ∷ []) es e legal.1)
+
+pub last-allowed : (h : List Entry) (e : Entry) → Legal (h ++ e ∷ []) → Allowed h e
+last-allowed h e legal = last-allowed-from [] h e legal

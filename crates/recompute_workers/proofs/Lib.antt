@@ -1,0 +1,4 @@
+mod Quieting
+mod Handing
+mod Growing
+mod Working

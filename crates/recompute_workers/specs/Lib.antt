@@ -1,0 +1,4 @@
+pub mod Quiet
+pub mod Recomputing
+pub mod Stays
+pub mod Works
