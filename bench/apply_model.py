@@ -486,7 +486,8 @@ class Machine:
         self.step, self.samples, self.cuts = 0, 0, 0
         self.commits, self.names = {}, {}  # number: (name, step), name: number
         self.runs, self.series = {}, {}  # run: its facts, series: its live (step, value) by commit
-        self.penalties, self.published = {}, {}  # metric: penalty, series: (version, commits, segmentation)
+        # metric: penalty, series: (version, commits, segmentation), series: (version, penalty, commits, values)
+        self.penalties, self.published, self.tables = {}, {}, {}
 
     def add(self, text=None):
         """Counts an entry; a publication has no text that is kept."""
@@ -570,16 +571,33 @@ class Machine:
         apart = sorted(abs(after - before) for before, after in zip(centres, centres[1:]))
         return self.tune(metric, factor * max(1, apart[(len(points) - 2) // 2] ** 2))
 
+    # The version of the series' last publication, and how many first positions it has in common with these, where its table
+    # is at hand and of this penalty; the table is then taken, and comes back with the next publication alone.
+    def take_base(self, test, metric, penalty, commits, points):
+        table = self.tables.get((test, metric))
+        if not table or table[1] != penalty:
+            return 0, 0
+        del self.tables[test, metric]
+        front = 0
+        for commit, values, old_commit, old_values in zip(commits, points, table[2], table[3]):
+            if commit != old_commit or values != old_values:
+                break
+            front += 1
+        return table[0], front
+
     def segment(self, test, metric):
         commits, points = self.positions(test, metric)
+        penalty = self.penalties.get(metric, PENALTIES.get(metric, 2500000000))
+        base, front = self.take_base(test, metric, penalty, commits, points)
         self.expect_room(self.step < 1048576, b"steps")
-        found = Segmentation(points, self.penalties.get(metric, PENALTIES.get(metric, 2500000000)))
+        found = Segmentation(points, penalty)
         self.expect_room(self.cuts + len(found.cuts) <= 16777216, b"cuts")
         self.cuts += len(found.cuts)
         version = self.step
         self.published[test, metric] = version, commits, found
+        self.tables[test, metric] = version, penalty, commits, points
         self.add()
-        told = version, 0, len(points), len(found.cuts), len(points), found.total
+        told = version, base, len(points), len(found.cuts), len(points) - front, found.total
         return b"segmented version %d base %d points %d cuts %d redone %d total %d" % told
 
     def last(self, test, metric):
