@@ -4,7 +4,7 @@ use Rattle.clap.specs.Words.{App}
 use Rattle.command_words.specs.Simple.{cut_app, number_app, apply_app, Gives}
 use Rattle.command_words.specs.Commands.{IsCutCommand, IsNumbered, IsApplyCommand}
 
-same_rest : (a b : List ℕ) (rest more : List (List ℕ)) → a ∷ rest ≡ b ∷ more → more ≡ rest
+pub same_rest : (a b : List ℕ) (rest more : List (List ℕ)) → a ∷ rest ≡ b ∷ more → more ≡ rest
 same_rest a b rest more same = cc
 
 -- words that spell a command behind its name give what it has

@@ -3,8 +3,9 @@ use Rattle.std.proofs.Common.{◌≡◌, ℕ, ◌^◌, ◌<◌, List, [], ◌∷
 use Rattle.line_text.proofs.SignedWords.{one_number}
 use Rattle.command_words.specs.Simple.{cut_app, number_app, apply_app}
 use Rattle.command_words.specs.declared.command.Command.{Command}
-use Rattle.command_words.specs.declared.command.Command.TheVariants.{Cut, Apply, Gen, Trial}
+use Rattle.command_words.specs.declared.command.Command.TheVariants.{Cut, Apply, Gen, Trial, Play}
 use Rattle.command_words.specs.Commands.{IsSpelled, IsNumbered, AreOneCommand}
+use Rattle.command_words.proofs.Plans.{plan_once}
 use Rattle.command_words.proofs.Behind.{cut_gives, number_gives, apply_gives, one_value}
 
 -- the name that a command begins with
@@ -13,6 +14,7 @@ name_of (Cut penalty) = codes "cut"
 name_of (Apply store) = codes "apply"
 name_of (Gen number) = codes "gen"
 name_of (Trial number) = codes "trial"
+name_of (Play plan) = codes "play"
 
 -- the words behind the name
 rest_of : (words : List (List ℕ)) (command : Command) → IsSpelled words command → (rest : List (List ℕ)) × (words ≡ name_of command ∷ rest)
@@ -20,6 +22,7 @@ rest_of words (Cut penalty) is = (is.rest, is.named)
 rest_of words (Apply store) is = (is.rest, is.named)
 rest_of words (Gen number) is = (is.rest, is.named)
 rest_of words (Trial number) is = (is.rest, is.named)
+rest_of words (Play plan) is = (is.rest, is.named)
 
 first_same : (a b : List ℕ) (rest more : List (List ℕ)) → a ∷ rest ≡ b ∷ more → a ≡ b
 first_same a b rest more same = cc
@@ -59,6 +62,15 @@ is_it words (Trial one) (Cut other) is its = absurd (omega (arith, begins (codes
 is_it words (Trial one) (Apply other) is its = absurd (omega (arith, begins (codes "trial") words (Apply other) its))
 is_it words (Trial one) (Gen other) is its = absurd (omega (arith, begins (codes "trial") words (Gen other) its))
 is_it words (Trial one) (Trial other) is its = ap Trial (same_number (codes "trial") words one other is its)
+is_it words (Cut one) (Play other) is its = absurd (omega (arith, begins (codes "cut") words (Play other) its))
+is_it words (Apply one) (Play other) is its = absurd (omega (arith, begins (codes "apply") words (Play other) its))
+is_it words (Gen one) (Play other) is its = absurd (omega (arith, begins (codes "gen") words (Play other) its))
+is_it words (Trial one) (Play other) is its = absurd (omega (arith, begins (codes "trial") words (Play other) its))
+is_it words (Play one) (Cut other) is its = absurd (omega (arith, begins (codes "play") words (Cut other) its))
+is_it words (Play one) (Apply other) is its = absurd (omega (arith, begins (codes "play") words (Apply other) its))
+is_it words (Play one) (Gen other) is its = absurd (omega (arith, begins (codes "play") words (Gen other) its))
+is_it words (Play one) (Trial other) is its = absurd (omega (arith, begins (codes "play") words (Trial other) its))
+is_it words (Play one) (Play other) is its = ap Play (plan_once words one other is its)
 
 pub one_command : AreOneCommand
 one_command words one other is its =

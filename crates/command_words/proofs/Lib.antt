@@ -1,3 +1,6 @@
 mod Behind
 mod Commands
+mod Different
+mod Pieces
 mod PlainWords
+mod Plans

@@ -5,7 +5,7 @@ use Rattle.std.specs.Str.Parse.{IsNumeral}
 use Rattle.std.proofs.lemmas.Fmt.{decimal_is_IsNumeral_wide}
 use Rattle.std.proofs.lemmas.Str.Parse.{digit_from_value}
 use Rattle.clap.proofs.OnLiterals.{clap_on_literals}
-use Rattle.command_words.specs.declared.command.Command.TheVariants.{Cut, Apply, Gen, Trial}
+use Rattle.command_words.specs.declared.command.Command.TheVariants.{Cut, Apply, Gen, Trial, Play}
 use Rattle.command_words.specs.Commands.{IsNumbered, PlainWordsAreCommands}
 use Rattle.command_words.specs.Simple.{cut_app, number_app, apply_app, Gives}
 
@@ -58,3 +58,4 @@ plain_words_are (Apply None) some = record { rest = []; named = refl; gives = no
 plain_words_are (Apply (Some name)) some = record { rest = (codes "--store=" ++ name) ∷ []; named = refl; gives = joined_store name; some = some }
 plain_words_are (Gen number) small = numbered (codes "gen") number small
 plain_words_are (Trial number) small = numbered (codes "trial") number small
+plain_words_are (Play plan) limits = tt

@@ -1,8 +1,9 @@
 -- Which words are a command.
 use Rattle.std.specs.Prelude.{◌≡◌, ℕ, ◌^◌, ◌<◌, ◌≤◌, List, [], ◌∷◌, ◌++◌, length, map, codes, decimal, String, string_bytes, Option, Some, None, IfSome}
 use Rattle.command_words.specs.Simple.{cut_app, number_app, apply_app, Gives}
+use Rattle.command_words.specs.Plans.{Plan, Values, GivesValues, AsksFor, IsWithinLimits}
 use Rattle.command_words.specs.declared.command.Command.{Command}
-use Rattle.command_words.specs.declared.command.Command.TheVariants.{Cut, Apply, Gen, Trial}
+use Rattle.command_words.specs.declared.command.Command.TheVariants.{Cut, Apply, Gen, Trial, Play}
 
 -- the bytes of the words
 abbrev pub texts : {A : Type 0} → List (String A) → List (List ℕ)
@@ -34,12 +35,21 @@ pub record IsApplyCommand (words : List (List ℕ)) (store : Option (List ℕ)) 
   pub gives : Gives apply_app (codes "store") rest store
   pub some : IfSome store (λ name. 0 < length name)
 
+-- `play`, and words that give its options and scripts values, which ask for this
+pub record IsPlayCommand (words : List (List ℕ)) (plan : Plan) : Type 0 where
+  pub rest : List (List ℕ)
+  pub named : words ≡ codes "play" ∷ rest
+  pub values : Values
+  pub gives : GivesValues rest values
+  pub asks : AsksFor values plan
+
 -- the words are this command
 abbrev pub IsSpelled : List (List ℕ) → Command → Type 0
 IsSpelled words (Cut penalty) = IsCutCommand words penalty
 IsSpelled words (Apply store) = IsApplyCommand words store
 IsSpelled words (Gen number) = IsNumbered (codes "gen") words number
 IsSpelled words (Trial number) = IsNumbered (codes "trial") words number
+IsSpelled words (Play plan) = IsPlayCommand words plan
 
 -- the words are no command
 abbrev pub AreNoCommand : List (List ℕ) → Type 0
@@ -51,19 +61,23 @@ IsInRange (Cut penalty) = penalty ≤ 10 ^ 36
 IsInRange (Apply store) = IfSome store (λ name. 0 < length name)
 IsInRange (Gen number) = number < 2 ^ 64
 IsInRange (Trial number) = number < 2 ^ 64
+IsInRange (Play plan) = IsWithinLimits plan
 
 -- no words are two commands
 abbrev pub AreOneCommand : Type 0
 AreOneCommand = (words : List (List ℕ)) (one other : Command) → IsSpelled words one → IsSpelled words other → one ≡ other
 
--- the plain words of a command: its name, then its number in decimal digits, or `--store=` and the name of its store
-abbrev pub plain_words : Command → List (List ℕ)
-plain_words (Cut penalty) = codes "cut" ∷ decimal penalty ∷ []
-plain_words (Apply None) = codes "apply" ∷ []
-plain_words (Apply (Some name)) = codes "apply" ∷ (codes "--store=" ++ name) ∷ []
-plain_words (Gen number) = codes "gen" ∷ decimal number ∷ []
-plain_words (Trial number) = codes "trial" ∷ decimal number ∷ []
+-- the plain words of a command other than `play`: its name, then its number in decimal digits, or
+-- `--store=` and the name of its store
+abbrev pub plain_words : Command → Option (List (List ℕ))
+plain_words (Cut penalty) = Some (codes "cut" ∷ decimal penalty ∷ [])
+plain_words (Apply None) = Some (codes "apply" ∷ [])
+plain_words (Apply (Some name)) = Some (codes "apply" ∷ (codes "--store=" ++ name) ∷ [])
+plain_words (Gen number) = Some (codes "gen" ∷ decimal number ∷ [])
+plain_words (Trial number) = Some (codes "trial" ∷ decimal number ∷ [])
+plain_words (Play plan) = None
 
 -- the plain words of each command whose numbers are within their limits are it
 abbrev pub PlainWordsAreCommands : Type 0
-PlainWordsAreCommands = (command : Command) → IsInRange command → IsSpelled (plain_words command) command
+PlainWordsAreCommands = (command : Command) → IsInRange command
+    → IfSome (plain_words command) (λ words. IsSpelled words command)

@@ -1,2 +1,4 @@
 pub mod Simple
 pub mod Commands
+pub mod Plans
+pub mod Texts

@@ -4,6 +4,7 @@ ghost use Rattle.command_words.specs.Simple.{Gives, value_app};
 ghost use Rattle.command_words.specs.Commands.{texts, Finds, IsApplyCommand, IsCutCommand, IsNumbered, IsSpelled, AreNoCommand, AreOneCommand, PlainWordsAreCommands};
 
 use crate::NoMemory;
+use crate::plan::{PlayPlan, plan_of};
 use crate::simple::{apply_command, value_command, value_of};
 use line_text::{read_u64, read_u128};
 use std::alloc::Global;
@@ -53,6 +54,8 @@ pub enum Command<'a> {
     Gen(u64),
     /// Answers the script of this number, and writes the replies about segmentations.
     Trial(u64),
+    /// Answers these scripts at once.
+    Play(PlayPlan<'a>),
 }
 
 /// The command that the words are, if they are one: a command's name, and words that its simple command takes.
@@ -89,6 +92,12 @@ pub fn command_of(alloc: Global, words: &[String]) -> Result<Option<Command<'_>>
             return Ok(None);
         };
         return Ok(Some(Command::Trial(number)));
+    }
+    if name == "play" {
+        let Some(plan) = plan_of(alloc, rest)? else {
+            return Ok(None);
+        };
+        return Ok(Some(Command::Play(plan)));
     }
     Ok(None)
 }

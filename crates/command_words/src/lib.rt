@@ -12,7 +12,11 @@
 #![tactic(auto)]
 
 mod command;
+mod plan;
 mod simple;
+mod texts;
+mod values;
 
 pub use command::{Command, StoreName, command_of, one_command_law, plain_words_law};
+pub use plan::{PlayPlan, transcript_name};
 pub use std::alloc::AllocError as NoMemory;

@@ -30,7 +30,7 @@ pub(crate) fn apply_command<'a>(alloc: Global) -> Result<Command<'a>, NoMemory>
 }
 
 // The command of this name, with no argument yet.
-fn named_command<'a>(alloc: Global, name: &'a str) -> Command<'a>
+pub(crate) fn named_command<'a>(alloc: Global, name: &'a str) -> Command<'a>
     ensures { app_of result ≡ named_app name.entry.now }
 {
     Command::new(alloc, name)

@@ -13,4 +13,6 @@ mod of_history_lock;
 #[cfg(test)]
 mod of_keep_rows;
 #[cfg(test)]
+mod of_side_by_side;
+#[cfg(test)]
 mod of_track_outside;

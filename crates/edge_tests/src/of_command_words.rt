@@ -1,5 +1,5 @@
 //! Words that are a command, and words that are none, with ample memory.
-use command_words::{Command, NoMemory, command_of};
+use command_words::{Command, NoMemory, PlayPlan, command_of};
 use std::alloc::Global;
 
 // Words, and how the command that they are is told.
@@ -66,6 +66,121 @@ fn words_are_commands_or_none(rt: HostRuntime) {
     }
 }
 
+const PLAYED: [Row; 12] = [
+    (&["play", "s1"], "play  - 0 0 - s1"),
+    (
+        &["play", "--machines", "m", "s1", "s2"],
+        "play m, - 0 0 - s1 s2",
+    ),
+    (
+        &[
+            "play",
+            "--machines",
+            "m",
+            "--bisect",
+            "1",
+            "--test",
+            "sh",
+            "s1",
+        ],
+        "play m, - 0 1 sh s1",
+    ),
+    (
+        &[
+            "play",
+            "s1",
+            "--store=t",
+            "--recompute=8",
+            "s2",
+            "--machines=a,b%2Cc",
+        ],
+        "play a,b,c, t 8 0 - s1 s2",
+    ),
+    (
+        &["play", "1", "2", "3", "4", "5", "6", "7", "8"],
+        "play  - 0 0 - 1 2 3 4 5 6 7 8",
+    ),
+    (
+        &[
+            "play",
+            "--machines=1,2,3,4,5,6,7,8,9,10,11,12,13,14,15,16",
+            "s",
+        ],
+        "play 1,2,3,4,5,6,7,8,9,10,11,12,13,14,15,16, - 0 0 - s",
+    ),
+    (&["play", "--", "-s", "--x"], "play  - 0 0 - -s --x"),
+    (&["play", "--test", "sh", "s1"], "play  - 0 0 sh s1"),
+    (&["play", "--bisect", "0", "s1"], "play  - 0 0 - s1"),
+    (&["play", "s1.out"], "play  - 0 0 - s1.out"),
+    (&["play", "s.out.out", "s"], "play  - 0 0 - s.out.out s"),
+    (&["play", "-"], "play  - 0 0 - -"),
+];
+
+#[test]
+fn words_of_play_ask_for_a_run(rt: HostRuntime) {
+    for row in &PLAYED {
+        assert!(rt; are_told(rt.alloc(), row.0, row.1), "{}", row.1);
+    }
+}
+
+const REFUSED: [Row; 35] = [
+    (&["play"], "none"),
+    (&["play", "--machines", "m"], "none"),
+    (&["play", ""], "none"),
+    (&["play", "s1", ""], "none"),
+    (&["play", "s1", "s1"], "none"),
+    (&["play", "s1", "s2", "s1"], "none"),
+    (&["play", "s1", "s1.out"], "none"),
+    (&["play", "s1.out", "s1"], "none"),
+    (
+        &["play", "1", "2", "3", "4", "5", "6", "7", "8", "9"],
+        "none",
+    ),
+    (&["play", "--machines", "", "s1"], "none"),
+    (&["play", "--machines=", "s1"], "none"),
+    (&["play", "--machines", "a,", "s1"], "none"),
+    (&["play", "--machines", ",a", "s1"], "none"),
+    (&["play", "--machines", "a,,b", "s1"], "none"),
+    (&["play", "--machines", "a,a", "s1"], "none"),
+    (&["play", "--machines", "a,%61", "s1"], "none"),
+    (&["play", "--machines", "a%2", "s1"], "none"),
+    (&["play", "--machines", "%ff", "s1"], "none"),
+    (
+        &[
+            "play",
+            "--machines=1,2,3,4,5,6,7,8,9,10,11,12,13,14,15,16,17",
+            "s",
+        ],
+        "none",
+    ),
+    (&["play", "--store", "", "s1"], "none"),
+    (&["play", "--store=", "s1"], "none"),
+    (&["play", "--recompute", "9", "s1"], "none"),
+    (&["play", "--recompute", "-1", "s1"], "none"),
+    (&["play", "--recompute", "08", "s1"], "none"),
+    (&["play", "--recompute=", "s1"], "none"),
+    (&["play", "--recompute", "s1"], "none"),
+    (&["play", "--bisect", "1", "s1"], "none"),
+    (&["play", "--bisect", "9", "--test", "t", "s1"], "none"),
+    (&["play", "--bisect", "x", "--test", "t", "s1"], "none"),
+    (&["play", "--test", "", "s1"], "none"),
+    (&["play", "--bisect", "1", "--test=", "s1"], "none"),
+    (&["play", "-x", "s1"], "none"),
+    (&["play", "--help"], "none"),
+    (&["play", "--test", "a", "--test", "b", "s1"], "none"),
+    (
+        &["play", "--recompute", "1", "--recompute", "1", "s1"],
+        "none",
+    ),
+];
+
+#[test]
+fn words_of_play_are_none_where_they_break_a_rule(rt: HostRuntime) {
+    for row in &REFUSED {
+        assert!(rt; are_told(rt.alloc(), row.0, row.1), "{}", row.0.len());
+    }
+}
+
 // Whether the words are the command that is told so.
 fn are_told(alloc: Global, words: &[&str], told: &str) -> bool {
     let Ok(texts) = strings(alloc, words) else {
@@ -100,5 +215,27 @@ fn is_told(alloc: Global, command: &Command<'_>, told: &str) -> bool {
         Command::Trial(number) => told
             .strip_prefix("trial ")
             .is_some_and(|text| text.parse::<u64>() == Ok(*number)),
+        Command::Play(plan) => match plan_text(alloc, plan) {
+            Ok(text) => told.strip_prefix("play ") == Some(text.as_str()),
+            Err(_) => false,
+        },
     }
+}
+
+// The machines with a comma behind each, the store, the numbers of workers, the word of the test, and the scripts.
+fn plan_text(alloc: Global, plan: &PlayPlan<'_>) -> Result<String, NoMemory> {
+    let mut text = String::new(alloc);
+    for machine in plan.machines() {
+        text.push_str(machine.as_str())?;
+        text.push_str(",")?;
+    }
+    let store = plan.store().unwrap_or("-");
+    let (recompute, bisect) = (plan.recompute(), plan.bisect());
+    let test = plan.test().unwrap_or("-");
+    text.push_str(&format!(in alloc; " {store} {recompute} {bisect} {test}")?)?;
+    for script in plan.scripts() {
+        text.push_str(" ")?;
+        text.push_str(script)?;
+    }
+    Ok(text)
 }

@@ -8,3 +8,4 @@ pub mod Segments
 pub mod Jobs
 pub mod Outs
 pub mod Firsts
+pub mod Sent

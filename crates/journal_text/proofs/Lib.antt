@@ -1,0 +1,5 @@
+mod Feeds
+mod Lacking
+mod Stepwise
+mod Unique
+mod Written

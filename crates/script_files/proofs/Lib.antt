@@ -1,0 +1,6 @@
+mod Asked
+mod Calls
+mod Counted
+mod FromStart
+mod Names
+mod Written
