@@ -1,3 +1,4 @@
+mod Closed
 mod Joined
 mod Turning
 pub mod Staying

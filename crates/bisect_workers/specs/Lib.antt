@@ -3,3 +3,4 @@ pub mod Bisecting
 pub mod Failures
 pub mod Quiet
 pub mod Beside
+pub use Rattle.track_follow.specs.Settling

@@ -5,7 +5,8 @@ ghost use Rattle.metric_table.specs.declared.limits.Limit.TheVariants as limit;
 ghost use Rattle.history_model.specs.declared.entries.Author.TheVariants as author;
 ghost use Rattle.history_model.specs.Entries.{entries_of};
 ghost use Rattle.bisect_workers.specs.Bisecting.{IsBisected};
-ghost use Rattle.bisect_workers.specs.Quiet.{JobsAreQuiet, NoneAsks};
+ghost use Rattle.worker_model.specs.Quiet.{JobsAreQuiet};
+ghost use Rattle.bisect_workers.specs.Quiet.{NoneAsks};
 
 use crate::NoMemory;
 use crate::asking::ask;

@@ -1,3 +1,4 @@
+mod Current
 mod Quieting
 mod Handing
 mod Growing

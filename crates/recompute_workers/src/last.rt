@@ -2,7 +2,8 @@
 ghost use Rattle.std.specs.Prelude.{◌≡◌, OnOk, true};
 ghost use Rattle.history_model.specs.declared.entries.Author.TheVariants as author;
 ghost use Rattle.history_model.specs.Runs.{is_known};
-ghost use Rattle.recompute_workers.specs.Quiet.{IsQuiet, SeriesAreQuiet};
+ghost use Rattle.worker_model.specs.Quiet.{SeriesAreQuiet};
+ghost use Rattle.recompute_workers.specs.Quiet.{IsQuiet};
 ghost use Rattle.recompute_workers.specs.Recomputing.{AddsOne, AddsPublications};
 ghost use Rattle.track_work.specs.Work.{history_of};
 

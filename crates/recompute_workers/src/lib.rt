@@ -15,4 +15,5 @@ mod worker;
 pub use last::recompute_last;
 pub use pace::{AtGate, Pace};
 pub use std::alloc::AllocError as NoMemory;
+pub use track_work::WorkState;
 pub use worker::{recompute, recompute_by};

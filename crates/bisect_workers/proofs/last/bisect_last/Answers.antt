@@ -4,6 +4,7 @@ use Rattle.metric_table.specs.declared.limits.Limit.TheVariants as limit
 use Rattle.history_model.specs.declared.entries.Author.TheVariants.{Bisect}
 use Rattle.history_model.specs.declared.entries.Placed.{Placed}
 use Rattle.history_model.specs.Entries.{entries_of}
+use Rattle.bisect_workers.proofs.Closed.{jobs-closed}
 use Rattle.bisect_workers.proofs.Joined.{joined, nothing}
 use Rattle.bisect_workers.proofs.last.bisect_last.Goals as goal
 
@@ -31,3 +32,6 @@ returns-clause-quiet g c =
     let size : length (entries_of c.turns.track.history) ≡ length c.turns.track.history = length-map c.turns.track.history (λ (p : Placed). p.entry) in
     let few : length (entries_of c.turns.track.history) ≤ 1_048_576 = c.history_law.ensures.limits limit.Steps in
     inr (omega (arith, size, few, c.len.ensures, c.most.ensures, c.turns-test.false))
+
+pub returns-then-not-branch-clause-quiet : goal.returns-then-not-branch-clause-quiet
+returns-then-not-branch-clause-quiet g c = jobs-closed (entries_of c.turn.new.track.history) (c.in_ok-turn.ensures.done c.if-not-branch.true)

@@ -9,6 +9,7 @@ use Rattle.history_model.specs.Runs.{Series, is_known}
 use Rattle.track_model.specs.Tracks.{Track}
 use Rattle.track_work.specs.Work.{Work, history_of}
 use Rattle.recompute_workers.specs.Quiet.{IsQuiet}
+use Rattle.recompute_workers.proofs.Current.{current-of}
 use Rattle.recompute_workers.proofs.Growing.{adds-more, known-more, quiet-more}
 use Rattle.recompute_workers.proofs.last.recompute_last.Goals as goal
 
@@ -48,4 +49,4 @@ returns-clause-quiet c s known =
     let has : Contains names s = subst (λ (ns : List Series). Contains ns s) (sym c.as_slice-name-items.ensures) ((c.in_ok-names.ensures s).0 first) in
     let all : All (λ (t : Series). IsQuiet h t) names =
     subst (λ (ns : List Series). All (λ (t : Series). IsQuiet h t) ns) (take_all c.loop-name.name-index names c.loop-name-test.false) c.loop-name.invariant.quiet in
-    All-contains (λ (t : Series). IsQuiet h t) names s all has
+    current-of h s known (All-contains (λ (t : Series). IsQuiet h t) names s all has)

@@ -1,0 +1,9 @@
+pub mod Journals
+pub mod Scripts
+pub mod Passes
+pub mod Workers
+pub mod Quiet
+pub mod Whole
+pub mod Fits
+pub mod Ends
+pub mod Laws

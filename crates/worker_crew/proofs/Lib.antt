@@ -1,0 +1,13 @@
+mod Owning
+mod Finding
+mod Naming
+mod Late
+mod Places
+mod Tied
+mod Running
+mod Quieting
+mod Seated
+mod Rests
+mod Whole
+mod Sent
+mod Paired

@@ -1,0 +1,7 @@
+pub mod Workers
+pub mod Last
+pub mod Runs
+pub mod Laws
+pub mod Seated
+pub mod Whole
+pub use Rattle.recompute_workers.specs.Recomputing
