@@ -7,7 +7,7 @@ use std::alloc::{AllocError, Global};
 use std::marker::Brand;
 use std::sync::ledger::{Blank, Ledger};
 use track_outside::{MemFiles, MemSink, MemSource};
-use tracker_top::{Status, alone};
+use tracker_top::{Status, alone, asks_play};
 
 // A script, and what it is answered.
 type Run = (&'static str, &'static str);
@@ -80,6 +80,9 @@ fn answer_counted<L: Ledger>(
     requires parts { blank.parts ≡ L.parts }
     requires some { 0 < L.parts }
 {
+    if asks_play(words) {
+        return Err(AllocError);
+    }
     let mut input = MemSource::new(alloc, script, &[])?;
     let mut out = MemSink::new(alloc, 10_000, &[])?;
     let mut err = MemSink::new(alloc, 1_000, &[])?;

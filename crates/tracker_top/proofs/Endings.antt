@@ -11,13 +11,13 @@ use Rattle.script_loop.specs.declared.stop.Stop.{Stop as ScriptStop}
 use Rattle.script_loop.specs.declared.stop.Stop.TheVariants as script
 use Rattle.script_loop.specs.Endings.{HasRead, HasWritten}
 use Rattle.command_words.specs.declared.command.Command.{Command}
-use Rattle.command_words.specs.declared.command.Command.TheVariants.{Cut, Apply, Gen, Trial}
+use Rattle.command_words.specs.declared.command.Command.TheVariants.{Cut, Apply, Gen, Trial, Play}
 use Rattle.tracker_top.specs.declared.status.Status.{Status}
 use Rattle.tracker_top.specs.declared.status.Status.TheVariants.{Done, BadWords, ReadFault, WriteFault, StoreFault, BadStore, CutOff, NoMemory, InputTooLong}
 use Rattle.command_words.specs.Commands.{IsSpelled, AreOneCommand}
 use Rattle.script_session.specs.Counts.{RoseByRedone}
-use Rattle.tracker_top.specs.Statuses.{script_status_of, script_status, ended, CutShows, ScriptShows, Shows, IsDue, OneStatusIsDue}
-use Rattle.tracker_top.specs.Endings.{HasCause, EndsOutput, AnswersScript, Begins, WasStarted, Keeps, Prints, AppendCause, LoadCause, EndsSo, EndsScript, EndsApply, IsOfOutput, HasAsked, Ends}
+use Rattle.tracker_top.specs.Statuses.{AsksPlay, script_status_of, script_status, ended, CutShows, ScriptShows, Shows, IsDue, OneStatusIsDue}
+use Rattle.tracker_top.specs.Endings.{HasCause, EndsOutput, AnswersScript, Begins, WasStarted, Keeps, Prints, AppendCause, LoadCause, EndsSo, EndsScript, EndsApply, IsOfOutput, HasAsked, IsAlone, Ends}
 use Rattle.tracker_top.specs.Answers.{IsCertificateText, state_of}
 use Rattle.track_outside.specs.Kept.{with_more}
 use Rattle.kept_machines.specs.Kept.{kept_of, AreKept}
@@ -169,6 +169,15 @@ module _ {I O K : Type 0} (g : source.Ghosts I) (h : sink.Ghosts O) (k : keeper.
   comes (Gen number) result spelled ends = gen_comes (k.kept first) number spelled result ends.0.cause ends.0.output
   comes (Trial number) result spelled ends =
       subst (DueComes (k.kept first)) (sym ends.0.run.told) (trial_comes (k.kept first) number spelled ends.0.run.items ends.0.run.text ends.0.run.result ends.0.run.read ends.0.run.wrote)
+  comes (Play plan) result spelled ends = absurd ends
+
+-- words that don't ask for `play` spell a command of one thread
+pub is-alone : (words : List (List ℕ)) (command : Command) → IsSpelled words command → ¬ AsksPlay words → IsAlone command
+is-alone words (Cut penalty) spelled other = tt
+is-alone words (Apply store) spelled other = tt
+is-alone words (Gen number) spelled other = tt
+is-alone words (Trial number) spelled other = tt
+is-alone words (Play plan) spelled other = absurd (other (spelled.rest, spelled.named))
 
 -- ---- how `apply` ends
 not_done : (stop : ScriptStop) → script_status_of stop ≢ Done

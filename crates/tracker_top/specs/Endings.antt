@@ -26,7 +26,7 @@ use Rattle.script_session.specs.Part.{IsPart}
 use Rattle.script_desk.specs.Sessions.{State, AnswersFor, AnswersSome}
 use Rattle.series_gen.specs.Script.{script as script_of}
 use Rattle.command_words.specs.declared.command.Command.{Command}
-use Rattle.command_words.specs.declared.command.Command.TheVariants.{Cut, Apply, Gen, Trial}
+use Rattle.command_words.specs.declared.command.Command.TheVariants.{Cut, Apply, Gen, Trial, Play}
 use Rattle.tracker_top.specs.declared.status.Status.{Status}
 use Rattle.tracker_top.specs.declared.status.Status.TheVariants.{Done, BadWords, ReadFault, WriteFault, StoreFault, BadStore, NoMemory}
 use Rattle.tracker_top.specs.Answers.{IsCertificateText, state_of, new_state, AllPublishWell, AllBisectWell}
@@ -270,6 +270,12 @@ Ends g h k (Gen number) old new before after first last from to status =
     EndsGen h number old new before after status × (last ≡ first) × (to ≡ from)
 Ends g h k (Trial number) old new before after first last from to status =
     EndsTrial h number old new before after from to status × (last ≡ first)
+Ends g h k (Play plan) old new before after first last from to status = ⊥
+
+-- the command is one of one thread
+abbrev pub IsAlone : Command → Type 0
+IsAlone (Play plan) = ⊥
+IsAlone command = Unit {0}
 
 -- memory was wanting to read the words, so no command was begun: nothing was read, written, kept or
 -- counted

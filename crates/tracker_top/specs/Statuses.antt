@@ -1,5 +1,5 @@
 -- Which status is due, by the words, the rows of a store and the input's bytes.
-use Rattle.std.specs.Prelude.{◌≡◌, ℕ, ◌⊎◌, List, Option, Some, None, Result, Ok, Err}
+use Rattle.std.specs.Prelude.{◌≡◌, ℕ, ◌⊎◌, List, ◌∷◌, codes, Option, Some, None, Result, Ok, Err}
 use Rattle.segment_model.specs.Segments.{Position}
 use Rattle.request_words.specs.Bodies.{Item}
 use Rattle.request_text.specs.Scripts.{Ending, end, cut_off, unfinished, IsScript}
@@ -17,7 +17,7 @@ use Rattle.keep_rows.specs.declared.load.LoadFault.TheVariants as load
 use Rattle.kept_machines.specs.Loading.{LeadTo, IsFirstBad}
 use Rattle.track_model.specs.Tracks.{Track}
 use Rattle.command_words.specs.declared.command.Command.{Command}
-use Rattle.command_words.specs.declared.command.Command.TheVariants.{Cut, Apply, Gen, Trial}
+use Rattle.command_words.specs.declared.command.Command.TheVariants.{Cut, Apply, Gen, Trial, Play}
 use Rattle.tracker_top.specs.declared.status.Status.{Status}
 use Rattle.tracker_top.specs.declared.status.Status.TheVariants.{Done, BadWords, ReadFault, WriteFault, StoreFault, BadStore, CutOff, NoMemory, InputTooLong, BadLine, Full}
 use Rattle.command_words.specs.Commands.{IsSpelled, AreNoCommand}
@@ -80,14 +80,20 @@ StoreShows (Some rows) bytes status =
     ((row : ℕ) × IsFirstBad rows row × (status ≡ BadStore row))
     ⊎ ((tracks : List Track) × LeadTo rows tracks × ScriptShows bytes status)
 
+-- the first word is `play`, which is no command of one thread
+abbrev pub AsksPlay : List (List ℕ) → Type 0
+AsksPlay words = (rest : List (List ℕ)) × (words ≡ codes "play" ∷ rest)
+
 -- the rows of the keeper, where it tells them, and the input's bytes show this status of the
--- command; a number shows that all is done; they never show a fault or want of memory
+-- command; a number shows that all is done; they never show a fault or want of memory, nor how
+-- scripts end that run at once
 abbrev pub Shows : Command → Option (List (List ℕ)) → List ℕ → Status → Type 0
 Shows (Cut penalty) rows bytes status = CutShows bytes status
 Shows (Apply None) rows bytes status = ScriptShows bytes status
 Shows (Apply (Some name)) rows bytes status = StoreShows rows bytes status
 Shows (Gen number) rows bytes status = status ≡ Done
 Shows (Trial number) rows bytes status = status ≡ Done
+Shows (Play plan) rows bytes status = ⊥
 
 -- the words, the rows and the bytes show this status: the words are no command, or one of which the
 -- others show it

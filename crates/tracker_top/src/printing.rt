@@ -29,7 +29,7 @@ pub fn put_status<O: Sink>(err: &mut O, status: Status) -> Result<(), Failed>
 }
 
 // Writes a line that ends with a number.
-fn put_numbered<O: Sink>(err: &mut O, name: &[u8], number: u64) -> Result<(), Failed>
+pub(crate) fn put_numbered<O: Sink>(err: &mut O, name: &[u8], number: u64) -> Result<(), Failed>
     ensures ok { OnOk result (Took O.Sink err.old err.new (name.now ++ decimal number ++ 10 ∷ [])) }
     ensures err { OnErr result (FailedIn O.Sink err.old err.new
         (name.now ++ decimal number ++ 10 ∷ [])) }

@@ -2,11 +2,13 @@
 ghost use Rattle.std.specs.Prelude.{◌≡◌};
 ghost use Rattle.std.specs.Process.{exit_status};
 ghost use Rattle.tracker_top.specs.Statuses.{append_status_of, load_status_of, number_of, script_status_of, status_of};
+ghost use Rattle.tracker_top.specs.Plays.{run_status_of, stopped_status_of};
 ghost use Rattle.tracker_top.specs.declared.status.Status.{Status};
 
 use cut_lines::{Refusal, Stop as CutStop};
 use kept_machines::{AppendFault, LoadFault};
 use script_session::Stop as ScriptStop;
+use shared_run::RunStop;
 use std::alloc::AllocError;
 use std::process::ExitCode;
 
@@ -126,5 +128,36 @@ impl From<AppendFault> for Status {
             AppendFault::KeepFault => Status::StoreFault,
             AppendFault::NoMemory => Status::NoMemory,
         }
+    }
+}
+
+/// How `play` ends where its run stops.
+impl From<RunStop> for Status {
+    ghost from_gives = { λ stop status. status ≡ run_status_of stop };
+
+    fn from(stop: RunStop) -> Status {
+        match stop {
+            RunStop::NoMemory => Status::NoMemory,
+            RunStop::StoreFault => Status::StoreFault,
+            RunStop::BadStore(row) => Status::BadStore(row),
+            RunStop::Full(place) => Status::Full(place),
+            RunStop::OpenFault => Status::ReadFault,
+            RunStop::CreateFault => Status::WriteFault,
+            RunStop::WriteFault => Status::WriteFault,
+            RunStop::Script(number, stop) => stopped(number, stop),
+        }
+    }
+}
+
+// How `play` ends where the script of this number stops.
+fn stopped(number: u64, stop: ScriptStop) -> Status
+    ensures { result ≡ stopped_status_of number stop }
+{
+    match stop {
+        ScriptStop::ReadFault => Status::ReadFault,
+        ScriptStop::WriteFault => Status::WriteFault,
+        ScriptStop::CutOff(offset) => Status::CutOff(number, offset),
+        ScriptStop::InputTooLong => Status::InputTooLong(number),
+        ScriptStop::NoMemory => Status::NoMemory,
     }
 }

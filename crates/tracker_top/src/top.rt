@@ -5,9 +5,9 @@ ghost use Rattle.script_desk.specs.Sessions.{State};
 ghost use Rattle.script_loop.specs.declared.stop.Stop.{Stop};
 ghost use Rattle.command_words.specs.declared.command.Command.{Command};
 ghost use Rattle.command_words.specs.Commands.{texts, IsSpelled, IsInRange, AreNoCommand};
-ghost use Rattle.tracker_top.specs.Statuses.{script_status, IsDue, OneStatusIsDue};
+ghost use Rattle.tracker_top.specs.Statuses.{script_status, AsksPlay, IsDue, OneStatusIsDue};
 ghost use Rattle.tracker_top.specs.Answers.{IsCertificateText, IsTextOf, state_of, AllBisectWell};
-ghost use Rattle.tracker_top.specs.Endings.{EndsInput, EndsOutput, AnswersScript, EndsApply, EndsWell, RefusesNone, IsOfOutput, RunsScript, Ends, EndsUnbegun, IsTold};
+ghost use Rattle.tracker_top.specs.Endings.{EndsInput, EndsOutput, AnswersScript, EndsApply, EndsWell, RefusesNone, IsOfOutput, RunsScript, IsAlone, Ends, EndsUnbegun, IsTold};
 ghost use Rattle.series_gen.specs.Script.{script as script_of};
 
 use crate::printing::put_status;
@@ -51,7 +51,8 @@ pub fn one_status_law()
 /// answers it. That script is whole and none of its requests is refused, so only the output and want of memory stop a trial. The words
 /// are read as those of command lines (`command_words`), which takes memory; where it is wanting, nothing else is touched but the
 /// status' line.
-/// `apply` and `trial` count their steps: one for each position that a segmentation looks at anew.
+/// `apply` and `trial` count their steps: one for each position that a segmentation looks at anew. `play`, which runs scripts
+/// at once, is no command of one thread.
 /// The status' line goes to `err`; where that fails the status stands. At most 2^30 bytes of an input are read, and one
 /// more to see that there are no more. The texts are those of docs/FORMATS.md, the statuses those of docs/COMMANDS.md.
 ///
@@ -68,6 +69,8 @@ pub fn alone<F: Files, K: Keeper, L: Ledger>(
     keeper: &mut K,
     steps: &mut Steps<L>,
 ) -> Status
+    requires { ¬ AsksPlay (texts words.now) }
+
     // Bad words are no command, and then nothing is read, written, kept or counted but the status' line.
     ensures bad_words { result ≡ Status.BadWords → AreNoCommand (texts words.now) }
     ensures untouched { result ≡ Status.BadWords
@@ -122,7 +125,8 @@ fn run_command<I: Source, O: Sink, K: Keeper, L: Ledger>(
     keeper: &mut K,
     steps: &mut Steps<L>,
 ) -> Status
-    requires { IsInRange command.now }
+    requires range { IsInRange command.now }
+    requires alone { IsAlone command.now }
     ensures { Ends I.Source O.Sink K.Keeper command.now
         input.old input.new out.old out.new keeper.old keeper.new steps.old steps.new result }
 {
@@ -131,6 +135,7 @@ fn run_command<I: Source, O: Sink, K: Keeper, L: Ledger>(
         Command::Apply(store) => apply_on(alloc, store, input, out, keeper, steps),
         Command::Gen(number) => generate(alloc, *number, out),
         Command::Trial(number) => run_trial(alloc, *number, out, steps),
+        Command::Play(_) => unreachable!(),
     }
 }
 

@@ -1,5 +1,7 @@
 //! The program's words, those behind its name.
-ghost use Rattle.std.specs.Prelude.{◌≡◌, ◌⊎◌, Err, IsUtf8, string_bytes, IfOk, IfErr};
+ghost use Rattle.std.specs.Prelude.{◌≡◌, ◌↔◌, ◌⊎◌, codes, true, Err, IsUtf8, string_bytes, IfOk, IfErr, IsTrue};
+ghost use Rattle.command_words.specs.Commands.{texts};
+ghost use Rattle.tracker_top.specs.Statuses.{AsksPlay};
 ghost use Rattle.tracker_top.specs.declared.status.Status.{Status};
 
 use crate::status::Status;
@@ -24,6 +26,23 @@ pub fn words_of<E: Env>(env: &E, alloc: Global) -> Result<Vec<String>, Status>
         }
     }
     Ok(words)
+}
+
+/// Whether the first word is `play`.
+pub fn asks_play(words: &[String]) -> bool
+    ensures { result ≡ true ↔ AsksPlay (texts words.now) }
+{
+    match words.first() {
+        Some(word) => is_play(word.as_str()),
+        None => false,
+    }
+}
+
+// Whether it is that word.
+fn is_play(word: &str) -> bool
+    ensures { IsTrue result ↔ (word.now ≡ codes "play") }
+{
+    word == "play"
 }
 
 // The bytes of a word, if it is there. The room for them is doubled until they fit.

@@ -1,0 +1,308 @@
+//! `cut`: certificates, lines that are refused, limits of a series and faults of the outside; and words that are no command.
+use crate::run::{Fails, NO_FAILS, READ_FAILS, Run, SECOND_READ_FAILS, WRITE_FAILS, ends};
+use crate::texts::{Piece, text_of};
+use std::alloc::Global;
+use tracker_top::Status;
+
+// Certificates of no position, of one, and of four.
+const NONE: &str = "points 0\npenalty 1\ncuts\ntotal 0\nleast -1\nback 0\npruned 0\n";
+
+const ONE: &str = "points 1\npenalty 1\ncuts\ntotal 0\nleast -1 0\nback 0 0\npruned 0 0\n";
+
+const FOUR: &str =
+    "points 4\npenalty 50\ncuts 2\ntotal 50\nleast -50 0 0 50 50\nback 0 0 0 2 2\npruned 0 4 0 0 0\n";
+
+/// Penalties, inputs and what is printed.
+const CERTIFICATES: [(&str, &str, &str); 8] = [
+    ("50", "1 0\n2 0\n3 10\n4 10\n", FOUR),
+    ("50", "1 0\n# x\n2 0\n\n3 10\n4 10\n", FOUR),
+    ("50", "  1   0\n 2 0 \n3 10  \n   \n4 10", FOUR),
+    (
+        "100",
+        "1 0\n2 0\n3 10\n4 10\n",
+        "points 4\npenalty 100\ncuts\ntotal 100\nleast -100 0 0 67 100\nback 0 0 0 0 0\npruned 0 0 0 0 0\n",
+    ),
+    (
+        "8",
+        "1 0\n2 0\n3 4\n4 4\n5 2\n6 2\n7 2\n8 2\n9 2\n10 2\n",
+        "points 10\npenalty 8\ncuts\ntotal 16\nleast -8 0 0 8 8 11 12 13 14 15 16\nback 0 0 0 2 2 2 2 2 2 2 0\npruned 0 4 0 0 0 0 0 0 0 0 0\n",
+    ),
+    (
+        "5",
+        "",
+        "points 0\npenalty 5\ncuts\ntotal 0\nleast -5\nback 0\npruned 0\n",
+    ),
+    (
+        "1",
+        "1 10000000000000000\n2 -10000000000000000\n",
+        "points 2\npenalty 1\ncuts 1\ntotal 1\nleast -1 0 1\nback 0 0 1\npruned 2 0 0\n",
+    ),
+    (
+        "1",
+        "5 0\n5 100\n5 -100\n",
+        "points 1\npenalty 1\ncuts\ntotal 20000\nleast -1 20000\nback 0 0\npruned 0 0\n",
+    ),
+];
+
+#[test]
+fn certificates_are_printed(rt: HostRuntime) {
+    for (penalty, input, out) in &CERTIFICATES {
+        assert!(rt;
+            has_certificate(rt.alloc(), penalty, input, out),
+            "cut {penalty} on {input}"
+        );
+    }
+}
+
+fn has_certificate(alloc: Global, penalty: &str, input: &str, out: &str) -> bool {
+    prints(alloc, &["cut", penalty], input, out)
+}
+
+// Whether the words on the input come to the end, and print this.
+fn prints<'a>(alloc: Global, words: &'a [&'a str], input: &'a str, out: &'a str) -> bool {
+    let run = Run {
+        words,
+        input: input.as_bytes(),
+        fails: NO_FAILS,
+        status: Status::Done,
+        out: out.as_bytes(),
+        err: "",
+    };
+    ends(alloc, &run)
+}
+
+// The four lines of a certificate in each of their 24 orders.
+const ORDERS: [&str; 24] = [
+    "1 0\n2 0\n3 10\n4 10\n",
+    "1 0\n2 0\n4 10\n3 10\n",
+    "1 0\n3 10\n2 0\n4 10\n",
+    "1 0\n3 10\n4 10\n2 0\n",
+    "1 0\n4 10\n2 0\n3 10\n",
+    "1 0\n4 10\n3 10\n2 0\n",
+    "2 0\n1 0\n3 10\n4 10\n",
+    "2 0\n1 0\n4 10\n3 10\n",
+    "2 0\n3 10\n1 0\n4 10\n",
+    "2 0\n3 10\n4 10\n1 0\n",
+    "2 0\n4 10\n1 0\n3 10\n",
+    "2 0\n4 10\n3 10\n1 0\n",
+    "3 10\n1 0\n2 0\n4 10\n",
+    "3 10\n1 0\n4 10\n2 0\n",
+    "3 10\n2 0\n1 0\n4 10\n",
+    "3 10\n2 0\n4 10\n1 0\n",
+    "3 10\n4 10\n1 0\n2 0\n",
+    "3 10\n4 10\n2 0\n1 0\n",
+    "4 10\n1 0\n2 0\n3 10\n",
+    "4 10\n1 0\n3 10\n2 0\n",
+    "4 10\n2 0\n1 0\n3 10\n",
+    "4 10\n2 0\n3 10\n1 0\n",
+    "4 10\n3 10\n1 0\n2 0\n",
+    "4 10\n3 10\n2 0\n1 0\n",
+];
+
+// They have one certificate.
+#[test]
+fn lines_come_in_any_order(rt: HostRuntime) {
+    for input in &ORDERS {
+        assert!(rt; has_certificate(rt.alloc(), "50", input, FOUR), "{input}");
+    }
+}
+
+// Inputs, the calls that fail, the status and its line, where nothing is printed.
+const STOPPED: [(&str, Fails, Status, &str); 9] = [
+    (
+        "1 10000000000000001\n",
+        NO_FAILS,
+        Status::BadLine(1),
+        "bad line: 1\n",
+    ),
+    ("#\n1 0 0\n", NO_FAILS, Status::BadLine(2), "bad line: 2\n"),
+    ("\n # x\n", NO_FAILS, Status::BadLine(2), "bad line: 2\n"),
+    ("1 0\r\n", NO_FAILS, Status::BadLine(1), "bad line: 1\n"),
+    ("1 0\n7", NO_FAILS, Status::BadLine(2), "bad line: 2\n"),
+    ("01 0\n", NO_FAILS, Status::BadLine(1), "bad line: 1\n"),
+    ("\n1 05\n", NO_FAILS, Status::BadLine(2), "bad line: 2\n"),
+    (
+        "18446744073709551616 0\n",
+        NO_FAILS,
+        Status::BadLine(1),
+        "bad line: 1\n",
+    ),
+    ("2 0\n1 x\n", NO_FAILS, Status::BadLine(2), "bad line: 2\n"),
+];
+
+#[test]
+fn lines_are_refused(rt: HostRuntime) {
+    for (input, fails, status, err) in &STOPPED {
+        assert!(rt; stops(rt.alloc(), input, fails, *status, err), "{input}");
+    }
+}
+
+// Whether `cut` ends so, and prints nothing.
+fn stops(alloc: Global, input: &str, fails: &Fails, status: Status, err: &str) -> bool {
+    let run = Run {
+        words: &["cut", "1"],
+        input: input.as_bytes(),
+        fails: *fails,
+        status,
+        out: b"",
+        err,
+    };
+    ends(alloc, &run)
+}
+
+// The first telling of a status fails.
+const TELLING_FAILS: Fails = Fails {
+    tellings: &[1],
+    ..NO_FAILS
+};
+
+const FAULTS: [(&str, Fails, Status, &str); 5] = [
+    ("", READ_FAILS, Status::ReadFault, "read fault\n"),
+    (
+        "1 0\n2",
+        SECOND_READ_FAILS,
+        Status::ReadFault,
+        "read fault\n",
+    ),
+    (
+        "1 0\nx",
+        SECOND_READ_FAILS,
+        Status::BadLine(2),
+        "bad line: 2\n",
+    ),
+    ("", WRITE_FAILS, Status::WriteFault, "write fault\n"),
+    ("x\n", TELLING_FAILS, Status::BadLine(1), ""),
+];
+
+#[test]
+fn outside_fails(rt: HostRuntime) {
+    for (input, fails, status, err) in &FAULTS {
+        assert!(rt; stops(rt.alloc(), input, fails, *status, err), "{input}");
+    }
+}
+
+// Words that are no command; the first penalty has a zero too many, the second is above all penalties.
+const NO_COMMANDS: [&[&str]; 5] = [
+    &[],
+    &["cut", "05"],
+    &["cut", "1000000000000000000000000000000000001"],
+    &["apply", "--store="],
+    &["trial", "7", "8"],
+];
+
+#[test]
+fn words_are_refused(rt: HostRuntime) {
+    for words in &NO_COMMANDS {
+        assert!(rt; are_no_command(rt.alloc(), words));
+    }
+}
+
+fn are_no_command(alloc: Global, words: &[&str]) -> bool {
+    let run = Run {
+        words,
+        input: b"x",
+        fails: NO_FAILS,
+        status: Status::BadWords,
+        out: b"",
+        err: "bad words\n",
+    };
+    ends(alloc, &run)
+}
+
+// Inputs of long lines, the status, what is printed, and the line.
+const LONG_LINES: [(&[Piece], Status, &str, &str); 6] = [
+    (
+        &[("#", 0, 1), (" ", 0, 5_000), ("x\n", 0, 1)],
+        Status::Done,
+        NONE,
+        "",
+    ),
+    (&[(" ", 0, 5_000), ("\n", 0, 1)], Status::Done, NONE, ""),
+    (
+        &[(" ", 0, 5_000), ("x", 0, 1)],
+        Status::BadLine(1),
+        "",
+        "bad line: 1\n",
+    ),
+    (
+        &[("1", 0, 1), (" ", 0, 5_000), ("0\n", 0, 1)],
+        Status::BadLine(1),
+        "",
+        "bad line: 1\n",
+    ),
+    (
+        &[("10", 0, 1), (" ", 0, 4_093), ("0\n", 0, 1)],
+        Status::Done,
+        ONE,
+        "",
+    ),
+    (
+        &[("10", 0, 1), (" ", 0, 4_093), ("00\n", 0, 1)],
+        Status::BadLine(1),
+        "",
+        "bad line: 1\n",
+    ),
+];
+
+#[test]
+fn long_lines(rt: HostRuntime) {
+    for (pieces, status, out, err) in &LONG_LINES {
+        assert!(rt; cuts(rt.alloc(), pieces, *status, out, err), "{out}{err}");
+    }
+}
+
+// A value more than a series may have, at a position that it has, behind it or before it; and a position more.
+const FULL: [(&[Piece], Status, &str, &str); 4] = [
+    (
+        &[("1 0\n", 0, 65_537)],
+        Status::Full(65_537),
+        "",
+        "full: 65537\n",
+    ),
+    (
+        &[("1 0\n", 0, 65_536), ("2 0", 0, 1)],
+        Status::Full(65_537),
+        "",
+        "full: 65537\n",
+    ),
+    (
+        &[("1 0\n", 0, 65_536), ("0 0", 0, 1)],
+        Status::Full(65_537),
+        "",
+        "full: 65537\n",
+    ),
+    (
+        &[("$ 0\n", 0, 16_385)],
+        Status::Full(16_385),
+        "",
+        "full: 16385\n",
+    ),
+];
+
+#[test]
+fn full_series(rt: HostRuntime) {
+    for (pieces, status, out, err) in &FULL {
+        assert!(rt; cuts(rt.alloc(), pieces, *status, out, err), "{err}");
+    }
+}
+
+// Whether `cut` of the pieces ends so.
+fn cuts(alloc: Global, pieces: &[Piece], status: Status, out: &str, err: &str) -> bool {
+    match text_of(alloc, pieces) {
+        Ok(input) => ends_so(alloc, &input, status, out, err),
+        Err(_) => false,
+    }
+}
+
+// Whether `cut` of the input ends so.
+fn ends_so<'a>(alloc: Global, input: &'a [u8], status: Status, out: &'a str, err: &'a str) -> bool {
+    let run = Run {
+        words: &["cut", "1"],
+        input,
+        fails: NO_FAILS,
+        status,
+        out: out.as_bytes(),
+        err,
+    };
+    ends(alloc, &run)
+}

@@ -1,0 +1,143 @@
+//! Scripts that end, come and fail at each byte.
+ghost use Rattle.std.specs.Prelude.{◌≡◌, None};
+
+use crate::run::comes_to;
+use std::alloc::Global;
+use track_outside::{Failed, MemSink, MemSource, NoMemory, Source};
+use tracker_top::Status;
+
+// A source that gives one byte a call. It tells contracts nothing of its bytes.
+#[derive(Drop)]
+struct Drip {
+    source: MemSource,
+    calls: u64,
+}
+
+impl Source for Drip {
+    ghost left = { λ _. None };
+
+    ghost faults = { λ s. s.source.faults };
+
+    fn read(&mut self, buf: &mut [u8]) -> Result<usize, Failed> {
+        self.calls = self.calls.saturating_add(1);
+        self.source.read(&mut buf[..1])
+    }
+}
+
+// A source of the script, of which the calls with these numbers fail.
+fn drip_of(alloc: Global, script: &[u8], fails: &[u64]) -> Result<Drip, NoMemory> {
+    Ok(Drip {
+        source: MemSource::new(alloc, script, fails)?,
+        calls: 0,
+    })
+}
+
+// Requests with their replies.
+const PARTS: [(&str, &str); 7] = [
+    ("machine m1\n", "@0 machine m1\n"),
+    ("commit m1 10 a\n", "@1 commit 10 a\n"),
+    ("# a note\n\n", ""),
+    (
+        "submit go m1 a r1 20\nBenchmarkX 1 0 B/op\n",
+        "@2 accepted r1 samples 1 ignored 0\n",
+    ),
+    ("retract m1 r1\n", "@3 retracted r1\n"),
+    ("submit lnt m1 r2 2\n[]", "@0 E08 NotReport 1 .\n"),
+    ("runs m1\n", "@3 runs lines 1\nr1 a 1 retracted\n"),
+];
+
+// The script of all parts.
+const SCRIPT: &[u8] =
+    b"machine m1\ncommit m1 10 a\n# a note\n\nsubmit go m1 a r1 20\nBenchmarkX 1 0 B/op\nretract m1 r1\nsubmit lnt m1 r2 2\n[]runs m1\n";
+
+// The place where the first part begins that isn't whole within so many bytes.
+fn begins(count: usize) -> usize {
+    let mut place = 0usize;
+    for (text, _) in &PARTS {
+        let end = place.saturating_add(text.len());
+        if end > count {
+            break;
+        }
+        place = end;
+    }
+    place
+}
+
+// What stands behind the replies to the parts that are whole within so many bytes; none where they don't stand there.
+fn behind(replies: &[u8], count: usize) -> Option<&[u8]> {
+    let mut left = replies;
+    let mut end = 0usize;
+    for (text, reply) in &PARTS {
+        end = end.saturating_add(text.len());
+        if end > count {
+            break;
+        }
+        left = left.strip_prefix(reply.as_bytes())?;
+    }
+    Some(left)
+}
+
+// A script that ends at any byte is answered up to there. Inside a body it is cut off; the first words of a line at its
+// end are a line of their own.
+#[test]
+fn a_script_ends_at_each_byte(rt: HostRuntime) {
+    for end in 0..=SCRIPT.len() {
+        assert!(rt; is_answered_to(rt.alloc(), &SCRIPT[..end]), "at {end}");
+    }
+}
+
+// Whether the first bytes of the script are answered up to their end.
+fn is_answered_to(alloc: Global, script: &[u8]) -> bool {
+    match drip_of(alloc, script, &[]) {
+        Ok(mut source) => ends_well(alloc, script.len(), &mut source),
+        Err(_) => false,
+    }
+}
+
+fn ends_well(alloc: Global, count: usize, source: &mut Drip) -> bool {
+    match MemSink::new(alloc, 10_000, &[]) {
+        Ok(mut out) => match comes_to(alloc, &["apply"], source, &mut out) {
+            Some(Status::Done) => behind(out.bytes(), count).is_some(),
+            Some(Status::CutOff(script, at)) => {
+                script == 0 && at == begins(count) as u64 && is_all(out.bytes(), count)
+            }
+            _ => false,
+        },
+        Err(_) => false,
+    }
+}
+
+// Whether these are the replies to the parts that are whole within so many bytes.
+fn is_all(replies: &[u8], count: usize) -> bool {
+    match behind(replies, count) {
+        Some(left) => left.is_empty(),
+        None => false,
+    }
+}
+
+// Where a read fails, nothing more is read, and the replies to all requests before it stand.
+#[test]
+fn a_read_fails_at_each_byte(rt: HostRuntime) {
+    for before in 0..=SCRIPT.len() {
+        assert!(rt; fails_behind(rt.alloc(), before), "at {before}");
+    }
+}
+
+// Whether it ends so where the read behind so many bytes fails.
+fn fails_behind(alloc: Global, before: usize) -> bool {
+    let call = (before as u64).saturating_add(1);
+    match drip_of(alloc, SCRIPT, &[call]) {
+        Ok(mut source) => stops_behind(alloc, before, &mut source) && source.calls == call,
+        Err(_) => false,
+    }
+}
+
+fn stops_behind(alloc: Global, before: usize, source: &mut Drip) -> bool {
+    match MemSink::new(alloc, 10_000, &[]) {
+        Ok(mut out) => {
+            comes_to(alloc, &["apply"], source, &mut out) == Some(Status::ReadFault)
+                && is_all(out.bytes(), before)
+        }
+        Err(_) => false,
+    }
+}

@@ -1,0 +1,16 @@
+//! Shared runs, from their words to journals, transcripts and rows, over objects in memory with ample memory.
+//!
+//! They are rows of a table, and call what `tracker_top` exports and nothing else of it. `run.rt` makes the objects of a run,
+//! one after another, and answers false where there is no memory.
+#![tactic(auto)]
+
+#[cfg(test)]
+mod closes;
+#[cfg(test)]
+mod long;
+#[cfg(test)]
+mod run;
+#[cfg(test)]
+mod runs;
+#[cfg(test)]
+mod workers;

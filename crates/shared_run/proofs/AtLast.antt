@@ -1,0 +1,65 @@
+-- Private: no public contract cites this. What main does for workers of each kind, if there are some.
+use Rattle.std.proofs.Common.{arith, ◌≡◌, ◌≢◌, ℕ, zero, suc, Bool, true, false, List, [], ◌∷◌, length, refl, sym, ap, subst, ◌∙◌}
+use Rattle.std.specs.Prelude.{◌&&◌}
+use Rattle.std.specs.List.{AllByRecursion, AllZip}
+use Rattle.track_outside.specs.declared.runner.Runner as runner
+use Rattle.command_words.specs.Plans.{Plan}
+use Rattle.history_model.specs.declared.entries.Author.TheVariants.{Recompute}
+use Rattle.track_model.specs.Tracks.{Track}
+use Rattle.worker_crew.specs.Recomputing.{AddsPublications}
+use Rattle.play_crew.specs.Fitting.{IsUnasked}
+use Rattle.worker_crew.specs.Runs.{BisectsEach, BisectsLast, IsNew, RecomputesLast, Tally, runners_by}
+use Rattle.shared_run.specs.Crews.{Finishes}
+
+pub recomputes-none : (workers : ℕ) (old : List Track) → workers ≡ 0 → RecomputesLast workers old old
+recomputes-none workers old none = subst (λ (n : ℕ). RecomputesLast n old old) (sym none) refl
+
+pub recomputes-some : (workers : ℕ) (old new : List Track) → workers ≢ 0 → AllZip (AddsPublications (Recompute 1)) old new → RecomputesLast workers old new
+recomputes-some zero old new some all = absurd (some refl)
+recomputes-some (suc n) old new some all = all
+
+pub bisects-none : (workers : ℕ) (word : List ℕ) (old : List Track) (ts : List Tally) → workers ≡ 0 → BisectsLast workers word old old ts ts
+bisects-none workers word old ts none = subst (λ (n : ℕ). BisectsLast n word old old ts ts) (sym none) (refl, refl)
+
+pub bisects-some : (workers : ℕ) (word : List ℕ) (old new : List Track) (t u : Tally) (before after : List Tally) → workers ≢ 0 → BisectsEach word old new t u → after ≡ before
+    → BisectsLast workers word old new (t ∷ before) (u ∷ after)
+bisects-some zero word old new t u before after some each same = absurd (some refl)
+bisects-some (suc n) word old new t u before after some each same = (each, same)
+
+-- runners that weren't asked before, and of which nothing was asked, are so still
+pub still-unasked : (tallies : List Tally) → AllByRecursion IsNew tallies → AllByRecursion IsUnasked (runners_by tallies tallies)
+still-unasked [] all = tt
+still-unasked (t ∷ tallies) all = (record { asks = all.0; counts = omega arith }, still-unasked tallies all.1)
+
+-- what main did, where less is said of it
+pub finishes-less : {A : Type 0} (r : runner.Ghosts A) (plan : Plan) (left journals : List Track) (worked ended : List A) (done full : Bool) → (full ≡ true → done ≡ true) → Finishes r plan left journals worked ended done
+    → Finishes r plan left journals worked ended full
+finishes-less r plan left journals worked ended done full so f = record {
+  published = f.published;
+  recomputes = f.recomputes;
+  bisects = f.bisects;
+  series = λ is one. f.series (so is) one;
+  jobs = λ is one. f.jobs (so is) one;
+}
+
+-- as many machines are there then
+each-long : (word : List ℕ) (olds news : List Track) (t u : Tally) → BisectsEach word olds news t u → length news ≡ length olds
+each-long word [] [] t u is = refl
+each-long word [] (n ∷ news) t u is = absurd is
+each-long word (o ∷ olds) [] t u is = absurd is
+each-long word (o ∷ olds) (n ∷ news) t u is = let rest = each-long word olds news is.0 u is.2 in omega (arith, rest)
+
+pub bisects-long : (workers : ℕ) (word : List ℕ) (olds news : List Track) (before after : List Tally) → BisectsLast workers word olds news before after → length news ≡ length olds
+bisects-long zero word olds news before after is = ap length is.0
+bisects-long (suc n) word olds news [] after is = absurd is
+bisects-long (suc n) word olds news (t ∷ before) [] is = absurd is
+bisects-long (suc n) word olds news (t ∷ before) (u ∷ after) is = each-long word olds news t u is.0
+
+-- both of two tests that came out true
+pub first-true : (one other both : Bool) → both ≡ (one && other) → both ≡ true → one ≡ true
+first-true true other both is so = refl
+first-true false other both is so = absurd (let never : false ≡ true = sym is ∙ so in cc)
+
+pub second-true : (one other both : Bool) → both ≡ (one && other) → both ≡ true → other ≡ true
+second-true true other both is so = sym is ∙ so
+second-true false other both is so = absurd (let never : false ≡ true = sym is ∙ so in cc)

@@ -1,0 +1,182 @@
+-- Private: no public contract cites this. What each script of a run read and wrote: how it ended, and how often its files failed.
+use Rattle.std.proofs.Common.{◌≡◌, ◌≢◌, ℕ, zero, suc, ◌<◌, ◌≤◌, ◌+◌, inl, inr, Bool, true, false, cond, List, [], ◌∷◌, length, map, Option, Some, None, Ok, Err, refl, sym, ap, subst, ◌∙◌, arith}
+use Rattle.std.proofs.lemmas.Bool.{lt-ltb}
+use Rattle.std.proofs.lemmas.List.{append_cancel_right}
+use Rattle.std.specs.Prelude.{◌⊎◌, slice_get, slice_index_or, AllPairs, Result, codes, not, count_by, nat_lt, if◌then◌else◌, option_and_then, IfSome}
+use Rattle.std.specs.List.{AllByRecursion, AllZip}
+use Rattle.std.proofs.lemmas.List.Sums.{sum_by-cons}
+use Rattle.track_outside.specs.Counts.{Rose}
+use Rattle.track_outside.specs.Named.{NamedBytes, bytes_at}
+use Rattle.track_outside.specs.declared.source.Source as source
+use Rattle.track_outside.specs.declared.sink.Sink as sink
+use Rattle.command_words.specs.Plans.{transcript_of}
+use Rattle.request_words.specs.Bodies.{Item}
+use Rattle.script_files.specs.declared.open.OpenScript.{OpenScript}
+use Rattle.script_files.specs.Opening.{IsOpen}
+use Rattle.script_files.specs.Closing.{AreApart, failed_inputs, failed_outputs}
+use Rattle.script_loop.specs.Endings.{HasRead, HasWritten}
+use Rattle.script_loop.specs.declared.stop.Stop.{Stop}
+use Rattle.script_loop.specs.declared.stop.Stop.TheVariants as stop
+use Rattle.play_script.specs.Played.{in_full}
+use Rattle.play_crew.specs.Sights.{Home, Sight}
+use Rattle.play_crew.specs.Players.{Playing, Plays, end_of, open_of, players_from}
+
+-- ---- lists
+pub some-same : {A : Type 0} (x y : A) → Some x ≡ Some y → x ≡ y
+some-same x y same = cc
+
+pub record At {A B : Type 0} (R : A → B → Type 0) (x : A) (ys : List B) (k : ℕ) : Type 0 where
+  pub it : B
+  pub there : slice_get ys k ≡ Some it
+  pub holds : R x it
+
+pub zip-at : {A B : Type 0} (R : A → B → Type 0) (xs : List A) (ys : List B) → AllZip R xs ys → (k : ℕ) (x : A) → slice_get xs k ≡ Some x → At R x ys k
+zip-at R [] ys all k x is = absurd (cc)
+zip-at R (z ∷ xs) [] all k x is = absurd all
+zip-at R (z ∷ xs) (y ∷ ys) all zero x is = record { it = y; there = refl; holds = subst (λ a. R a y) (some-same z x is) all.0 }
+zip-at R (z ∷ xs) (y ∷ ys) all (suc k) x is = let rest = zip-at R xs ys all.1 k x is in record { it = rest.it; there = rest.there; holds = rest.holds }
+
+pub mapped-back : {A B : Type 0} (f : A → B) (xs : List A) (k : ℕ) (y : B) → slice_get (map f xs) k ≡ Some y → (x : A) × (slice_get xs k ≡ Some x) × (f x ≡ y)
+mapped-back f [] k y is = absurd (cc)
+mapped-back f (x ∷ xs) zero y is = (x, refl, some-same (f x) y is)
+mapped-back f (x ∷ xs) (suc k) y is = mapped-back f xs k y is
+
+pub mapped-on : {A B : Type 0} (f : A → B) (xs : List A) (k : ℕ) (x : A) → slice_get xs k ≡ Some x → slice_get (map f xs) k ≡ Some (f x)
+mapped-on f [] k x is = absurd (cc)
+mapped-on f (z ∷ xs) zero x is = ap (λ a. Some (f a)) (some-same z x is)
+mapped-on f (z ∷ xs) (suc k) x is = mapped-on f xs k x is
+
+pub there-at : {A : Type 0} (xs : List A) (k : ℕ) → k < length xs → (x : A) × (slice_get xs k ≡ Some x)
+there-at [] k less = absurd (omega (arith, less))
+there-at (x ∷ xs) zero less = (x, refl)
+there-at (x ∷ xs) (suc k) less = there-at xs k (omega (arith, less))
+
+pub zip-size : {A B : Type 0} (R : A → B → Type 0) (xs : List A) (ys : List B) → AllZip R xs ys → length ys ≡ length xs
+zip-size R [] [] all = refl
+zip-size R [] (y ∷ ys) all = absurd all
+zip-size R (x ∷ xs) [] all = absurd all
+zip-size R (x ∷ xs) (y ∷ ys) all = let rest = zip-size R xs ys all.1 in omega (arith, rest)
+
+-- ---- a script that was run
+module _ {I O : Type 0} (i : source.Ghosts I) (o : sink.Ghosts O) (told : Option (List NamedBytes)) where
+  pub record WasRun (script : List ℕ) (p : Playing I O) : Type 0 where
+    pub input : I
+    pub output : O
+    pub left : IfSome told (λ names. i.left input ≡ bytes_at script names)
+    pub items : List Item
+    pub text : List ℕ
+    pub read : HasRead i input p.input items p.ended
+    pub wrote : HasWritten o output p.output text p.ended
+    pub named : o.name p.output ≡ transcript_of script
+
+  pub all-run : (room : List Home) (n : ℕ) (scripts : List (List ℕ)) (opened : List (OpenScript I O)) (passes : List (List Sight)) (played : List (Playing I O))
+      → length passes ≡ length opened → AllZip (IsOpen i o told) scripts opened → AllZip (Plays i o) (players_from room n passes opened) played → AllZip WasRun scripts played
+  all-run room n [] [] [] [] pair are plays = tt
+  all-run room n [] [] [] (p ∷ played) pair are plays = absurd plays
+  all-run room n [] [] (q ∷ passes) played pair are plays = absurd (omega (arith, pair))
+  all-run room n [] (s ∷ opened) passes played pair are plays = absurd are
+  all-run room n (x ∷ scripts) [] passes played pair are plays = absurd are
+  all-run room n (x ∷ scripts) (s ∷ opened) [] played pair are plays = absurd (omega (arith, pair))
+  all-run room n (x ∷ scripts) (s ∷ opened) (q ∷ passes) [] pair are plays = absurd plays
+  all-run room n (x ∷ scripts) (s ∷ opened) (q ∷ passes) (p ∷ played) pair are plays = (
+    record {
+      input = s.input;
+      output = s.output;
+      left = are.0.left;
+      items = plays.0.ended.items;
+      text = plays.0.ended.text;
+      read = plays.0.ended.read;
+      wrote = plays.0.ended.wrote;
+      named = plays.0.ended.named ∙ are.0.name;
+    },
+    all-run room (n + 1) scripts opened passes played (omega (arith, pair)) are.1 plays.1,
+  )
+
+  -- ---- no two transcripts have one name
+  transcript-one : (a b : List ℕ) → transcript_of a ≡ transcript_of b → a ≡ b
+  transcript-one a b same = append_cancel_right a b (codes ".out") same
+
+  others-apart : (x : List ℕ) (p : Playing I O) → o.name p.output ≡ transcript_of x → (scripts : List (List ℕ)) (played : List (Playing I O)) → AllZip WasRun scripts played
+      → ((k : ℕ) → k < length scripts → x ≢ slice_index_or scripts k x) → AllByRecursion (λ (other : OpenScript I O). o.name other.output ≢ o.name p.output) (map open_of played)
+  others-apart x p named [] [] all each = tt
+  others-apart x p named [] (q ∷ played) all each = absurd all
+  others-apart x p named (y ∷ scripts) [] all each = absurd all
+  others-apart x p named (y ∷ scripts) (q ∷ played) all each = (
+    (λ same. each 0 (omega arith) (sym (transcript-one y x (sym all.0.named ∙ same ∙ named)))),
+    others-apart x p named scripts played all.1 (λ k less. each (suc k) (omega (arith, less))),
+  )
+
+  pub transcripts-apart : (scripts : List (List ℕ)) (played : List (Playing I O)) → AllZip WasRun scripts played → AllPairs ◌≢◌ scripts → AreApart o (map open_of played)
+  transcripts-apart [] [] all pairs = tt
+  transcripts-apart [] (p ∷ played) all pairs = absurd all
+  transcripts-apart (x ∷ scripts) [] all pairs = absurd all
+  transcripts-apart (x ∷ scripts) (p ∷ played) all pairs = (
+    others-apart x p all.0.named scripts played all.1 (λ k less. pairs 0 (suc k) x (omega arith) (omega (arith, less))),
+    transcripts-apart scripts played all.1 (λ a b d less within. pairs (suc a) (suc b) d (omega (arith, less)) (omega (arith, within))),
+  )
+
+  -- ---- scripts that weren't answered in full
+  one-if : (n : ℕ) → 0 < n → ◌≡◌ {A = ℕ} (if nat_lt 0 n then 1 else 0) 1
+  one-if n less = rw (lt-ltb 0 n less) refl
+
+  pub rose-some : (before after : ℕ) → Rose before after → 0 < after
+  rose-some before after rose = omega (arith, rose)
+
+  abbrev failures : Playing I O → ℕ
+  failures p = (if nat_lt 0 (i.faults p.input) then 1 else 0) + (if nat_lt 0 (o.faults p.output) then 1 else 0)
+
+  one-failed : (script : List ℕ) (p : Playing I O) → WasRun script p → p.ended ≢ Err stop.NoMemory → cond (not (in_full p.ended)) 1 0 ≤ failures p
+  one-failed script p r some = by p.ended r.read r.wrote some
+    where
+      by : (e : Result (Unit {0}) Stop) → HasRead i r.input p.input r.items e → HasWritten o r.output p.output r.text e → e ≢ Err stop.NoMemory → cond (not (in_full e)) 1 0 ≤ failures p
+      by (Ok done) read wrote differs = omega arith
+      by (Err stop.ReadFault) read wrote differs = let one = one-if (i.faults p.input) (rose-some (i.faults r.input) (i.faults p.input) read.0) in omega (arith, one)
+      by (Err stop.WriteFault) read wrote differs = let one = one-if (o.faults p.output) (rose-some (o.faults r.output) (o.faults p.output) wrote.rose) in omega (arith, one)
+      by (Err (stop.CutOff offset)) read wrote differs = omega arith
+      by (Err stop.InputTooLong) read wrote differs = omega arith
+      by (Err stop.NoMemory) read wrote differs = absurd (differs refl)
+
+  pub all-failed : (scripts : List (List ℕ)) (played : List (Playing I O)) → AllZip WasRun scripts played
+      → AllByRecursion (λ (e : Result (Unit {0}) Stop). e ≢ Err stop.NoMemory) (map end_of played)
+      → count_by not (map in_full (map end_of played)) ≤ failed_inputs i (map open_of played) + failed_outputs o (map open_of played)
+  all-failed [] [] all some = omega arith
+  all-failed [] (p ∷ played) all some = absurd all
+  all-failed (x ∷ scripts) [] all some = absurd all
+  all-failed (x ∷ scripts) (p ∷ played) all some =
+      let first = one-failed x p all.0 some.0 in
+      let rest = all-failed scripts played all.1 some.1 in
+      let sum = sum_by-cons (λ (b : Bool). cond (not b) 1 0) (in_full p.ended) (map in_full (map end_of played)) in
+      omega (arith, first, rest, sum)
+
+  -- one whose input failed is among the inputs that did
+  pub input-counts : (played : List (Playing I O)) (k : ℕ) (p : Playing I O) → slice_get played k ≡ Some p → 0 < i.faults p.input → 0 < failed_inputs i (map open_of played)
+  input-counts [] k p is some = absurd (cc)
+  input-counts (q ∷ played) zero p is some =
+      let same : q ≡ p = some-same q p is in
+      let one = one-if (i.faults q.input) (subst (λ (r : Playing I O). 0 < i.faults r.input) (sym same) some) in
+      omega (arith, one)
+  input-counts (q ∷ played) (suc k) p is some = let rest = input-counts played k p is some in omega (arith, rest)
+
+  pub output-counts : (played : List (Playing I O)) (k : ℕ) (p : Playing I O) → slice_get played k ≡ Some p → 0 < o.faults p.output → 0 < failed_outputs o (map open_of played)
+  output-counts [] k p is some = absurd (cc)
+  output-counts (q ∷ played) zero p is some =
+      let same : q ≡ p = some-same q p is in
+      let one = one-if (o.faults q.output) (subst (λ (r : Playing I O). 0 < o.faults r.output) (sym same) some) in
+      omega (arith, one)
+  output-counts (q ∷ played) (suc k) p is some = let rest = output-counts played k p is some in omega (arith, rest)
+
+  -- ---- what the files tell of a script's bytes
+  pub left-is : (script bytes : List ℕ) (left : Option (List ℕ)) → IfSome told (λ names. left ≡ bytes_at script names) → option_and_then (bytes_at script) told ≡ Some bytes → left ≡ Some bytes
+  left-is script bytes left tells is = by told tells is
+    where
+      by : (t : Option (List NamedBytes)) → IfSome t (λ names. left ≡ bytes_at script names) → option_and_then (bytes_at script) t ≡ Some bytes → left ≡ Some bytes
+      by None tells is = absurd (cc)
+      by (Some names) tells is = tells ∙ is
+
+  pub script-told : (script : List ℕ) (left : Option (List ℕ)) → IfSome told (λ names. left ≡ bytes_at script names)
+      → (option_and_then (bytes_at script) told ≡ None) ⊎ (option_and_then (bytes_at script) told ≡ left)
+  script-told script left tells = by told tells
+    where
+      by : (t : Option (List NamedBytes)) → IfSome t (λ names. left ≡ bytes_at script names) → (option_and_then (bytes_at script) t ≡ None) ⊎ (option_and_then (bytes_at script) t ≡ left)
+      by None tells = inl refl
+      by (Some names) tells = inr (sym tells)

@@ -1,0 +1,13 @@
+mod AtLast
+mod Beginning
+mod Decided
+mod Due
+mod EachRun
+mod Early
+mod Fitted
+mod Late
+mod Running
+mod Stopped
+mod Taken
+mod Workers
+mod Sent

@@ -1,0 +1,52 @@
+use Rattle.std.proofs.Common.{length, subst, arith}
+use Rattle.std.specs.List.{AllByRecursion}
+use Rattle.std.specs.Prelude.{take}
+use Rattle.shared_run.specs.Ran.{HasLegalHistory}
+use Rattle.shared_run.proofs.AtLast.{finishes-less, first-true}
+use Rattle.shared_run.proofs.Beginning.{room-different}
+use Rattle.shared_run.proofs.Fitted.{is-whole, left-long}
+use Rattle.shared_run.proofs.scripts.run_machines.Goals as goal
+
+pub run_players-requires-clause-different : goal.run_players-requires-clause-different
+run_players-requires-clause-different g c κs within = room-different c.args.machines.items c.in-Ok-new.room c.in-Ok-new.pass c.in-Ok-new.ensures.pass.0 c.in-Ok-new.ensures.first c.requires.different
+
+pub unreachable-requires : goal.unreachable-requires
+unreachable-requires g c =
+    c.in_default-close.ensures.whole (is-whole g.F.Files g.F.Input.Source g.F.Output.Sink g.N.Runner c.args.plan.now c.args.machines.items c.in-Ok-new.room c.in-Ok-new.pass c.run_players.new.pass
+    c.args.files.now c.run_players.new.files c.args.runners.now c.run_players.new.runners c.in-Ok-run_players.left.0.items c.requires.enough c.in-Ok-run_players.ensures.ran c.joining_law.ensures.shared
+    c.crew_law.ensures.recompute c.crew_law.ensures.bisect c.crew_law.ensures.share c.in-Ok-new.ensures.pass.0 c.in-Ok-new.ensures.first)
+
+pub finish-done-requires-clause-room : goal.finish-done-requires-clause-room
+finish-done-requires-clause-room g c =
+    let whole = is-whole g.F.Files g.F.Input.Source g.F.Output.Sink g.N.Runner c.args.plan.now c.args.machines.items c.in-Ok-new.room c.in-Ok-new.pass c.run_players.new.pass
+    c.args.files.now c.run_players.new.files c.args.runners.now c.run_players.new.runners c.in-Ok-run_players.left.0.items c.requires.enough c.in-Ok-run_players.ensures.ran c.joining_law.ensures.shared
+    c.crew_law.ensures.recompute c.crew_law.ensures.bisect c.crew_law.ensures.share c.in-Ok-new.ensures.pass.0 c.in-Ok-new.ensures.first in
+    let long = left-long c.in-Ok-new.room c.in-Ok-new.pass c.run_players.new.pass c.args.machines.items c.in-Ok-close.left.items c.in-Ok-new.ensures.pass.0 c.run_players.ensures.room.0
+    c.in-Ok-new.ensures.first (c.in-Ok-close.ensures.whole whole) in
+    let space = c.in-Ok.ensures.capacity in
+    omega (arith, long, space, c.args.machines.ok.0)
+
+pub finish-done-requires-clause-enough : goal.finish-done-requires-clause-enough
+finish-done-requires-clause-enough g c =
+    let many = c.run_players.ensures.as_many in
+    let enough = c.requires.enough in
+    omega (arith, many, enough)
+
+pub returns-clause-ran : goal.returns-clause-ran
+returns-clause-ran g c = record {
+  room = c.in-Ok-new.room;
+  first = c.in-Ok-new.pass;
+  last = c.run_players.new.pass;
+  of_room = c.in-Ok-new.ensures.pass.0;
+  starts = c.in-Ok-new.ensures.first;
+  worked = c.run_players.new.runners;
+  ran = c.in-Ok-run_players.ensures.ran;
+  whole = c.run_players.ensures.room.0;
+  left = c.in-Ok-close.left.items;
+  closed = c.in-Ok-close.ensures.whole (is-whole g.F.Files g.F.Input.Source g.F.Output.Sink g.N.Runner c.args.plan.now c.args.machines.items c.in-Ok-new.room c.in-Ok-new.pass c.run_players.new.pass
+      c.args.files.now c.run_players.new.files c.args.runners.now c.run_players.new.runners c.in-Ok-run_players.left.0.items c.requires.enough c.in-Ok-run_players.ensures.ran c.joining_law.ensures.shared
+      c.crew_law.ensures.recompute c.crew_law.ensures.bisect c.crew_law.ensures.share c.in-Ok-new.ensures.pass.0 c.in-Ok-new.ensures.first);
+  finishes = finishes-less g.N.Runner c.args.plan.now c.in-Ok-close.left.items c.finish-done.result.0.items c.run_players.new.runners c.finish-done.new.runners c.finish-done.result.1 c.both.result
+      (first-true c.finish-done.result.1 _ c.both.result c.both.ensures) c.finish-done.ensures.done;
+  legal = subst (AllByRecursion HasLegalHistory) c.deref.ensures.value c.histories_law.ensures;
+}

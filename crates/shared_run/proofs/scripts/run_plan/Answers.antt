@@ -1,0 +1,56 @@
+use Rattle.std.proofs.Common.{◌≡◌, Ok, Err, inl, List, refl, sym, subst}
+use Rattle.std.specs.List.{AllByRecursion}
+use Rattle.play_crew.specs.Fitting.{IsUnasked}
+use Rattle.worker_crew.specs.Whole.{tallies}
+use Rattle.shared_run.specs.Crews.{asked_by}
+use Rattle.shared_run.proofs.AtLast.{still-unasked}
+use Rattle.shared_run.proofs.Beginning.{first-different}
+use Rattle.shared_run.proofs.Early.{no-machines, no-scripts}
+use Rattle.shared_run.proofs.Late.{ends-late, ok-apart}
+use Rattle.shared_run.proofs.scripts.run_plan.Goals as goal
+
+pub run_machines-requires-clause-different : goal.run_machines-requires-clause-different
+run_machines-requires-clause-different g c κs within = first-different g.K.Keeper c.args.plan.now c.args.keeper.now c.in-Ok.machines.items c.in-Ok.ensures.begins
+
+pub returns-in-Err-clause-ends : goal.returns-in-Err-clause-ends
+returns-in-Err-clause-ends g c =
+    inl (no-machines (record { files = g.F.Files; input = g.F.Input.Source; out = g.F.Output.Sink; keeper = g.K.Keeper }) c.args.plan.now (asked_by g.N.Runner c.args.runners.now c.args.runners.now)
+    (still-unasked (tallies g.N.Runner c.args.runners.now) c.requires.new) c.args.files.now c.args.out.now c.args.keeper.now
+    c.first_machines.new.keeper c.in-Err.why (Err c.in-Err.why) refl c.in-Err.ensures.cause c.in-Err.ensures.rows c.in-Err.ensures.started c.in-Err.ensures.once)
+
+pub returns-in-Err-run_machines-clause-ends : goal.returns-in-Err-run_machines-clause-ends
+returns-in-Err-run_machines-clause-ends g c =
+    let started = c.in-Ok.ensures.started (λ same. ok-apart same) in
+    inl (no-scripts (record { files = g.F.Files; input = g.F.Input.Source; out = g.F.Output.Sink; keeper = g.K.Keeper }) c.args.plan.now (asked_by g.N.Runner c.args.runners.now c.run_machines.new.runners)
+    (subst (λ rs. AllByRecursion IsUnasked (asked_by g.N.Runner c.args.runners.now rs)) (sym c.in-Err-run_machines.ensures.unasked) (still-unasked (tallies g.N.Runner c.args.runners.now) c.requires.new))
+    c.args.files.now c.args.out.now c.args.keeper.now c.first_machines.new.keeper c.run_machines.new.files c.in-Err-run_machines.why c.in-Err-run_machines.ensures.early c.in-Ok.ensures.rows started)
+
+pub returns-clause-ends : goal.returns-clause-ends
+returns-clause-ends g c =
+    let left = c.leave_journals-later.ensures in
+    ends-late (record { files = g.F.Files; input = g.F.Input.Source; out = g.F.Output.Sink; keeper = g.K.Keeper }) g.N.Runner c.args.plan.now c.args.runners.now c.run_machines.new.runners
+    (record { files = c.args.files.now; out = c.args.out.now; keeper = c.args.keeper.now })
+    (record { files = c.run_machines.new.files; out = c.leave_journals-later.new.out; keeper = c.leave_journals-later.new.keeper })
+    c.in-Ok-run_machines.left.0.items c.leave_journals-later.result c.deciding_stop.result
+    (record {
+      tracks = c.in-Ok.machines.items;
+      begins = c.in-Ok.ensures.begins;
+      few = c.in-Ok.ensures.few;
+      loaded = c.first_machines.new.keeper;
+      was = c.in-Ok.ensures.started (λ same. ok-apart same);
+      rows = c.in-Ok.ensures.rows;
+      counts = c.in-Ok.ensures.counts;
+      journals = c.in-Ok-run_machines.left.1.items;
+      full = c.in-Ok-run_machines.left.2;
+      ran = c.in-Ok-run_machines.ensures.ran;
+      wanting = left.wanting;
+      wrote = rw (sym c.deref-2.ensures.value) left.wrote;
+      added = rw (sym c.deref.ensures.value, sym c.deref-2.ensures.value, sym c.store.ensures) left.added;
+      same_rows = rw (sym c.deref.ensures.value) left.kept;
+      unnamed = rw (sym c.store.ensures) left.unnamed;
+      started = left.started;
+      rose = rw (sym c.store.ensures) left.rose;
+      decides = rw (sym c.deref-3.ensures.value) c.deciding_stop.ensures;
+    })
+    (record { runs = c.crew_law.ensures.runs; fits = c.run_law.ensures.fits; quiet = c.run_law.ensures.quiet })
+    c.requires.scripts c.requires.enough c.requires.new

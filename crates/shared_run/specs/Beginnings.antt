@@ -1,0 +1,68 @@
+-- The machines that a shared run begins with, and what became of the keeper.
+use Rattle.std.specs.Prelude.{◌≡◌, ◌≢◌, ℕ, List, [], ◌∷◌, Option, Some, None, IfSome, IsSome, Result, Ok, Err}
+use Rattle.track_outside.specs.Counts.{Rose}
+use Rattle.track_outside.specs.Kept.{with_more}
+use Rattle.track_outside.specs.declared.keeper.Keeper as keeper
+use Rattle.command_words.specs.Plans.{Plan}
+use Rattle.track_model.specs.Tracks.{Track}
+use Rattle.keep_rows.specs.Faults.{MayHaveName}
+use Rattle.kept_machines.specs.Kept.{AreKept}
+use Rattle.kept_machines.specs.Loading.{LeadTo, IsFirstBad}
+use Rattle.kept_machines.specs.Rows.{new_rows}
+use Rattle.shared_run.specs.declared.stop.RunStop.{RunStop}
+use Rattle.shared_run.specs.declared.stop.RunStop.TheVariants.{NoMemory, StoreFault, BadStore, Full}
+use Rattle.shared_run.specs.Lists.{with_listed, IsFullAt}
+
+-- the machines of a store: none where none is named, else those that its rows lead to, where they are told
+abbrev pub AreStored : {K : Type 0} → keeper.Ghosts K → (store : Option (List ℕ)) → K → List Track → Type 0
+AreStored k None before stored = stored ≡ []
+AreStored k (Some name) before stored = AreKept stored × IfSome (k.kept before) (λ rows. LeadTo rows stored)
+
+-- the machines that a run begins with: those of the store, and then those of the list that it hasn't
+pub record Begins {K : Type 0} (k : keeper.Ghosts K) (plan : Plan) (before : K) (tracks : List Track)
+    : Type 0 where
+  pub stored : List Track
+  pub from_store : AreStored k plan.store before stored
+  pub listed : tracks ≡ with_listed stored plan.machines
+
+-- the keeper was started once by the store's name, or had no call where none is named
+abbrev pub WasStarted : {K : Type 0} → keeper.Ghosts K → (store : Option (List ℕ)) → K → K → Type 0
+WasStarted k None before after = after ≡ before
+WasStarted k (Some name) before after = k.started after ≡ with_more (k.started before) (name ∷ [])
+
+-- it was started so at most once, and has no other name more
+abbrev pub MayBeStarted : {K : Type 0} → keeper.Ghosts K → (store : Option (List ℕ)) → K → K → Type 0
+MayBeStarted k None before after = after ≡ before
+MayBeStarted k (Some name) before after = MayHaveName name (k.started before) (k.started after)
+
+-- so it was where the run isn't begun; only where memory was wanting the keeper of a store may not have been started
+abbrev pub StartsAtMost : {K : Type 0} → keeper.Ghosts K → (store : Option (List ℕ)) → K → K → RunStop → Type 0
+StartsAtMost k store before after why =
+    MayBeStarted k store before after × (why ≢ NoMemory → WasStarted k store before after)
+
+-- the machine at this place of the list is one too many
+pub record IsOneTooMany {K : Type 0} (k : keeper.Ghosts K) (plan : Plan) (before : K) (place : ℕ)
+    : Type 0 where
+  pub stored : List Track
+  pub from_store : AreStored k plan.store before stored
+  pub full : IsFullAt stored plan.machines place
+
+-- why a store gives no machines
+abbrev pub StoreCause : {K : Type 0} → keeper.Ghosts K → (store : Option (List ℕ)) → K → K → RunStop → Type 0
+StoreCause k store before after NoMemory = Unit {0}
+StoreCause k store before after StoreFault = IsSome store × Rose (k.faults before) (k.faults after)
+StoreCause k store before after (BadStore row) =
+    IsSome store × IfSome (k.kept before) (λ rows. IsFirstBad rows row)
+StoreCause k store before after why = ⊥
+
+-- why there are no machines to begin with
+abbrev pub NoneCause : {K : Type 0} → keeper.Ghosts K → Plan → K → K → RunStop → Type 0
+NoneCause k plan before after (Full place) = IsOneTooMany k plan before place
+NoneCause k plan before after why = StoreCause k plan.store before after why
+
+-- behind the run it has the new rows behind its own where all is done, if a store is named; else it has its own
+abbrev pub Keeps : {K : Type 0} → keeper.Ghosts K → Plan → List Track → K → K → Result (Unit {0}) RunStop
+    → Type 0
+Keeps k plan journals before after (Ok done) =
+    IsSome plan.store → k.kept after ≡ with_more (k.kept before) (new_rows journals)
+Keeps k plan journals before after (Err why) = k.kept after ≡ k.kept before

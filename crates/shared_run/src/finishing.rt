@@ -1,0 +1,90 @@
+//! What is left of the workers' work once the room is closed.
+ghost use Rattle.std.specs.Prelude.{◌≡◌, ◌≤◌, ◌&&◌, [], true, length, vec_capacity};
+ghost use Rattle.std.specs.List.{AllByRecursion};
+ghost use Rattle.worker_crew.specs.Runs.{BisectsLast, RecomputesLast};
+ghost use Rattle.worker_crew.specs.Last.{HasQuietJobs, HasQuietSeries};
+ghost use Rattle.worker_crew.specs.Whole.{tallies};
+ghost use Rattle.shared_run.specs.Crews.{Finishes};
+
+use crate::run::word_in;
+use command_words::PlayPlan;
+use std::alloc::Global;
+use track_outside::Runner;
+use track_state::TrackState;
+use worker_crew::{bisect_each, recompute_each};
+
+// Does what the workers left of these machines, as the first worker of each kind, with the first runner, where there are workers
+// of the kind; says whether there was memory for all of it. The list must have room for the machines.
+pub(crate) fn finish<N: Runner>(
+    alloc: Global,
+    plan: &PlayPlan<'_>,
+    left: Vec<TrackState>,
+    published: Vec<TrackState>,
+    runners: &mut [N],
+) -> (Vec<TrackState>, bool)
+    requires none { published.items ≡ [] }
+    requires room { length left.items ≤ vec_capacity published }
+    requires enough { plan.now.bisect ≤ length runners.old }
+    ensures done { Finishes N.Runner plan.now left.items result.0.items
+        runners.old runners.new result.1 }
+    ensures as_many { length runners.new ≡ length runners.old }
+{
+    let series = finish_series(alloc, plan.recompute(), left, published);
+    let (mut journals, done) = series;
+    let over = finish_jobs(alloc, plan.bisect(), &mut journals, word_in(plan), runners);
+    (journals, both(done, over))
+}
+
+// Whether both are so.
+pub(crate) fn both(one: bool, other: bool) -> bool
+    ensures { result ≡ (one && other) }
+{
+    one && other
+}
+
+// Publishes what is stale, where there are workers that recompute.
+fn finish_series(
+    alloc: Global,
+    workers: u8,
+    left: Vec<TrackState>,
+    mut published: Vec<TrackState>,
+) -> (Vec<TrackState>, bool)
+    requires none { published.items ≡ [] }
+    requires room { length left.items ≤ vec_capacity published }
+    ensures published { RecomputesLast workers left.items result.0.items }
+    ensures quiet { result.1 ≡ true → 1 ≤ workers → AllByRecursion HasQuietSeries result.0.items }
+{
+    if workers == 0 {
+        return (left, true);
+    }
+    match recompute_each(alloc, left, &mut published) {
+        Ok(()) => (published, true),
+        Err(_) => (published, false),
+    }
+}
+
+// Answers what is open, where there are workers that bisect.
+fn finish_jobs<N: Runner>(
+    alloc: Global,
+    workers: u8,
+    states: &mut [TrackState],
+    test: &str,
+    runners: &mut [N],
+) -> bool
+    requires enough { workers ≤ length runners.old }
+    ensures bisected { BisectsLast workers test.now states.old states.new
+        (tallies N.Runner runners.old) (tallies N.Runner runners.new) }
+    ensures quiet { result ≡ true → 1 ≤ workers → AllByRecursion HasQuietJobs states.new }
+    ensures as_many { length runners.new ≡ length runners.old }
+{
+    if workers == 0 {
+        return true;
+    }
+    let Some((runner, rest)) = runners.split_first_mut() else {
+        unreachable!()
+    };
+    match bisect_each(alloc, states, test, runner) {
+        Ok(()) => true,
+        Err(_) => false,
+    }
+}

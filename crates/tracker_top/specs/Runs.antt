@@ -1,0 +1,50 @@
+-- How the program runs: a command of one thread, or scripts that run at once.
+use Rattle.std.specs.Prelude.{◌≡◌, ◌≢◌, ◌⊎◌, ℕ, List, length, Option, IfSome}
+use Rattle.track_outside.specs.Counts.{Rose}
+use Rattle.track_outside.specs.declared.source.Source as source
+use Rattle.track_outside.specs.declared.sink.Sink as sink
+use Rattle.track_outside.specs.declared.keeper.Keeper as keeper
+use Rattle.track_outside.specs.declared.runner.Runner as runner
+use Rattle.command_words.specs.declared.command.Command.{Command}
+use Rattle.command_words.specs.declared.command.Command.TheVariants.{Play}
+use Rattle.command_words.specs.Commands.{AreNoCommand, IsSpelled}
+use Rattle.command_words.specs.Plans.{Plan}
+use Rattle.shared_run.specs.Crews.{asked_by}
+use Rattle.shared_run.specs.Endings.{Objects, Told}
+use Rattle.tracker_top.specs.declared.status.Status.{Status}
+use Rattle.tracker_top.specs.declared.status.Status.TheVariants.{BadWords, NoMemory}
+use Rattle.tracker_top.specs.Endings.{Ends, EndsUnbegun, IsTold}
+use Rattle.tracker_top.specs.Plays.{AreNamesIn, AreUntouched, EndsPlay, IsToldIn, PlaysAsDue}
+use Rattle.tracker_top.specs.Statuses.{IsDue}
+
+-- a command of one thread was run, or its words are none: it opens and creates no file
+pub record RunsAlone {F I O K : Type 0} (g : source.Ghosts I) (h : sink.Ghosts O) (k : keeper.Ghosts K)
+    (words : List (List ℕ)) (old new : I) (before after : O) (told_to telling : O) (files files' : F)
+    (first last : K) (from to : ℕ) (status : Status) : Type 0 where
+  pub bad_words : status ≡ BadWords → AreNoCommand words
+  pub untouched : status ≡ BadWords → (new ≡ old) × (after ≡ before) × (last ≡ first) × (to ≡ from)
+  pub same_files : files' ≡ files
+  pub command : status ≢ BadWords
+      → EndsUnbegun old new before after first last from to status
+      ⊎ ((command : Command) × IsSpelled words command
+      × Ends g h k command old new before after first last from to status)
+  pub complete : IfSome (g.left old) (λ bytes. (due : Status) → IsDue words (k.kept first) bytes due
+      → (status ≡ due) ⊎ (status ≡ NoMemory) ⊎ Rose (g.faults old) (g.faults new)
+      ⊎ Rose (h.faults before) (h.faults after) ⊎ Rose (k.faults first) (k.faults last))
+  pub told : IsTold h told_to telling status
+
+-- scripts were run at once, and workers beside them, or the words are no command: as many runners
+-- stand there, each asked as the plan has it
+pub record RunsPlay {F I O K N : Type 0} (t : Told F I O K) (n : runner.Ghosts N)
+    (words : List (List ℕ)) (before after : Objects F O K) (told_to telling : O)
+    (runners runners' : List N) (status : Status) : Type 0 where
+  pub bad_words : status ≡ BadWords → AreNoCommand words
+  pub untouched : status ≡ BadWords → AreUntouched before after runners runners'
+  pub as_many : length runners' ≡ length runners
+  pub command : status ≢ BadWords
+      → ((status ≡ NoMemory) × AreUntouched before after runners runners')
+      ⊎ ((plan : Plan) × IsSpelled words (Play plan)
+      × EndsPlay t plan (asked_by n runners runners') before after status)
+  pub complete : PlaysAsDue t words before after status
+  pub told : (names : List (List ℕ)) → AreNamesIn words names
+      → IsToldIn t.out names told_to telling status

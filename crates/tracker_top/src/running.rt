@@ -1,0 +1,58 @@
+//! The whole program, on its objects.
+ghost use Rattle.std.specs.Prelude.{◌≡◌, ◌≤◌, All, length};
+ghost use Rattle.command_words.specs.Commands.{texts};
+ghost use Rattle.tracker_top.specs.Plays.{IsNewRunner};
+ghost use Rattle.tracker_top.specs.Runs.{RunsAlone, RunsPlay};
+ghost use Rattle.tracker_top.specs.Statuses.{AsksPlay};
+
+use crate::playing::play;
+use crate::status::Status;
+use crate::top::alone;
+use crate::words::asks_play;
+use pelt_core::Steps;
+use std::alloc::Global;
+use std::sync::Wait;
+use std::sync::ledger::Ledger;
+use std::thread::Threads;
+use track_outside::{Files, Gate, Keeper, Runner};
+
+/// Runs the program on its words: scripts at once where the first word is `play` ([`play`]), else a command of one thread
+/// ([`alone`]).
+pub fn run<R: Threads + Wait + Sync, F: Files, K: Keeper, N: Runner + Send, G: Gate, L: Ledger>(
+    rt: &R,
+    alloc: Global,
+    words: &[String],
+    input: &mut F::Input,
+    out: &mut F::Output,
+    err: &mut F::Output,
+    files: &mut F,
+    keeper: &mut K,
+    runners: &mut Vec<N>,
+    gate: &G,
+    steps: &mut Steps<L>,
+) -> Status
+    requires eight { 8 ≤ length runners.old.items }
+    requires unasked { All (IsNewRunner N.Runner) runners.old.items }
+
+    // `play` reads no standard input and counts no steps.
+    ensures play { AsksPlay (texts words.now) → RunsPlay
+        (record { files = F.Files; input = F.Input.Source; out = F.Output.Sink; keeper = K.Keeper })
+        N.Runner (texts words.now)
+        (record { files = files.old; out = out.old; keeper = keeper.old })
+        (record { files = files.new; out = out.new; keeper = keeper.new })
+        err.old err.new runners.old.items runners.new.items result }
+    ensures unread { AsksPlay (texts words.now)
+        → (input.new ≡ input.old) × (steps.new ≡ steps.old) }
+
+    // The others take no runner.
+    ensures alone { ¬ AsksPlay (texts words.now) → RunsAlone
+        F.Input.Source F.Output.Sink K.Keeper (texts words.now)
+        input.old input.new out.old out.new err.old err.new files.old files.new
+        keeper.old keeper.new steps.old steps.new result }
+    ensures unasked { ¬ AsksPlay (texts words.now) → runners.new.items ≡ runners.old.items }
+{
+    if asks_play(words) {
+        return play(rt, alloc, words, out, err, files, keeper, runners, gate);
+    }
+    alone(alloc, words, input, out, err, files, keeper, steps)
+}
