@@ -63,6 +63,32 @@ fn begins(count: usize) -> usize {
     place
 }
 
+// Whether the last line that is left of so many bytes asks for a body, which isn't whole then.
+fn asks_body(count: usize) -> bool {
+    match SCRIPT.get(begins(count)..count) {
+        Some(rest) => is_submission(first_line(rest)),
+        None => false,
+    }
+}
+
+fn first_line(text: &[u8]) -> &[u8] {
+    match text.split(|b| *b == b'\n').next() {
+        Some(line) => line,
+        None => text,
+    }
+}
+
+// Whether it has the words of a submission, the last of which is a number.
+fn is_submission(line: &[u8]) -> bool {
+    let spaces = line.iter().filter(|b| **b == b' ').count();
+    let ends = match line.last() {
+        Some(byte) => byte.is_ascii_digit(),
+        None => false,
+    };
+    ends && (line.starts_with(b"submit go ") && spaces == 5
+        || line.starts_with(b"submit lnt ") && spaces == 4)
+}
+
 // What stands behind the replies to the parts that are whole within so many bytes; none where they don't stand there.
 fn behind(replies: &[u8], count: usize) -> Option<&[u8]> {
     let mut left = replies;
@@ -97,9 +123,12 @@ fn is_answered_to(alloc: Global, script: &[u8]) -> bool {
 fn ends_well(alloc: Global, count: usize, source: &mut Drip) -> bool {
     match MemSink::new(alloc, 10_000, &[]) {
         Ok(mut out) => match comes_to(alloc, &["apply"], source, &mut out) {
-            Some(Status::Done) => behind(out.bytes(), count).is_some(),
+            Some(Status::Done) => !asks_body(count) && behind(out.bytes(), count).is_some(),
             Some(Status::CutOff(script, at)) => {
-                script == 0 && at == begins(count) as u64 && is_all(out.bytes(), count)
+                asks_body(count)
+                    && script == 0
+                    && at == begins(count) as u64
+                    && is_all(out.bytes(), count)
             }
             _ => false,
         },

@@ -13,6 +13,8 @@ mod cutting;
 #[cfg(test)]
 mod drip;
 #[cfg(test)]
+mod failing;
+#[cfg(test)]
 mod following;
 #[cfg(test)]
 mod limits;

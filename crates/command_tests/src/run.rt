@@ -169,7 +169,8 @@ pub fn comes_to<I: Source + Send + Drop>(
     }
 }
 
-fn comes_over<I: Source + Send + Drop>(
+/// The same over a keeper.
+pub fn comes_over<I: Source + Send + Drop>(
     alloc: Global,
     words: &[&str],
     source: &mut I,

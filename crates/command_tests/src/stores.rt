@@ -130,12 +130,32 @@ const STORED: [(&[u64], &[Stored], &[&str]); 7] = [
 ];
 
 // Rows of which the last is the first bad one.
-const DAMAGED: [&[&str]; 5] = [
+const DAMAGED: [&[&str]; 2] = [
     &["machine m1", "entry m1 commit 10 a", "entry m1 tune B/op x"],
     &["machine m", "machine m"],
-    &["machine m", "entry q commit 2 c"],
-    &["machine m", "entry m commit 0 a", "entry m commit 0 c"],
-    &["machine m", "entry m publish X B/op 0 0 0 0"],
+];
+
+// Good rows, and rows none of which may come after them.
+const BISECTED: [&[u8]; 4] = [
+    b"machine m",
+    b"entry m commit 0 a",
+    b"entry m commit 1 b",
+    b"entry m begin 0 1",
+];
+
+const NOT_AFTER: [&[u8]; 12] = [
+    b"machine m",
+    b"entry q commit 2 c",
+    b"entry m commit 0 c",
+    b"entry m  commit 2 c",
+    b"entry m commit 02 c",
+    b"entry m commit 2 %63",
+    b"entry m publish X B/op 0 0 0 0",
+    b"entry m retract r",
+    b"entry m answer 1 0 0",
+    b"entry m move 1 active",
+    b"",
+    b"\xff",
 ];
 
 #[test]
@@ -158,6 +178,9 @@ fn a_read_fault_leaves_the_rows(rt: HostRuntime) {
 fn damaged_rows_are_refused(rt: HostRuntime) {
     for rows in &DAMAGED {
         assert!(rt; is_damaged(rt.alloc(), rows));
+    }
+    for row in &NOT_AFTER {
+        assert!(rt; is_fifth_bad(rt.alloc(), row));
     }
 }
 
@@ -215,7 +238,8 @@ fn faults_over(alloc: Global, keeper: &mut MemKeeper, read: u64, told: &str) -> 
     ends_over(alloc, &run, keeper)
 }
 
-fn has_rows(alloc: Global, keeper: &mut MemKeeper, rows: &[&str]) -> bool {
+/// Whether the keeper has these rows.
+pub fn has_rows(alloc: Global, keeper: &mut MemKeeper, rows: &[&str]) -> bool {
     if keeper.count().ok() != Some(rows.len() as u64) {
         return false;
     }
@@ -249,18 +273,43 @@ fn is_damaged(alloc: Global, rows: &[&str]) -> bool {
     }
 }
 
-fn has_taken(alloc: Global, keeper: &mut MemKeeper, rows: &[&str]) -> bool {
-    for row in rows {
-        match Vec::from_slice(alloc, row.as_bytes()) {
-            Ok(bytes) => {
-                if keeper.append(alloc, &[bytes]).is_err() {
-                    return false;
-                }
-            }
-            Err(_) => return false,
+// Whether the row is refused after the four good ones, and nothing is changed.
+fn is_fifth_bad(alloc: Global, row: &[u8]) -> bool {
+    match MemKeeper::new(alloc, &[]) {
+        Ok(mut keeper) => {
+            takes_good(alloc, &mut keeper)
+                && takes(alloc, &mut keeper, row)
+                && is_refused(alloc, &mut keeper, 5)
+                && has_row(alloc, &mut keeper, 5, row)
+                && keeper.count().ok() == Some(5)
+        }
+        Err(_) => false,
+    }
+}
+
+fn takes_good(alloc: Global, keeper: &mut MemKeeper) -> bool {
+    for row in &BISECTED {
+        if !takes(alloc, keeper, row) {
+            return false;
         }
     }
     true
+}
+
+fn has_taken(alloc: Global, keeper: &mut MemKeeper, rows: &[&str]) -> bool {
+    for row in rows {
+        if !takes(alloc, keeper, row.as_bytes()) {
+            return false;
+        }
+    }
+    true
+}
+
+fn takes(alloc: Global, keeper: &mut MemKeeper, row: &[u8]) -> bool {
+    match Vec::from_slice(alloc, row) {
+        Ok(bytes) => keeper.append(alloc, &[bytes]).is_ok(),
+        Err(_) => false,
+    }
 }
 
 fn is_refused(alloc: Global, keeper: &mut MemKeeper, row: u64) -> bool {
@@ -272,7 +321,8 @@ fn is_refused(alloc: Global, keeper: &mut MemKeeper, row: u64) -> bool {
         out: b"",
         err: match row {
             2 => "bad store: row 2\n",
-            _ => "bad store: row 3\n",
+            3 => "bad store: row 3\n",
+            _ => "bad store: row 5\n",
         },
     };
     ends_over(alloc, &run, keeper)

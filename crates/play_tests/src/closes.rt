@@ -125,7 +125,7 @@ fn status_on<R: Threads + Wait + Sync>(
     let Ok(mut keeper) = MemKeeper::new(alloc, &[]) else {
         return None;
     };
-    let Ok(mut runners) = eight(alloc, &[]) else {
+    let Ok(mut runners) = eight(alloc, &[], &[]) else {
         return None;
     };
     if !asks_play(texts) {

@@ -176,7 +176,7 @@ fn status_by<R: Threads + Wait + Sync>(
     files: &mut MemFiles,
     keeper: &mut MemKeeper,
 ) -> Option<Status> {
-    match eight(alloc, &[]) {
+    match eight(alloc, &[], &[]) {
         Ok(mut runners) => status_under(
             rt,
             alloc,
@@ -213,20 +213,24 @@ pub fn status_under<R: Threads + Wait + Sync, G: Gate>(
     Some(play(rt, alloc, texts, out, err, files, keeper, runners, gate))
 }
 
-/// Eight runners that give these answers, and weren't asked.
-pub fn eight(alloc: Global, answers: &[(u64, u8)]) -> Result<Vec<MemRunner>, AllocError>
+/// Eight runners that give these answers, but at the asks with these numbers, which fail; none was asked.
+pub fn eight(
+    alloc: Global,
+    answers: &[(u64, u8)],
+    fails: &[u64],
+) -> Result<Vec<MemRunner>, AllocError>
     ensures many { IfOk result (λ runners. length runners.items ≡ 8) }
     ensures unasked { IfOk result (λ runners. All (λ (r : Bench). r.asks ≡ []) runners.items) }
 {
     let mut runners = Vec::with_capacity(alloc, 8)?;
-    runners.push_reserved(MemRunner::new(alloc, answers, &[])?);
-    runners.push_reserved(MemRunner::new(alloc, answers, &[])?);
-    runners.push_reserved(MemRunner::new(alloc, answers, &[])?);
-    runners.push_reserved(MemRunner::new(alloc, answers, &[])?);
-    runners.push_reserved(MemRunner::new(alloc, answers, &[])?);
-    runners.push_reserved(MemRunner::new(alloc, answers, &[])?);
-    runners.push_reserved(MemRunner::new(alloc, answers, &[])?);
-    runners.push_reserved(MemRunner::new(alloc, answers, &[])?);
+    runners.push_reserved(MemRunner::new(alloc, answers, fails)?);
+    runners.push_reserved(MemRunner::new(alloc, answers, fails)?);
+    runners.push_reserved(MemRunner::new(alloc, answers, fails)?);
+    runners.push_reserved(MemRunner::new(alloc, answers, fails)?);
+    runners.push_reserved(MemRunner::new(alloc, answers, fails)?);
+    runners.push_reserved(MemRunner::new(alloc, answers, fails)?);
+    runners.push_reserved(MemRunner::new(alloc, answers, fails)?);
+    runners.push_reserved(MemRunner::new(alloc, answers, fails)?);
     Ok(runners)
 }
 

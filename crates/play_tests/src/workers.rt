@@ -84,12 +84,14 @@ struct Left {
     runners: Vec<MemRunner>,
 }
 
-// Runs the words on one script, whose runners answer 1 for `c1`; what it left, where it ended well.
+// Runs the words on one script, whose runners answer 1 for `c1` but at the asks with these numbers, which fail; what it left,
+// where it ended well.
 fn run<R: Threads + Wait + Sync>(
     rt: &R,
     alloc: Global,
     words: &[&str],
     script: &str,
+    fails: &[u64],
     gate: &Holds,
 ) -> Option<Left> {
     let texts = texts_of(alloc, words).ok()?;
@@ -108,6 +110,7 @@ fn run<R: Threads + Wait + Sync>(
         &mut err,
         &mut files,
         &mut keeper,
+        fails,
         gate,
     )?;
     Some(Left {
@@ -126,9 +129,10 @@ fn ran<R: Threads + Wait + Sync>(
     err: &mut MemSink,
     files: &mut MemFiles,
     keeper: &mut MemKeeper,
+    fails: &[u64],
     gate: &Holds,
 ) -> Option<Vec<MemRunner>> {
-    match eight(alloc, &[(1, 1)]) {
+    match eight(alloc, &[(1, 1)], fails) {
         Ok(mut runners) => {
             let status = status_under(
                 rt,
@@ -168,7 +172,7 @@ const RUNS: &str =
 fn recomputes<R: Threads + Wait + Sync>(rt: &R, alloc: Global) -> Option<bool> {
     let gate = Holds::new(2, false);
     let words = ["play", "--machines", "m", "--recompute", "1", "s1"];
-    let left = run(rt, alloc, &words, RUNS, &gate)?;
+    let left = run(rt, alloc, &words, RUNS, &[], &gate)?;
     Some(
         has_line(left.out.bytes(), b"4 r1 publish X B/op 2 ")
             && has_line(left.out.bytes(), b"5 r1 publish X B/op 4 "),
@@ -180,6 +184,17 @@ const BISECTION: &str = "commit m 0 c0\ncommit m 1 c1\ncommit m 2 c2\nbisect m c
 const BISECTION_AND_RUNS: &str =
     "commit m 0 c0\ncommit m 1 c1\ncommit m 2 c2\nbisect m c0 c2\nruns m\n";
 
+const BISECTING: &[&str] = &[
+    "play",
+    "--machines",
+    "m",
+    "--bisect",
+    "1",
+    "--test",
+    "t",
+    "s1",
+];
+
 // The worker asks the job's question once, and says what was found.
 fn bisects<R: Threads + Wait + Sync>(
     rt: &R,
@@ -187,17 +202,7 @@ fn bisects<R: Threads + Wait + Sync>(
     script: &str,
     gate: &Holds,
 ) -> Option<bool> {
-    let words = [
-        "play",
-        "--machines",
-        "m",
-        "--bisect",
-        "1",
-        "--test",
-        "t",
-        "s1",
-    ];
-    let left = run(rt, alloc, &words, script, gate)?;
+    let left = run(rt, alloc, BISECTING, script, &[], gate)?;
     let first = left.runners.first()?;
     let second = left.runners.get(1)?;
     Some(
@@ -211,6 +216,24 @@ fn bisects<R: Threads + Wait + Sync>(
             && first.asked(1) == None
             && second.asked(0) == None,
     )
+}
+
+// A question whose ask fails is given up, and that is the last entry.
+fn gives_up<R: Threads + Wait + Sync>(rt: &R, alloc: Global) -> Option<bool> {
+    let gate = Holds::new(u64::MAX, false);
+    let left = run(rt, alloc, BISECTING, BISECTION, &[1], &gate)?;
+    let first = left.runners.first()?;
+    Some(
+        left.out
+            .bytes()
+            .ends_with(b"\n4 s1 begin 0 2\n5 b1 giveup 1 1\n")
+            && first.asked(0) == Some(("t", "c1", None)),
+    )
+}
+
+#[test]
+fn a_failed_ask_gives_up(rt: HostRuntime) {
+    assert!(rt; gives_up(&rt, rt.alloc()) == Some(true));
 }
 
 #[test]
