@@ -95,6 +95,14 @@ rising-push (e ∷ ds) d rises below = (all-push (λ x. e.number < x.number) ds 
     all-push P [] d all last = (last, tt)
     all-push P (e ∷ ds) d all last = (all.0, all-push P ds d all.1 last)
 
+pub rising-pop : (ds : List Declaration) (d : Declaration) → IsRising (ds ++ d ∷ []) → IsRising ds
+rising-pop [] d rises = tt
+rising-pop (e ∷ ds) d rises = (all-front (λ x. e.number < x.number) ds rises.0, rising-pop ds d rises.1)
+  where
+    all-front : (P : Declaration → Type 0) (ds : List Declaration) → AllByRecursion P (ds ++ d ∷ []) → AllByRecursion P ds
+    all-front P [] all = tt
+    all-front P (e ∷ ds) all = (all.0, all-front P ds all.1)
+
 -- ---- the numbers from one to another
 module _ (lo hi : ℕ) where
   not-between : (n : ℕ) → (n < lo) ⊎ (hi < n) → is_between lo hi n ≡ false

@@ -3,15 +3,13 @@ use Rattle.std.specs.Prelude.{◌≡◌, ℕ, ◌<◌, ◌≤◌, List, [], ◌�
 use Rattle.std.specs.List.{position_from, AllByRecursion}
 use Rattle.std.specs.Ordering.{nat_cmp}
 use Rattle.std.specs.BTreeMap.{BTreeMap, get as at_number}
-use Rattle.indexmap.specs.IndexMap.{IndexMap, values}
 use Rattle.history_model.specs.declared.entries.Declaration.{Declaration}
 use Rattle.history_model.specs.Commits.{has_number}
 use Rattle.order_index.specs.Judged.{AreApart}
 
--- each declaration stands at its name
-abbrev pub StandAtNames : List (List ℕ × Declaration) → Type 0
-StandAtNames [] = Unit {0}
-StandAtNames (e ∷ es) = (e.0 ≡ e.1.name) × StandAtNames es
+-- their names, in the order of declaration
+abbrev pub names_of : List Declaration → List (List ℕ)
+names_of commits = map (λ (d : Declaration). d.name) commits
 
 -- their numbers, in the order of declaration
 abbrev pub numbers_of : List Declaration → List ℕ
@@ -44,9 +42,9 @@ abbrev pub AreFound : List Declaration → Option (BTreeMap ℕ ℕ) → Type 0
 AreFound commits (Some places) = ArePlaced commits places
 AreFound commits None = IsRising commits
 
--- the declarations are apart, each at its name, and each is found by its number
-pub record Keeps {S : Type 0} (by_name : IndexMap (List ℕ) Declaration S)
+-- the names are those of the declarations, which are apart, and each is found by its number
+pub record Keeps (commits : List Declaration) (keys : List (List ℕ))
     (by_number : Option (BTreeMap ℕ ℕ)) : Type 0 where
-  pub names : StandAtNames by_name.entries
-  pub numbers : AreFound (values by_name) by_number
-  pub apart : AreApart (values by_name)
+  pub names : keys ≡ names_of commits
+  pub numbers : AreFound commits by_number
+  pub apart : AreApart commits

@@ -1,6 +1,5 @@
 //! The index of commits: look-ups, declarations, and the numbers in a range.
-ghost use Rattle.std.specs.Prelude.{◌≡◌, ◌≢◌, ◌++◌, ◌∷◌, [], OnOk, OnErr, IfOk, length, find, option_copied, bytes_eq, ◌<◌, None};
-ghost use Rattle.indexmap.specs.IndexMap.{spare, get_by, values};
+ghost use Rattle.std.specs.Prelude.{◌≡◌, ◌≢◌, ◌++◌, ◌∷◌, [], OnOk, OnErr, IfOk, length, find, option_copied, None};
 ghost use Rattle.history_model.specs.Commits.{has_number, has_name, number_in, name_in, numbers_between};
 ghost use Rattle.order_index.specs.Judged.{judged, AreApart};
 ghost use Rattle.order_index.specs.Kept.{AreFound};
@@ -10,9 +9,9 @@ use crate::declared::Declared;
 use crate::mapped::{self, keys_between, places_of};
 use crate::rising::{self, is_above_all};
 use history_model::Declaration;
-use indexmap::IndexMap;
 use line_text::{Name, Numbers};
 use metric_table::Limit;
+use name_index::NameIndex;
 use std::alloc::Global;
 use std::collections::BTreeMap;
 use std::marker::Model;
@@ -21,9 +20,11 @@ use std::marker::Model;
 #[derive(Drop)]
 pub struct OrderIndex {
     alloc: Global,
-    by_name: IndexMap<Name, Declaration>,
-    // Where in `by_name` the declaration of a number stands. None as long as each number is above the one before: a
-    // declaration is then found by halving.
+    commits: Vec<Declaration>,
+    // Their names, each at the place of its declaration.
+    names: NameIndex,
+    // Where the declaration of a number stands. None as long as each number is above the one before: a declaration is then
+    // found by halving.
     by_number: Option<BTreeMap<u64, usize>>,
 }
 
@@ -33,12 +34,11 @@ impl Model for OrderIndex {
 
     ghost Value = { List Declaration };
 
-    ghost use Rattle.indexmap.specs.IndexMap.{values};
     ghost use Rattle.order_index.specs.Kept.{Keeps};
 
-    ghost view = { λ o. values o.by_name };
+    ghost view = { λ o. o.commits.items };
 
-    ghost invariant = { λ o. Keeps o.by_name o.by_number };
+    ghost invariant = { λ o. Keeps o.commits.items o.names o.by_number };
 }
 
 impl OrderIndex {
@@ -48,7 +48,8 @@ impl OrderIndex {
     {
         OrderIndex {
             alloc,
-            by_name: IndexMap::new(alloc),
+            commits: Vec::new(alloc),
+            names: NameIndex::new(alloc),
             by_number: None,
         }
     }
@@ -57,14 +58,14 @@ impl OrderIndex {
     pub fn pairs_law(&self)
         ensures { AreApart self.now }
     {
-        let _ = &self.by_name;
+        let _ = &self.commits;
     }
 
     /// How many commits there are.
     pub fn len(&self) -> usize
         ensures { result ≡ length self.now }
     {
-        self.by_name.len()
+        self.commits.len()
     }
 
     /// The declaration with this number. Constant time where numbers rise and this one is above them, else logarithmic;
@@ -73,19 +74,24 @@ impl OrderIndex {
         ensures { option_copied result ≡ find (has_number number) self.now }
     {
         match &self.by_number {
-            Some(by_number) => mapped::with_number(&self.by_name, by_number, number),
-            None => rising::with_number(&self.by_name, number),
+            Some(by_number) => mapped::with_number(&self.commits, by_number, number),
+            None => rising::with_number(&self.commits, number),
         }
     }
 
-    /// The declaration with this name. Constant time, but for the name's length; takes no memory.
+    /// The declaration with this name. Linear in the name's length, and at worst logarithmic in the count of commits; takes
+    /// no memory.
     pub fn with_name(&self, name: &Name) -> Option<&Declaration>
         ensures { option_copied result ≡ find (has_name name.now) self.now }
     {
-        self.by_name.get(name)
+        match self.names.place_of(name) {
+            Some(place) => Some(&self.commits[place]),
+            None => None,
+        }
     }
 
-    /// The number of the commit of that name; none exactly where it isn't declared. Constant time; takes no memory.
+    /// The number of the commit of that name; none exactly where it isn't declared. Takes the time of
+    /// [`OrderIndex::with_name`] and no memory.
     pub fn number_of(&self, name: &Name) -> Option<u64>
         ensures { result ≡ number_in name.now self.now }
     {
@@ -115,12 +121,12 @@ impl OrderIndex {
         }
         match &self.by_number {
             Some(by_number) => keys_between(alloc, by_number, lo, hi),
-            None => rising::numbers_between(alloc, &self.by_name, lo, hi),
+            None => rising::numbers_between(alloc, &self.commits, lo, hi),
         }
     }
 
-    /// What a declaration of the pair would come to. Takes the time of [`OrderIndex::with_number`], but for the name's
-    /// length, and no memory.
+    /// What a declaration of the pair would come to. Takes the time of [`OrderIndex::with_number`] and
+    /// [`OrderIndex::with_name`], and no memory.
     pub fn judge(&self, number: u64, name: &Name) -> Declared
         ensures { result ≡ judged self.now number name.now }
     {
@@ -133,7 +139,7 @@ impl OrderIndex {
         if let Some(there) = self.with_name(name) {
             return Declared::Taken(there.number);
         }
-        if self.by_name.len() as u64 >= Limit::Commits.most() {
+        if self.commits.len() as u64 >= Limit::Commits.most() {
             return Declared::Full;
         }
         Declared::New
@@ -158,8 +164,8 @@ impl OrderIndex {
 
     /// Declares a pair that is new, as [`OrderIndex::declare`] does, without judging it again.
     ///
-    /// Constant time as long as each number is above the last one's, else logarithmic, but for growing and for the name's
-    /// length. The first number that isn't puts each declaration into a map, once.
+    /// Takes the time of [`OrderIndex::with_name`], and logarithmic time where a number is not above the last one's, both
+    /// amortized. The first such number puts each declaration into a map, once.
     pub fn add(&mut self, step: u64, number: u64, name: Name) -> Result<(), NoMemory>
         requires { judged self.old number name ≡ Declared.New }
         ensures ok { OnOk result
@@ -167,10 +173,14 @@ impl OrderIndex {
         ensures err { OnErr result (self.new ≡ self.old) }
     {
         let key = name.copy(self.alloc)?;
-        self.by_name.reserve(1)?;
         let declaration = Declaration { step, number, name };
-        note(self.alloc, &self.by_name, &mut self.by_number, &declaration)?;
-        put(&mut self.by_name, key, declaration);
+        self.commits.reserve(1)?;
+        note(self.alloc, &self.commits, &mut self.by_number, &declaration)?;
+        if let Err(_) = self.names.insert(key) {
+            forget(&self.commits, &mut self.by_number, &declaration);
+            return Err(NoMemory);
+        }
+        self.commits.push_reserved(declaration);
         Ok(())
     }
 }
@@ -179,37 +189,42 @@ impl OrderIndex {
 // the last one. Until then there is nothing to note.
 fn note(
     alloc: Global,
-    by_name: &IndexMap<Name, Declaration>,
+    commits: &[Declaration],
     by_number: &mut Option<BTreeMap<u64, usize>>,
     declaration: &Declaration,
 ) -> Result<(), NoMemory>
-    requires found { AreFound (values by_name.now) by_number.old }
-    requires new { find (has_number declaration.now.number) (values by_name.now) ≡ None }
-    ensures ok { OnOk result (AreFound (values by_name.now ++ declaration.now ∷ []) by_number.new) }
-    ensures err { OnErr result (AreFound (values by_name.now) by_number.new) }
+    requires found { AreFound commits.now by_number.old }
+    requires new { find (has_number declaration.now.number) commits.now ≡ None }
+    ensures ok { OnOk result (AreFound (commits.now ++ declaration.now ∷ []) by_number.new) }
+    ensures err { OnErr result (AreFound commits.now by_number.new) }
 {
     let number = declaration.number;
-    let place = by_name.len();
+    let place = commits.len();
     if let Some(places) = by_number {
         places.insert(number, place)?;
         return Ok(());
     }
-    if is_above_all(by_name, number) {
+    if is_above_all(commits, number) {
         return Ok(());
     }
-    let mut places = places_of(alloc, by_name)?;
+    let mut places = places_of(alloc, commits)?;
     places.insert(number, place)?;
     *by_number = Some(places);
     Ok(())
 }
 
-// Puts a declaration at a new name, for which there is room.
-fn put(by_name: &mut IndexMap<Name, Declaration>, key: Name, declaration: Declaration)
-    requires room { 0 < spare by_name.old }
-    requires new { get_by (λ k. bytes_eq key k) by_name.old ≡ None }
-    ensures { by_name.new.entries ≡ by_name.old.entries ++ (key, declaration) ∷ [] }
+// Undoes [`note`], where the declaration doesn't come after all. Takes no memory.
+fn forget(
+    commits: &[Declaration],
+    by_number: &mut Option<BTreeMap<u64, usize>>,
+    declaration: &Declaration,
+)
+    requires found { AreFound (commits.now ++ declaration.now ∷ []) by_number.old }
+    requires new { find (has_number declaration.now.number) commits.now ≡ None }
+    ensures { AreFound commits.now by_number.new }
 {
-    if let Err(_) = by_name.insert(key, declaration) {
-        unreachable!();
+    if let Some(places) = by_number {
+        places.remove(&declaration.number);
+        return;
     }
 }

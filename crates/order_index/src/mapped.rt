@@ -1,30 +1,28 @@
 //! Look-ups by number through a map from numbers to places, for declarations whose numbers don't rise.
-ghost use Rattle.std.specs.Prelude.{◌≡◌, ◌≤◌, IsTrue, IfOk, None, filter, find, option_copied};
+ghost use Rattle.std.specs.Prelude.{◌≡◌, ◌≤◌, IsTrue, IfOk, None, filter, find, option_copied, slice_get};
 ghost use Rattle.std.specs.Ordering.{nat_cmp};
 ghost use Rattle.std.specs.BTreeMap.{keys, IsOrdered, get as at_number};
-ghost use Rattle.indexmap.specs.IndexMap.{values};
 ghost use Rattle.history_model.specs.Commits.{has_number};
 ghost use Rattle.order_index.specs.Between.{is_between};
 ghost use Rattle.order_index.specs.Kept.{ArePlaced, IsRising};
 
 use crate::NoMemory;
 use history_model::Declaration;
-use indexmap::IndexMap;
-use line_text::{Name, Numbers};
+use line_text::Numbers;
 use std::alloc::Global;
 use std::collections::BTreeMap;
 
 // The map of some declarations, made while their numbers still rise.
 pub(crate) fn places_of(
     alloc: Global,
-    by_name: &IndexMap<Name, Declaration>,
+    commits: &[Declaration],
 ) -> Result<BTreeMap<u64, usize>, NoMemory>
-    requires { IsRising (values by_name.now) }
-    ensures { IfOk result (λ made. ArePlaced (values by_name.now) made) }
+    requires { IsRising commits.now }
+    ensures { IfOk result (λ made. ArePlaced commits.now made) }
 {
     let mut places = BTreeMap::new(alloc);
-    for place in 0..by_name.len() {
-        places.insert(by_name[place].number, place)?;
+    for place in 0..commits.len() {
+        places.insert(commits[place].number, place)?;
     }
     Ok(places)
 }
@@ -41,19 +39,25 @@ fn is_above_all(by_number: &BTreeMap<u64, usize>, number: u64) -> bool
 
 // The declaration with this number. Logarithmic time.
 pub(crate) fn with_number<'a>(
-    by_name: &'a IndexMap<Name, Declaration>,
+    commits: &'a [Declaration],
     by_number: &BTreeMap<u64, usize>,
     number: u64,
 ) -> Option<&'a Declaration>
-    requires { ArePlaced (values by_name.now) by_number.now }
-    ensures { option_copied result ≡ find (has_number number) (values by_name.now) }
+    requires { ArePlaced commits.now by_number.now }
+    ensures { option_copied result ≡ find (has_number number) commits.now }
 {
     if is_above_all(by_number, number) {
         return None;
     }
     let place = by_number.get(&number)?;
-    let (_, declaration) = by_name.get_index(*place)?;
-    Some(declaration)
+    declaration_at(commits, *place)
+}
+
+// The declaration at a place, if there is one.
+fn declaration_at(commits: &[Declaration], place: usize) -> Option<&Declaration>
+    ensures { option_copied result ≡ slice_get commits.now place }
+{
+    commits.get(place)
 }
 
 // The numbers of a map from one to another, in order.

@@ -1,11 +1,8 @@
 -- One run more.
-use Rattle.std.proofs.Common.{◌≡◌, ℕ, ◌+◌, ◌≤◌, Bool, true, false, cond, List, [], ◌∷◌, ◌++◌, length, map, refl, sym, ap, ◌∙◌, Option, Some, None, inl, inr, ◌⊎◌, ◌||◌}
+use Rattle.std.proofs.Common.{◌≡◌, ◌+◌, ◌≤◌, Bool, true, false, cond, List, [], ◌∷◌, ◌++◌, length, refl, sym, ap, ◌∙◌, Option, Some, None, inl, inr, ◌⊎◌}
 use Rattle.std.specs.Prelude.{find, bytes_eq, nat_lt}
 use Rattle.std.specs.Option.{option_or}
-use Rattle.std.specs.List.{list_any}
 use Rattle.std.proofs.lemmas.List.Sums.{sum_by_push}
-use Rattle.std.specs.Cmp.Lexicographic.{nat_list_eq_equiv}
-use Rattle.indexmap.specs.IndexSet.{insert_key}
 use Rattle.std.proofs.lemmas.Bool.{cases_Bool, cases_lt, lt-ltb}
 use Rattle.std.proofs.lemmas.List.Folds.{find-append}
 use Rattle.std.proofs.lemmas.Slice.Eq.{bytes_eq-Decides}
@@ -61,18 +58,6 @@ once-push (r ∷ runs) s once none =
       | inl hit ↦ absurd (let no : true ≡ false = sym ((bytes_eq-Decides r.run.run s.run.run).1 (sym ((bytes_eq-Decides s.run.run r.run.run).0 hit))) ∙ miss in cc)
       | inr apart ↦ apart
     ]
-
--- a new name goes last
-no-key : (run : List ℕ) (xs : List Stored) → find (names run) xs ≡ None → list_any (λ (k : List ℕ). bytes_eq run k) (map (λ (s : Stored). s.run.run) xs) ≡ false
-no-key run [] none = refl
-no-key run (x ∷ xs) none =
-    let two = find-none-head (names run) x xs none in
-    ap (λ b. b || list_any (λ (k : List ℕ). bytes_eq run k) (map (λ (s : Stored). s.run.run) xs)) (nat_list_eq_equiv.symm run x.run.run ∙ two.0) ∙ no-key run xs two.1
-
-pub keys-push : (run : List ℕ) (xs : List Stored) → find (names run) xs ≡ None
-    → insert_key (λ (j k : List ℕ). bytes_eq j k) (map (λ (s : Stored). s.run.run) xs) run ≡ map (λ (s : Stored). s.run.run) xs ++ run ∷ []
-keys-push run xs none =
-    ap (λ b. cond b (map (λ (s : Stored). s.run.run) xs) (map (λ (s : Stored). s.run.run) xs ++ run ∷ [])) (no-key run xs none)
 
 pub samples-push : (runs : List Stored) (s : Stored) → samples_in (runs ++ s ∷ []) ≡ samples_in runs + length s.run.samples
 samples-push runs s = sum_by_push (λ (s : Stored). length s.run.samples) runs s

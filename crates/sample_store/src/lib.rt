@@ -2,10 +2,11 @@
 //!
 //! Contracts see the list of accepted runs in order, each with the step at which it was accepted and, where it was taken
 //! back, the step of that. No name stands in two of them, which the type keeps and [`SampleStore::names_law`] says: a run
-//! that was taken back stays, so its identity never counts anew. A look-up by name takes logarithmic time.
+//! that was taken back stays, so its identity never counts anew. A look-up by name takes
+//! constant time, and at worst logarithmic time, whoever picks the names.
 //!
 //! Stands on `history_model`, whose samples and runs it passes on, on `line_text` for names, on `metric_table` for the
-//! limits and on `indexmap` for the look-up by name.
+//! limits and on `name_index` for the look-up by name.
 #![tactic(auto)]
 
 mod answers;

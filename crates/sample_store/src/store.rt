@@ -8,9 +8,9 @@ ghost use Rattle.sample_store.specs.Judged.{judged, retraction};
 use crate::NoMemory;
 use crate::answers::{Accepted, Retracted};
 use history_model::Run;
-use indexmap::IndexSet;
 use line_text::Name;
 use metric_table::Limit;
+use name_index::NameIndex;
 use sample_model::Sample;
 use std::alloc::Global;
 use std::marker::Model;
@@ -31,7 +31,8 @@ pub struct Stored {
 pub struct SampleStore {
     alloc: Global,
     runs: Vec<Stored>,
-    names: IndexSet<Name>,
+    // Their names, each at the place of its run.
+    names: NameIndex,
     samples: u64,
 }
 
@@ -49,7 +50,7 @@ impl Model for SampleStore {
     ghost view = { λ s. s.runs.items };
 
     ghost invariant = { λ s.
-        (s.names.keys ≡ map (λ r. r.run.run) s.runs.items)
+        (s.names ≡ map (λ r. r.run.run) s.runs.items)
         × (s.samples ≡ samples_in s.runs.items)
         × AreNamedOnce s.runs.items
         × (samples_in s.runs.items ≤ most Samples) };
@@ -63,7 +64,7 @@ impl SampleStore {
         SampleStore {
             alloc,
             runs: Vec::new(alloc),
-            names: IndexSet::new(alloc),
+            names: NameIndex::new(alloc),
             samples: 0,
         }
     }
@@ -100,10 +101,10 @@ impl SampleStore {
     fn place_of(&self, run: &Name) -> Option<usize>
         ensures { result ≡ position (names run.now) self.now }
     {
-        self.names.get_index_of(run)
+        self.names.place_of(run)
     }
 
-    /// The run of that name. Constant time, but for the name's length; takes no memory.
+    /// The run of that name. Linear in the name's length, and at worst logarithmic in the count of runs; takes no memory.
     pub fn of_name(&self, run: &Name) -> Option<&Stored>
         ensures { option_copied result ≡ find (names run.now) self.now }
     {
@@ -113,8 +114,8 @@ impl SampleStore {
         }
     }
 
-    /// What the acceptance of the run would come to. Linear in its samples where its name is known, else constant time;
-    /// takes no memory.
+    /// What the acceptance of the run would come to. Takes the time of [`SampleStore::of_name`], and is linear in the run's
+    /// samples where its name is known; takes no memory.
     pub fn judge(&self, run: &Run) -> Accepted
         ensures { result ≡ judged self.now run.now }
     {
@@ -136,7 +137,7 @@ impl SampleStore {
 
     /// Accepts the run at a step, where it is new; else, and where there is no memory, changes nothing.
     ///
-    /// Linear in the run's samples where the name is known, else constant time, but for growing.
+    /// Takes the time of [`SampleStore::judge`] and [`SampleStore::add`].
     pub fn accept(&mut self, step: u64, run: Run) -> Result<Accepted, NoMemory>
         ensures judged { IfOk result (λ accepted. accepted ≡ judged self.old run) }
         ensures new { result ≡ Ok Accepted.New
@@ -151,8 +152,8 @@ impl SampleStore {
         Ok(Accepted::New)
     }
 
-    /// Adds a run that is new, as [`SampleStore::accept`] does, without judging it again. Constant time, amortized, but for
-    /// the name's length.
+    /// Adds a run that is new, as [`SampleStore::accept`] does, without judging it again. Takes the time of
+    /// [`SampleStore::of_name`], amortized.
     pub fn add(&mut self, step: u64, run: Run) -> Result<(), NoMemory>
         requires { judged self.old run ≡ Accepted.New }
         ensures ok { OnOk result
@@ -172,7 +173,8 @@ impl SampleStore {
         Ok(())
     }
 
-    /// Takes the run of that name back at a step, where it is live; else changes nothing. Constant time; takes no memory.
+    /// Takes the run of that name back at a step, where it is live; else changes nothing. Takes the time of
+    /// [`SampleStore::of_name`] and no memory.
     pub fn retract(&mut self, step: u64, run: &Name) -> Retracted
         ensures judged { result ≡ retraction self.old run.now }
         ensures done { result ≡ Retracted.Done → self.new ≡ map (marked step run.now) self.old }

@@ -1,5 +1,4 @@
 use Rattle.std.proofs.Common.{◌≡◌, take, drop, filter}
-use Rattle.indexmap.specs.IndexMap.{values}
 use Rattle.order_index.specs.Between.{is_between}
 use Rattle.order_index.specs.Kept.{AreFrom, numbers_of}
 use Rattle.order_index.proofs.rising.numbers_between.Given as goal
@@ -7,6 +6,6 @@ use Rattle.order_index.proofs.rising.numbers_between.Given as goal
 -- the numbers so far are those before the place, and none is left below the range
 abbrev pub invariant-loop-place : goal.invariant-loop-place
 invariant-loop-place l = record {
-  so_far : l.numbers ≡ filter (is_between l.lo l.hi) (numbers_of (take l.place (values l.by_name)));
-  rest : AreFrom l.lo (drop l.place (values l.by_name));
+  so_far : l.numbers ≡ filter (is_between l.lo l.hi) (numbers_of (take l.place l.commits));
+  rest : AreFrom l.lo (drop l.place l.commits);
 }

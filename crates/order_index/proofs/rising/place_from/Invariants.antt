@@ -1,5 +1,4 @@
 use Rattle.std.proofs.Common.{◌≤◌, ◌-◌, take, drop, length}
-use Rattle.indexmap.specs.IndexMap.{values}
 use Rattle.order_index.specs.Kept.{AreBelow, AreFrom}
 use Rattle.order_index.proofs.rising.place_from.Given as goal
 
@@ -7,9 +6,9 @@ use Rattle.order_index.proofs.rising.place_from.Given as goal
 abbrev pub invariant-loop-low : goal.invariant-loop-low
 invariant-loop-low l = record {
   order : l.low ≤ l.high;
-  within : l.high ≤ length l.by_name.entries;
-  below : AreBelow l.number (take l.low (values l.by_name));
-  rest : AreFrom l.number (drop l.high (values l.by_name));
+  within : l.high ≤ length l.commits;
+  below : AreBelow l.number (take l.low l.commits);
+  rest : AreFrom l.number (drop l.high l.commits);
 }
 
 abbrev pub decreases-loop-low : goal.decreases-loop-low
