@@ -1,5 +1,5 @@
 //! The tree of a JSON text.
-ghost use Rattle.std.specs.Prelude.{◌≡◌, Some, None, IfOk, OnOk, OnErr, MatchOption};
+ghost use Rattle.std.specs.Prelude.{◌≡◌, Some, None, [], ◌∷◌, ◌++◌, is_ok, if◌then◌else◌, IfOk, OnOk, OnErr, MatchOption};
 ghost use Rattle.json_text.specs.Tree.{no_items, no_members};
 ghost use Rattle.json_text.specs.Parts.{then_item, then_member, item_count, item_at, member_count, member_at};
 ghost use Rattle.json_text.specs.View.{tree_of, items_view, members_view, entry_of};
@@ -48,6 +48,26 @@ pub struct Member {
     pub key: SharedText,
     /// The value.
     pub value: Json,
+}
+
+/// Adds an item at the end. Room begins with one item and grows by half: std's begins with four, and a text may have as many lists as
+/// half its bytes.
+fn push<T: Drop>(items: &mut Vec<T>, item: T) -> Result<(), NoMemory>
+    ensures { items.new.items ≡ (if is_ok result then items.old.items ++ item ∷ [] else items.old.items) }
+{
+    make_room(items)?;
+    Ok(items.push(item)?)
+}
+
+/// Sees that there is room for an item more.
+fn make_room<T: Drop>(items: &mut Vec<T>) -> Result<(), NoMemory>
+    ensures { items.new.items ≡ items.old.items }
+{
+    let count = items.len();
+    if count < items.capacity() {
+        return Ok(());
+    }
+    items.reserve_exact(count / 2 + 1)
 }
 
 impl Json {
@@ -103,7 +123,7 @@ impl JsonList {
             ≡ then_item (items_view self.old) (tree_of item)) }
         ensures err { OnErr result (items_view self.new ≡ items_view self.old) }
     {
-        Ok(self.items.push(item)?)
+        Ok(push(&mut self.items, item)?)
     }
 
     /// An equal list of its own. Linear in the list.
@@ -150,7 +170,7 @@ impl JsonMembers {
             ≡ then_member (members_view self.old) (entry_of item)) }
         ensures err { OnErr result (members_view self.new ≡ members_view self.old) }
     {
-        Ok(self.members.push(item)?)
+        Ok(push(&mut self.members, item)?)
     }
 
     /// Equal members of their own. Linear in the members.

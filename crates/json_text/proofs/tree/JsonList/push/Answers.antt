@@ -8,8 +8,8 @@ use Rattle.json_text.proofs.tree.JsonList.push.Goals as goal
 pub returns-clause-ok : goal.returns-clause-ok
 returns-clause-ok c =
     let before = (out-JsonList c.args.self.now).items.items in
-    items_view-made (record { items = c.push.new.self })
-    ∙ ap (λ xs. items_of (map tree_of xs)) c.in_ok-push.ensures.items
+    items_view-made (record { items = c.push.new.items })
+    ∙ ap (λ xs. items_of (map tree_of xs)) c.in_ok-push.ensures
     ∙ ap items_of (map-end tree_of before c.args.item)
     ∙ items_of-end (map tree_of before) (tree_of c.args.item)
     ∙ ap (λ items. then_item items (tree_of c.args.item)) (sym (items_view-opened c.args.self.now))

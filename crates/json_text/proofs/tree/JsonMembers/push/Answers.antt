@@ -8,8 +8,8 @@ use Rattle.json_text.proofs.tree.JsonMembers.push.Goals as goal
 pub returns-clause-ok : goal.returns-clause-ok
 returns-clause-ok c =
     let before = (out-JsonMembers c.args.self.now).members.items in
-    members_view-made (record { members = c.push.new.self })
-    ∙ ap (λ xs. members_of (map entry_of xs)) c.in_ok-push.ensures.items
+    members_view-made (record { members = c.push.new.items })
+    ∙ ap (λ xs. members_of (map entry_of xs)) c.in_ok-push.ensures
     ∙ ap members_of (map-end entry_of before c.args.item)
     ∙ members_of-end (map entry_of before) (entry_of c.args.item)
     ∙ ap (λ members. then_member members (entry_of c.args.item)) (sym (members_view-opened c.args.self.now))
