@@ -1,14 +1,15 @@
 //! The JSON form of a report.
-ghost use Rattle.std.specs.Prelude.{◌≡◌, ◌++◌, map, string_bytes, IfOk, OnOk, OnErr};
-ghost use Rattle.serde_json.specs.Data.{Data, array, string};
-ghost use Rattle.serde_json.specs.View.{view, items_of};
-ghost use Rattle.serde_json.specs.Written.{compact_text};
+ghost use Rattle.std.specs.Prelude.{◌≡◌, ◌++◌, IfOk, OnOk, OnErr};
+ghost use Rattle.serde_json.specs.Data.{Data, string};
+ghost use Rattle.serde_json.specs.View.{view};
 ghost use Rattle.report_model.specs.Outcomes.{outcome_text};
-ghost use Rattle.report_pages.specs.Json.{count_or_null, centre_or_null, series_of, series_data, regression_data, job_data, pages_of, pages_data, pages_json};
+ghost use Rattle.report_pages.specs.Json.{count_or_null, centre_or_null, series_of, series_data, regression_data, job_data, pages_json};
+ghost use Rattle.report_pages.specs.Lists.{lists_text};
 
 use crate::NoMemory;
+use crate::items::{Item, put_items, put_quoted};
 use crate::text::{put_bytes, put_value};
-use line_text::Name;
+use line_text::{Name, put_u64};
 use report_model::{JobLine, Pages, RegressionLine, SeriesLine, Told, put_told};
 use serde_json::{Value, json};
 use std::alloc::{AllocError, Global};
@@ -113,86 +114,59 @@ fn job_value(alloc: Global, line: &JobLine) -> Result<Value, NoMemory>
     Ok(made)
 }
 
-fn series_values(alloc: Global, lines: &[SeriesLine]) -> Result<Value, NoMemory>
-    ensures { IfOk result (λ v. view v ≡ array (items_of (map series_data lines.now))) }
-{
-    let mut values = Vec::with_capacity(alloc, lines.len())?;
-    for line in lines {
-        values.push(series_value(alloc, line)?)?;
+impl Item for SeriesLine {
+    ghost shown = { series_data };
+
+    #[tactic(auto, using(crate::proofs::Floats::series_without))]
+    fn to_value(&self, alloc: Global) -> Result<Value, NoMemory> {
+        series_value(alloc, self)
     }
-    Ok(Value::Array(values))
 }
 
-fn regression_values(alloc: Global, lines: &[RegressionLine]) -> Result<Value, NoMemory>
-    ensures { IfOk result (λ v. view v ≡ array (items_of (map regression_data lines.now))) }
-{
-    let mut values = Vec::with_capacity(alloc, lines.len())?;
-    for line in lines {
-        values.push(regression_value(alloc, line)?)?;
+impl Item for RegressionLine {
+    ghost shown = { regression_data };
+
+    fn to_value(&self, alloc: Global) -> Result<Value, NoMemory> {
+        regression_value(alloc, self)
     }
-    Ok(Value::Array(values))
 }
 
-fn job_values(alloc: Global, lines: &[JobLine]) -> Result<Value, NoMemory>
-    ensures { IfOk result (λ v. view v ≡ array (items_of (map job_data lines.now))) }
-{
-    let mut values = Vec::with_capacity(alloc, lines.len())?;
-    for line in lines {
-        values.push(job_value(alloc, line)?)?;
+impl Item for JobLine {
+    ghost shown = { job_data };
+
+    fn to_value(&self, alloc: Global) -> Result<Value, NoMemory> {
+        job_value(alloc, self)
     }
-    Ok(Value::Array(values))
-}
-
-// A report of these parts.
-fn pages_object(
-    alloc: Global,
-    pages: &Pages,
-    jobs: Value,
-    regressions: Value,
-    series: Value,
-) -> Result<Value, AllocError>
-    ensures { IfOk result
-        (λ v. view v ≡ pages_of pages.now (view jobs) (view regressions) (view series)) }
-{
-    let machine = pages.machine.as_str();
-    json!(in alloc; {
-        "jobs": jobs,
-        "machine": machine,
-        "regressions": regressions,
-        "series": series,
-        "step": pages.step,
-    })
-}
-
-fn pages_value(alloc: Global, pages: &Pages) -> Result<Value, NoMemory>
-    ensures { IfOk result (λ v. view v ≡ pages_data pages.now) }
-{
-    let jobs = job_values(alloc, pages.jobs.as_slice())?;
-    let regressions = regression_values(alloc, pages.regressions.as_slice())?;
-    let series = series_values(alloc, pages.series.as_slice())?;
-    let made = pages_object(alloc, pages, jobs, regressions, series)?;
-    Ok(made)
 }
 
 /// Appends the JSON form of a report: one line with no white space, the members of each object in the order of their
 /// keys.
 ///
-/// Linear in the text, which it takes memory for several times; changes nothing where there is no memory.
+/// Linear in the text, which it takes memory for twice; changes nothing where there is no memory.
 pub fn put_json(alloc: Global, out: &mut Vec<u8>, pages: &Pages) -> Result<(), NoMemory>
     ensures ok { OnOk result (out.new.items ≡ out.old.items ++ pages_json pages.now) }
     ensures err { OnErr result (out.new.items ≡ out.old.items) }
 {
-    let mut text = pages_text(alloc, pages)?;
-    text.push_str("\n")?;
-    out.extend_from_slice(text.as_bytes())?;
+    let mut text = Vec::new(alloc);
+    put_lists(alloc, &mut text, pages)?;
+    put_bytes(&mut text, b",\"step\":")?;
+    put_u64(alloc, &mut text, pages.step)?;
+    put_bytes(&mut text, b"}\n")?;
+    out.extend_from_slice(&text)?;
     Ok(())
 }
 
-// The text of the pages.
-fn pages_text(alloc: Global, pages: &Pages) -> Result<String, NoMemory>
-    ensures { IfOk result (λ text. string_bytes text ≡ compact_text (pages_data pages.now)) }
+// The members before the last: each item is made, written and let go of before the next.
+fn put_lists(alloc: Global, out: &mut Vec<u8>, pages: &Pages) -> Result<(), NoMemory>
+    ensures { OnOk result (out.new.items ≡ out.old.items ++ lists_text pages.now) }
 {
-    let value = pages_value(alloc, pages)?;
-    let text = value.to_string(alloc)?;
-    Ok(text)
+    put_bytes(out, b"{\"jobs\":")?;
+    put_items(alloc, out, pages.jobs.as_slice())?;
+    put_bytes(out, b",\"machine\":")?;
+    put_quoted(alloc, out, pages.machine.as_str())?;
+    put_bytes(out, b",\"regressions\":")?;
+    put_items(alloc, out, pages.regressions.as_slice())?;
+    put_bytes(out, b",\"series\":")?;
+    put_items(alloc, out, pages.series.as_slice())?;
+    Ok(())
 }

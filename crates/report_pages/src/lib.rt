@@ -7,6 +7,7 @@
 //! `serde_json`, which writes the JSON.
 #![tactic(auto)]
 
+mod items;
 mod json;
 mod text;
 
