@@ -5,10 +5,12 @@
 //! taken. It stands on `segment_cost` and the directions of `metric_table`.
 #![tactic(auto)]
 
+mod beside;
 mod change;
 mod last;
 mod made;
 
+pub use beside::{Beside, commits_beside};
 pub use change::Change;
 pub use last::last_centre;
 pub use made::changes;
