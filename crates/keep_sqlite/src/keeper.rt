@@ -4,7 +4,7 @@ ghost use Rattle.track_outside.specs.Counts.{Rose, one_more};
 ghost use Rattle.track_outside.specs.declared.out_error.OutError.TheVariants as error;
 
 use sqlite::{Error, ErrorCode};
-use sqlite_rows::{Ahead, Store, append_last, count_rows, find_store, open_store};
+use sqlite_rows::{Ahead, Store, append_last, count_found, find_store, open_store};
 use std::alloc::Global;
 use std::marker::Model;
 use track_outside::{Failed, Keeper, OutError};
@@ -20,7 +20,7 @@ pub struct SqliteKeeper<'a> {
     store: Option<Store>,
     // Rows that were read from the open file before they are asked for.
     ahead: Ahead,
-    // How many rows it had when they were counted or added last. Another run may change the file while it isn't open.
+    // How many rows it had when it was started, or rows were added last. Another run may change the file while it isn't open.
     count: u64,
     faults: u64,
 }
@@ -72,20 +72,20 @@ impl<'a> SqliteKeeper<'a> {
         }
     }
 
-    // Closes what was started, and finds the file of that name, if there is one.
+    // Closes what was started, finds the file of that name, if there is one, and counts its rows.
     fn begin(&mut self, name: String) -> Result<(), Error>
         ensures { self.new ≡ self.old }
     {
         self.name = None;
         replace(&mut self.store, None);
         self.ahead.clear();
-        self.count = 0;
         replace(&mut self.store, find_store(self.rt, &name)?);
+        self.count = count_found(&mut self.store)?;
         self.name = Some(name);
         Ok(())
     }
 
-    // Opens the file that was started, if there is one by now and it isn't open.
+    // Opens the file that was started, if there is one by now and it isn't open. Another run may have changed it meanwhile.
     fn open_again(&mut self) -> Result<(), Error>
         ensures { self.new ≡ self.old }
     {
@@ -97,17 +97,6 @@ impl<'a> SqliteKeeper<'a> {
             replace(&mut self.store, find_store(self.rt, name)?);
         }
         Ok(())
-    }
-
-    fn count_kept(&mut self) -> Result<u64, Error>
-        ensures { self.new ≡ self.old }
-    {
-        self.open_again()?;
-        self.count = match &mut self.store {
-            Some(store) => count_rows(store)?,
-            None => 0,
-        };
-        Ok(self.count)
     }
 
     // Row k. Rows that were read before are there only while the file is open.
@@ -172,11 +161,12 @@ impl<'a> Keeper for SqliteKeeper<'a> {
         self.counted(begun)
     }
 
+    // The rows are counted by `start`, which can tell want of memory, and added to by `append`.
     fn count(&mut self) -> Result<u64, Failed> {
-        match self.count_kept() {
-            Ok(count) => Ok(count),
-            Err(_) => Err(self.fail()),
+        if self.name.is_none() {
+            return Err(self.fail());
         }
+        Ok(self.count)
     }
 
     fn row(&mut self, _alloc: Global, k: u64) -> Result<Vec<u8>, OutError> {

@@ -17,4 +17,4 @@ mod statements;
 
 pub use ahead::Ahead;
 pub use opening::{Store, append_last, find_store, open_store};
-pub use statements::count_rows;
+pub use statements::count_found;

@@ -37,8 +37,16 @@ fn is_table(table: &Row) -> Result<bool, Error> {
     }
 }
 
-/// How many rows there are: the first is 1, and the last counts them. One that is missing between them is met where it is read.
-pub fn count_rows<S: Alter>(store: &mut Connection<S>) -> Result<u64, Error> {
+/// How many rows there are: none where there is no store.
+pub fn count_found<S: Alter>(found: &mut Option<Connection<S>>) -> Result<u64, Error> {
+    match found {
+        Some(store) => count_rows(store),
+        None => Ok(0),
+    }
+}
+
+// How many rows there are: the first is 1, and the last counts them. One that is missing between them is met where it is read.
+fn count_rows<S: Alter>(store: &mut Connection<S>) -> Result<u64, Error> {
     let Some(first) = find_number(store, "SELECT number FROM kept ORDER BY number LIMIT 1")? else {
         return Ok(0);
     };
