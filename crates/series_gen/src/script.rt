@@ -1,5 +1,5 @@
 //! Writing the script, part by part.
-ghost use Rattle.std.specs.Prelude.{◌≡◌, ◌<◌, ◌+◌, ◌%◌, ◌==◌, if◌then◌else◌, [], ◌++◌, OnOk};
+ghost use Rattle.std.specs.Prelude.{◌≡◌, ◌<◌, ◌+◌, ◌%◌, ◌==◌, if◌then◌else◌, [], ◌++◌, length, take, OnOk, OnErr};
 ghost use Rattle.series_gen.specs.Script.{script, in_turn, commit_line, submit_line, body_line, place, value, turn, segment_line, retract_line};
 
 use crate::drawn::{next_state, number_of};
@@ -8,9 +8,24 @@ use std::alloc::Global;
 
 /// Puts the script of a number behind some bytes: requests in order, with the bodies of their runs.
 ///
-/// Where there is no memory, a part of it may stand behind them.
+/// Linear in the script; changes nothing where there is no memory.
 pub fn put_script(alloc: Global, out: &mut Vec<u8>, number: u64) -> Result<(), NoMemory>
-    ensures { OnOk result (out.new.items ≡ out.old.items ++ script number) }
+    ensures ok { OnOk result (out.new.items ≡ out.old.items ++ script number) }
+    ensures err { OnErr result (out.new.items ≡ out.old.items) }
+{
+    let before = out.len();
+    let put = put_parts(alloc, out, number);
+    if put.is_err() {
+        out.truncate(before);
+    }
+    put
+}
+
+// Puts the script, part by part. As with each function below, a part of it may stand behind the bytes where there is no
+// memory.
+fn put_parts(alloc: Global, out: &mut Vec<u8>, number: u64) -> Result<(), NoMemory>
+    ensures ok { OnOk result (out.new.items ≡ out.old.items ++ script number) }
+    ensures err { OnErr result (take (length out.old.items) out.new.items ≡ out.old.items) }
 {
     out.extend_from_slice(b"machine g\n")?;
     put_commits(alloc, out)?;
@@ -24,7 +39,8 @@ pub fn put_script(alloc: Global, out: &mut Vec<u8>, number: u64) -> Result<(), N
 
 // The lines of the 500 commits.
 fn put_commits(alloc: Global, out: &mut Vec<u8>) -> Result<(), NoMemory>
-    ensures { OnOk result (out.new.items ≡ out.old.items ++ in_turn commit_line 500) }
+    ensures ok { OnOk result (out.new.items ≡ out.old.items ++ in_turn commit_line 500) }
+    ensures err { OnErr result (take (length out.old.items) out.new.items ≡ out.old.items) }
 {
     for i in 0..500 {
         put_commit(alloc, out, i)?;
@@ -34,7 +50,8 @@ fn put_commits(alloc: Global, out: &mut Vec<u8>) -> Result<(), NoMemory>
 
 // The line of one commit.
 fn put_commit(alloc: Global, out: &mut Vec<u8>, i: u64) -> Result<(), NoMemory>
-    ensures { OnOk result (out.new.items ≡ out.old.items ++ commit_line i) }
+    ensures ok { OnOk result (out.new.items ≡ out.old.items ++ commit_line i) }
+    ensures err { OnErr result (take (length out.old.items) out.new.items ≡ out.old.items) }
 {
     out.extend_from_slice(b"commit g ")?;
     put_u64(alloc, out, i)?;
@@ -46,7 +63,8 @@ fn put_commit(alloc: Global, out: &mut Vec<u8>, i: u64) -> Result<(), NoMemory>
 
 // The runs and the segmentations among them.
 fn put_turns(alloc: Global, out: &mut Vec<u8>, number: u64) -> Result<(), NoMemory>
-    ensures { OnOk result (out.new.items ≡ out.old.items ++ in_turn (turn number) 2_000) }
+    ensures ok { OnOk result (out.new.items ≡ out.old.items ++ in_turn (turn number) 2_000) }
+    ensures err { OnErr result (take (length out.old.items) out.new.items ≡ out.old.items) }
 {
     let mut state = number;
     for j in 0..2_000 {
@@ -61,7 +79,8 @@ fn put_turns(alloc: Global, out: &mut Vec<u8>, number: u64) -> Result<(), NoMemo
 // The line that submits a run.
 fn put_submit(alloc: Global, out: &mut Vec<u8>, j: u64) -> Result<(), NoMemory>
     requires { j < 2_000 }
-    ensures { OnOk result (out.new.items ≡ out.old.items ++ submit_line j) }
+    ensures ok { OnOk result (out.new.items ≡ out.old.items ++ submit_line j) }
+    ensures err { OnErr result (take (length out.old.items) out.new.items ≡ out.old.items) }
 {
     out.extend_from_slice(b"submit go g c")?;
     put_u64(alloc, out, 271 * j % 500)?;
@@ -82,7 +101,8 @@ fn value_of(j: u64, state: u64) -> u64
 
 // The body of a run.
 fn put_body(alloc: Global, out: &mut Vec<u8>, value: u64) -> Result<(), NoMemory>
-    ensures { OnOk result (out.new.items ≡ out.old.items ++ body_line value) }
+    ensures ok { OnOk result (out.new.items ≡ out.old.items ++ body_line value) }
+    ensures err { OnErr result (take (length out.old.items) out.new.items ≡ out.old.items) }
 {
     out.extend_from_slice(b"BenchmarkG 1 ")?;
     put_u64(alloc, out, value)?;
@@ -94,8 +114,9 @@ fn put_body(alloc: Global, out: &mut Vec<u8>, value: u64) -> Result<(), NoMemory
 // The line of a segmentation after each hundredth run.
 fn put_hundredth(out: &mut Vec<u8>, j: u64) -> Result<(), NoMemory>
     requires { j < 2_000 }
-    ensures { OnOk result
+    ensures ok { OnOk result
         (out.new.items ≡ out.old.items ++ (if (j + 1) % 100 == 0 then segment_line else [])) }
+    ensures err { OnErr result (take (length out.old.items) out.new.items ≡ out.old.items) }
 {
     if (j + 1) % 100 == 0 {
         out.extend_from_slice(b"segment g G ns/op\n")?;
@@ -105,7 +126,8 @@ fn put_hundredth(out: &mut Vec<u8>, j: u64) -> Result<(), NoMemory>
 
 // The lines of the ten retractions.
 fn put_retractions(alloc: Global, out: &mut Vec<u8>) -> Result<(), NoMemory>
-    ensures { OnOk result (out.new.items ≡ out.old.items ++ in_turn retract_line 10) }
+    ensures ok { OnOk result (out.new.items ≡ out.old.items ++ in_turn retract_line 10) }
+    ensures err { OnErr result (take (length out.old.items) out.new.items ≡ out.old.items) }
 {
     for i in 0..10 {
         put_retraction(alloc, out, i)?;
@@ -116,7 +138,8 @@ fn put_retractions(alloc: Global, out: &mut Vec<u8>) -> Result<(), NoMemory>
 // The line of one retraction.
 fn put_retraction(alloc: Global, out: &mut Vec<u8>, i: u64) -> Result<(), NoMemory>
     requires { i < 10 }
-    ensures { OnOk result (out.new.items ≡ out.old.items ++ retract_line i) }
+    ensures ok { OnOk result (out.new.items ≡ out.old.items ++ retract_line i) }
+    ensures err { OnErr result (take (length out.old.items) out.new.items ≡ out.old.items) }
 {
     out.extend_from_slice(b"retract g r")?;
     put_u64(alloc, out, 200 * i)?;

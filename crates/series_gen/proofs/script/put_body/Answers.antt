@@ -2,8 +2,8 @@ use Rattle.std.proofs.Common.{◌++◌, [], ◌∷◌, codes, decimal}
 use Rattle.series_gen.proofs.Turns.{behind}
 use Rattle.series_gen.proofs.script.put_body.Goals as goal
 
-pub returns : goal.returns
-returns c =
+pub returns-clause-ok : goal.returns-clause-ok
+returns-clause-ok c =
     let name = codes "BenchmarkG 1 " in
     let unit = codes " ns/op" in
     let s0 = c.args.out.now.items in
