@@ -1,5 +1,5 @@
 //! A certificate's text.
-ghost use Rattle.std.specs.Prelude.{◌≡◌, List, [], ◌∷◌, ◌++◌, map, decimal, OnOk};
+ghost use Rattle.std.specs.Prelude.{◌≡◌, List, [], ◌∷◌, ◌++◌, map, decimal, length, take, OnOk, OnErr};
 ghost use Rattle.std.specs.Fmt.{signed_decimal};
 ghost use Rattle.cost_certificate.specs.Text.{row, text_of};
 
@@ -9,9 +9,24 @@ use std::alloc::Global;
 
 /// Puts a certificate's text behind some bytes: seven lines, each a name and numbers after single spaces.
 ///
-/// Where there is no memory, a part of it may stand behind them. Linear in the certificate.
+/// Linear in the certificate; changes nothing where there is no memory.
 pub fn put_cert(alloc: Global, out: &mut Vec<u8>, cert: &Cert) -> Result<(), NoMemory>
-    ensures { OnOk result (out.new.items ≡ out.old.items ++ text_of cert.now) }
+    ensures ok { OnOk result (out.new.items ≡ out.old.items ++ text_of cert.now) }
+    ensures err { OnErr result (out.new.items ≡ out.old.items) }
+{
+    let before = out.len();
+    let put = put_rows(alloc, out, cert);
+    if put.is_err() {
+        out.truncate(before);
+    }
+    put
+}
+
+// Puts the lines, one behind another. As with each function below, a part of them may stand behind the bytes where there
+// is no memory.
+fn put_rows(alloc: Global, out: &mut Vec<u8>, cert: &Cert) -> Result<(), NoMemory>
+    ensures ok { OnOk result (out.new.items ≡ out.old.items ++ text_of cert.now) }
+    ensures err { OnErr result (take (length out.old.items) out.new.items ≡ out.old.items) }
 {
     put_number(alloc, out, b"points", cert.points)?;
     put_cost(alloc, out, b"penalty", cert.penalty)?;
@@ -19,12 +34,14 @@ pub fn put_cert(alloc: Global, out: &mut Vec<u8>, cert: &Cert) -> Result<(), NoM
     put_cost(alloc, out, b"total", cert.total)?;
     put_costs(alloc, out, b"least", &cert.least)?;
     put_places(alloc, out, b"back", &cert.back)?;
-    put_places(alloc, out, b"pruned", &cert.pruned)
+    put_places(alloc, out, b"pruned", &cert.pruned)?;
+    Ok(())
 }
 
 // A line of one number behind a name.
 fn put_number(alloc: Global, out: &mut Vec<u8>, name: &[u8], number: u64) -> Result<(), NoMemory>
-    ensures { OnOk result (out.new.items ≡ out.old.items ++ row name.now (decimal number ∷ [])) }
+    ensures ok { OnOk result (out.new.items ≡ out.old.items ++ row name.now (decimal number ∷ [])) }
+    ensures err { OnErr result (take (length out.old.items) out.new.items ≡ out.old.items) }
 {
     out.extend_from_slice(name)?;
     out.push(b' ')?;
@@ -35,8 +52,9 @@ fn put_number(alloc: Global, out: &mut Vec<u8>, name: &[u8], number: u64) -> Res
 
 // A line of one cost behind a name.
 fn put_cost(alloc: Global, out: &mut Vec<u8>, name: &[u8], cost: i128) -> Result<(), NoMemory>
-    ensures { OnOk result
+    ensures ok { OnOk result
         (out.new.items ≡ out.old.items ++ row name.now (signed_decimal cost ∷ [])) }
+    ensures err { OnErr result (take (length out.old.items) out.new.items ≡ out.old.items) }
 {
     out.extend_from_slice(name)?;
     out.push(b' ')?;
@@ -52,8 +70,9 @@ fn put_numbers(
     name: &[u8],
     numbers: &Numbers,
 ) -> Result<(), NoMemory>
-    ensures { OnOk result
+    ensures ok { OnOk result
         (out.new.items ≡ out.old.items ++ row name.now (map decimal numbers.now)) }
+    ensures err { OnErr result (take (length out.old.items) out.new.items ≡ out.old.items) }
 {
     out.extend_from_slice(name)?;
     for number in numbers.as_slice() {
@@ -71,8 +90,9 @@ fn put_places(
     name: &[u8],
     places: &Places,
 ) -> Result<(), NoMemory>
-    ensures { OnOk result
+    ensures ok { OnOk result
         (out.new.items ≡ out.old.items ++ row name.now (map decimal places.now)) }
+    ensures err { OnErr result (take (length out.old.items) out.new.items ≡ out.old.items) }
 {
     out.extend_from_slice(name)?;
     for place in places.as_slice() {
@@ -85,8 +105,9 @@ fn put_places(
 
 // A line of costs behind a name.
 fn put_costs(alloc: Global, out: &mut Vec<u8>, name: &[u8], costs: &Costs) -> Result<(), NoMemory>
-    ensures { OnOk result
+    ensures ok { OnOk result
         (out.new.items ≡ out.old.items ++ row name.now (map signed_decimal costs.now)) }
+    ensures err { OnErr result (take (length out.old.items) out.new.items ≡ out.old.items) }
 {
     out.extend_from_slice(name)?;
     for cost in costs.as_slice() {
