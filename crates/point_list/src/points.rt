@@ -1,18 +1,23 @@
 //! The list of positions: values put in and taken out.
-ghost use Rattle.std.specs.Prelude.{◌≡◌, ◌+◌, ◌<◌, ◌≤◌, ◌↔◌, ℕ, List, [], length, OnOk, OnErr, IfOk, slice_index, Err, false, true, get_or, nat_lt, All};
+ghost use Rattle.std.specs.Prelude.{◌≡◌, ◌+◌, ◌*◌, ◌<◌, ◌≤◌, ◌↔◌, ℕ, List, [], length, OnOk, OnErr, IfOk, slice_index, Err, false, true, get_or, nat_lt, All};
 ghost use Rattle.std.specs.List.Sorted.{IsStrictlyIncreasing};
 ghost use Rattle.segment_model.specs.Segments.{Position, segment, values_of};
 ghost use Rattle.segment_model.specs.Limits.{commits_of, HasValue, WithinLimits};
 ghost use Rattle.segment_model.specs.Edits.{inserted, removed, has_commit};
 ghost use Rattle.point_list.specs.Places.{MayCome};
 ghost use Rattle.point_list.specs.Searches.{StandsAt};
+ghost use Rattle.point_list.specs.Blocks.{IsFront};
+ghost use Rattle.std.specs.Arc.{arc_value};
 
 use crate::NoMemory;
+use crate::blocks::{Block, FULL};
 use crate::fault::PointFault;
+use crate::frozen::FrozenPoints;
 use crate::positions::PositionList;
 use crate::stored::StoredPosition;
 use std::alloc::Global;
 use std::marker::Model;
+use std::sync::Arc;
 
 const MOST_VALUES: usize = 65_536;
 
@@ -27,19 +32,24 @@ pub struct Points {
     alloc: Global,
     positions: PositionList,
     values: usize,
+    // Full blocks of the first positions, which were given to others.
+    front: Vec<Arc<Block>>,
 }
 
 impl Model for Points {
     ghost use Rattle.std.specs.Prelude.{◌≡◌, List, length};
     ghost use Rattle.segment_model.specs.Segments.{Position, values_of};
     ghost use Rattle.segment_model.specs.Limits.{WithinLimits};
+    ghost use Rattle.std.specs.Arc.{arc_value};
+    ghost use Rattle.point_list.specs.Blocks.{IsFront};
 
     ghost Value = { List Position };
 
     ghost view = { λ p. p.positions };
 
     ghost invariant = { λ p. WithinLimits p.positions
-        × (p.values ≡ length (values_of p.positions)) };
+        × (p.values ≡ length (values_of p.positions))
+        × IsFront arc_value p.front.items p.positions };
 }
 
 impl Points {
@@ -51,6 +61,7 @@ impl Points {
             alloc,
             positions: PositionList::new(alloc),
             values: 0,
+            front: Vec::new(alloc),
         }
     }
 
@@ -134,6 +145,7 @@ impl Points {
         if !there && self.positions.len() >= MOST_POSITIONS {
             return Err(PointFault::PositionsFull);
         }
+        forget(&mut self.front, &self.positions, commit);
         let Ok(()) = put_in(self.alloc, &mut self.positions, place, commit, step, value) else {
             return Err(PointFault::NoMemory);
         };
@@ -147,8 +159,21 @@ impl Points {
     pub fn remove(&mut self, commit: u64, step: u64)
         ensures { self.new ≡ removed commit step self.old }
     {
+        forget(&mut self.front, &self.positions, commit);
         let gone = take_out(&mut self.positions, commit, step);
         self.values -= gone;
+    }
+
+    /// The positions as they are, which don't change with these any more. Changes nothing that is seen.
+    ///
+    /// Linear in what came or went since it was called before, and in what stands behind the first of that; and one step
+    /// for 128 positions.
+    pub fn freeze(&mut self) -> Result<FrozenPoints, NoMemory>
+        ensures same { self.new ≡ self.old }
+        ensures made { IfOk result (λ made. made ≡ self.old) }
+    {
+        fill(self.alloc, &mut self.front, &self.positions)?;
+        FrozenPoints::of(self.alloc, &self.front, &self.positions)
     }
 
     // The positions, in order.
@@ -166,8 +191,60 @@ impl Points {
             alloc,
             positions: self.positions.copy(alloc)?,
             values: self.values,
+            front: Vec::new(alloc),
         })
     }
+}
+
+// Keeps the blocks that stand in front of a commit.
+fn forget(front: &mut Vec<Arc<Block>>, positions: &PositionList, commit: u64)
+    requires front { IsFront arc_value front.old.items positions.now }
+    requires limits { WithinLimits positions.now }
+    ensures front { IsFront arc_value front.new.items positions.now }
+    ensures below { (i : ℕ) (d : Position) → i < 128 * length front.new.items
+        → (get_or positions.now i d).commit < commit }
+{
+    let kept = blocks_before(positions, front.len(), commit);
+    front.truncate(kept);
+}
+
+// How many of some full blocks stand in front of a commit.
+fn blocks_before(positions: &PositionList, most: usize, commit: u64) -> usize
+    requires within { 128 * most ≤ length positions.now }
+    requires limits { WithinLimits positions.now }
+    ensures within { result ≤ most }
+    ensures below { (i : ℕ) (d : Position) → i < 128 * result
+        → (get_or positions.now i d).commit < commit }
+{
+    let mut kept = most;
+    while kept > 0 {
+        let position = positions.at(FULL * kept - 1);
+        if position.commit() < commit {
+            return kept;
+        }
+        kept -= 1;
+    }
+    0
+}
+
+// Makes full blocks of all first positions that fill them. Some of them are there where there is no memory.
+fn fill(
+    alloc: Global,
+    front: &mut Vec<Arc<Block>>,
+    positions: &PositionList,
+) -> Result<(), NoMemory>
+    requires { IsFront arc_value front.old.items positions.now }
+    ensures { IsFront arc_value front.new.items positions.now }
+{
+    while positions.len() - FULL * front.len() >= FULL {
+        let from = FULL * front.len();
+        let block = Block::of(alloc, positions, from, from + FULL)?;
+        let Ok(owned) = Arc::new(alloc, block) else {
+            return Err(NoMemory);
+        };
+        front.push(owned)?;
+    }
+    Ok(())
 }
 
 // Puts a value into the commit's position, or into a new one, at its place; changes nothing where there is no memory.

@@ -1,0 +1,18 @@
+use Rattle.std.proofs.Common.{◌≡◌, ◌+◌, ◌*◌, ◌-◌, ◌≤◌, List, ◌++◌, drop, length}
+use Rattle.std.specs.Arc.{arc_value}
+use Rattle.segment_model.specs.Segments.{Position}
+use Rattle.point_list.specs.Blocks.{AreFull, joined}
+use Rattle.point_list.specs.Places.{common}
+use Rattle.point_list.proofs.prefix.same_blocks.Given as goal
+
+abbrev pub invariant-loop-k : goal.invariant-loop-k
+invariant-loop-k l = record {
+  common : (one other : List Position) → AreFull arc_value l.a → AreFull arc_value l.b
+      → common (joined arc_value l.a ++ one) (joined arc_value l.b ++ other)
+      ≡ 128 * l.k + common (drop (128 * l.k) (joined arc_value l.a ++ one)) (drop (128 * l.k) (joined arc_value l.b ++ other));
+  first : l.k ≤ length l.a;
+  second : l.k ≤ length l.b;
+}
+
+abbrev pub decreases-loop-k : goal.decreases-loop-k
+decreases-loop-k l = length l.a - l.k
