@@ -11,13 +11,13 @@ pub fn last_centre(alloc: Global, done: &Done) -> Result<Option<i64>, NoMemory>
     ensures { IfOk result
         (λ centre. IsLastCentre done.now.points done.now.cert.cuts centre) }
 {
-    let points = done.points.points();
+    let points = &done.points;
     let n = points.len();
     if n == 0 {
         return Ok(None);
     }
     cuts_law(done);
-    let square = Square::of_points(alloc, points)?;
+    let square = Square::of_frozen(alloc, points)?;
     let cuts = done.cert.cuts.as_slice();
     let low = low_of(cuts, cuts.len());
     Ok(Some(centre_at(points, &square, low, n)))

@@ -8,7 +8,7 @@ ghost use Rattle.change_list.specs.Changes.{IsWorse, IsChange, IsBetween, AreCha
 use crate::ChangeItems;
 use crate::change::Change;
 use metric_table::larger_is_better;
-use segment_cost::{Cost, Done, NoMemory, Points, Square};
+use segment_cost::{Cost, Done, FrozenPoints, NoMemory, Square};
 use segment_model::{centre_law, joining_law, segment_law, values_law};
 use std::alloc::Global;
 
@@ -21,8 +21,8 @@ pub fn changes(alloc: Global, done: &Done) -> Result<ChangeItems, NoMemory>
         AreChanges done.now.points done.now.metric done.now.cert.cuts made) }
 {
     cuts_law(done);
-    let points = done.points.points();
-    let square = Square::of_points(alloc, points)?;
+    let points = &done.points;
+    let square = Square::of_frozen(alloc, points)?;
     let larger = larger_is_better(done.metric.as_str().as_bytes());
     let cuts = done.cert.cuts.as_slice();
     let n = points.len();
@@ -67,7 +67,7 @@ fn high_of(cuts: &[u64], n: usize, i: usize) -> usize
 }
 
 // The centre of a segment.
-pub(crate) fn centre_at(points: &Points, square: &Square, low: usize, high: usize) -> i64
+pub(crate) fn centre_at(points: &FrozenPoints, square: &Square, low: usize, high: usize) -> i64
     requires stands { square.now.positions ≡ values_by_position points.now }
     requires rising { low < high }
     requires placed { high ≤ length points.now }
@@ -82,7 +82,7 @@ pub(crate) fn centre_at(points: &Points, square: &Square, low: usize, high: usiz
 
 // The change at a cut with the places beside it.
 fn change_at(
-    points: &Points,
+    points: &FrozenPoints,
     square: &Square,
     larger: bool,
     low: usize,

@@ -6,7 +6,7 @@ ghost use Rattle.point_list.specs.Places.{common};
 
 use pelt_core::{Steps, Table};
 use point_list::common_prefix;
-use segment_cost::{NoMemory, Points, Square};
+use segment_cost::{FrozenPoints, NoMemory, Square};
 use segment_model::values_law;
 use std::sync::ledger::Ledger;
 
@@ -17,8 +17,8 @@ use std::sync::ledger::Ledger;
 /// table is then that of as many first positions of the new points as it has.
 pub fn redo<L: Ledger>(
     table: &mut Table<Square>,
-    old: &Points,
-    new: &Points,
+    old: &FrozenPoints,
+    new: &FrozenPoints,
     steps: &mut Steps<L>,
 ) -> Result<(), NoMemory>
     requires stands { table.old.positions ≡ values_by_position old.now }
@@ -37,7 +37,7 @@ pub fn redo<L: Ledger>(
 pub fn redo_from<L: Ledger>(
     table: &mut Table<Square>,
     front: usize,
-    new: &Points,
+    new: &FrozenPoints,
     steps: &mut Steps<L>,
 ) -> Result<(), NoMemory>
     requires there { front ≤ length table.old.positions }

@@ -7,7 +7,7 @@ use change_list::{Change, ChangeItems, changes};
 use cost_certificate::check;
 use line_text::Name;
 use part_core::part;
-use segment_cost::{Cert, Done, Points, SharedPoints, Square};
+use segment_cost::{Cert, Done, Points, Square};
 use std::alloc::Global;
 
 // The points of the values 0 0 10 10 -5 -5.
@@ -28,12 +28,12 @@ fn stands(alloc: Global, cert: &Cert, points: &Points) -> bool
 
 // Their finished segmentation at a penalty of 50, under these names; none where there is no memory.
 fn done_of(alloc: Global, test: Name, metric: Name) -> Option<Done> {
-    let points = six_points(alloc)?;
+    let mut points = six_points(alloc)?;
     let cert = part(alloc, &points, 50).ok()?;
     if !stands(alloc, &cert, &points) {
         return None;
     }
-    let points = SharedPoints::of(alloc, points).ok()?;
+    let points = points.freeze().ok()?;
     Some(Done {
         test,
         metric,

@@ -14,14 +14,12 @@ mod frozen;
 mod points;
 mod positions;
 mod prefix;
-mod shared;
 mod steps;
 mod stored;
 
 pub use fault::PointFault;
 pub use frozen::FrozenPoints;
 pub use points::Points;
-pub use prefix::{common_front, common_prefix};
-pub use shared::SharedPoints;
+pub use prefix::common_prefix;
 pub use std::alloc::AllocError as NoMemory;
 pub use steps::steps_law;

@@ -175,25 +175,6 @@ impl Points {
         fill(self.alloc, &mut self.front, &self.positions)?;
         FrozenPoints::of(self.alloc, &self.front, &self.positions)
     }
-
-    // The positions, in order.
-    pub(crate) fn list(&self) -> &PositionList
-        ensures { result.now ≡ self.now }
-    {
-        &self.positions
-    }
-
-    /// Equal points of their own. Linear in the number of values.
-    pub fn copy(&self, alloc: Global) -> Result<Points, NoMemory>
-        ensures { IfOk result (λ made. made ≡ self.now) }
-    {
-        Ok(Points {
-            alloc,
-            positions: self.positions.copy(alloc)?,
-            values: self.values,
-            front: Vec::new(alloc),
-        })
-    }
 }
 
 // Keeps the blocks that stand in front of a commit.

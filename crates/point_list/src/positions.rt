@@ -110,36 +110,6 @@ impl PositionList {
         let _ = self.slots.swap_remove(usize::from(slot));
         rename(self.order.make_contiguous(), last, slot);
     }
-
-    // Equal positions of their own.
-    pub fn copy(&self, alloc: Global) -> Result<PositionList, NoMemory>
-        ensures { IfOk result (λ made. made ≡ self.now) }
-    {
-        let slots = copies(alloc, &self.slots)?;
-        let order = copy_of(alloc, &self.order)?;
-        Ok(PositionList { slots, order })
-    }
-}
-
-// Equal positions of their own.
-fn copies(alloc: Global, slots: &[StoredPosition]) -> Result<Vec<StoredPosition>, NoMemory>
-    ensures { IfOk result (λ made. made.items ≡ slots.now) }
-{
-    let mut made = Vec::with_capacity(alloc, slots.len())?;
-    for position in slots {
-        made.push(position.copy(alloc)?)?;
-    }
-    Ok(made)
-}
-
-// An equal order of its own.
-fn copy_of(alloc: Global, order: &VecDeque<u16>) -> Result<VecDeque<u16>, NoMemory>
-    ensures { IfOk result (λ made. made.items ≡ order.now.items) }
-{
-    let (front, back) = order.as_slices();
-    let mut slots = Vec::from_slice(alloc, front)?;
-    slots.extend_from_slice(back)?;
-    Ok(VecDeque::from_vec(slots))
 }
 
 // Writes one slot for another, wherever that stands.

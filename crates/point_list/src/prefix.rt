@@ -7,36 +7,13 @@ ghost use Rattle.point_list.specs.Places.{common};
 
 use crate::blocks::{Block, FULL};
 use crate::frozen::{FrozenPoints, Row};
-use crate::points::Points;
-use crate::positions::PositionList;
 use std::sync::Arc;
 
 /// The greatest number of first positions with equal commits and values, whatever steps brought these.
 ///
-/// Linear in the values; takes no memory.
-pub fn common_prefix(a: &Points, b: &Points) -> usize
-    ensures { result ≡ common a.now b.now }
-{
-    common_positions(a.list(), b.list())
-}
-
-fn common_positions(a: &PositionList, b: &PositionList) -> usize
-    ensures { result ≡ common a.now b.now }
-{
-    let mut k = 0;
-    while k < a.len() && k < b.len() {
-        let one = a.at(k);
-        let other = b.at(k);
-        if !one.is_same(other) {
-            return k;
-        }
-        k += 1;
-    }
-    k
-}
-
-/// As [`common_prefix`], of positions that don't change any more. Goes over their commits and values block by block.
-pub fn common_front(a: &FrozenPoints, b: &FrozenPoints) -> usize
+/// Goes over commits, counts and values block by block, and position by position in the first block that differs. Takes no
+/// memory.
+pub fn common_prefix(a: &FrozenPoints, b: &FrozenPoints) -> usize
     ensures { result ≡ common a.now b.now }
 {
     common_rows(a.row(), b.row())

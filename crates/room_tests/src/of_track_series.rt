@@ -69,7 +69,7 @@ fn is_of(found: &Option<Snapshot>, version: u64, base: u64, tabled: Option<usize
         Some(snapshot) => {
             snapshot.version == version
                 && snapshot.base == base
-                && snapshot.old.points().len() == tabled.unwrap_or(0)
+                && snapshot.old.len() == tabled.unwrap_or(0)
                 && length_of(&snapshot.table) == tabled
         }
         None => false,

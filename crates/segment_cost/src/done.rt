@@ -2,7 +2,7 @@
 ghost use Rattle.std.specs.Prelude.{pos, ◌≤ℤ◌, ◌^◌};
 ghost use Rattle.segment_cost.specs.Certificate.{StandsFor};
 
-use crate::SharedPoints;
+use crate::FrozenPoints;
 use crate::cert::Cert;
 use line_text::Name;
 
@@ -22,7 +22,7 @@ pub struct Done {
     /// The best segmentation of the points, with its table, at a penalty from 0 to 10^36.
     pub cert: Cert,
     /// The positions of the series.
-    pub points: SharedPoints,
+    pub points: FrozenPoints,
     pub ghost stands: { ∥ (pos 0 ≤ℤ cert.penalty) × (cert.penalty ≤ℤ pos (10 ^ 36))
         × StandsFor points cert.penalty cert ∥₁ },
 }

@@ -1,7 +1,7 @@
 //! The values that the segmentation works on, and what it answers.
 //!
-//! `Points` is a list of positions, each a commit with its values, from `point_list`. `Cert` is a certificate: a cut
-//! list, its total and the tables that show it to be the best.
+//! `Points` is a list of positions, each a commit with its values, from `point_list`, and `FrozenPoints` one that doesn't
+//! change any more. `Cert` is a certificate: a cut list, its total and the tables that show it to be the best.
 //! `specs/Certificate.antt` says when a certificate stands for points and a penalty, and `one_certificate_law` that no
 //! points and penalty have two.
 //!
@@ -21,7 +21,7 @@ pub use cert::Cert;
 pub use cost::Cost;
 pub use done::Done;
 pub use laws::{certificate_law, one_certificate_law};
-pub use point_list::{PointFault, Points, SharedPoints};
+pub use point_list::{FrozenPoints, PointFault, Points};
 pub use square::Square;
 pub use std::alloc::AllocError as NoMemory;
 

@@ -8,7 +8,7 @@ ghost use Rattle.prefix_sums.specs.Sums.{IsInRange, AreSums};
 
 use crate::NoMemory;
 use crate::cost::Cost;
-use point_list::Points;
+use point_list::{FrozenPoints, Points};
 use prefix_sums::{PrefixSums, Sums};
 use segment_model::{centre_law, least_sum_law, squares_law, sums_law, values_law};
 use std::alloc::Global;
@@ -33,6 +33,20 @@ impl Model for Square {
 impl Square {
     /// The costs of the segments of some points. Linear in their values.
     pub fn of_points(alloc: Global, points: &Points) -> Result<Square, NoMemory>
+        ensures { IfOk result (λ made. made.positions ≡ values_by_position points.now) }
+    {
+        points.limits();
+        let mut square = Square::fresh(alloc);
+        for i in 0..points.len() {
+            let values = points.values(i);
+            square.reserve(values.len())?;
+            square.push(values);
+        }
+        Ok(square)
+    }
+
+    /// As [`Square::of_points`], of positions that don't change any more.
+    pub fn of_frozen(alloc: Global, points: &FrozenPoints) -> Result<Square, NoMemory>
         ensures { IfOk result (λ made. made.positions ≡ values_by_position points.now) }
     {
         points.limits();

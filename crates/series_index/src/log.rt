@@ -1,5 +1,5 @@
 //! The positions of a series, into which values are placed when the positions are asked for.
-ghost use Rattle.std.specs.Prelude.{◌≡◌, ◌+◌, ◌≤◌, ◌||◌, List, [], length, not, nat_lt, drop, filter, OnOk, OnErr, IfSome};
+ghost use Rattle.std.specs.Prelude.{◌≡◌, ◌+◌, ◌≤◌, ◌||◌, List, [], length, not, nat_lt, drop, filter, OnOk, OnErr, IfOk, IfSome};
 ghost use Rattle.segment_model.specs.Segments.{Position, values_of};
 ghost use Rattle.segment_model.specs.Limits.{WithinLimits};
 ghost use Rattle.segment_model.specs.Edits.{inserted, removed, has_commit};
@@ -7,7 +7,7 @@ ghost use Rattle.series_index.specs.Log.{observed, all_placed, is_of_step, MayBe
 
 use crate::NoMemory;
 use crate::coming::Coming;
-use point_list::{PointFault, Points};
+use point_list::{FrozenPoints, PointFault, Points};
 use std::alloc::Global;
 use std::marker::Model;
 
@@ -112,6 +112,15 @@ impl PointLog {
         ensures { self.new ≡ self.old }
     {
         place_all(&mut self.placed, &mut self.coming)
+    }
+
+    // The positions as they are, where none waits any more. Changes nothing that is seen.
+    pub(crate) fn freeze(&mut self) -> Result<FrozenPoints, NoMemory>
+        ensures points { IfOk result (λ points. points ≡ self.old) }
+        ensures same { self.new ≡ self.old }
+    {
+        place_all(&mut self.placed, &mut self.coming)?;
+        self.placed.freeze()
     }
 
     // The positions, where no value waits.

@@ -1,11 +1,12 @@
 //! The series of one test, by metric.
-ghost use Rattle.std.specs.Prelude.{◌≡◌, ℕ, List, [], if◌then◌else◌, OnOk, OnErr, option_copied};
+ghost use Rattle.std.specs.Prelude.{◌≡◌, ℕ, List, [], if◌then◌else◌, IfOk, OnOk, OnErr, option_copied};
 ghost use Rattle.std.specs.Map.{lookup};
 ghost use Rattle.series_index.specs.Seen.{is_same, seen_of, with_sample, without, undone, HasRoom};
 
 use crate::NoMemory;
 use crate::tracked::Tracked;
 use line_text::Name;
+use point_list::FrozenPoints;
 use std::alloc::Global;
 use std::collections::BTreeMap;
 use std::marker::Model;
@@ -77,6 +78,17 @@ impl MetricIndex {
             return tracked.settle();
         }
         Ok(())
+    }
+
+    // The positions of a metric's series as they are; places what waits, and changes nothing that is seen.
+    pub(crate) fn freeze(&mut self, metric: &Name) -> Result<FrozenPoints, NoMemory>
+        ensures points { IfOk result (λ points. points ≡ (seen_of metric.now self.old).points) }
+        ensures same { (m : List ℕ) → seen_of m self.new ≡ seen_of m self.old }
+    {
+        if let Some(tracked) = self.entries.get_mut(metric) {
+            return tracked.freeze();
+        }
+        FrozenPoints::none(self.alloc)
     }
 
     // Takes out the samples of a step.

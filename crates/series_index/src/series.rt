@@ -11,7 +11,7 @@ use crate::NoMemory;
 use crate::metrics::MetricIndex;
 use crate::tracked::Tracked;
 use line_text::Name;
-use point_list::Points;
+use point_list::{FrozenPoints, Points};
 use sample_model::Sample;
 use std::alloc::Global;
 use std::collections::BTreeMap;
@@ -108,19 +108,18 @@ impl SeriesIndex {
         Ok(Some(points))
     }
 
-    /// The positions of a series, as a value of its own; none where the series never had a sample. Changes nothing that
-    /// is seen. Logarithmic time to find the series, linear in its values, and O(n log n) for n samples that came since
-    /// its positions were last asked for.
-    pub fn points(&mut self, test: &Name, metric: &Name) -> Result<Points, NoMemory>
+    /// The positions of a series as they are; none where the series never had a sample. Changes nothing that is seen.
+    /// Logarithmic time to find the series, one step for 128 positions, and O(n log n) for n samples that came since they
+    /// were last asked for, and for what stands behind the first of these.
+    pub fn points(&mut self, test: &Name, metric: &Name) -> Result<FrozenPoints, NoMemory>
         ensures points { IfOk result (λ points. points
             ≡ (seen (record { test = test.now; metric = metric.now }) self.old).points) }
         ensures same { (s : Series) → seen s self.new ≡ seen s self.old }
     {
-        self.settle(test, metric)?;
-        match self.settled(test, metric)? {
-            Some(points) => Ok(points.copy(self.alloc)?),
-            None => Ok(Points::new(self.alloc)),
+        if let Some(metrics) = self.tests.get_mut(test) {
+            return metrics.freeze(metric);
         }
+        FrozenPoints::none(self.alloc)
     }
 
     /// How many positions a series has. Changes nothing that is seen. Logarithmic time, and O(n log n) for n samples that

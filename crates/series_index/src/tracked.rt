@@ -1,9 +1,10 @@
 //! What is kept of one series.
-ghost use Rattle.std.specs.Prelude.{◌≡◌, OnOk, OnErr};
+ghost use Rattle.std.specs.Prelude.{◌≡◌, IfOk, OnOk, OnErr};
 ghost use Rattle.series_index.specs.Seen.{unseen, with_sample, without, undone, HasRoom};
 
 use crate::NoMemory;
 use crate::log::PointLog;
+use point_list::FrozenPoints;
 use std::alloc::Global;
 
 /// What is kept of a series.
@@ -45,6 +46,14 @@ impl Tracked {
         ensures { self.new ≡ self.old }
     {
         self.points.settle()
+    }
+
+    // Its positions as they are; places what waits, and changes nothing that is seen.
+    pub(crate) fn freeze(&mut self) -> Result<FrozenPoints, NoMemory>
+        ensures points { IfOk result (λ points. points ≡ self.old.points) }
+        ensures same { self.new ≡ self.old }
+    {
+        self.points.freeze()
     }
 
     // Takes out the samples of a step.

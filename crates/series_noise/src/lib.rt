@@ -11,7 +11,7 @@ ghost use Rattle.std.specs.Prelude.{◌≡◌, ◌+◌, ◌*◌, ◌^◌, ◌<�
 ghost use Rattle.segment_model.specs.Values.{values_by_position};
 ghost use Rattle.series_noise.specs.Noise.{IsDistance, AreDistances, IsNoise, OneNoise};
 
-use segment_cost::{Cost, Points, Square};
+use segment_cost::{Cost, FrozenPoints, Square};
 use segment_model::{centre_law, segment_law, sums_law, values_law};
 pub use std::alloc::AllocError as NoMemory;
 use std::alloc::Global;
@@ -19,7 +19,7 @@ use std::alloc::Global;
 /// The noise of points of which there are two at least; it is at most 2 * 10^16, since no value is above 10^16.
 ///
 /// O(n log n + v) time for n positions with v values. The only error is want of memory.
-pub fn noise(alloc: Global, points: &Points) -> Result<u64, NoMemory>
+pub fn noise(alloc: Global, points: &FrozenPoints) -> Result<u64, NoMemory>
     requires { 1 < length points.now }
     ensures noise { IfOk result (λ noise. IsNoise points.now noise) }
     ensures small { IfOk result (λ noise. noise ≤ 2 * 10 ^ 16) }
@@ -41,11 +41,11 @@ pub fn noise_law()
 }
 
 // The distances of all neighbours, in order.
-fn distances_of(alloc: Global, points: &Points) -> Result<Vec<u64>, NoMemory>
+fn distances_of(alloc: Global, points: &FrozenPoints) -> Result<Vec<u64>, NoMemory>
     requires { 1 < length points.now }
     ensures { IfOk result (λ made. AreDistances points.now made.items) }
 {
-    let square = Square::of_points(alloc, points)?;
+    let square = Square::of_frozen(alloc, points)?;
     let mut made = Vec::new(alloc);
     for i in 0..points.len() - 1 {
         made.push(distance(points, &square, i))?;
@@ -54,7 +54,7 @@ fn distances_of(alloc: Global, points: &Points) -> Result<Vec<u64>, NoMemory>
 }
 
 // How far position i + 1 is from position i.
-fn distance(points: &Points, square: &Square, i: usize) -> u64
+fn distance(points: &FrozenPoints, square: &Square, i: usize) -> u64
     requires stands { square.now.positions ≡ values_by_position points.now }
     requires placed { i + 1 < length points.now }
     ensures { IsDistance points.now i result }

@@ -10,14 +10,15 @@ use crate::redone::Redone;
 use crate::snapshot::Snapshot;
 use checkpoint_redo::redo_from;
 use pelt_core::{Steps, Table};
-use point_list::{Points, SharedPoints, common_prefix};
+use point_list::{FrozenPoints, common_prefix};
 use segment_cost::{Done, Square, certificate_law};
 use std::alloc::Global;
 use std::marker::Brand;
 use std::sync::ledger::{Blank, Ledger};
 
 /// The best segmentation of a snapshot with its table: the table that the snapshot has is redone, or a new one is made.
-/// One step for each position past those in common with the old ones; linear in the positions, beside.
+/// One step for each position past those in common with the old ones; beside, the positions in common are compared by
+/// blocks, and the table is copied.
 pub fn compute<L: Ledger>(
     alloc: Global,
     snapshot: Snapshot,
@@ -38,13 +39,11 @@ pub fn compute<L: Ledger>(
         table,
         ..
     } = snapshot;
-    let before = old.points();
-    let mut table = begun(alloc, before, penalty, base, table)?;
-    let front = common_prefix(before, &points);
+    let mut table = begun(alloc, &old, penalty, base, table)?;
+    let front = common_prefix(&old, &points);
     redo_from(&mut table, front, &points, steps)?;
     let redone = (points.len() - front) as u64;
     let cert = table.certificate(alloc)?;
-    let shared = SharedPoints::of(alloc, points)?;
     let done = Done {
         test,
         metric,
@@ -52,7 +51,7 @@ pub fn compute<L: Ledger>(
         base,
         redone,
         cert,
-        points: shared,
+        points,
     };
     Ok(Redone { done, table })
 }
@@ -78,7 +77,7 @@ fn counted<L: Ledger>(alloc: Global, snapshot: Snapshot, blank: Blank) -> Result
 // The table of the old positions: the one that there is, or a new one of none.
 fn begun(
     alloc: Global,
-    old: &Points,
+    old: &FrozenPoints,
     penalty: i128,
     base: u64,
     table: Option<Table<Square>>,

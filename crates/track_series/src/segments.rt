@@ -14,15 +14,15 @@ use crate::snapshot::Snapshot;
 use history_model::{Author, publication_law};
 use line_text::Name;
 use pelt_core::Steps;
-use point_list::{Points, SharedPoints};
+use point_list::FrozenPoints;
 use request_model::{Answer, Refusal, Reply};
 use segment_cost::Done;
 use std::sync::ledger::Ledger;
 use track_state::TrackState;
 
 /// What the history has of a series; none exactly where the series is unknown. The table of its last publication goes with
-/// it, where that is home and has the present penalty. Where there is no memory, nothing changes. Linear in the values of
-/// the series, but for samples that came since it was last read.
+/// it, where that is home and has the present penalty. Where there is no memory, nothing changes. One step for 128
+/// positions, but for look-ups and for samples that came since it was last read.
 pub fn take_snapshot(
     track: &mut TrackState,
     test: &Name,
@@ -44,7 +44,7 @@ pub fn take_snapshot(
     let penalty = track.penalty(metric);
     let test_name = test.copy(alloc)?;
     let metric_name = metric.copy(alloc)?;
-    let none = SharedPoints::of(alloc, Points::new(alloc))?;
+    let none = FrozenPoints::none(alloc)?;
     match track.take_base(test, metric)? {
         Some(base) => Ok(Some(Snapshot {
             test: test_name,

@@ -4,7 +4,7 @@ ghost use Rattle.track_series.specs.Begun.{Begins};
 
 use line_text::Name;
 use pelt_core::Table;
-use point_list::{Points, SharedPoints};
+use point_list::FrozenPoints;
 use segment_cost::Square;
 
 /// The positions of a series at a version of a machine's history, and the penalty of a cut there; with the table of an
@@ -22,9 +22,9 @@ pub struct Snapshot {
     /// The version of the publication whose table it has, or 0.
     pub base: u64,
     /// The positions of the series.
-    pub points: Points,
+    pub points: FrozenPoints,
     /// Those that the table is of.
-    pub old: SharedPoints,
+    pub old: FrozenPoints,
     /// Their table, at the penalty.
     pub table: Option<Table<Square>>,
     pub ghost low: { pos 0 ≤ℤ penalty },

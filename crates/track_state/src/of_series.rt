@@ -15,7 +15,7 @@ use crate::base::Base;
 use crate::state::TrackState;
 use history_model::publication_law;
 use line_text::Name;
-use point_list::Points;
+use point_list::FrozenPoints;
 use report_lines::series_lines;
 use report_model::SeriesLines;
 use request_model::Refusal;
@@ -51,9 +51,13 @@ impl TrackState {
         self.penalties.get(metric)
     }
 
-    /// The positions of a series, as a value of its own; none exactly where the series isn't known. Changes nothing that
-    /// is seen. Linear in its values, but for look-ups and for samples that came since they were last asked for.
-    pub fn points_of(&mut self, test: &Name, metric: &Name) -> Result<Option<Points>, NoMemory>
+    /// The positions of a series as they are; none exactly where the series isn't known. Changes nothing that is seen.
+    /// One step for 128 positions, but for look-ups and for samples that came since they were last asked for.
+    pub fn points_of(
+        &mut self,
+        test: &Name,
+        metric: &Name,
+    ) -> Result<Option<FrozenPoints>, NoMemory>
         ensures found { IfOk result (IsFound (entries_of self.old.history)
             (record { test = test.now; metric = metric.now })) }
         ensures same { self.new ≡ self.old }

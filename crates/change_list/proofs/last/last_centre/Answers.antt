@@ -7,7 +7,7 @@ pub centre_at-requires : goal.centre_at-requires
 centre_at-requires c =
     let points = c.args.done.now.points in
     let cuts = c.args.done.now.cert.cuts in
-    let n : c.len-n.result ≡ length points = c.len-n.ensures ∙ ap length c.points-points.ensures in
+    let n : c.len-n.result ≡ length points = c.len-n.ensures in
     let some : 0 < c.len-n.result = omega (arith, c.if-n-eq0.false) in
     let below : place_before cuts (length cuts) < length points = last-below points cuts (omega (arith, n, some)) c.cuts_law.ensures in
     let low : c.low_of-low.result ≡ place_before cuts (length cuts) =

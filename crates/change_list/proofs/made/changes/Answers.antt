@@ -14,7 +14,7 @@ loop-i-preserved c =
     c.larger_is_better-larger.ensures ∙ ap (λ name. (row_of name).larger_is_better) named in
     let here = moved points c.larger_is_better-larger.result (row_of c.args.done.now.metric).larger_is_better
     c.low_of-low.result (place_before cuts c.loop-i.i) (slice_index cuts c.loop-i.i) c.high_of-high.result (place_behind cuts (length points) c.loop-i.i) c.change_at.result
-    (subst (λ ps. IsChange ps c.larger_is_better-larger.result c.low_of-low.result (slice_index cuts c.loop-i.i) c.high_of-high.result c.change_at.result) c.points-points.ensures c.change_at.ensures) larger c.low_of-low.ensures (c.high_of-high.ensures ∙ ap (λ n. place_behind cuts n c.loop-i.i) (c.len-n.ensures ∙ ap length c.points-points.ensures)) in
+    c.change_at.ensures larger c.low_of-low.ensures (c.high_of-high.ensures ∙ ap (λ n. place_behind cuts n c.loop-i.i) c.len-n.ensures) in
     rw c.in_ok-push.ensures.ok (one-more (λ k x. IsChange points (row_of c.args.done.now.metric).larger_is_better
     (place_before cuts k) (slice_index cuts k) (place_behind cuts (length points) k) x)
     c.loop-i.made c.change_at.result c.loop-i.i c.loop-i.invariant.0 c.loop-i.invariant.1 here)

@@ -21,31 +21,30 @@ fits z low high =
 pub begun-requires-clause-begins : goal.begun-requires-clause-begins
 begun-requires-clause-begins g c =
     let z : ℤ = c.args.snapshot.penalty in
-    simp (to_z-of_z w128 z (fits z c.args.snapshot.low c.args.snapshot.high))
-    (subst (λ (ps : List Position). ∥ Begins c.args.snapshot.base ps z c.args.snapshot.table ∥₁) (sym c.points-before.ensures) c.args.snapshot.begins)
+    simp (to_z-of_z w128 z (fits z c.args.snapshot.low c.args.snapshot.high)) c.args.snapshot.begins
 
 pub redo_from-requires : goal.redo_from-requires
 redo_from-requires g c =
     let z : ℤ = c.args.snapshot.penalty in
-    let table : c.in_ok-table.table ≡ table_of (values_by_position c.points-before.result.now) z = simp (to_z-of_z w128 z (fits z c.args.snapshot.low c.args.snapshot.high)) at c.in_ok-table.ensures in
+    let table : c.in_ok-table.table ≡ table_of (values_by_position c.args.snapshot.old) z = simp (to_z-of_z w128 z (fits z c.args.snapshot.low c.args.snapshot.high)) at c.in_ok-table.ensures in
     let first = ap (λ (t : Tabled). t.positions) table in
-    let within = common-within c.points-before.result.now c.args.snapshot.points in
-    let size : length c.in_ok-table.table.positions ≡ length c.points-before.result.now = ap length first ∙ length-map c.points-before.result.now position_values in
+    let within = common-within c.args.snapshot.old c.args.snapshot.points in
+    let size : length c.in_ok-table.table.positions ≡ length c.args.snapshot.old = ap length first ∙ length-map c.args.snapshot.old position_values in
     record {
       there = omega (arith, c.common_prefix-front.ensures, within.0, size);
       within = omega (arith, c.common_prefix-front.ensures, within.1);
-      first = front-first c.points-before.result.now c.args.snapshot.points c.common_prefix-front.result c.in_ok-table.table.positions c.common_prefix-front.ensures first;
+      first = front-first c.args.snapshot.old c.args.snapshot.points c.common_prefix-front.result c.in_ok-table.table.positions c.common_prefix-front.ensures first;
     }
 
 pub overflow_sub-redone : goal.overflow_sub-redone
 overflow_sub-redone g c =
-    let within = common-within c.points-before.result.now c.args.snapshot.points in
+    let within = common-within c.args.snapshot.old c.args.snapshot.points in
     omega (arith, c.len.ensures, c.common_prefix-front.ensures, within.1)
 
 table-is : (g : _) (c : In_ok-cert g) → c.redo_from.new.table ≡ table_of (values_by_position c.args.snapshot.points) c.args.snapshot.penalty
 table-is g c =
     let z : ℤ = c.args.snapshot.penalty in
-    let first : c.in_ok-table.table ≡ table_of (values_by_position c.points-before.result.now) z = simp (to_z-of_z w128 z (fits z c.args.snapshot.low c.args.snapshot.high)) at c.in_ok-table.ensures in
+    let first : c.in_ok-table.table ≡ table_of (values_by_position c.args.snapshot.old) z = simp (to_z-of_z w128 z (fits z c.args.snapshot.low c.args.snapshot.high)) at c.in_ok-table.ensures in
     c.in_ok-redo_from.ensures.ok ∙ ap (table_of (values_by_position c.args.snapshot.points)) (ap (λ (t : Tabled). t.penalty) first)
 
 stands : (g : _) (c : In_ok-cert g) → StandsFor c.args.snapshot.points c.args.snapshot.penalty c.in_ok-cert.cert
@@ -61,8 +60,7 @@ invariant_of-done g c =
       stands = ∣ (
         subst (λ (z : ℤ). pos 0 ≤ℤ z) (sym x.same_penalty) c.args.snapshot.low,
         subst (λ (z : ℤ). z ≤ℤ pos (10 ^ 36)) (sym x.same_penalty) c.args.snapshot.high,
-        subst (λ (ps : List Position). StandsFor ps c.in_ok-cert.cert.penalty c.in_ok-cert.cert) (sym c.in_ok-shared.ensures)
-            (subst (λ (z : ℤ). StandsFor c.args.snapshot.points z c.in_ok-cert.cert) (sym x.same_penalty) x),
+        subst (λ (z : ℤ). StandsFor c.args.snapshot.points z c.in_ok-cert.cert) (sym x.same_penalty) x,
       ) ∣₁;
     }
 
@@ -75,8 +73,8 @@ returns-clause-made g c =
       metric = refl;
       version = refl;
       base = refl;
-      redone = ap₂ (λ (a b : ℕ). a - b) c.len.ensures (c.common_prefix-front.ensures ∙ ap (λ (ps : List Position). common ps c.args.snapshot.points) c.points-before.ensures);
-      points = c.in_ok-shared.ensures;
+      redone = ap₂ (λ (a b : ℕ). a - b) c.len.ensures c.common_prefix-front.ensures;
+      points = refl;
       stands = x;
-      tabled = table-is g k ∙ ap₂ (λ (ps : List Position) (z : ℤ). table_of (values_by_position ps) z) (sym c.in_ok-shared.ensures) (sym x.same_penalty);
+      tabled = table-is g k ∙ ap (λ (z : ℤ). table_of (values_by_position c.args.snapshot.points) z) (sym x.same_penalty);
     }
