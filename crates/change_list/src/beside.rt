@@ -27,7 +27,7 @@ pub fn commits_beside(done: &Done, i: usize) -> Beside
         → (d : Change) → IsOf (get_or made i d) result }
 {
     cuts_law(done);
-    let points = done.points.points();
+    let points = &done.points;
     let cuts = done.cert.cuts.as_slice();
     let cut = cuts[i] as usize;
     Beside {
