@@ -8,7 +8,7 @@ ghost use Rattle.track_model.specs.Tracks.{IsStep};
 ghost use Rattle.track_follow.specs.Raised.{raised_from};
 
 use crate::NoMemory;
-use change_list::changes;
+use change_list::commits_beside;
 use history_model::{Author, Entry, Raised, RegressionEvent};
 use line_text::Name;
 use metric_table::Limit;
@@ -33,13 +33,12 @@ fn raised_from(alloc: Global, done: &Done, change: u64) -> Result<Raised, NoMemo
     requires to { change ≤ length done.now.cert.cuts }
     ensures { IfOk result (λ raised. raised ≡ raised_from done.now change) }
 {
-    let found = changes(alloc, done)?;
-    let one = &found.as_slice()[(change - 1) as usize];
+    let beside = commits_beside(done, (change - 1) as usize);
     Ok(Raised {
         test: done.test.copy(alloc)?,
         metric: done.metric.copy(alloc)?,
-        before: one.before,
-        after: one.after,
+        before: beside.before,
+        after: beside.after,
     })
 }
 
@@ -101,8 +100,8 @@ pub fn set_state(
     Ok(Reply { step, answer })
 }
 
-/// `regress M TEST METRIC CHANGE`: raises a change of the series' last publication, by its number from 1. Linear in
-/// the values of the publication, but for look-ups.
+/// `regress M TEST METRIC CHANGE`: raises a change of the series' last publication, by its number from 1. Constant
+/// time, but for look-ups.
 pub fn regress(
     track: &mut TrackState,
     author: Author,
