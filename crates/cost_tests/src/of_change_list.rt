@@ -33,7 +33,9 @@ fn done_of(alloc: Global, test: Name, metric: Name) -> Option<Done> {
     if !stands(alloc, &cert, &points) {
         return None;
     }
-    let points = points.freeze().ok()?;
+    let Ok(frozen) = points.freeze() else {
+        return None;
+    };
     Some(Done {
         test,
         metric,
@@ -41,7 +43,7 @@ fn done_of(alloc: Global, test: Name, metric: Name) -> Option<Done> {
         base: 0,
         redone: 6,
         cert,
-        points,
+        points: frozen,
     })
 }
 
