@@ -3,7 +3,7 @@ ghost use Rattle.std.specs.Prelude.{IsTrue, pos, ◌≤ℤ◌, ◌^◌};
 ghost use Rattle.segment_cost.specs.Certificate.{StandsFor};
 
 use crate::given::points_of;
-use change_list::{Change, ChangeItems, changes};
+use change_list::{Beside, Change, ChangeItems, changes, commits_beside};
 use cost_certificate::check;
 use line_text::Name;
 use part_core::part;
@@ -47,12 +47,25 @@ fn done_of(alloc: Global, test: Name, metric: Name) -> Option<Done> {
     })
 }
 
-// Its changes; none where there is no memory.
-fn made_of(alloc: Global, metric: &[u8]) -> Option<ChangeItems> {
+// The same of this metric.
+fn done_in(alloc: Global, metric: &[u8]) -> Option<Done> {
     let test = Name::of_text(alloc, b"T").ok()?;
     let metric = Name::of_text(alloc, metric).ok()?;
-    let done = done_of(alloc, test, metric)?;
+    done_of(alloc, test, metric)
+}
+
+// Its changes; none where there is no memory.
+fn made_of(alloc: Global, metric: &[u8]) -> Option<ChangeItems> {
+    let done = done_in(alloc, metric)?;
     changes(alloc, &done).ok()
+}
+
+// Whether the commits beside cut i are these.
+fn lies_between(alloc: Global, i: usize, wanted: Beside) -> bool {
+    match done_in(alloc, b"ns/op") {
+        Some(done) => i < done.cert.cuts.len() && commits_beside(&done, i) == wanted,
+        None => false,
+    }
 }
 
 // Whether these are all.
@@ -90,4 +103,9 @@ fn changes_have_their_direction(rt: HostRuntime) {
     };
     assert!(rt; are(rt.alloc(), b"ns/op", &[first, second]));
     assert!(rt; are(rt.alloc(), b"MB/s", &[faster, slower]));
+    let beside = Beside {
+        before: 3,
+        after: 4,
+    };
+    assert!(rt; lies_between(rt.alloc(), 1, beside));
 }

@@ -74,7 +74,7 @@ fn other_files_are_refused(rt: HostRuntime) {
         "a gap"
     );
     assert!(rt;
-        holds(&rt, BEFORE.0, BEFORE.1) && has_no_count(&rt, rt.alloc()),
+        holds(&rt, BEFORE.0, BEFORE.1) && is_refused(&rt, rt.alloc(), BEFORE.0),
         "a row before the first"
     );
     for name in &NO_NAMES {
@@ -166,12 +166,6 @@ fn has(alloc: Global, keeper: &mut SqliteKeeper<'_>) -> bool {
 fn is_refused(rt: &HostRuntime, alloc: Global, name: &str) -> bool {
     is_so(SqliteKeeper::new(rt, alloc), |keeper| {
         keeper.start(alloc, name).is_err()
-    })
-}
-
-fn has_no_count(rt: &HostRuntime, alloc: Global) -> bool {
-    is_so(SqliteKeeper::new(rt, alloc), |keeper| {
-        keeper.start(alloc, BEFORE.0).is_ok() && keeper.count().is_err()
     })
 }
 
