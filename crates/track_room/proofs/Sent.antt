@@ -11,7 +11,7 @@ use Rattle.history_model.specs.contracts.entries.Placed as Placed
 use Rattle.line_text.specs.contracts.name.Name as Name
 use Rattle.order_index.specs.contracts.index.OrderIndex as OrderIndex
 use Rattle.point_list.specs.contracts.points.Points as Points
-use Rattle.point_list.specs.contracts.shared.SharedPoints as SharedPoints
+use Rattle.point_list.specs.contracts.frozen.FrozenPoints as FrozenPoints
 use Rattle.prefix_sums.specs.contracts.prefixes.PrefixSums as PrefixSums
 use Rattle.publication_index.specs.contracts.penalties.PenaltyIndex as PenaltyIndex
 use Rattle.publication_index.specs.contracts.published.PublicationIndex as PublicationIndex
@@ -49,7 +49,7 @@ placed_send = search (sendable, crosses) depth 60 fits 20000
 points_send : IsSend Points.the_row
 points_send = search (sendable, crosses) depth 60 fits 20000
 
-shared_send : IsSend SharedPoints.the_row
+shared_send : IsSend FrozenPoints.the_row
 shared_send = search (sendable, crosses) depth 60 fits 20000
 
 square_send : IsSend Square.the_row
@@ -135,7 +135,7 @@ placed_sync = search (sendable, crosses) depth 60 fits 20000
 points_sync : IsSync Points.the_row
 points_sync = search (sendable, crosses) depth 60 fits 20000
 
-shared_points_sync : IsSync SharedPoints.the_row
+shared_points_sync : IsSync FrozenPoints.the_row
 shared_points_sync = search (sendable, crosses, points_send, points_sync) depth 60 fits 20000
 
 square_sync : IsSync Square.the_row
