@@ -7,10 +7,10 @@
 //! `serde_json`, which writes the JSON.
 #![tactic(auto)]
 
+mod as_json;
 mod items;
-mod json;
 mod text;
 
-pub use json::put_json;
+pub use as_json::put_json;
 pub use std::alloc::AllocError as NoMemory;
 pub use text::put_text;

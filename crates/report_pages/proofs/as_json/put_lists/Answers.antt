@@ -5,7 +5,7 @@ use Rattle.serde_json.specs.View.{items_of}
 use Rattle.serde_json.specs.Written.{compact_text}
 use Rattle.report_pages.specs.Json.{job_data, regression_data, series_data}
 use Rattle.report_pages.proofs.Joined.{lists_behind}
-use Rattle.report_pages.proofs.json.put_lists.Goals as goal
+use Rattle.report_pages.proofs.as_json.put_lists.Goals as goal
 
 -- what the calls appended, one after another
 pub returns : goal.returns

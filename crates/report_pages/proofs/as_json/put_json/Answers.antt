@@ -1,6 +1,6 @@
 use Rattle.std.proofs.Common.{◌++◌, List, ℕ, ap}
 use Rattle.report_pages.proofs.Joined.{whole_text}
-use Rattle.report_pages.proofs.json.put_json.Goals as goal
+use Rattle.report_pages.proofs.as_json.put_json.Goals as goal
 
 -- the parts make the whole
 pub returns-clause-ok : goal.returns-clause-ok
