@@ -1,6 +1,6 @@
 -- The marks once a finished segmentation was handed in.
 use Rattle.history_model.proofs.Chosen.{entries-push}
-use Rattle.std.proofs.Common.{◌≡◌, ℕ, ◌+◌, ◌≤◌, Bool, true, false, cond, ◌&&◌, List, [], ◌∷◌, ◌++◌, length, take, refl, sym, ap, subst, ◌∙◌, inl, inr, Option, Some, None, arith}
+use Rattle.std.proofs.Common.{◌≡◌, ◌≢◌, ℕ, ◌+◌, ◌≤◌, Bool, true, false, cond, ◌&&◌, List, [], ◌∷◌, ◌++◌, length, take, refl, sym, ap, subst, ◌∙◌, inl, inr, Option, Some, None, arith}
 use Rattle.std.specs.Prelude.{nat_lt}
 use Rattle.std.specs.Ordering.{is_eq}
 use Rattle.std.proofs.lemmas.Bool.{cases_Bool}
@@ -30,8 +30,7 @@ use Rattle.track_series.specs.declared.publishing.Published.{Published}
 use Rattle.track_series.specs.declared.publishing.Published.TheVariants as published
 use Rattle.track_state.specs.Made.{entry_of, publication_from}
 use Rattle.track_state.specs.State.{IsKept}
-use Rattle.track_work.specs.Covering.{Covers, Fits, IsMark, IsMarked, MakeSame}
-use Rattle.track_work.specs.Taking.{claim_after}
+use Rattle.track_work.specs.Covering.{Covers, Fits, IsMark, IsMarked, IsRefusedBy, MakeSame}
 use Rattle.track_work.specs.Work.{claim_by, key_of, series_of}
 use Rattle.track_work.proofs.Covering.{all-taken, caught, claims-grown, covers-grown, either, not-less, not-less-is}
 use Rattle.track_work.proofs.Opening.{claimed-claims, claimed-covers, makes-free}
@@ -173,65 +172,72 @@ same-side h s m version is none = elim is.touch [
 makes-any : (h : List Entry) (s : Series) (claim : Claim) (m : Mark) → IsMark h (length h) s m → claim_by h s (with_claim claim (Some m)) ≡ claim
 makes-any h s claim m is = ap (λ b. cond b (touched_claim claim) claim) (not-less m.touched (last_touch h s) (caught h s m is))
 
+-- ---- the claim on its series ends
 module _ (grow : TouchesGrow) (past : TouchesArePast) (known : KnownGrows) (stays : KnownStays) (latest : LatestStays)
-    (old : Track) (author : Author) (done : Done) (new : Track) (legal : Legal (entries_of new.history)) (a b : Entries) (k : SeriesKey) (k_is : series_of k ≡ series_of_done done)
-    (covers : Covers (entries_of old.history) (length (entries_of old.history)) a) (step : ℕ) (marked : IsMarked a k step) where
-  abbrev Claimed : Claim → Type 0
-  Claimed claim = (q : SeriesKey) → mark_of q b ≡ cond (is_eq (key_cmp k q)) (with_claim claim (mark_of k a)) (mark_of q a)
-
+    (old : Track) (author : Author) (done : Done) (new : Track) (legal : Legal (entries_of new.history)) (seen : ℕ) (a b : Entries) (k : SeriesKey)
+    (covers : Covers (entries_of old.history) seen a) (claimed : (q : SeriesKey) → mark_of q b ≡ cond (is_eq (key_cmp k q)) (with_claim Free (mark_of k a)) (mark_of q a)) where
   abbrev Covered : Type 0
-  Covered = Covers (entries_of new.history) (length (entries_of old.history)) b
+  Covered = Covers (entries_of new.history) seen b
 
-  abbrev Becomes : Claim → Type 0
-  Becomes claim =
+  abbrev Becomes : Type 0
+  Becomes =
       (t : Series) → claim_by (entries_of new.history) t (mark_of (key_of t) b)
-      ≡ cond (same_series (series_of k) t) claim (claim_by (entries_of old.history) t (mark_of (key_of t) a))
+      ≡ cond (same_series (series_of k) t) Free (claim_by (entries_of old.history) t (mark_of (key_of t) a))
 
   -- nothing was added
-  kept : new ≡ old → (claim : Claim) → ((s : Series) → is_key k s ≡ true → claim_by (entries_of old.history) s (with_claim claim (mark_of (key_of s) a)) ≡ claim) → Claimed claim → Covered × Becomes claim
-  kept same claim makes claimed =
+  kept : new ≡ old → Covered × Becomes
+  kept same =
       let h : List Entry = entries_of old.history in (
-        subst (λ (t : Track). Covers (entries_of t.history) (length h) b) (sym same) (claimed-covers h (length h) a b covers k claim claimed (λ is. omega arith)),
-        λ t. ap (λ (x : Track). claim_by (entries_of x.history) t (mark_of (key_of t) b)) same ∙ claimed-claims h (length h) a b covers k claim claimed makes t,
+        subst (λ (t : Track). Covers (entries_of t.history) seen b) (sym same) (claimed-covers h seen a b covers k Free claimed (λ is. absurd (cc))),
+        λ t. ap (λ (x : Track). claim_by (entries_of x.history) t (mark_of (key_of t) b)) same
+            ∙ claimed-claims h seen a b covers k Free claimed (λ s is. makes-free h s (mark_of (key_of s) a)) t,
       )
 
   -- it was published
-  added : entries_of new.history ≡ entries_of old.history ++ entry_of done ∷ [] → Claimed Free → Covered × Becomes Free
-  added entries claimed =
+  added : entries_of new.history ≡ entries_of old.history ++ entry_of done ∷ [] → Covered × Becomes
+  added entries =
       let h : List Entry = entries_of old.history in
       let e : Entry = entry_of done in
       let allowed : Allowed h e = last-allowed h e (let P : List Entry → Type 0 = λ x. Legal x in subst P entries legal) in
-      let grown : Covers (h ++ e ∷ []) (length h) a = covers-grown grow past known stays latest h e allowed (length h) a covers in (
-        subst (λ (x : List Entry). Covers x (length h) b) (sym entries) (claimed-covers (h ++ e ∷ []) (length h) a b grown k Free claimed (λ is. absurd (cc))),
+      let grown : Covers (h ++ e ∷ []) seen a = covers-grown grow past known stays latest h e allowed seen a covers in (
+        subst (λ (x : List Entry). Covers x seen b) (sym entries) (claimed-covers (h ++ e ∷ []) seen a b grown k Free claimed (λ is. absurd (cc))),
         λ t. ap (λ (x : List Entry). claim_by x t (mark_of (key_of t) b)) entries
-            ∙ claimed-claims (h ++ e ∷ []) (length h) a b grown k Free claimed (λ s same. makes-free (h ++ e ∷ []) s (mark_of (key_of s) a)) t
+            ∙ claimed-claims (h ++ e ∷ []) seen a b grown k Free claimed (λ s same. makes-free (h ++ e ∷ []) s (mark_of (key_of s) a)) t
             ∙ ap (λ (claim : Claim). cond (same_series (series_of k) t) Free claim)
-            (claims-grown grow past known stays latest h e allowed (length h) a covers t),
+            (claims-grown grow past known stays latest h e allowed seen a covers t),
       )
+
+  -- no limit refused it
+  pub freed : (told : Published) → IsPublished old author done told new → ((limit : Limit) → told ≢ published.Full limit) → Covered × Becomes
+  freed (published.Ok at) is other = added (is-ok old author done at new is)
+  freed (published.Stale v) is other = kept (is-stale old author done v new is)
+  freed (published.Full limit) is other = absurd (other limit refl)
+
+-- ---- a limit refused it
+module _ (h : List Entry) (a b : Entries) (covers : Covers h (length h) a) (k : SeriesKey) (version step : ℕ) (marked : IsMarked a k step)
+    (none : later version (last_publication (series_of k) h) ≡ None)
+    (claimed : (q : SeriesKey) → mark_of q b ≡ cond (is_eq (key_cmp k q)) (with_claim (cond (nat_lt version step) Free Refused) (mark_of k a)) (mark_of q a)) where
+  abbrev claim : Claim
+  claim = cond (nat_lt version step) Free Refused
 
   its-mark : (s : Series) → is_key k s ≡ true → mark_of (key_of s) a ≡ Some marked.mark
   its-mark s same = ap (λ (q : SeriesKey). mark_of q a) (sym (same-key k s same)) ∙ marked.there
 
-  its-fits : (s : Series) → is_key k s ≡ true → IsMark (entries_of old.history) (length (entries_of old.history)) s marked.mark
-  its-fits s same =
-      subst (λ (o : Option Mark). Fits (entries_of old.history) (length (entries_of old.history)) s o) (its-mark s same) (covers.each s)
+  its-fits : (s : Series) → is_key k s ≡ true → IsMark h (length h) s marked.mark
+  its-fits s same = subst (λ (o : Option Mark). Fits h (length h) s o) (its-mark s same) (covers.each s)
 
-  pub handed : (told : Published) → IsPublished old author done told new → Claimed (claim_after told done.version step)
-      → Covered × Becomes (claim_after told done.version (last_touch (entries_of old.history) (series_of_done done)))
-  handed (published.Ok at) is claimed = added (is-ok old author done at new is) claimed
-  handed (published.Stale v) is claimed =
-      kept (is-stale old author done v new is) Free (λ s same. makes-free (entries_of old.history) s (mark_of (key_of s) a)) claimed
-  handed (published.Full limit) is claimed =
-      let h : List Entry = entries_of old.history in
-      let full = is-full old author done limit new is in
+  pub refused-covers : Covers h (length h) b
+  refused-covers = claimed-covers h (length h) a b covers k claim claimed (λ is. omega arith)
+
+  pub refused-claims : IsRefusedBy h (series_of k) version a b
+  refused-claims t =
       let s : Series = series_of k in
       let fits : IsMark h (length h) s marked.mark = subst (λ (o : Option Mark). Fits h (length h) s o) marked.there (covers.each s) in
-      let none : later done.version (last_publication s h) ≡ None = ap (λ (u : Series). later done.version (last_publication u h)) k_is ∙ full.0 in
-      let side : nat_lt done.version step ≡ nat_lt done.version (last_touch h (series_of_done done)) =
-      ap (nat_lt done.version) (sym marked.touched) ∙ same-side h s marked.mark done.version fits none ∙ ap (λ (u : Series). nat_lt done.version (last_touch h u)) k_is in
-      let claim : Claim = cond (nat_lt done.version step) Free Refused in
-      let all = kept full.2 claim (λ t same. ap (λ (o : Option Mark). claim_by h t (with_claim claim o)) (its-mark t same) ∙ makes-any h t claim marked.mark (its-fits t same)) claimed in
-      (all.0, λ t. all.1 t ∙ ap (λ b. cond (same_series (series_of k) t) (cond b Free Refused) (claim_by h t (mark_of (key_of t) a))) side)
+      let side : nat_lt version step ≡ nat_lt version (last_touch h s) =
+      ap (nat_lt version) (sym marked.touched) ∙ same-side h s marked.mark version fits none in
+      claimed-claims h (length h) a b covers k claim claimed
+      (λ u same. ap (λ (o : Option Mark). claim_by h u (with_claim claim o)) (its-mark u same) ∙ makes-any h u claim marked.mark (its-fits u same)) t
+      ∙ ap (λ b. cond (same_series s t) (cond b Free Refused) (claim_by h t (mark_of (key_of t) a))) side
 
 -- ---- what is kept of the last publication
 pub kept-none : (h : List Entry) (o : Option Publication) → IsKept h o None → o ≡ None

@@ -1,12 +1,12 @@
 -- Private: no public contract cites this. What the marks of series tell of a history, of which so many first entries were
 -- looked at.
-use Rattle.std.specs.Prelude.{◌≡◌, ◌≤◌, ◌⊎◌, ℕ, Bool, true, false, ◌&&◌, if◌then◌else◌, List, length, take, Option, Some, None}
+use Rattle.std.specs.Prelude.{◌≡◌, ◌≤◌, ◌⊎◌, ℕ, Bool, true, false, nat_lt, ◌&&◌, if◌then◌else◌, List, length, take, Option, Some, None}
 use Rattle.history_model.specs.declared.entries.Entry.{Entry}
 use Rattle.history_model.specs.Publications.{last_publication}
-use Rattle.history_model.specs.Runs.{Series, is_known}
+use Rattle.history_model.specs.Runs.{Series, is_known, same_series}
 use Rattle.touch_index.specs.Marks.{Entries, mark_of, touched_mark}
 use Rattle.touch_index.specs.declared.mark.Claim.{Claim}
-use Rattle.touch_index.specs.declared.mark.Claim.TheVariants.{Refused}
+use Rattle.touch_index.specs.declared.mark.Claim.TheVariants.{Free, Refused}
 use Rattle.touch_index.specs.declared.key.SeriesKey.{SeriesKey}
 use Rattle.touch_index.specs.declared.mark.Mark.{Mark}
 use Rattle.touch_model.specs.Stale.{is_behind}
@@ -52,6 +52,14 @@ SomeAreTouched which step old new =
 abbrev pub MakeSame : List Entry → Entries → Entries → Type 0
 MakeSame h old new = (s : Series) → claim_by h s (mark_of (key_of s) new)
     ≡ claim_by h s (mark_of (key_of s) old)
+
+-- the claim on one series becomes what a limit leaves that refused a segmentation of a version: nobody takes it, unless an
+-- entry touched it since; the claims on all others stay
+abbrev pub IsRefusedBy : List Entry → Series → ℕ → Entries → Entries → Type 0
+IsRefusedBy h s version old new =
+    (t : Series) → claim_by h t (mark_of (key_of t) new)
+    ≡ (if same_series s t then (if nat_lt version (last_touch h s) then Free else Refused)
+    else claim_by h t (mark_of (key_of t) old))
 
 -- a test tells the known series that an entry touches, which stands behind so many
 pub record IsTest (h : List Entry) (place : ℕ) (e : Entry) (which : Series → Bool) : Type 0 where

@@ -1,14 +1,16 @@
 //! What becomes of a series that was taken.
-ghost use Rattle.std.specs.Prelude.{◌≡◌, IfOk, OnErr, OnOk, length, true};
+ghost use Rattle.std.specs.Prelude.{◌≡◌, IfOk, OnErr, OnOk, length, true, nat_lt, if◌then◌else◌, None};
 ghost use Rattle.history_model.specs.Entries.{entries_of};
+ghost use Rattle.history_model.specs.Publications.{last_publication};
 ghost use Rattle.history_model.specs.Runs.{is_known};
 ghost use Rattle.publication_index.specs.Standing.{table_for};
 ghost use Rattle.touch_index.specs.declared.mark.Claim.TheVariants as claim;
 ghost use Rattle.track_state.specs.Made.{IsMadeFrom};
 ghost use Rattle.track_series.specs.Beside.{IsBegun};
 ghost use Rattle.track_series.specs.declared.publishing.Published.{Published};
-ghost use Rattle.track_work.specs.Covering.{Covers, IsMarked, MakeSame};
-ghost use Rattle.track_work.specs.Taking.{Finishes, IsBegunOn, Publishes, claim_after};
+ghost use Rattle.track_series.specs.Publications.{later};
+ghost use Rattle.track_work.specs.Covering.{Covers, IsMarked, IsRefusedBy, MakeSame};
+ghost use Rattle.track_work.specs.Taking.{Finishes, IsBegunOn, Publishes};
 ghost use Rattle.track_work.specs.Work.{ClaimBecomes, IsSame, history_of, series_of};
 
 use crate::NoMemory;
@@ -51,14 +53,41 @@ fn marked(track: &TrackState, touched: &mut TouchIndex, key: &SeriesKey) -> Resu
     Ok(step)
 }
 
-// The claim on a series once a segmentation of a version was handed in.
-fn claim_after(told: Published, version: u64, touched: u64) -> Claim
-    ensures { result ≡ claim_after told version touched }
+// The claim on a series that was touched last in this step, once a limit refused a segmentation of a version: where no
+// entry touched it since, nobody takes it again until one does.
+fn claim_refused(version: u64, touched: u64) -> Claim
+    ensures { result ≡ (if nat_lt version touched then claim.Free else claim.Refused) }
 {
-    match told {
-        Published::Full(_) if version >= touched => Claim::Refused,
-        _ => Claim::Free,
+    if version < touched {
+        Claim::Free
+    } else {
+        Claim::Refused
     }
+}
+
+// A limit refused a segmentation of a version, and no later one was published: notes it where no entry touched the series
+// since. All entries are looked at for that.
+fn note_refusal(
+    track: &TrackState,
+    touched: &mut TouchIndex,
+    seen: &mut u64,
+    key: &SeriesKey,
+    version: u64,
+) -> Result<(), NoMemory>
+    requires covers { Covers (entries_of track.now.history) seen.old touched.old }
+    requires known { is_known (series_of key.now) (entries_of track.now.history) ≡ true }
+    requires latest { later version
+        (last_publication (series_of key.now) (entries_of track.now.history)) ≡ None }
+    ensures covers { Covers (entries_of track.now.history) seen.new touched.new }
+    ensures refused { OnOk result (IsRefusedBy (entries_of track.now.history) (series_of key.now)
+        version touched.old touched.new) }
+    ensures same { OnErr result
+        (MakeSame (entries_of track.now.history) touched.old touched.new) }
+{
+    catch_up(track, touched, seen)?;
+    let step = marked(track, touched, key)?;
+    touched.set_claim(key, claim_refused(version, step));
+    Ok(())
 }
 
 impl WorkState {
@@ -80,20 +109,27 @@ impl WorkState {
         publication_law();
         touch_law();
         stale_law();
-        catch_up(&self.track, &mut self.touched, &mut self.seen)?;
         let key = SeriesKey::of(self.track.alloc(), &done.test, &done.metric)?;
-        let touched = marked(&self.track, &mut self.touched, &key)?;
         let version = done.version;
         let end = finish(&mut self.track, author, done, table)?;
         self.track.history_law();
-        self.touched
-            .set_claim(&key, claim_after(end.told, version, touched));
+        if let Published::Full(_) = end.told {
+            note_refusal(
+                &self.track,
+                &mut self.touched,
+                &mut self.seen,
+                &key,
+                version,
+            )?;
+            return Ok(end);
+        }
+        self.touched.set_claim(&key, Claim::Free);
         Ok(end)
     }
 
     /// Publishes a segmentation that was made from the history, at its version or before, and keeps its table, which is home
     /// then. This ends a claim on its series, unless a limit refused it and no entry touched the series since that version.
-    /// Linear in its cuts and in the samples that came since the last search, but for look-ups.
+    /// Linear in its cuts, but for look-ups; where a limit refuses it, in the samples too that came since the last search.
     pub fn publish(
         &mut self,
         author: Author,
