@@ -75,6 +75,12 @@ common-front (suc n) (p ∷ a) (q ∷ b) same = elim (same_position p q) as (λ 
 ] same
 
 -- ---- blocks in a row
+-- a list has as many items as were taken from it
+at-least : (n : ℕ) (ps : List Position) → length (take n ps) ≡ n → n ≤ length ps
+at-least zero ps size = omega arith
+at-least (suc n) [] size = absurd (omega (arith, size))
+at-least (suc n) (p ∷ ps) size = let rest = at-least n ps (omega (arith, size)) in omega (arith, rest)
+
 take-both : {A : Type 0} (a b : ℕ) (xs : List A) → take a xs ++ take b (drop a xs) ≡ take (a + b) xs
 take-both zero b xs = let on : b ≡ zero + b = omega arith in ap (λ n. take n xs) on
 take-both (suc a) b [] = let on : suc a + b ≡ suc (a + b) = omega arith in rw on (nothing b)
@@ -154,11 +160,6 @@ module _ {A : Type 0} (view : A → List Position) where
       shorter (suc n) zero ps le = absurd (omega (arith, le))
       shorter (suc n) (suc m) [] le = refl
       shorter (suc n) (suc m) (p ∷ ps) le = ap (λ l. p ∷ l) (shorter n m ps (omega (arith, le)))
-
-      at-least : (n : ℕ) (ps : List Position) → length (take n ps) ≡ n → n ≤ length ps
-      at-least zero ps size = omega arith
-      at-least (suc n) [] size = absurd (omega (arith, size))
-      at-least (suc n) (p ∷ ps) size = let rest = at-least n ps (omega (arith, size)) in omega (arith, rest)
 
   -- only what is seen of the blocks counts
   joined-map : (blocks : List A) → joined view blocks ≡ joined (λ (ps : List Position). ps) (map view blocks)
@@ -271,11 +272,6 @@ module _ {A : Type 0} (view : A → List Position) where
         same = is.same ∙ sym same;
         within = at-least (128 * length blocks) new (ap length same ∙ taken);
       }
-    where
-      at-least : (n : ℕ) (ps : List Position) → length (take n ps) ≡ n → n ≤ length ps
-      at-least zero ps size = omega arith
-      at-least (suc n) [] size = absurd (omega (arith, size))
-      at-least (suc n) (p ∷ ps) size = let rest = at-least n ps (omega (arith, size)) in omega (arith, rest)
 
   pub front-inserted : (blocks : List A) (points : List Position) (commit : ℕ) (x : Observation) (d : Position) → IsFront view blocks points
       → ((i : ℕ) → i < 128 * length blocks → (get_or points i d).commit < commit) → IsFront view blocks (inserted commit x points)

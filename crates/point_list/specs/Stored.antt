@@ -1,6 +1,7 @@
 -- Private: no public contract cites this. A position's values in cells, and behind these as many cells of steps.
 use Rattle.std.specs.Prelude.{◌≡◌, ℕ, ℤ, ◌/◌, ◌*◌, ◌<◌, ◌≤◌, List, [], ◌∷◌, length, map, take, drop}
 use Rattle.std.specs.Int.{w64, cast_unsigned}
+use Rattle.std.specs.List.Sorted.{IsNonDecreasingBy}
 use Rattle.segment_model.specs.Segments.{Observation}
 
 -- steps and values side by side
@@ -16,6 +17,10 @@ as_steps cells = map (cast_unsigned w64) cells
 -- the cells of values; as many for their steps stand behind them
 abbrev pub half : List ℤ → ℕ
 half cells = length cells / 2
+
+-- their steps don't fall
+abbrev pub AreInOrder : List Observation → Type 0
+AreInOrder samples = IsNonDecreasingBy (λ (x : Observation). x.step) samples
 
 -- the first values with their steps
 abbrev pub samples_in : ℕ → List ℤ → List Observation

@@ -2,7 +2,7 @@
 ghost use Rattle.std.specs.Prelude.{◌≡◌, ◌+◌, ◌*◌, ◌<◌, ◌≤◌, ◌↔◌, ℕ, List, [], length, OnOk, OnErr, IfOk, slice_index, Err, false, true, get_or, nat_lt, All};
 ghost use Rattle.std.specs.List.Sorted.{IsStrictlyIncreasing};
 ghost use Rattle.segment_model.specs.Segments.{Position, segment, values_of};
-ghost use Rattle.segment_model.specs.Limits.{commits_of, HasValue, WithinLimits};
+ghost use Rattle.segment_model.specs.Limits.{commits_of, HasValue, HasStepsInOrder, WithinLimits};
 ghost use Rattle.segment_model.specs.Edits.{inserted, removed, has_commit};
 ghost use Rattle.point_list.specs.Places.{MayCome};
 ghost use Rattle.point_list.specs.Searches.{StandsAt};
@@ -155,7 +155,8 @@ impl Points {
 
     /// Takes away all values of a step at a commit, and the position where none is left. Takes no memory.
     ///
-    /// Logarithmic time, but for the values of the position and for moving the positions on the shorter side of one that goes.
+    /// Logarithmic time, but for moving the position's values of later steps, and the positions on the shorter side of one
+    /// that goes.
     pub fn remove(&mut self, commit: u64, step: u64)
         ensures { self.new ≡ removed commit step self.old }
     {
@@ -256,6 +257,7 @@ fn put_in(
 fn take_out(positions: &mut PositionList, commit: u64, step: u64) -> usize
     requires rising { IsStrictlyIncreasing (commits_of positions.old) }
     requires filled { All HasValue positions.old }
+    requires in_order { All HasStepsInOrder positions.old }
     ensures left { positions.new ≡ removed commit step positions.old }
     ensures gone { length (values_of positions.new) + result
         ≡ length (values_of positions.old) }

@@ -1,6 +1,7 @@
 //! The positions in order, kept in the order in which they came.
-ghost use Rattle.std.specs.Prelude.{◌≡◌, ◌+◌, ◌<◌, ◌≤◌, [], length, map, OnOk, OnErr, IfOk, slice_index_or, slice_set, filter, insert, remove};
+ghost use Rattle.std.specs.Prelude.{◌≡◌, ◌+◌, ◌<◌, ◌≤◌, [], length, map, OnOk, OnErr, IfOk, slice_index_or, slice_set, filter, insert, remove, All};
 ghost use Rattle.segment_model.specs.Segments.{Position};
+ghost use Rattle.segment_model.specs.Limits.{HasStepsInOrder};
 ghost use Rattle.segment_model.specs.Edits.{with_value, by_another};
 ghost use Rattle.point_list.specs.Slots.{AreBelow, AreOnce, renamed};
 
@@ -84,7 +85,8 @@ impl PositionList {
 
     // Takes the values of a step out of the position at a place, which may be left with none; gives their count.
     pub fn take_step_at(&mut self, place: usize, step: u64) -> usize
-        requires { place < length self.old }
+        requires place { place < length self.old }
+        requires in_order { All HasStepsInOrder self.old }
         ensures left { (d : Position) → self.new ≡ slice_set self.old place (record {
           commit = (slice_index_or self.old place d).commit;
           samples = filter (by_another step) (slice_index_or self.old place d).samples;

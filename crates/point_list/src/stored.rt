@@ -1,9 +1,11 @@
 //! One position, as it is stored.
-ghost use Rattle.std.specs.Prelude.{◌≡◌, ◌+◌, ◌*◌, ℕ, List, [], ◌∷◌, ◌++◌, length, OnOk, OnErr, IfOk, filter, take, drop, ◌≤◌, ◌<◌, pos, slice_set, slice_index_or};
+ghost use Rattle.std.specs.Prelude.{◌≡◌, ◌+◌, ◌-◌, ℕ, ℤ, [], ◌∷◌, ◌++◌, length, OnOk, OnErr, IfOk, filter, take, drop, ◌≤◌, ◌<◌, slice_index_or};
 ghost use Rattle.std.specs.Int.{w64, cast_unsigned};
+ghost use Rattle.std.specs.List.Sorted.{IsNonDecreasingBy};
 ghost use Rattle.segment_model.specs.Segments.{position_values};
+ghost use Rattle.segment_model.specs.Limits.{HasStepsInOrder};
 ghost use Rattle.segment_model.specs.Edits.{with_value, position_of, by_another, same_position};
-ghost use Rattle.point_list.specs.Stored.{HasHalves, as_steps, samples_of, samples_in};
+ghost use Rattle.point_list.specs.Stored.{HasHalves, AreInOrder, as_steps, samples_of, samples_in};
 
 use crate::NoMemory;
 use smallvec::SmallVec;
@@ -61,8 +63,10 @@ impl StoredPosition {
         Ok(())
     }
 
-    // Takes away the values of a step, and gives their count. Linear in the values; takes no memory.
+    // Takes away the values of a step, and gives their count. The steps don't fall. Logarithmic time in the values, but for
+    // moving those of later steps; takes no memory.
     pub fn take_step(&mut self, step: u64) -> usize
+        requires { HasStepsInOrder self.old }
         ensures left { self.new ≡ record {
           commit = self.old.commit;
           samples = filter (by_another step) self.old.samples;
@@ -155,9 +159,10 @@ fn put_behind(cells: &mut [i64], count: usize, step: i64, value: i64)
     values[count] = value;
 }
 
-// Moves what came by other steps to the fronts of both halves, and gives its count.
+// Closes the gap that the values of a step leave in both halves, and gives the count of the others.
 fn keep_others(step: u64, cells: &mut [i64], count: usize) -> usize
-    requires { HasHalves count cells.old }
+    requires halves { HasHalves count cells.old }
+    requires in_order { AreInOrder (samples_in count cells.old) }
     ensures kept { samples_in result cells.new
         ≡ filter (by_another step) (samples_in count cells.old) }
     ensures within { result ≤ count }
@@ -167,10 +172,12 @@ fn keep_others(step: u64, cells: &mut [i64], count: usize) -> usize
     keep_apart(step, steps, values, count)
 }
 
-// Moves what came by other steps to the front of the steps and of their values, and gives its count.
+// Closes the gap that a step and its values leave in both, and gives the count of the others.
 fn keep_apart(step: u64, steps: &mut [i64], values: &mut [i64], count: usize) -> usize
     requires steps { count ≤ length steps.old }
     requires values { count ≤ length values.old }
+    requires in_order { AreInOrder
+        (samples_of (as_steps (take count steps.old)) (take count values.old)) }
     ensures kept { samples_of (as_steps (take result steps.new)) (take result values.new)
         ≡ filter (by_another step)
         (samples_of (as_steps (take count steps.old)) (take count values.old)) }
@@ -178,22 +185,45 @@ fn keep_apart(step: u64, steps: &mut [i64], values: &mut [i64], count: usize) ->
     ensures steps { length steps.new ≡ length steps.old }
     ensures values { length values.new ≡ length values.old }
 {
-    let mut kept = 0;
-    for i in 0..count {
-        if steps[i].cast_unsigned() != step {
-            copy_one(steps, kept, i);
-            copy_one(values, kept, i);
-            kept += 1;
-        }
-    }
-    kept
+    let low = count_below(&steps[..count], step);
+    let high = count_up_to(&steps[..count], step);
+    close_gap(steps, count, low, high);
+    close_gap(values, count, low, high);
+    count - (high - low)
 }
 
-// Writes the value at one place to another.
-fn copy_one(values: &mut [i64], to: usize, from: usize)
-    requires to { to < length values.old }
-    requires from { from < length values.old }
-    ensures { values.new ≡ slice_set values.old to (slice_index_or values.old from (pos 0)) }
+// How many steps are below this one, where they don't fall. Logarithmic time.
+fn count_below(steps: &[i64], step: u64) -> usize
+    requires { IsNonDecreasingBy (cast_unsigned w64) steps.now }
+    ensures within { result ≤ length steps.now }
+    ensures below { (k : ℕ) (d : ℤ) → k < result
+        → cast_unsigned w64 (slice_index_or steps.now k d) < step }
+    ensures rest { (k : ℕ) (d : ℤ) → result ≤ k → k < length steps.now
+        → step ≤ cast_unsigned w64 (slice_index_or steps.now k d) }
 {
-    values[to] = values[from];
+    steps.partition_point(|s| s.cast_unsigned() < step)
+}
+
+// How many steps are not above this one, where they don't fall. Logarithmic time.
+fn count_up_to(steps: &[i64], step: u64) -> usize
+    requires { IsNonDecreasingBy (cast_unsigned w64) steps.now }
+    ensures within { result ≤ length steps.now }
+    ensures up_to { (k : ℕ) (d : ℤ) → k < result
+        → cast_unsigned w64 (slice_index_or steps.now k d) ≤ step }
+    ensures rest { (k : ℕ) (d : ℤ) → result ≤ k → k < length steps.now
+        → step < cast_unsigned w64 (slice_index_or steps.now k d) }
+{
+    steps.partition_point(|s| s.cast_unsigned() <= step)
+}
+
+// Moves the cells from a place up to their count down to a lower place, over those between.
+fn close_gap(cells: &mut [i64], count: usize, low: usize, high: usize)
+    requires order { low ≤ high }
+    requires high { high ≤ count }
+    requires count { count ≤ length cells.old }
+    ensures closed { take (count - (high - low)) cells.new
+        ≡ take low (take count cells.old) ++ drop high (take count cells.old) }
+    ensures length { length cells.new ≡ length cells.old }
+{
+    cells.copy_within(high..count, low);
 }

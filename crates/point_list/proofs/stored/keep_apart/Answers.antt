@@ -1,50 +1,59 @@
-use Rattle.std.proofs.Common.{◌≡◌, ◌<◌, ◌∙◌, ◌++◌, ◌∷◌, [], List, ℕ, ℤ, pos, length, ◌+◌, get_or, take, ap, ap₂, sym, arith, FitsSigned, rules}
-use Rattle.std.proofs.lemmas.Int.{to_z-of_z}
-use Rattle.std.specs.Prelude.{filter}
+use Rattle.std.proofs.Common.{◌≡◌, ◌≤◌, ◌∙◌, List, ℤ, length, take, ap₂, sym, pos, arith}
 use Rattle.std.specs.Int.{w64, cast_unsigned}
-use Rattle.segment_model.specs.Segments.{Observation}
-use Rattle.segment_model.specs.Edits.{by_another}
+use Rattle.std.specs.List.Sorted.{IsNonDecreasingBy}
 use Rattle.point_list.specs.Stored.{samples_of, as_steps}
-use Rattle.point_list.proofs.Samples.{read-rest, rest-next, rest-set, samples-next, samples-written, kept-more, kept-same}
-use Rattle.point_list.proofs.stored.keep_apart.Goals.{then-cast_unsigned-step, else-cast_unsigned-step}
+use Rattle.point_list.proofs.Samples.{length-front, steps-in-order, run-taken}
+use Rattle.point_list.proofs.stored.keep_apart.Goals.{Start, After-count_up_to-high}
 use Rattle.point_list.proofs.stored.keep_apart.Goals as goal
 
-abbrev sample : ℤ → ℤ → Observation
-sample s v = record { step = cast_unsigned w64 s; value = v }
+-- the fronts that are in use
+module _ (c : Start) where
+  abbrev steps : List ℤ
+  steps = take c.args.count c.args.steps.now
 
-pub loop-i-preserved : goal.loop-i-preserved
-loop-i-preserved c =
-    let i : ℕ = c.loop-i.i in
-    let k : ℕ = c.loop-i.kept in
-    let steps : List ℤ = c.loop-i.steps in
-    let values : List ℤ = c.loop-i.values in
-    let fits : FitsSigned w64 (get_or steps i (pos 0)) = search rules in
-    let read : c.cast_unsigned.result ≡ cast_unsigned w64 (get_or steps i (pos 0)) = simp to_z-of_z at c.cast_unsigned.ensures in
-    let x : Observation = sample (get_or steps i (pos 0)) (get_or values i (pos 0)) in
-    let is : sample (get_or c.args.steps.now i (pos 0)) (get_or c.args.values.now i (pos 0)) ≡ x =
-    ap₂ sample (sym (read-rest steps c.args.steps.now i (pos 0) c.loop-i.invariant.steps)) (sym (read-rest values c.args.values.now i (pos 0) c.loop-i.invariant.values)) in
-    let in_steps : i < length c.args.steps.now = omega (arith, c.loop-i-test.true, c.requires.steps) in
-    let in_values : i < length c.args.values.now = omega (arith, c.loop-i-test.true, c.requires.values) in
-    let next : samples_of (as_steps (take (i + 1) c.args.steps.now)) (take (i + 1) c.args.values.now) ≡ samples_of (as_steps (take i c.args.steps.now)) (take i c.args.values.now) ++ x ∷ [] =
-    samples-next c.args.steps.now c.args.values.now i in_steps in_values
-    ∙ ap (λ (y : Observation). samples_of (as_steps (take i c.args.steps.now)) (take i c.args.values.now) ++ y ∷ []) is in
-    elim c.if-cast_unsigned-step.branch [
-      | then-cast_unsigned-step w ↦ rw (w.steps-is, w.values-is, w.kept-is, w.copy_one.ensures, w.copy_one-then-cast_unsigned-step.ensures) (record {
-        front = samples-written steps values k (get_or steps i (pos 0)) (get_or values i (pos 0))
-            (omega (arith, in_steps, c.loop-i.invariant.behind, c.loop-i.auto.steps)) (omega (arith, in_values, c.loop-i.invariant.behind, c.loop-i.auto.values))
-            ∙ ap (λ (xs : List Observation). xs ++ x ∷ []) c.loop-i.invariant.front
-            ∙ sym (kept-more c.args.step (samples_of (as_steps (take i c.args.steps.now)) (take i c.args.values.now)) x (λ same. w.if-cast_unsigned-step.true (read ∙ same)))
-            ∙ ap (filter (by_another c.args.step)) (sym next);
-        steps = rest-set steps c.args.steps.now k i (get_or steps i (pos 0)) c.loop-i.invariant.behind c.loop-i.invariant.steps;
-        values = rest-set values c.args.values.now k i (get_or values i (pos 0)) c.loop-i.invariant.behind c.loop-i.invariant.values;
-        behind = omega (arith, c.loop-i.invariant.behind);
-      })
-      | else-cast_unsigned-step w ↦ rw (w.steps-is, w.values-is, w.kept-is) (record {
-        front = c.loop-i.invariant.front
-            ∙ sym (kept-same c.args.step (samples_of (as_steps (take i c.args.steps.now)) (take i c.args.values.now)) x (sym read ∙ w.if-cast_unsigned-step.false))
-            ∙ ap (filter (by_another c.args.step)) (sym next);
-        steps = rest-next steps c.args.steps.now i c.loop-i.invariant.steps;
-        values = rest-next values c.args.values.now i c.loop-i.invariant.values;
-        behind = omega (arith, c.loop-i.invariant.behind);
-      })
-    ]
+  abbrev values : List ℤ
+  values = take c.args.count c.args.values.now
+
+  size : length steps ≡ c.args.count
+  size = length-front c.args.steps.now c.args.count c.requires.steps
+
+  same : length steps ≡ length values
+  same = size ∙ sym (length-front c.args.values.now c.args.count c.requires.values)
+
+  in_order : IsNonDecreasingBy (cast_unsigned w64) steps
+  in_order = steps-in-order steps values same c.requires.in_order
+
+pub count_below-low-requires : goal.count_below-low-requires
+count_below-low-requires c = in_order (goal.at.count_below-low-requires c).Start
+
+pub count_up_to-high-requires : goal.count_up_to-high-requires
+count_up_to-high-requires c = in_order (goal.at.count_up_to-high-requires c).Start
+
+-- no step is both below the one and above it
+ordered : (c : After-count_up_to-high) → c.count_below-low.result ≤ c.count_up_to-high.result
+ordered c = grind (arith, c.count_below-low.ensures.below c.count_up_to-high.result (pos 0), c.count_up_to-high.ensures.rest c.count_up_to-high.result (pos 0))
+
+pub close_gap-requires : goal.close_gap-requires
+close_gap-requires c = record {
+  order = ordered (goal.at.close_gap-requires c).After-count_up_to-high;
+  high = omega (arith, c.count_up_to-high.ensures.within, size (goal.at.close_gap-requires c).Start);
+  count = c.requires.steps;
+}
+
+pub close_gap-requires-2 : goal.close_gap-requires-2
+close_gap-requires-2 c = record {
+  order = ordered (goal.at.close_gap-requires-2 c).After-count_up_to-high;
+  high = omega (arith, c.count_up_to-high.ensures.within, size (goal.at.close_gap-requires-2 c).Start);
+  count = c.requires.values;
+}
+
+pub overflow_sub-result : goal.overflow_sub-result
+overflow_sub-result c = ordered (goal.at.overflow_sub-result c).After-count_up_to-high
+
+pub returns-clause-kept : goal.returns-clause-kept
+returns-clause-kept c =
+    let d : After-count_up_to-high = (goal.at.returns-clause-kept c).After-count_up_to-high in
+    let s : Start = (goal.at.returns-clause-kept c).Start in
+    ap₂ (λ (ss vs : List ℤ). samples_of (as_steps ss) vs) c.close_gap.ensures.closed c.close_gap-2.ensures.closed
+    ∙ run-taken c.args.step (steps s) (values s) c.count_below-low.result c.count_up_to-high.result (same s) (ordered d) c.count_up_to-high.ensures.within c.count_below-low.ensures.below
+    (λ k e le lt. omega (arith, c.count_up_to-high.ensures.up_to k e lt, c.count_below-low.ensures.rest k e le (omega (arith, lt, c.count_up_to-high.ensures.within)))) c.count_up_to-high.ensures.rest
