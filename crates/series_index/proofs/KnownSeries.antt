@@ -1,5 +1,5 @@
 -- The known series of an index, listed in order.
-use Rattle.std.proofs.Common.{◌≡◌, ◌⊎◌, inl, inr, ℕ, Bool, true, false, true≢false, cond, List, [], ◌∷◌, Less, nat_cmp, refl, sym, ap, subst, ◌∙◌, Option, Some}
+use Rattle.std.proofs.Common.{◌≡◌, ◌⊎◌, inl, inr, ℕ, Bool, true, false, true≢false, cond, List, [], ◌∷◌, Less, nat_cmp, refl, sym, ap, subst, ◌∙◌, Option, Some, ◌↔◌}
 use Rattle.std.specs.Prelude.{Contains, is_some, unwrap_or}
 use Rattle.std.specs.Ordering.{is_eq, ordering_then, ordering_reverse}
 use Rattle.std.specs.Cmp.Lexicographic.{slice_cmp}
@@ -15,9 +15,10 @@ use Rattle.history_model.specs.SeriesOrder.{series_cmp}
 use Rattle.history_model.proofs.Members.{here, behind, either, none-in-nil, later, sorted-nil, sorted-cons, sorted-append}
 use Rattle.series_index.specs.declared.tracked.Tracked.{Tracked}
 use Rattle.series_index.specs.Known.{AreKnown}
-use Rattle.series_index.specs.Listed.{put_if, known_of, all_known}
+use Rattle.series_index.specs.Listed.{put_if, known_of, all_known, metrics_at, at_place, in_places}
 use Rattle.series_index.specs.Seen.{is_same, seen, seen_of, unseen}
 use Rattle.series_index.proofs.Written.{same-name}
+use Rattle.series_index.proofs.ByPlace.{turned}
 
 abbrev Metrics : Type 0
 Metrics = List (List ℕ × Tracked)
@@ -156,3 +157,42 @@ listed ts up each = record {
   just = λ s. (into-all ts s, from-all ts s up each);
   ordered = all-sorted ts up each;
 }
+
+-- an order of the tests by their names, each with its place
+module _ (tests : Tests) where
+  keys-in-places : (order : List (List ℕ × ℕ)) → keys_of (in_places tests order) ≡ keys_of order
+  keys-in-places [] = refl
+  keys-in-places (e ∷ es) = ap (λ (ks : List (List ℕ)). e.0 ∷ ks) (keys-in-places es)
+
+  found-in-places : (t : List ℕ) (order : List (List ℕ × ℕ)) → lookup (λ (n : List ℕ). is_same t n) (in_places tests order) ≡ at_place tests (lookup (λ (n : List ℕ). is_same t n) order)
+  found-in-places t [] = refl
+  found-in-places t (e ∷ es) =
+      ap (cond (is_same t e.0) (Some (metrics_at tests e.1))) (found-in-places t es)
+      ∙ elim (cases_Bool (is_same t e.0)) [
+        | inl hit ↦ ap (λ b. cond b (Some (metrics_at tests e.1)) (at_place tests (lookup (λ (n : List ℕ). is_same t n) es))) hit ∙ sym (ap (λ b. at_place tests (cond b (Some e.1) (lookup (λ (n : List ℕ). is_same t n) es))) hit)
+        | inr miss ↦ ap (λ b. cond b (Some (metrics_at tests e.1)) (at_place tests (lookup (λ (n : List ℕ). is_same t n) es))) miss ∙ sym (ap (λ b. at_place tests (cond b (Some e.1) (lookup (λ (n : List ℕ). is_same t n) es))) miss)
+      ]
+
+  pub listed-in-order : (order : List (List ℕ × ℕ)) → IsStrictlySortedBy (slice_cmp nat_cmp) (keys_of order) → AllByRecursion HasSorted (in_places tests order)
+      → ((t : List ℕ) → at_place tests (lookup (λ (n : List ℕ). is_same t n) order) ≡ lookup (λ (n : List ℕ). is_same t n) tests)
+      → AreKnown tests (all_known (in_places tests order))
+  listed-in-order order up each found =
+      let ts : Tests = in_places tests order in
+      let known = listed ts (subst (IsStrictlySortedBy (slice_cmp nat_cmp)) (sym (keys-in-places order)) up) each in
+      let same : (s : Series) → seen s ts ≡ seen s tests = λ s. ap (λ (o : Option Metrics). seen_of s.metric (unwrap_or o [])) (found-in-places s.test order ∙ found s.test) in
+      record {
+        just = λ s. subst (λ (t : Tracked). (is_some t.since ≡ true) ↔ Contains (all_known ts) s) (same s) (known.just s);
+        ordered = known.ordered;
+      }
+
+-- one place more
+pub one-place-more : (tests : Tests) (order : Option ℕ) (place : ℕ) (key t : List ℕ) (x : List ℕ × Metrics) (more : Tests)
+    → metrics_at tests place ≡ x.1 → key ≡ x.0 → at_place tests order ≡ lookup (λ (n : List ℕ). is_same t n) more
+    → at_place tests (cond (is_same key t) (Some place) order) ≡ lookup (λ (n : List ℕ). is_same t n) (x ∷ more)
+one-place-more tests order place key t x more is named rest =
+    let b : is_same key t ≡ is_same t x.0 = ap (λ (k : List ℕ). is_same k t) named ∙ turned x.0 t in
+    ap (λ b. at_place tests (cond b (Some place) order)) b
+    ∙ elim (cases_Bool (is_same t x.0)) [
+      | inl hit ↦ ap (λ b. at_place tests (cond b (Some place) order)) hit ∙ ap (λ (m : Metrics). Some m) is ∙ sym (ap (λ b. cond b (Some x.1) (lookup (λ (n : List ℕ). is_same t n) more)) hit)
+      | inr miss ↦ ap (λ b. at_place tests (cond b (Some place) order)) miss ∙ rest ∙ sym (ap (λ b. cond b (Some x.1) (lookup (λ (n : List ℕ). is_same t n) more)) miss)
+    ]

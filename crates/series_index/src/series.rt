@@ -11,17 +11,19 @@ use crate::NoMemory;
 use crate::metrics::MetricIndex;
 use crate::tracked::Tracked;
 use line_text::Name;
+use name_index::NameIndex;
 use point_list::{FrozenPoints, Points};
 use sample_model::Sample;
 use std::alloc::Global;
-use std::collections::BTreeMap;
 use std::marker::Model;
 
-/// The series of a machine, in order of test and metric.
+/// The series of a machine.
 #[derive(Drop)]
 pub struct SeriesIndex {
     pub(crate) alloc: Global,
-    pub(crate) tests: BTreeMap<Name, MetricIndex>,
+    // The names of the tests, each at the place of its metrics.
+    names: NameIndex,
+    pub(crate) tests: Vec<(Name, MetricIndex)>,
 }
 
 impl Model for SeriesIndex {
@@ -30,7 +32,12 @@ impl Model for SeriesIndex {
 
     ghost Value = { List (List ℕ × List (List ℕ × Tracked)) };
 
-    ghost view = { λ s. s.tests.entries };
+    ghost use Rattle.std.specs.Prelude.{◌≡◌};
+    ghost use Rattle.std.specs.Map.{keys_of};
+
+    ghost view = { λ s. s.tests.items };
+
+    ghost invariant = { λ s. s.names ≡ keys_of s.tests.items };
 }
 
 impl SeriesIndex {
@@ -40,7 +47,8 @@ impl SeriesIndex {
     {
         SeriesIndex {
             alloc,
-            tests: BTreeMap::new(alloc),
+            names: NameIndex::new(alloc),
+            tests: Vec::new(alloc),
         }
     }
 
@@ -49,8 +57,8 @@ impl SeriesIndex {
         ensures { unwrap_or (option_copied result) unseen
             ≡ seen (record { test = test.now; metric = metric.now }) self.now }
     {
-        match self.tests.get(test) {
-            Some(metrics) => metrics.get(metric),
+        match self.names.place_of(test) {
+            Some(place) => self.tests[place].1.get(metric),
             None => None,
         }
     }
@@ -73,14 +81,17 @@ impl SeriesIndex {
             else seen s self.old)) }
         ensures err { OnErr result ((s : Series) → seen s self.new ≡ seen s self.old) }
     {
-        if let Some(metrics) = self.tests.get_mut(test) {
-            metrics.insert(metric, commit, step, value)?;
+        if let Some(place) = self.names.place_of(test) {
+            self.tests[place].1.insert(metric, commit, step, value)?;
             return Ok(());
         }
         let mut metrics = MetricIndex::new(self.alloc);
         metrics.insert(metric, commit, step, value)?;
+        self.tests.reserve(1)?;
         let key = test.copy(self.alloc)?;
-        self.tests.insert(key, metrics)?;
+        let name = test.copy(self.alloc)?;
+        self.names.insert(name)?;
+        self.tests.push_reserved((key, metrics));
         Ok(())
     }
 
@@ -88,8 +99,8 @@ impl SeriesIndex {
     fn settle(&mut self, test: &Name, metric: &Name) -> Result<(), NoMemory>
         ensures { (s : Series) → seen s self.new ≡ seen s self.old }
     {
-        if let Some(metrics) = self.tests.get_mut(test) {
-            return metrics.settle(metric);
+        if let Some(place) = self.names.place_of(test) {
+            return self.tests[place].1.settle(metric);
         }
         Ok(())
     }
@@ -116,8 +127,8 @@ impl SeriesIndex {
             ≡ (seen (record { test = test.now; metric = metric.now }) self.old).points) }
         ensures same { (s : Series) → seen s self.new ≡ seen s self.old }
     {
-        if let Some(metrics) = self.tests.get_mut(test) {
-            return metrics.freeze(metric);
+        if let Some(place) = self.names.place_of(test) {
+            return self.tests[place].1.freeze(metric);
         }
         FrozenPoints::none(self.alloc)
     }
@@ -142,8 +153,8 @@ impl SeriesIndex {
             then without commit step (seen s self.old)
             else seen s self.old) }
     {
-        if let Some(metrics) = self.tests.get_mut(test) {
-            metrics.take_out(metric, commit, step);
+        if let Some(place) = self.names.place_of(test) {
+            self.tests[place].1.take_out(metric, commit, step);
             return;
         }
     }
@@ -154,8 +165,8 @@ impl SeriesIndex {
             then undone commit step (seen s self.old)
             else seen s self.old) }
     {
-        if let Some(metrics) = self.tests.get_mut(test) {
-            metrics.undo(metric, commit, step);
+        if let Some(place) = self.names.place_of(test) {
+            self.tests[place].1.undo(metric, commit, step);
             return;
         }
     }

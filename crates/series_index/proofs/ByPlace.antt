@@ -1,0 +1,172 @@
+-- The metrics at the place of a test, and what a write there makes of what is found by name.
+use Rattle.std.proofs.Common.{◌≡◌, ℕ, zero, suc, ◌+◌, ◌<◌, ◌≤◌, Bool, true, false, cond, not, nat_lt, List, [], ◌∷◌, ◌++◌, length, set, drop, get_or, refl, sym, ap, subst, ◌∙◌, Option, Some, None, inl, inr, arith}
+use Rattle.std.specs.Prelude.{bytes_eq, position}
+use Rattle.std.specs.List.{position_or_len}
+use Rattle.std.specs.Map.{keys_of, lookup}
+use Rattle.std.specs.Cmp.Lexicographic.{nat_list_eq_equiv}
+use Rattle.std.proofs.lemmas.Bool.{cases_Bool, cases_lt, lt-ltb}
+use Rattle.std.proofs.lemmas.List.Quantifiers.{position-Some}
+use Rattle.std.proofs.lemmas.Map.Text.{is_eq-slice_cmp}
+use Rattle.series_index.specs.declared.tracked.Tracked.{Tracked}
+use Rattle.series_index.specs.Seen.{is_same}
+use Rattle.series_index.proofs.Written.{same-name}
+
+abbrev Metrics : Type 0
+Metrics = List (List ℕ × Tracked)
+
+abbrev Tests : Type 0
+Tests = List (List ℕ × Metrics)
+
+abbrev metrics_of : List ℕ → Tests → Option Metrics
+metrics_of test es = lookup (λ (n : List ℕ). is_same test n) es
+
+-- ---- names
+pub turned : (one other : List ℕ) → is_same one other ≡ is_same other one
+turned one other = is_eq-slice_cmp one other ∙ nat_list_eq_equiv.symm one other ∙ sym (is_eq-slice_cmp other one)
+
+pub as-same : (test name q : List ℕ) → is_same test name ≡ true → is_same q name ≡ is_same test q
+as-same test name q same = ap (λ (n : List ℕ). is_same q n) (sym (same-name test name same)) ∙ turned q test
+
+twice : {A : Type 0} (b : Bool) (x y z : A) → cond b x z ≡ cond b x (cond b y z)
+twice true x y z = refl
+twice false x y z = refl
+
+-- ---- the first place of a name
+module _ (test : List ℕ) (r : List ℕ × Metrics) (here : is_same test r.0 ≡ true) where
+  pub metrics-at : (es : Tests) (p : ℕ) → p < length es → r ≡ get_or es p r → ((k : ℕ) → k < p → is_same test (get_or es k r).0 ≡ false) → metrics_of test es ≡ Some r.1
+  metrics-at [] p lt at before = absurd (omega arith)
+  metrics-at (e ∷ es) zero lt at before =
+      let hit : is_same test e.0 ≡ true = ap (λ (x : List ℕ × Metrics). is_same test x.0) (sym at) ∙ here in
+      ap (λ b. cond b (Some e.1) (metrics_of test es)) hit ∙ ap (λ (x : List ℕ × Metrics). Some x.1) (sym at)
+  metrics-at (e ∷ es) (suc p) lt at before =
+      ap (λ b. cond b (Some e.1) (metrics_of test es)) (before 0 (omega arith))
+      ∙ metrics-at es p (omega arith) at (λ k less. before (suc k) (omega arith))
+
+  pub metrics-written : (m : Metrics) (es : Tests) (p : ℕ) → p < length es → r ≡ get_or es p r → ((k : ℕ) → k < p → is_same test (get_or es k r).0 ≡ false)
+      → (q : List ℕ) → metrics_of q (set es p (r.0, m)) ≡ cond (is_same test q) (Some m) (metrics_of q es)
+  metrics-written m [] p lt at before q = absurd (omega arith)
+  metrics-written m (e ∷ es) zero lt at before q =
+      let one : is_same q r.0 ≡ is_same test q = as-same test r.0 q here in
+      let two : is_same q e.0 ≡ is_same test q = ap (λ (x : List ℕ × Metrics). is_same q x.0) (sym at) ∙ one in
+      ap (λ b. cond b (Some m) (metrics_of q es)) one
+      ∙ twice (is_same test q) (Some m) (Some e.1) (metrics_of q es)
+      ∙ ap (λ b. cond (is_same test q) (Some m) (cond b (Some e.1) (metrics_of q es))) (sym two)
+  metrics-written m (e ∷ es) (suc p) lt at before q =
+      let next = metrics-written m es p (omega arith) at (λ k less. before (suc k) (omega arith)) q in
+      ap (cond (is_same q e.0) (Some e.1)) next ∙ elim (cases_Bool (is_same test q)) [
+        | inl hit ↦
+            let miss : is_same q e.0 ≡ false = ap (λ (n : List ℕ). is_same n e.0) (sym (same-name test q hit)) ∙ before 0 (omega arith) in
+            ap (λ b. cond b (Some e.1) (cond (is_same test q) (Some m) (metrics_of q es))) miss
+            ∙ ap (λ b. cond b (Some m) (metrics_of q es)) hit
+            ∙ sym (ap (λ b. cond b (Some m) (metrics_of q (e ∷ es))) hit)
+        | inr miss ↦
+            ap (λ b. cond (is_same q e.0) (Some e.1) (cond b (Some m) (metrics_of q es))) miss
+            ∙ sym (ap (λ b. cond b (Some m) (metrics_of q (e ∷ es))) miss)
+      ]
+
+pub same-keys : (r : List ℕ × Metrics) (m : Metrics) (es : Tests) (p : ℕ) → r ≡ get_or es p r → keys_of (set es p (r.0, m)) ≡ keys_of es
+same-keys r m [] p at = refl
+same-keys r m (e ∷ es) zero at = ap (λ (x : List ℕ × Metrics). x.0 ∷ keys_of es) at
+same-keys r m (e ∷ es) (suc p) at = ap (λ (ks : List (List ℕ)). e.0 ∷ ks) (same-keys r m es p at)
+
+keys-at : (es : Tests) (k : ℕ) (r : List ℕ × Metrics) → get_or (keys_of es) k r.0 ≡ (get_or es k r).0
+keys-at [] k r = refl
+keys-at (e ∷ es) zero r = refl
+keys-at (e ∷ es) (suc k) r = keys-at es k r
+
+length-keys : (es : Tests) → length (keys_of es) ≡ length es
+length-keys [] = refl
+length-keys (e ∷ es) = ap suc (length-keys es)
+
+-- ---- of an index: its names, and the place of one of them
+module _ (test : List ℕ) (names : List (List ℕ)) (es : Tests) (p : ℕ) (r : List ℕ × Metrics) (same : names ≡ keys_of es)
+    (found : position (λ (k : List ℕ). bytes_eq test k) names ≡ Some p) (at : r ≡ get_or es p r) where
+  stands : (p < length (keys_of es)) × (bytes_eq test (get_or (keys_of es) p r.0) ≡ true) × ((k : ℕ) → k < p → bytes_eq test (get_or (keys_of es) k r.0) ≡ false)
+  stands = position-Some (λ (k : List ℕ). bytes_eq test k) (keys_of es) p r.0 (ap (position (λ (k : List ℕ). bytes_eq test k)) (sym same) ∙ found)
+
+  pub within : p < length es
+  within = let lt = stands.0 in omega (arith, length-keys es, lt)
+
+  here : is_same test r.0 ≡ true
+  here = is_eq-slice_cmp test r.0 ∙ ap (λ (x : List ℕ × Metrics). bytes_eq test x.0) at ∙ ap (bytes_eq test) (sym (keys-at es p r)) ∙ stands.1
+
+  before : (k : ℕ) → k < p → is_same test (get_or es k r).0 ≡ false
+  before k less = is_eq-slice_cmp test (get_or es k r).0 ∙ ap (bytes_eq test) (sym (keys-at es k r)) ∙ stands.2 k less
+
+  pub found-metrics : metrics_of test es ≡ Some r.1
+  found-metrics = metrics-at test r here es p within at before
+
+  pub put-metrics : (m : Metrics) (q : List ℕ) → metrics_of q (set es p (r.0, m)) ≡ cond (is_same test q) (Some m) (metrics_of q es)
+  put-metrics m q = metrics-written test r here m es p within at before q
+
+  pub put-keys : (m : Metrics) → names ≡ keys_of (set es p (r.0, m))
+  put-keys m = same ∙ sym (same-keys r m es p at)
+
+-- ---- a name that isn't there
+absent : (test : List ℕ) (es : Tests) → length es ≤ position_or_len (λ (k : List ℕ). bytes_eq test k) (keys_of es) → metrics_of test es ≡ None
+absent test [] past = refl
+absent test (e ∷ es) past =
+    let n : ℕ = position_or_len (λ (k : List ℕ). bytes_eq test k) (keys_of es) in
+    elim (cases_Bool (bytes_eq test e.0)) [
+      | inl hit ↦ absurd (let no : suc (length es) ≤ 0 = subst (λ b. suc (length es) ≤ cond (not b) (1 + n) 0) hit past in omega (arith, no))
+      | inr miss ↦
+          let more : suc (length es) ≤ 1 + n = subst (λ b. suc (length es) ≤ cond (not b) (1 + n) 0) miss past in
+          ap (λ b. cond b (Some e.1) (metrics_of test es)) (is_eq-slice_cmp test e.0 ∙ miss) ∙ absent test es (omega (arith, more))
+    ]
+
+pub none-metrics : (test : List ℕ) (names : List (List ℕ)) (es : Tests) → names ≡ keys_of es → position (λ (k : List ℕ). bytes_eq test k) names ≡ None → metrics_of test es ≡ None
+none-metrics test names es same none =
+    let ks : List (List ℕ) = keys_of es in
+    let n : ℕ = position_or_len (λ (k : List ℕ). bytes_eq test k) ks in
+    let none_here : cond (nat_lt n (length ks)) (Some n) None ≡ None = ap (position (λ (k : List ℕ). bytes_eq test k)) (sym same) ∙ none in
+    elim (cases_lt n (length ks)) [
+      | inl lt ↦ absurd (let no : Some n ≡ None = sym (ap (λ b. cond b (Some n) None) (lt-ltb n (length ks) lt)) ∙ none_here in cc)
+      | inr ge ↦ absent test es (omega (arith, length-keys es, ge))
+    ]
+
+-- ---- one test more
+pub added-metrics : (test : List ℕ) (m : Metrics) (es : Tests) → metrics_of test es ≡ None → (q : List ℕ) → metrics_of q (es ++ (test, m) ∷ []) ≡ cond (is_same test q) (Some m) (metrics_of q es)
+added-metrics test m [] none q = ap (λ b. cond b (Some m) None) (turned q test)
+added-metrics test m (e ∷ es) none q = elim (cases_Bool (is_same test e.0)) [
+  | inl hit ↦ absurd (let no : Some e.1 ≡ None = sym (ap (λ b. cond b (Some e.1) (metrics_of test es)) hit) ∙ none in cc)
+  | inr other ↦
+      let rest : metrics_of test es ≡ None = sym (ap (λ b. cond b (Some e.1) (metrics_of test es)) other) ∙ none in
+      ap (cond (is_same q e.0) (Some e.1)) (added-metrics test m es rest q) ∙ elim (cases_Bool (is_same test q)) [
+        | inl hit ↦
+            let miss : is_same q e.0 ≡ false = ap (λ (n : List ℕ). is_same n e.0) (sym (same-name test q hit)) ∙ other in
+            ap (λ b. cond b (Some e.1) (cond (is_same test q) (Some m) (metrics_of q es))) miss
+            ∙ ap (λ b. cond b (Some m) (metrics_of q es)) hit
+            ∙ sym (ap (λ b. cond b (Some m) (metrics_of q (e ∷ es))) hit)
+        | inr miss ↦
+            ap (λ b. cond (is_same q e.0) (Some e.1) (cond b (Some m) (metrics_of q es))) miss
+            ∙ sym (ap (λ b. cond b (Some m) (metrics_of q (e ∷ es))) miss)
+      ]
+]
+
+pub added-keys : (test : List ℕ) (m : Metrics) (es : Tests) → keys_of (es ++ (test, m) ∷ []) ≡ keys_of es ++ test ∷ []
+added-keys test m [] = refl
+added-keys test m (e ∷ es) = ap (λ (ks : List (List ℕ)). e.0 ∷ ks) (added-keys test m es)
+
+-- ---- what is read at a place
+pub read-at : (es : Tests) (p : ℕ) (r d : List ℕ × Metrics) → p < length es → get_or es p r ≡ get_or es p d
+read-at [] p r d lt = absurd (omega arith)
+read-at (e ∷ es) zero r d lt = refl
+read-at (e ∷ es) (suc p) r d lt = read-at es p r d (omega arith)
+
+pub read-past : (es : Tests) (p : ℕ) (d : List ℕ × Metrics) → length es ≤ p → get_or es p d ≡ d
+read-past [] p d past = refl
+read-past (e ∷ es) zero d past = absurd (omega arith)
+read-past (e ∷ es) (suc p) d past = read-past es p d (omega arith)
+
+pub none-behind : (es : Tests) (k : ℕ) → length es ≤ k → drop k es ≡ []
+none-behind [] zero past = refl
+none-behind [] (suc k) past = refl
+none-behind (e ∷ es) zero past = absurd (omega arith)
+none-behind (e ∷ es) (suc k) past = none-behind es k (omega arith)
+
+pub one-behind : (es : Tests) (k : ℕ) (d : List ℕ × Metrics) → k < length es → drop k es ≡ get_or es k d ∷ drop (k + 1) es
+one-behind [] k d lt = absurd (omega arith)
+one-behind (e ∷ es) zero d lt = refl
+one-behind (e ∷ es) (suc k) d lt =
+    let next : suc (k + 1) ≡ suc k + 1 = omega arith in
+    one-behind es k d (omega arith) ∙ ap (λ (n : ℕ). get_or es k d ∷ drop n (e ∷ es)) next
