@@ -1,4 +1,5 @@
-//! Shared runs, from their words to journals, transcripts and rows, over objects in memory with ample memory.
+//! Shared runs, from their words to journals, transcripts and rows, over objects in memory with ample memory, and over
+//! files of the system.
 //!
 //! They are rows of a table, and call what `tracker_top` exports and nothing else of it. `run.rt` makes the objects of a run,
 //! one after another, and answers false where there is no memory.
@@ -8,6 +9,8 @@
 mod closes;
 #[cfg(test)]
 mod long;
+#[cfg(test)]
+mod real;
 #[cfg(test)]
 mod run;
 #[cfg(test)]

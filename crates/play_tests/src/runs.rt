@@ -1,6 +1,8 @@
 //! What `play` prints and leaves, and how it ends.
 use crate::run::{Played, plays, plays_one_of, plays_over};
 use std::alloc::{AllocError, Global};
+use std::sync::Wait;
+use std::thread::Threads;
 use track_outside::{Keeper, MemKeeper};
 use tracker_top::Status;
 
@@ -15,16 +17,16 @@ const PLAIN: Played<'static> = Played {
     left: &[],
 };
 
-const ONE: &str = "commit m1 10 a\n";
+pub const ONE: &str = "commit m1 10 a\n";
 
 // The worked script, behind the line that declares its machine.
-const WORKED: &str =
+pub const WORKED: &str =
     "commit m1 10 a\ncommit m1 20 b\ncommit m1 30 c\ncommit m1 40 d\ntune m1 B/op 50\nsubmit go m1 a r1 20\nBenchmarkX 1 0 B/op\nsubmit go m1 b r2 20\nBenchmarkX 1 0 B/op\nsubmit go m1 d r4 21\nBenchmarkX 1 10 B/op\nsegment m1 X B/op\nsubmit go m1 c r3 21\nBenchmarkX 1 10 B/op\nsegment m1 X B/op\nchanges m1 X B/op\n";
 
-const WORKED_REPLIES: &str =
+pub const WORKED_REPLIES: &str =
     "@1 commit 10 a\n@2 commit 20 b\n@3 commit 30 c\n@4 commit 40 d\n@5 tuned B/op 50\n@6 accepted r1 samples 1 ignored 0\n@7 accepted r2 samples 1 ignored 0\n@8 accepted r4 samples 1 ignored 0\n@9 segmented version 8 base 0 points 3 cuts 1 redone 3 total 50\n@10 accepted r3 samples 1 ignored 0\n@11 segmented version 10 base 8 points 4 cuts 1 redone 2 total 50\n@11 changes version 10 lines 1\nb c 0 10 regression\n";
 
-const WORKED_JOURNAL: &str =
+pub const WORKED_JOURNAL: &str =
     "machine m1 steps 11\n1 s1 commit 10 a\n2 s1 commit 20 b\n3 s1 commit 30 c\n4 s1 commit 40 d\n5 s1 tune B/op 50\n6 s1 accept r1 10 1 X B/op 0\n7 s1 accept r2 20 1 X B/op 0\n8 s1 accept r4 40 1 X B/op 10\n9 s1 publish X B/op 8 0 50 1 2\n10 s1 accept r3 30 1 X B/op 10\n11 s1 publish X B/op 10 8 50 1 2\n";
 
 const RUNS: [Played<'static>; 7] = [
@@ -343,11 +345,54 @@ const UNREAD: Played<'static> = Played {
     ..PLAIN
 };
 
-// Puts a row that is none.
-fn put_bad_row(alloc: Global, keeper: &mut MemKeeper) -> Result<(), AllocError> {
+// Good rows, and rows none of which may come after them.
+const BISECTED: [&[u8]; 4] = [
+    b"machine m",
+    b"entry m commit 0 a",
+    b"entry m commit 1 b",
+    b"entry m begin 0 1",
+];
+
+const NOT_AFTER: [&[u8]; 12] = [
+    b"machine m",
+    b"entry q commit 2 c",
+    b"entry m commit 0 c",
+    b"entry m  commit 2 c",
+    b"entry m commit 02 c",
+    b"entry m commit 2 %63",
+    b"entry m publish X B/op 0 0 0 0",
+    b"entry m retract r",
+    b"entry m answer 1 0 0",
+    b"entry m move 1 active",
+    b"",
+    b"\xff",
+];
+
+const UNREAD_LAST: Played<'static> = Played {
+    status: Status::BadStore(5),
+    err: "bad store: row 5\n",
+    ..UNREAD
+};
+
+// Puts rows.
+fn put_rows(alloc: Global, keeper: &mut MemKeeper, given: &[&[u8]]) -> Result<(), AllocError> {
     let mut rows = Vec::new(alloc);
-    rows.push(Vec::from_slice(alloc, b"machine")?)?;
+    for row in given {
+        rows.push(Vec::from_slice(alloc, row)?)?;
+    }
     keeper.append(alloc, &rows).map_err(|_| AllocError)
+}
+
+// Whether no script is begun where the row comes after the good ones.
+fn is_fifth_bad<R: Threads + Wait + Sync>(rt: &R, alloc: Global, row: &[u8]) -> bool {
+    match MemKeeper::new(alloc, &[]) {
+        Ok(mut keeper) => {
+            put_rows(alloc, &mut keeper, &BISECTED).is_ok()
+                && put_rows(alloc, &mut keeper, &[row]).is_ok()
+                && plays_over(rt, alloc, &UNREAD_LAST, &mut keeper)
+        }
+        Err(_) => false,
+    }
 }
 
 // Where a row is none, no script is begun.
@@ -355,9 +400,12 @@ fn put_bad_row(alloc: Global, keeper: &mut MemKeeper) -> Result<(), AllocError> 
 fn a_store_is_bad(rt: HostRuntime) {
     match MemKeeper::new(rt.alloc(), &[]) {
         Ok(mut keeper) => {
-            assert!(rt; put_bad_row(rt.alloc(), &mut keeper).is_ok());
+            assert!(rt; put_rows(rt.alloc(), &mut keeper, &[b"machine"]).is_ok());
             assert!(rt; plays_over(&rt, rt.alloc(), &UNREAD, &mut keeper));
         }
         Err(_) => assert!(rt; false),
+    }
+    for row in &NOT_AFTER {
+        assert!(rt; is_fifth_bad(&rt, rt.alloc(), row));
     }
 }

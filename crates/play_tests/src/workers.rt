@@ -195,23 +195,22 @@ const BISECTING: &[&str] = &[
     "s1",
 ];
 
-// The worker asks the job's question once, and says what was found.
+// The worker asks the job's question once, and says what was found; the transcript ends with these replies.
 fn bisects<R: Threads + Wait + Sync>(
     rt: &R,
     alloc: Global,
     script: &str,
     gate: &Holds,
+    last: &[u8],
 ) -> Option<bool> {
     let left = run(rt, alloc, BISECTING, script, &[], gate)?;
     let first = left.runners.first()?;
     let second = left.runners.get(1)?;
     Some(
-        has_line(left.out.bytes(), b"4 s1 begin 0 2")
-            && has_line(left.out.bytes(), b"5 b1 answer 1 1 1")
-            && has_line(
-                left.files.get("s1.out")?,
-                b"@4 job 1 range 2 questions 0 asks c1",
-            )
+        left.out
+            .bytes()
+            .ends_with(b"\n4 s1 begin 0 2\n5 b1 answer 1 1 1\n")
+            && left.files.get("s1.out")?.ends_with(last)
             && first.asked(0) == Some(("t", "c1", Some(1)))
             && first.asked(1) == None
             && second.asked(0) == None,
@@ -244,11 +243,13 @@ fn a_worker_publishes_beside_a_script(rt: HostRuntime) {
 #[test]
 fn a_worker_bisects_beside_a_script(rt: HostRuntime) {
     let gate = Holds::new(4, true);
-    assert!(rt; bisects(&rt, rt.alloc(), BISECTION_AND_RUNS, &gate) == Some(true));
+    let last = b"\n@4 job 1 range 2 questions 0 asks c1\n@4 runs lines 0\n";
+    assert!(rt; bisects(&rt, rt.alloc(), BISECTION_AND_RUNS, &gate, last) == Some(true));
 }
 
 #[test]
 fn a_job_is_bisected_in_a_run(rt: HostRuntime) {
     let gate = Holds::new(u64::MAX, false);
-    assert!(rt; bisects(&rt, rt.alloc(), BISECTION, &gate) == Some(true));
+    let last = b"\n@4 job 1 range 2 questions 0 asks c1\n";
+    assert!(rt; bisects(&rt, rt.alloc(), BISECTION, &gate, last) == Some(true));
 }

@@ -50,10 +50,21 @@ fn runs_go_on_from_a_file(rt: HostRuntime) {
     }
 }
 
+// A folder is no store: the status says so, and nothing is answered.
+#[test]
+fn a_folder_is_refused(rt: HostRuntime) {
+    assert!(rt; ends_at(&rt, ".", &("machine m1\n", ""), Status::StoreFault));
+}
+
 // Whether the script is answered so, and all is done.
 fn is_answered(rt: &HostRuntime, name: &str, run: &Run) -> bool {
+    ends_at(rt, name, run, Status::Done)
+}
+
+// Whether the script is answered so, and the run ends at this status.
+fn ends_at(rt: &HostRuntime, name: &str, run: &Run, wanted: Status) -> bool {
     match answer(rt, rt.alloc(), name, run.0.as_bytes()) {
-        Ok((status, out)) => status == Status::Done && out.bytes() == run.1.as_bytes(),
+        Ok((status, out)) => status == wanted && out.bytes() == run.1.as_bytes(),
         Err(_) => false,
     }
 }
