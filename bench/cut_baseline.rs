@@ -1,6 +1,7 @@
 //! The baseline of `bench/cut`: reads cut lines and prints the certificate of the best segmentation at a penalty, by the
-//! textbook pruned recurrence (PELT). At each place all candidates are evaluated, and those that are dear are dropped.
-//! `rustc -O --edition 2021 cut_baseline.rs`; usage: `cut_baseline PENALTY <LINES`.
+//! textbook pruned recurrence (PELT) with a least length of segments. At each place all open places are evaluated, and
+//! those that were dear are dropped a least length later.
+//! `rustc -O --edition 2021 cut_baseline.rs`; usage: `cut_baseline PENALTY [LENGTH] <LINES`.
 use std::io::{self, BufWriter, Read, Write};
 
 /// The count, the sum and the sum of squares of the values of the first positions.
@@ -51,29 +52,31 @@ struct Tables {
     pruned: Vec<usize>,
 }
 
-fn tables(sums: &[Sums], penalty: i128) -> Tables {
+fn tables(sums: &[Sums], penalty: i128, length: usize) -> Tables {
     let mut least = vec![-penalty];
     let mut back = vec![0];
     let mut pruned = vec![0; sums.len()];
-    let mut candidates = vec![0];
+    let mut open = vec![0];
     let mut made = Vec::new();
     for t in 1..sums.len() {
         made.clear();
-        made.extend(candidates.iter().map(|&s: &usize| least[s] + cost(&sums[s], &sums[t])));
-        let (best, total) = (0..made.len()).map(|i| (i, made[i])).min_by_key(|&(i, total)| (total, i)).expect("a candidate");
+        made.extend(open.iter().map(|&s: &usize| least[s] + cost(&sums[s], &sums[t])));
+        let ready = |i: usize| open[i] == 0 || open[i] + length <= t;
+        let (best, total) = (0..made.len()).filter(|&i| ready(i)).map(|i| (i, made[i])).min_by_key(|&(i, total)| (total, i)).expect("a candidate");
         let bound = total + penalty;
         least.push(bound);
-        back.push(candidates[best]);
+        back.push(open[best]);
         let mut i = 0;
-        candidates.retain(|&s| {
-            let keep = made[i] <= bound;
-            i += 1;
-            if !keep {
+        open.retain(|&s| {
+            if made[i] > bound && pruned[s] == 0 {
                 pruned[s] = t;
             }
-            keep
+            i += 1;
+            pruned[s] == 0 || t + 1 < pruned[s] + length
         });
-        candidates.push(t);
+        if t >= length {
+            open.push(t);
+        }
     }
     Tables { least, back, pruned }
 }
@@ -88,11 +91,12 @@ fn put_row<T: std::fmt::Display>(out: &mut impl Write, name: &str, items: &[T]) 
 
 fn main() -> io::Result<()> {
     let penalty: i128 = std::env::args().nth(1).expect("a penalty").parse().expect("a whole number");
+    let length: usize = std::env::args().nth(2).map_or(1, |word| word.parse().expect("a least length"));
     let mut text = String::new();
     io::stdin().read_to_string(&mut text)?;
     let sums = prefix_sums(&text);
     let n = sums.len() - 1;
-    let Tables { least, back, pruned } = tables(&sums, penalty);
+    let Tables { least, back, pruned } = tables(&sums, penalty, length);
     let mut cuts = Vec::new();
     let mut t = n;
     while back[t] > 0 {
@@ -103,6 +107,9 @@ fn main() -> io::Result<()> {
     let mut out = BufWriter::new(io::stdout().lock());
     put_row(&mut out, "points", &[n])?;
     put_row(&mut out, "penalty", &[penalty])?;
+    if length > 1 {
+        put_row(&mut out, "length", &[length])?;
+    }
     put_row(&mut out, "cuts", &cuts)?;
     put_row(&mut out, "total", &[if n == 0 { 0 } else { least[n] }])?;
     put_row(&mut out, "least", &least)?;

@@ -49,18 +49,20 @@ front-first old new k ps is stands =
     ap (take k) stands ∙ ap (λ (n : ℕ). take n (values_by_position old)) is ∙ same-front old new ∙ ap (λ (n : ℕ). take n (values_by_position new)) (sym is)
 
 -- the table of first positions that are the new ones' is that of as many of these
-pub front-table : (new : List Position) (k : ℕ) (t t' : Tabled) → take k t.positions ≡ take k (values_by_position new) → t' ≡ table_of (take k t.positions) t.penalty
-    → t' ≡ table_of (take k (values_by_position new)) t.penalty
-front-table new k t t' first e = e ∙ ap (λ (ps : List (List ℤ)). table_of ps t.penalty) first
+pub front-table : (new : List Position) (k : ℕ) (t t' : Tabled) → take k t.positions ≡ take k (values_by_position new) → t' ≡ table_of (take k t.positions) t.penalty t.length
+    → t' ≡ table_of (take k (values_by_position new)) t.penalty t.length
+front-table new k t t' first e = e ∙ ap (λ (ps : List (List ℤ)). table_of ps t.penalty t.length) first
 
 -- a table with one position more of the new ones
-pub next-table : (t t' : Tabled) (ps qs : List (List ℤ)) (v : List ℤ) (b : ℤ) → t' ≡ table_of (t.positions ++ v ∷ []) t.penalty → t ≡ table_of ps b → t.positions ++ v ∷ [] ≡ qs → t' ≡ table_of qs b
-next-table t t' ps qs v b e are more = e ∙ ap₂ table_of more (ap (λ (u : Tabled). u.penalty) are)
+pub next-table : (t t' : Tabled) (ps qs : List (List ℤ)) (v : List ℤ) (b : ℤ) (len : ℕ) → t' ≡ table_of (t.positions ++ v ∷ []) t.penalty t.length → t ≡ table_of ps b len → t.positions ++ v ∷ [] ≡ qs
+    → t' ≡ table_of qs b len
+next-table t t' ps qs v b len e are more =
+    e ∙ ap₂ (λ qs' b'. table_of qs' b' t.length) more (ap (λ (u : Tabled). u.penalty) are) ∙ ap (table_of qs b) (ap (λ (u : Tabled). u.length) are)
 
 -- a table of first positions is that of as many as it has
-pub first-table : (new : List Position) (i : ℕ) (t : Tabled) (b : ℤ) → i ≤ length new → t ≡ table_of (take i (values_by_position new)) b
-    → t ≡ table_of (take (length t.positions) (values_by_position new)) b
-first-table new i t b low are =
+pub first-table : (new : List Position) (i : ℕ) (t : Tabled) (b : ℤ) (len : ℕ) → i ≤ length new → t ≡ table_of (take i (values_by_position new)) b len
+    → t ≡ table_of (take (length t.positions) (values_by_position new)) b len
+first-table new i t b len low are =
     let few : i ≤ length (values_by_position new) = rw (length-map new position_values) low in
     let size : length t.positions ≡ i = ap (λ (u : Tabled). length u.positions) are ∙ length-take-le i (values_by_position new) few in
     rw size are

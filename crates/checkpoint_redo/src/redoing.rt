@@ -23,9 +23,10 @@ pub fn redo<L: Ledger>(
 ) -> Result<(), NoMemory>
     requires stands { table.old.positions ≡ values_by_position old.now }
     ensures ok { OnOk result
-        (table.new ≡ table_of (values_by_position new.now) table.old.penalty) }
+        (table.new ≡ table_of (values_by_position new.now) table.old.penalty table.old.length) }
     ensures err { OnErr result (table.new ≡ table_of
-        (take (length table.new.positions) (values_by_position new.now)) table.old.penalty) }
+        (take (length table.new.positions) (values_by_position new.now)) table.old.penalty
+        table.old.length) }
     ensures steps { OnOk result
         (steps.new ≡ steps.old + (length new.now - common old.now new.now)) }
 {
@@ -44,9 +45,10 @@ pub fn redo_from<L: Ledger>(
     requires within { front ≤ length new.now }
     requires first { take front table.old.positions ≡ take front (values_by_position new.now) }
     ensures ok { OnOk result
-        (table.new ≡ table_of (values_by_position new.now) table.old.penalty) }
+        (table.new ≡ table_of (values_by_position new.now) table.old.penalty table.old.length) }
     ensures err { OnErr result (table.new ≡ table_of
-        (take (length table.new.positions) (values_by_position new.now)) table.old.penalty) }
+        (take (length table.new.positions) (values_by_position new.now)) table.old.penalty
+        table.old.length) }
     ensures steps { OnOk result (steps.new ≡ steps.old + (length new.now - front)) }
 {
     values_law();

@@ -12,50 +12,64 @@ const ONE: &str = "points 1\npenalty 1\ncuts\ntotal 0\nleast -1 0\nback 0 0\npru
 const FOUR: &str =
     "points 4\npenalty 50\ncuts 2\ntotal 50\nleast -50 0 0 50 50\nback 0 0 0 2 2\npruned 0 4 0 0 0\n";
 
-/// Penalties, inputs and what is printed.
-const CERTIFICATES: [(&str, &str, &str); 8] = [
-    ("50", "1 0\n2 0\n3 10\n4 10\n", FOUR),
-    ("50", "1 0\n# x\n2 0\n\n3 10\n4 10\n", FOUR),
-    ("50", "  1   0\n 2 0 \n3 10  \n   \n4 10", FOUR),
+/// Words, inputs and what is printed. The last rows have a least length of segments: a place that is pruned before it wins,
+/// and three positions that no cut leaves long enough.
+const CERTIFICATES: [(&[&str], &str, &str); 12] = [
+    (&["cut", "50"], "1 0\n2 0\n3 10\n4 10\n", FOUR),
+    (&["cut", "50"], "1 0\n# x\n2 0\n\n3 10\n4 10\n", FOUR),
+    (&["cut", "50"], "  1   0\n 2 0 \n3 10  \n   \n4 10", FOUR),
     (
-        "100",
+        &["cut", "100"],
         "1 0\n2 0\n3 10\n4 10\n",
         "points 4\npenalty 100\ncuts\ntotal 100\nleast -100 0 0 67 100\nback 0 0 0 0 0\npruned 0 0 0 0 0\n",
     ),
     (
-        "8",
+        &["cut", "8"],
         "1 0\n2 0\n3 4\n4 4\n5 2\n6 2\n7 2\n8 2\n9 2\n10 2\n",
         "points 10\npenalty 8\ncuts\ntotal 16\nleast -8 0 0 8 8 11 12 13 14 15 16\nback 0 0 0 2 2 2 2 2 2 2 0\npruned 0 4 0 0 0 0 0 0 0 0 0\n",
     ),
     (
-        "5",
+        &["cut", "5"],
         "",
         "points 0\npenalty 5\ncuts\ntotal 0\nleast -5\nback 0\npruned 0\n",
     ),
     (
-        "1",
+        &["cut", "1"],
         "1 10000000000000000\n2 -10000000000000000\n",
         "points 2\npenalty 1\ncuts 1\ntotal 1\nleast -1 0 1\nback 0 0 1\npruned 2 0 0\n",
     ),
     (
-        "1",
+        &["cut", "1"],
         "5 0\n5 100\n5 -100\n",
         "points 1\npenalty 1\ncuts\ntotal 20000\nleast -1 20000\nback 0 0\npruned 0 0\n",
+    ),
+    (
+        &["cut", "50", "--least", "1"],
+        "1 0\n2 0\n3 10\n4 10\n",
+        FOUR,
+    ),
+    (
+        &["cut", "50", "--least", "2"],
+        "1 0\n2 0\n3 10\n4 10\n5 40\n",
+        "points 5\npenalty 50\nlength 2\ncuts 3\ntotal 567\nleast -50 0 0 67 50 567\nback 0 0 0 0 2 3\npruned 5 0 5 4 0 0\n",
+    ),
+    (
+        &["cut", "--least=2", "5"],
+        "1 0\n2 0\n3 10\n",
+        "points 3\npenalty 5\nlength 2\ncuts\ntotal 67\nleast -5 0 0 67\nback 0 0 0 0\npruned 0 0 0 0\n",
+    ),
+    (
+        &["cut", "5", "--least", "64"],
+        "",
+        "points 0\npenalty 5\nlength 64\ncuts\ntotal 0\nleast -5\nback 0\npruned 0\n",
     ),
 ];
 
 #[test]
 fn certificates_are_printed(rt: HostRuntime) {
-    for (penalty, input, out) in &CERTIFICATES {
-        assert!(rt;
-            has_certificate(rt.alloc(), penalty, input, out),
-            "cut {penalty} on {input}"
-        );
+    for (words, input, out) in &CERTIFICATES {
+        assert!(rt; prints(rt.alloc(), words, input, out), "on {input}");
     }
-}
-
-fn has_certificate(alloc: Global, penalty: &str, input: &str, out: &str) -> bool {
-    prints(alloc, &["cut", penalty], input, out)
 }
 
 // Whether the words on the input come to the end, and print this.
@@ -103,7 +117,7 @@ const ORDERS: [&str; 24] = [
 #[test]
 fn lines_come_in_any_order(rt: HostRuntime) {
     for input in &ORDERS {
-        assert!(rt; has_certificate(rt.alloc(), "50", input, FOUR), "{input}");
+        assert!(rt; prints(rt.alloc(), &["cut", "50"], input, FOUR), "{input}");
     }
 }
 
@@ -182,9 +196,11 @@ fn outside_fails(rt: HostRuntime) {
 }
 
 // Words that are no command; the first penalty has a zero too many, the second is above all penalties.
-const NO_COMMANDS: [&[&str]; 5] = [
+const NO_COMMANDS: [&[&str]; 7] = [
     &[],
     &["cut", "05"],
+    &["cut", "5", "--least", "65"],
+    &["cut", "5", "--least", "0"],
     &["cut", "1000000000000000000000000000000000001"],
     &["apply", "--store="],
     &["trial", "7", "8"],
@@ -193,18 +209,20 @@ const NO_COMMANDS: [&[&str]; 5] = [
 #[test]
 fn words_are_refused(rt: HostRuntime) {
     for words in &NO_COMMANDS {
-        assert!(rt; are_no_command(rt.alloc(), words));
+        assert!(rt; are_no_command(rt.alloc(), words, NO_FAILS, "bad words\n"));
+        assert!(rt; are_no_command(rt.alloc(), words, TELLING_FAILS, ""));
     }
 }
 
-fn are_no_command(alloc: Global, words: &[&str]) -> bool {
+// Whether the words are told to be bad so, and are bad also where that fails.
+fn are_no_command(alloc: Global, words: &[&str], fails: Fails<'_>, err: &str) -> bool {
     let run = Run {
         words,
         input: b"x",
-        fails: NO_FAILS,
+        fails,
         status: Status::BadWords,
         out: b"",
-        err: "bad words\n",
+        err,
     };
     ends(alloc, &run)
 }

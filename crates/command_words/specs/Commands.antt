@@ -1,5 +1,5 @@
 -- Which words are a command.
-use Rattle.std.specs.Prelude.{◌≡◌, ℕ, ◌^◌, ◌<◌, ◌≤◌, List, [], ◌∷◌, ◌++◌, length, map, codes, decimal, String, string_bytes, Option, Some, None, IfSome}
+use Rattle.std.specs.Prelude.{◌≡◌, ℕ, ◌^◌, ◌<◌, ◌≤◌, List, [], ◌∷◌, ◌++◌, length, map, codes, decimal, String, string_bytes, Option, Some, None, IfSome, nat_lt, if◌then◌else◌}
 use Rattle.command_words.specs.Simple.{cut_app, number_app, apply_app, Gives}
 use Rattle.command_words.specs.Plans.{Plan, Values, GivesValues, AsksFor, IsWithinLimits}
 use Rattle.command_words.specs.declared.command.Command.{Command}
@@ -14,12 +14,30 @@ abbrev pub Finds : {T : Type 0} → (T → Type 0) → Option T → Type 0
 Finds {T} IsIt None = (x : T) → ¬ IsIt x
 Finds IsIt (Some x) = IsIt x
 
--- `cut`, and words that give it a penalty of at most 10^36
-pub record IsCutCommand (words : List (List ℕ)) (penalty : ℕ) : Type 0 where
-  pub rest : List (List ℕ)
-  pub named : words ≡ codes "cut" ∷ rest
+-- words that give `cut` a penalty of at most 10^36
+pub record HavePenalty (rest : List (List ℕ)) (penalty : ℕ) : Type 0 where
   pub gives : Gives cut_app (codes "PENALTY") rest (Some (decimal penalty))
   pub small : penalty ≤ 10 ^ 36
+
+-- a value of the option is the number in decimal digits; without one the number is 1
+abbrev pub IsLeast : Option (List ℕ) → ℕ → Type 0
+IsLeast None least = least ≡ 1
+IsLeast (Some word) least = word ≡ decimal least
+
+-- words that give it a least length from 1 to 64, or none
+pub record HaveLeast (rest : List (List ℕ)) (least : ℕ) : Type 0 where
+  pub word : Option (List ℕ)
+  pub gives : Gives cut_app (codes "least") rest word
+  pub is_least : IsLeast word least
+  pub low : 0 < least
+  pub high : least ≤ 64
+
+-- `cut`, and words that give it both
+pub record IsCutCommand (words : List (List ℕ)) (penalty least : ℕ) : Type 0 where
+  pub rest : List (List ℕ)
+  pub named : words ≡ codes "cut" ∷ rest
+  pub penalty_of : HavePenalty rest penalty
+  pub least_of : HaveLeast rest least
 
 -- the command's name, and words that give it a number of 64 bits
 pub record IsNumbered (name : List ℕ) (words : List (List ℕ)) (number : ℕ) : Type 0 where
@@ -45,7 +63,7 @@ pub record IsPlayCommand (words : List (List ℕ)) (plan : Plan) : Type 0 where
 
 -- the words are this command
 abbrev pub IsSpelled : List (List ℕ) → Command → Type 0
-IsSpelled words (Cut penalty) = IsCutCommand words penalty
+IsSpelled words (Cut penalty least) = IsCutCommand words penalty least
 IsSpelled words (Apply store) = IsApplyCommand words store
 IsSpelled words (Gen number) = IsNumbered (codes "gen") words number
 IsSpelled words (Trial number) = IsNumbered (codes "trial") words number
@@ -57,7 +75,7 @@ AreNoCommand words = (command : Command) → ¬ IsSpelled words command
 
 -- the numbers of the command are within their limits, and the name of its store isn't empty
 abbrev pub IsInRange : Command → Type 0
-IsInRange (Cut penalty) = penalty ≤ 10 ^ 36
+IsInRange (Cut penalty least) = (penalty ≤ 10 ^ 36) × (0 < least) × (least ≤ 64)
 IsInRange (Apply store) = IfSome store (λ name. 0 < length name)
 IsInRange (Gen number) = number < 2 ^ 64
 IsInRange (Trial number) = number < 2 ^ 64
@@ -67,10 +85,14 @@ IsInRange (Play plan) = IsWithinLimits plan
 abbrev pub AreOneCommand : Type 0
 AreOneCommand = (words : List (List ℕ)) (one other : Command) → IsSpelled words one → IsSpelled words other → one ≡ other
 
--- the plain words of a command other than `play`: its name, then its number in decimal digits, or
--- `--store=` and the name of its store
+-- the plain words of a least length: none where it is 1
+abbrev pub plain_least : ℕ → List (List ℕ)
+plain_least least = if nat_lt 1 least then (codes "--least=" ++ decimal least) ∷ [] else []
+
+-- the plain words of a command other than `play`: its name, then its number in decimal digits, and
+-- for `cut` those of its least length, or `--store=` and the name of its store
 abbrev pub plain_words : Command → Option (List (List ℕ))
-plain_words (Cut penalty) = Some (codes "cut" ∷ decimal penalty ∷ [])
+plain_words (Cut penalty least) = Some (codes "cut" ∷ decimal penalty ∷ plain_least least)
 plain_words (Apply None) = Some (codes "apply" ∷ [])
 plain_words (Apply (Some name)) = Some (codes "apply" ∷ (codes "--store=" ++ name) ∷ [])
 plain_words (Gen number) = Some (codes "gen" ∷ decimal number ∷ [])

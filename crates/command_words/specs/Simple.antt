@@ -13,9 +13,9 @@ named_app name = on_top (λ s. record s { no_binary_name = true; disable_help_fl
 abbrev pub value_app : List ℕ → List ℕ → App
 value_app name id = with_rule (named_app name) (record (new_rule id) { required = true })
 
--- `cut PENALTY`
+-- `cut PENALTY`, with the option `--least`, which takes one value and has no short form
 abbrev pub cut_app : App
-cut_app = value_app (codes "cut") (codes "PENALTY")
+cut_app = with_rule (value_app (codes "cut") (codes "PENALTY")) (record (new_rule (codes "least")) { long = Some (codes "least") })
 
 -- `gen NUMBER` or `trial NUMBER`, by the command's name
 abbrev pub number_app : List ℕ → App

@@ -1,11 +1,11 @@
 //! The commands, and the words that spell them.
 ghost use Rattle.std.specs.Prelude.{◌≡◌, ℕ, ◌<◌, List, ◌∷◌, codes, Option, Some, option_map, IfOk, IfSome, IfNone};
 ghost use Rattle.command_words.specs.Simple.{Gives, value_app};
-ghost use Rattle.command_words.specs.Commands.{texts, Finds, IsApplyCommand, IsCutCommand, IsNumbered, IsSpelled, AreNoCommand, AreOneCommand, PlainWordsAreCommands};
+ghost use Rattle.command_words.specs.Commands.{texts, Finds, HavePenalty, HaveLeast, IsApplyCommand, IsNumbered, IsSpelled, AreNoCommand, AreOneCommand, PlainWordsAreCommands};
 
 use crate::NoMemory;
 use crate::plan::{PlayPlan, plan_of};
-use crate::simple::{apply_command, value_command, value_of};
+use crate::simple::{apply_command, cut_command, value_command, value_of};
 use line_text::{read_u64, read_u128};
 use std::alloc::Global;
 use std::marker::Model;
@@ -46,8 +46,8 @@ impl<'a> StoreName<'a> {
 /// A command, as the words say it.
 #[derive(Drop)]
 pub enum Command<'a> {
-    /// Reads cut lines, and prints the certificate of the best segmentation at this penalty.
-    Cut(u128),
+    /// Reads cut lines, and prints the certificate of the best segmentation at this penalty, with this least length of segments.
+    Cut(u128, u8),
     /// Answers the script that the input has, on the machines of this store, if there is one.
     Apply(Option<StoreName<'a>>),
     /// Writes the script of this number.
@@ -73,7 +73,10 @@ pub fn command_of(alloc: Global, words: &[String]) -> Result<Option<Command<'_>>
         let Some(penalty) = penalty_of(alloc, rest)? else {
             return Ok(None);
         };
-        return Ok(Some(Command::Cut(penalty)));
+        let Some(least) = least_of(alloc, rest)? else {
+            return Ok(None);
+        };
+        return Ok(Some(Command::Cut(penalty, least)));
     }
     if name == "apply" {
         let Some(store) = store_of(alloc, rest)? else {
@@ -104,9 +107,12 @@ pub fn command_of(alloc: Global, words: &[String]) -> Result<Option<Command<'_>>
 
 // The penalty that the words behind `cut` give.
 fn penalty_of(alloc: Global, rest: &[String]) -> Result<Option<u128>, NoMemory>
-    ensures { IfOk result (Finds (IsCutCommand (codes "cut" ∷ texts rest.now))) }
+    ensures { IfOk result (Finds (HavePenalty (texts rest.now))) }
 {
-    let Some(word) = value_behind(alloc, "cut", "PENALTY", rest)? else {
+    let Some(value) = value_of(cut_command(alloc)?, "PENALTY", rest)? else {
+        return Ok(None);
+    };
+    let Some(word) = value else {
         return Ok(None);
     };
     let Some(penalty) = read_u128(word.as_bytes()) else {
@@ -116,6 +122,25 @@ fn penalty_of(alloc: Global, rest: &[String]) -> Result<Option<u128>, NoMemory>
         return Ok(None);
     }
     Ok(Some(penalty))
+}
+
+// The least length that the words behind `cut` give, or 1.
+fn least_of(alloc: Global, rest: &[String]) -> Result<Option<u8>, NoMemory>
+    ensures { IfOk result (Finds (HaveLeast (texts rest.now))) }
+{
+    let Some(value) = value_of(cut_command(alloc)?, "least", rest)? else {
+        return Ok(None);
+    };
+    let Some(word) = value else {
+        return Ok(Some(1));
+    };
+    let Some(number) = read_u64(word.as_bytes()) else {
+        return Ok(None);
+    };
+    if number == 0 || number > 64 {
+        return Ok(None);
+    }
+    Ok(Some(number as u8))
 }
 
 // The number that the words behind the command's name give.

@@ -2,7 +2,7 @@
 ghost use Rattle.std.specs.Prelude.{◌≡◌, ◌≢◌, List, [], ℕ, IfOk, IfSome, IfNone, Option, option_map, true};
 ghost use Rattle.clap.specs.Words.{app_of, fault_of, is_simple_and_free, matches_of, first_of};
 ghost use Rattle.command_words.specs.Commands.{texts};
-ghost use Rattle.command_words.specs.Simple.{Gives, named_app, value_app, apply_app};
+ghost use Rattle.command_words.specs.Simple.{Gives, named_app, value_app, cut_app, apply_app};
 
 use crate::NoMemory;
 use clap::error::ErrorKind;
@@ -19,6 +19,14 @@ pub(crate) fn value_command<'a>(
 {
     let value = Arg::new(alloc, id).required(true);
     named_command(alloc, name).arg(value)
+}
+
+// The command `cut`, with its positional and its option.
+pub(crate) fn cut_command<'a>(alloc: Global) -> Result<Command<'a>, NoMemory>
+    ensures { IfOk result (λ c. app_of c ≡ cut_app) }
+{
+    let least = Arg::new(alloc, "least").long("least");
+    value_command(alloc, "cut", "PENALTY")?.arg(least)
 }
 
 // The command `apply`, with its one option.

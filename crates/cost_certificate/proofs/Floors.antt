@@ -1,10 +1,18 @@
 -- What a last segment makes never falls as it grows, so that a pair needs no look where an earlier one made enough.
-use Rattle.std.proofs.Common.{◌≡◌, ◌≢◌, ℕ, ℤ, ◌+◌, ◌*◌, ◌^◌, ◌<◌, ◌≤◌, pos, neg_ℤ, ◌+ℤ◌, ◌≤ℤ◌, arith}
+use Rattle.std.proofs.Common.{◌≡◌, ◌≢◌, ℕ, ℤ, ◌+◌, ◌*◌, ◌^◌, ◌<◌, ◌≤◌, inl, inr, pos, neg_ℤ, ◌+ℤ◌, ◌≤ℤ◌, arith}
 use Rattle.std.proofs.lemmas.Int.{ints}
+use Rattle.segment_model.specs.Tables.{IsSettled}
 use Rattle.cost_certificate.specs.declared.tables.Tables.{Tables}
 use Rattle.cost_certificate.specs.Checks.{IsFloor, PairHolds, cost_in, last_cut_at, last_place, mark_at, total_at}
 
 module _ (tables : Tables) where
+  -- a pair whose place is settled, where its total is no less and its place is no mark
+  pub settled-holds : (s t : ℕ) → IsSettled tables.len (last_cut_at tables t) s → total_at tables t ≤ℤ (total_at tables s +ℤ cost_in tables s t +ℤ tables.penalty) → mark_at tables s ≢ t → PairHolds tables s t
+  settled-holds s t settled enough apart = (
+    (λ is open'. (enough, λ lt. absurd (elim settled [ inl same ↦ omega (arith, same, lt) | inr may ↦ omega (arith, may.0, lt) ]))),
+    (λ unmarked. ((λ free. absurd (free settled)), (λ z. apart))),
+  )
+
   pub first-floor : (s from : ℕ) → s ≤ from → s ≤ last_place tables → IsFloor tables s (from + 1) (total_at tables s)
   first-floor s from le placed =
       let total = tables.totals s (omega (arith, placed, tables.least_length)) in
@@ -30,12 +38,7 @@ module _ (tables : Tables) where
     high = high;
   }
 
-  -- from the last cut on, a pair holds where the floor and the penalty aren't below the total and its place is no mark
+  -- where the last cut settles a place, a pair holds whose floor and penalty aren't below the total, and whose place is no mark
   pub unlooked : (s t : ℕ) (floor : ℤ) → IsFloor tables s t floor → t ≤ last_place tables
-      → last_cut_at tables t ≤ s → total_at tables t ≤ℤ (floor +ℤ tables.penalty) → mark_at tables s ≢ t → PairHolds tables s t
-  unlooked s t floor bound le from above apart = (
-    omega (arith, ints, bound.at_most t (omega arith) le, above),
-    (λ lt. absurd (omega (arith, lt, from))),
-    (λ lt. absurd (omega (arith, lt, from))),
-    (λ z. apart),
-  )
+      → IsSettled tables.len (last_cut_at tables t) s → total_at tables t ≤ℤ (floor +ℤ tables.penalty) → mark_at tables s ≢ t → PairHolds tables s t
+  unlooked s t floor bound le settled above apart = settled-holds s t settled (omega (arith, ints, bound.at_most t (omega arith) le, above)) apart

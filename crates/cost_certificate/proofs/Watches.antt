@@ -74,7 +74,7 @@ module _ (tables : Tables) where
   -- what is known of a block tells of its places
   pub passed : (need : Need) (watch : Watch) (start stop from end : ℕ) → end ≤ last_place tables → from ≤ end → stop ≤ from → IsNeed tables from end need
       → IsWatch tables start stop from watch
-      → (watch.is_shut ≡ true) ⊎ ((need.last_cut ≤ start) × (end ≤ watch.until) × (need.total ≤ℤ (watch.total +ℤ cost_in tables watch.at from +ℤ tables.penalty)))
+      → (watch.is_shut ≡ true) ⊎ ((need.reach ≤ start) × (end ≤ watch.until) × (need.total ≤ℤ (watch.total +ℤ cost_in tables watch.at from +ℤ tables.penalty)))
       → PlacesHoldInBlock tables start stop from end
   passed need watch start stop from end le rising front is_need h tells s above below = elim (h.known s above below) [
     | inl shut ↦ closed tables s from end shut.0 (omega (arith, shut.1, h.made))

@@ -1,8 +1,7 @@
 -- Rows and places that hold are the whole tables.
 use Rattle.std.proofs.Common.{◌≡◌, ℕ, ℤ, ◌^◌, ◌<◌, ◌≤◌, List, inl, inr, pos, neg_ℤ, ◌≤ℤ◌, arith}
 use Rattle.std.proofs.lemmas.Int.{ints}
-use Rattle.std.proofs.lemmas.Bool.{cases_eq}
-use Rattle.segment_model.specs.Tables.{IsTable, IsVerified}
+use Rattle.segment_model.specs.Tables.{IsTable, IsOpenAt, IsUnmarkedBefore, IsVerified}
 use Rattle.segment_model.specs.Laws.{TotalsAreInRange}
 use Rattle.cost_certificate.specs.declared.tables.Tables.{Tables}
 use Rattle.cost_certificate.specs.Checks.{PlaceHolds, RowHolds, cost_in, last_cut_at, last_place, total_at}
@@ -11,7 +10,7 @@ use Rattle.cost_certificate.specs.Totals.{AreCosts, AreTotals}
 module _ (tables : Tables) where
   -- what the rows and the places tell, once each of them holds
   abbrev pub IsLookedAt : Type 0
-  IsLookedAt = IsVerified (cost_in tables) (last_place tables) tables.penalty tables.least.now tables.back.now tables.pruned.now
+  IsLookedAt = IsVerified (cost_in tables) (last_place tables) tables.penalty tables.len tables.least.now tables.back.now tables.pruned.now
 
   pub verified : total_at tables 0 ≡ neg_ℤ tables.penalty → last_cut_at tables 0 ≡ 0
       → ((t : ℕ) → 0 < t → t ≤ last_place tables → RowHolds tables t) → ((s : ℕ) → s ≤ last_place tables → PlaceHolds tables s) → IsLookedAt
@@ -23,18 +22,15 @@ module _ (tables : Tables) where
     back_at_none = first_back;
     before = λ t some le. (rows t some le).0;
     made = λ t some le. (rows t some le).1;
-    at_most = λ s t lt le open'. ((places s (omega arith)).1 t lt le open').0;
-    earlier = λ s t lt le open'. let lt' = before_row s t lt le in ((places s (omega arith)).1 t lt' le open').1 lt;
+    at_most = λ s t is le open'. (((places s (omega (arith, is.0, le))).1 t is.0 le open').0 is open').0;
+    earlier = λ s t lt is le open'. (((places s (omega (arith, is.0, le))).1 t is.0 le open').0 is open').1 lt;
     marked = λ s le. (places s le).0;
-    dear = λ s t lt le open'. let lt' = before_row s t lt le in ((places s (omega arith)).1 t lt' le open').2 lt;
-    cheap = λ s t from lt le open'. ((places s (omega arith)).1 t lt le open').3 from;
+    dear = λ s t above le unmarked. (((places s (omega (arith, above, le))).1 t above le (opened s t unmarked)).1 unmarked).0;
+    cheap = λ s t above le unmarked. (((places s (omega (arith, above, le))).1 t above le (opened s t unmarked)).1 unmarked).1;
   }
     where
-      before_row : (s t : ℕ) → s < last_cut_at tables t → t ≤ last_place tables → s < t
-      before_row s t lt le = elim (cases_eq t 0) [
-        | inl at ↦ let lt' = rw at at lt in absurd (omega (arith, lt', first_back))
-        | inr apart ↦ omega (arith, lt, (rows t (omega arith) le).0)
-      ]
+      opened : (s t : ℕ) → IsUnmarkedBefore tables.pruned.now s t → IsOpenAt tables.len tables.pruned.now s t
+      opened s t unmarked = elim unmarked [ inl none ↦ inl none | inr before ↦ inr (omega (arith, before, tables.is_length.0)) ]
 
   module _ (h : IsLookedAt) where
     pub rows-hold : (t : ℕ) → 0 < t → t ≤ last_place tables → RowHolds tables t
@@ -44,16 +40,14 @@ module _ (tables : Tables) where
     places-hold s le = (
       h.marked s le,
       λ t above within open'. (
-        h.at_most s t above within open',
-        (λ lt. h.earlier s t lt within open'),
-        (λ lt. h.dear s t lt within open'),
-        (λ from. h.cheap s t from above within open'),
+        (λ is open''. (h.at_most s t is within open'', λ lt. h.earlier s t lt is within open'')),
+        (λ unmarked. (h.dear s t above within unmarked, h.cheap s t above within unmarked)),
       ),
     )
 
 -- the totals of the tables are in their range
-pub totals-are : TotalsAreInRange → (cost : ℕ → ℕ → ℤ) (n : ℕ) (b : ℤ) (least : List ℤ) (back pruned : List ℕ) → IsTable cost n b least back pruned
+pub totals-are : TotalsAreInRange → (cost : ℕ → ℕ → ℤ) (n : ℕ) (b : ℤ) (len : ℕ) (least : List ℤ) (back pruned : List ℕ) → IsTable cost n b len least back pruned
     → pos 0 ≤ℤ b → b ≤ℤ pos (10 ^ 36) → AreCosts cost n → AreTotals least
-totals-are in_range cost n b least back pruned h low high range s lt =
-    let there = in_range cost n (10 ^ 37) b least back pruned low range h s (omega (arith, h.least_length)) in
+totals-are in_range cost n b len least back pruned h low high range s lt =
+    let there = in_range cost n (10 ^ 37) b len least back pruned low range h s (omega (arith, h.least_length)) in
     (omega (arith, ints, high, there.0), there.1)

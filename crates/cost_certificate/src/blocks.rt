@@ -7,7 +7,7 @@
 ghost use Rattle.std.specs.Prelude.{◌≡◌, ◌≢◌, ℕ, ◌+◌, ◌*◌, ◌^◌, ◌<◌, ◌≤◌, length, pos, neg_ℤ, ◌+ℤ◌, ◌≤ℤ◌, ◌↔◌, ◌⊎◌, IfNone, IfSome, IsTrue, false, true};
 ghost use Rattle.cost_certificate.specs.Checks.{AreWatches, IsNeed, IsWatch, MarksHold, PlaceHolds, PlaceHoldsInBlock, PlacesHoldInBlock, cost_in, last_place, watch_at};
 
-use crate::entries::{is_mark, last_open, made_from, pairs_hold};
+use crate::entries::{is_mark, last_open, made_from, pairs_hold, reach_of};
 use crate::level::is_level;
 use crate::tables::Tables;
 use segment_cost::Cost;
@@ -24,11 +24,11 @@ const HIGHEST: i128 = 20_000_000_000_000_000_000_000_000_000_000_000_000;
 // How many blocks there are: enough for the places of 16,384 positions.
 const BLOCKS: usize = 512;
 
-// What must be made to a block's beginning, and the last of its last cuts.
+// What must be made to a block's beginning, and the place from which on all are settled by its last cuts.
 #[derive(Clone, Copy, Drop)]
 pub struct Need {
     pub total: i128,
-    pub last_cut: usize,
+    pub reach: usize,
 }
 
 // What must be made to place `from` so that no pair with a place behind it, up to `end`, needs a look.
@@ -39,23 +39,23 @@ fn need_of(tables: &Tables, from: usize, end: usize) -> Need
 {
     let mut need = Need {
         total: LOWEST,
-        last_cut: 0,
+        reach: 0,
     };
     for t in from + 1..end + 1 {
         need = need_with(
             need,
             tables.least[t] - tables.square.cost(from, t),
-            tables.back[t] as usize,
+            reach_of(tables.len, tables.back[t] as usize),
         );
     }
     need
 }
 
 // The need with a place more.
-fn need_with(need: Need, total: i128, last_cut: usize) -> Need
+fn need_with(need: Need, total: i128, reach: usize) -> Need
     ensures total { (need.total ≤ℤ result.total) × (total ≤ℤ result.total)
         × ((result.total ≡ need.total) ⊎ (result.total ≡ total)) }
-    ensures last_cut { (need.last_cut ≤ result.last_cut) × (last_cut ≤ result.last_cut) }
+    ensures reach { (need.reach ≤ result.reach) × (reach ≤ result.reach) }
 {
     Need {
         total: if total > need.total {
@@ -63,10 +63,10 @@ fn need_with(need: Need, total: i128, last_cut: usize) -> Need
         } else {
             need.total
         },
-        last_cut: if last_cut > need.last_cut {
-            last_cut
+        reach: if reach > need.reach {
+            reach
         } else {
-            need.last_cut
+            need.reach
         },
     }
 }
@@ -78,9 +78,9 @@ fn needs_no_look(need: Need, made: i128, penalty: i128, s: usize) -> bool
     requires made_low { neg_ℤ (pos (2 * 10 ^ 37)) ≤ℤ made }
     requires made_high { made ≤ℤ pos (3 * 10 ^ 37) }
     ensures total { IsTrue result → need.total ≤ℤ (made +ℤ penalty) }
-    ensures last_cut { IsTrue result → need.last_cut ≤ s }
+    ensures reach { IsTrue result → need.reach ≤ s }
 {
-    need.last_cut <= s && need.total <= made + penalty
+    need.reach <= s && need.total <= made + penalty
 }
 
 // Whether it is told without a look at each that the pairs of s with places behind `from`, up to `end`, at which s is open,
@@ -95,7 +95,7 @@ fn is_told(tables: &Tables, need: Need, s: usize, from: usize, end: usize) -> bo
         return false;
     }
     let mark = tables.pruned[s] as usize;
-    if is_closed(mark, from) {
+    if is_closed(tables.len, mark, from) {
         return true;
     }
     if !is_open_behind(mark, end) {
@@ -105,10 +105,17 @@ fn is_told(tables: &Tables, need: Need, s: usize, from: usize, end: usize) -> bo
 }
 
 // Whether a place with that mark is closed from the place behind `from` on.
-fn is_closed(mark: usize, from: usize) -> bool
-    ensures { IsTrue result ↔ ((mark ≢ 0) × (mark ≤ from)) }
+fn is_closed(len: usize, mark: usize, from: usize) -> bool
+    requires { 0 < len }
+    ensures { IsTrue result ↔ ((mark ≢ 0) × (mark + len ≤ from + 1)) }
 {
-    mark != 0 && mark <= from
+    if mark == 0 {
+        return false;
+    }
+    if mark > from {
+        return false;
+    }
+    len - 1 <= from - mark
 }
 
 // Whether a place with that mark is open at `end` and behind it.
@@ -130,7 +137,7 @@ fn place_holds(tables: &Tables, need: Need, s: usize, from: usize, end: usize) -
         return true;
     }
     let mark = tables.pruned[s] as usize;
-    pairs_hold(tables, s, s.max(from), last_open(end, mark).min(end))
+    pairs_hold(tables, s, s.max(from), last_open(tables.len, end, mark))
 }
 
 // What was seen of the places of a block at place `at`: those that aren't closed there have no mark up to `until`, and make
@@ -175,7 +182,7 @@ fn passes(tables: &Tables, need: Need, watch: Watch, start: usize, from: usize, 
     requires total_low { neg_ℤ (pos (2 * 10 ^ 37)) ≤ℤ watch.total }
     requires total_high { watch.total ≤ℤ pos (2 * 10 ^ 37) }
     ensures { IsTrue result → (watch.is_shut ≡ true)
-        ⊎ ((need.last_cut ≤ start) × (end ≤ watch.until)
+        ⊎ ((need.reach ≤ start) × (end ≤ watch.until)
         × (need.total ≤ℤ (watch.total +ℤ cost_in tables.now watch.at from +ℤ tables.now.penalty))) }
 {
     if watch.is_shut {
@@ -219,7 +226,7 @@ fn next_watch(tables: &Tables, watch: Watch, start: usize, s: usize) -> Watch
     ensures at { result.at ≡ watch.at }
 {
     let mark = tables.pruned[s] as usize;
-    if is_closed(mark, watch.at) {
+    if is_closed(tables.len, mark, watch.at) {
         return watch;
     }
     watch_with(watch, made_from(tables, s, watch.at), mark)
@@ -372,7 +379,7 @@ fn own_holds(tables: &Tables, need: Need, from: usize, end: usize) -> bool
     requires need { IsNeed tables.now from end need }
     ensures { IsTrue result ↔ PlacesHoldInBlock tables.now from end from end }
 {
-    if need.last_cut <= from && is_level(tables, from, end) {
+    if need.reach <= from && is_level(tables, from, end) {
         return true;
     }
     range_holds(tables, need, from, end, from, end)

@@ -2,6 +2,7 @@
 ghost use Rattle.std.specs.Prelude.{◌≡◌, ℕ, ◌<◌, ◌+◌, ◌^◌, ◌≤◌, ◌⊎◌, length, reverse, pos, neg_ℤ, ◌≤ℤ◌, ◌↔◌, IsTrue, slice_index};
 ghost use Rattle.segment_model.specs.Values.{values_by_position, cost_between};
 ghost use Rattle.segment_model.specs.Computed.{least_sum_of};
+ghost use Rattle.segment_model.specs.Limits.{IsLength};
 ghost use Rattle.segment_model.specs.Tables.{int_at, IsTable, IsWalk};
 ghost use Rattle.segment_cost.specs.Certificate.{StandsFor};
 ghost use Rattle.cost_certificate.specs.Checks.{AreRight};
@@ -17,7 +18,8 @@ use segment_model::{
 
 const GREATEST_PENALTY: i128 = 1_000_000_000_000_000_000_000_000_000_000_000_000;
 
-/// Whether the certificate stands for the points and its penalty, which is from 0 to 10^36.
+/// Whether the certificate stands for the points, its penalty, which is from 0 to 10^36, and its least length of segments, which is
+/// from 1 to 64.
 ///
 /// Goes over the blocks of 32 places, each with those before it, and looks at the single places of one only where its
 /// summary doesn't tell: linear in the positions where changes come at bounded distances, but for one step for each pair
@@ -26,7 +28,8 @@ pub fn check(cert: &Cert, points: &Points, sums: &Square) -> bool
     requires { sums.now.positions ≡ values_by_position points.now }
     ensures { IsTrue result
         ↔ ((pos 0 ≤ℤ cert.now.penalty) × (cert.now.penalty ≤ℤ pos (10 ^ 36))
-        × StandsFor points.now cert.now.penalty cert.now) }
+        × IsLength cert.now.length
+        × StandsFor points.now cert.now.penalty cert.now.length cert.now) }
 {
     best_list_law();
     least_sum_law();
@@ -40,7 +43,11 @@ pub fn check(cert: &Cert, points: &Points, sums: &Square) -> bool
     if cert.points != n as u64 || penalty < 0 || penalty > GREATEST_PENALTY {
         return false;
     }
-    if !are_tables(sums, penalty, least, back, cert.pruned.as_slice()) {
+    if cert.length == 0 || cert.length > 64 {
+        return false;
+    }
+    let len = usize::from(cert.length);
+    if !are_tables(sums, penalty, len, least, back, cert.pruned.as_slice()) {
         return false;
     }
     if !cuts_hold(cert.cuts.as_slice(), back, n) {
@@ -66,12 +73,20 @@ fn total_of(least: &[i128], n: usize) -> i128
 }
 
 // Whether the three lists are the tables of the positions for that penalty.
-fn are_tables(square: &Square, penalty: i128, least: &[i128], back: &[u16], pruned: &[u16]) -> bool
+fn are_tables(
+    square: &Square,
+    penalty: i128,
+    len: usize,
+    least: &[i128],
+    back: &[u16],
+    pruned: &[u16],
+) -> bool
     requires low { pos 0 ≤ℤ penalty }
     requires high { penalty ≤ℤ pos (10 ^ 36) }
+    requires length { IsLength len }
     ensures { IsTrue result
         ↔ IsTable (cost_between least_sum_of square.now.positions) (length square.now.positions)
-        penalty least.now back.now pruned.now }
+        penalty len least.now back.now pruned.now }
 {
     square.limits();
     squares_law();
@@ -87,6 +102,7 @@ fn are_tables(square: &Square, penalty: i128, least: &[i128], back: &[u16], prun
     let tables = Tables {
         square,
         penalty,
+        len,
         least,
         back,
         pruned,

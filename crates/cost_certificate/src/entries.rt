@@ -1,8 +1,9 @@
 //! Single entries of the tables, and pairs of places.
 ghost use Rattle.std.specs.Prelude.{◌≡◌, ◌≢◌, ℕ, ◌+◌, ◌^◌, ◌<◌, ◌≤◌, pos, ◌≤ℤ◌, ◌<ℤ◌, ◌↔◌, IfSome, IfNone, IsTrue, ◌*◌, ◌⊎◌, neg_ℤ, ◌+ℤ◌};
-ghost use Rattle.segment_model.specs.Tables.{IsMark};
+ghost use Rattle.segment_model.specs.Limits.{IsLength};
+ghost use Rattle.segment_model.specs.Tables.{MayBegin, IsCandidate, IsMark, IsSettled};
 ghost use Rattle.cost_certificate.specs.Totals.{AreTotals};
-ghost use Rattle.cost_certificate.specs.Checks.{IsFloor, PairHolds, RowHolds, cost_in, last_place, total_at};
+ghost use Rattle.cost_certificate.specs.Checks.{IsFloor, MarkHolds, OrderHolds, PairHolds, RowHolds, cost_in, last_place, total_at};
 
 use crate::tables::Tables;
 use segment_cost::Cost;
@@ -34,14 +35,27 @@ pub fn made_from(tables: &Tables, s: usize, t: usize) -> i128
     tables.least[s] + tables.square.cost(s, t)
 }
 
-// Whether the last cut of place t lies before it and makes its total.
+// Whether the last segment of t positions may begin at place s.
+fn is_candidate(len: usize, t: usize, s: usize) -> bool
+    ensures { IsTrue result ↔ IsCandidate len t s }
+{
+    if s >= t {
+        return false;
+    }
+    if s == 0 {
+        return true;
+    }
+    len <= s && len <= t - s
+}
+
+// Whether the last cut of place t is one of its candidates and makes its total.
 fn row_holds(tables: &Tables, t: usize) -> bool
     requires placed { t ≤ last_place tables.now }
     requires some { 0 < t }
     ensures { IsTrue result ↔ RowHolds tables.now t }
 {
     let s = tables.back[t] as usize;
-    if s >= t {
+    if !is_candidate(tables.len, t, s) {
         return false;
     }
     tables.least[t] == made_from(tables, s, t) + tables.penalty
@@ -60,6 +74,87 @@ pub fn rows_hold(tables: &Tables) -> bool
     true
 }
 
+// Whether a last cut settles place s.
+fn is_settled(len: usize, last_cut: usize, s: usize) -> bool
+    ensures { IsTrue result ↔ IsSettled len last_cut s }
+{
+    if last_cut == s {
+        return true;
+    }
+    is_candidate(len, s, last_cut)
+}
+
+// Whether a place with that mark is open at place t.
+fn is_open(len: usize, mark: usize, t: usize) -> bool
+    requires { 0 < len }
+    ensures { IsTrue result ↔ ((mark ≡ 0) ⊎ (t < mark + len)) }
+{
+    if mark == 0 {
+        return true;
+    }
+    if t < mark {
+        return true;
+    }
+    t - mark < len
+}
+
+// Whether the segment from place s is dear, where it makes that.
+fn is_dear(len: usize, s: usize, total: i128, from_here: i128) -> bool
+    ensures { IsTrue result ↔ (MayBegin len s × (total <ℤ from_here)) }
+{
+    if s > 0 && s < len {
+        return false;
+    }
+    total < from_here
+}
+
+// Whether the totals of two places fit together, where the last segment makes that, with the penalty before it.
+fn order_holds(tables: &Tables, made: i128, s: usize, t: usize) -> bool
+    requires placed { t ≤ last_place tables.now }
+    requires below { s < t }
+    requires made { made ≡ total_at tables.now s +ℤ cost_in tables.now s t +ℤ tables.now.penalty }
+    ensures { IsTrue result ↔ OrderHolds tables.now s t }
+{
+    if !is_candidate(tables.len, t, s) {
+        return true;
+    }
+    if !is_open(tables.len, tables.pruned[s] as usize, t) {
+        return true;
+    }
+    no_less(tables.least[t], made, s, tables.back[t] as usize)
+}
+
+// Whether the mark of place s fits to place t, where the last segment makes that, without the penalty before it.
+fn mark_holds(tables: &Tables, from_here: i128, s: usize, t: usize) -> bool
+    requires placed { t ≤ last_place tables.now }
+    requires below { s < t }
+    requires made { from_here ≡ total_at tables.now s +ℤ cost_in tables.now s t }
+    ensures { IsTrue result ↔ MarkHolds tables.now s t }
+{
+    let mark = tables.pruned[s] as usize;
+    if is_before(mark, t) {
+        return true;
+    }
+    if is_settled(tables.len, tables.back[t] as usize, s) {
+        return mark != t;
+    }
+    is_marked(is_dear(tables.len, s, tables.least[t], from_here), mark, t)
+}
+
+// Whether there is a mark, before place t.
+fn is_before(mark: usize, t: usize) -> bool
+    ensures { IsTrue result ↔ ((mark ≢ 0) × (mark < t)) }
+{
+    mark != 0 && mark < t
+}
+
+// Whether place t is the mark where a place is dear there, and isn't elsewhere.
+fn is_marked(dear: bool, mark: usize, t: usize) -> bool
+    ensures { IsTrue result ↔ (IsTrue dear ↔ (mark ≡ t)) }
+{
+    if dear { mark == t } else { mark != t }
+}
+
 // Whether the pair of places holds, where the last segment makes that, without the penalty before it.
 fn pair_holds(tables: &Tables, from_here: i128, s: usize, t: usize) -> bool
     requires placed { t ≤ last_place tables.now }
@@ -69,60 +164,39 @@ fn pair_holds(tables: &Tables, from_here: i128, s: usize, t: usize) -> bool
     requires made_high { from_here ≤ℤ pos (2 * 10 ^ 37) }
     ensures { IsTrue result ↔ PairHolds tables.now s t }
 {
-    let made = from_here + tables.penalty;
-    are_paired(
-        tables.least[t],
-        from_here,
-        made,
-        s,
-        tables.back[t] as usize,
-        tables.pruned[s] as usize,
-        t,
-    )
-}
-
-// Whether a total, what a last segment from place s makes, and the mark of s fit together at place t.
-fn are_paired(
-    total: i128,
-    from_here: i128,
-    made: i128,
-    s: usize,
-    last_cut: usize,
-    mark: usize,
-    t: usize,
-) -> bool
-    ensures { IsTrue result ↔ ((total ≤ℤ made) × (s < last_cut → total <ℤ made)
-        × (s < last_cut → ((total <ℤ from_here) ↔ (mark ≡ t))) × (last_cut ≤ s → mark ≢ t)) }
-{
-    if !no_less(total, made, s, last_cut) {
+    if !order_holds(tables, from_here + tables.penalty, s, t) {
         return false;
     }
-    let dear = total < from_here;
-    is_marked(dear, s, last_cut, mark, t)
+    mark_holds(tables, from_here, s, t)
 }
 
-// Whether place t is the mark, where place s lies before the last cut and the segment to t is dear, and isn't elsewhere.
-fn is_marked(dear: bool, s: usize, last_cut: usize, mark: usize, t: usize) -> bool
-    ensures { IsTrue result
-        ↔ ((s < last_cut → (IsTrue dear ↔ (mark ≡ t))) × (last_cut ≤ s → mark ≢ t)) }
+// The first place from which on all are settled by that last cut.
+pub fn reach_of(len: usize, last_cut: usize) -> usize
+    requires { IsLength len }
+    ensures { (s : ℕ) → result ≤ s → s ≤ 16_384 → IsSettled len last_cut s }
 {
-    if s < last_cut && dear {
-        mark == t
-    } else {
-        mark != t
+    if last_cut == 0 {
+        return 0;
     }
+    if last_cut < len || last_cut > 16_384 {
+        return 16_385;
+    }
+    if len == 1 {
+        return last_cut;
+    }
+    last_cut + len
 }
 
-// Whether place s has to be looked at: it lies before the last cut, or what the last segment makes, which is at least
-// `floor`, may be less than the total.
-fn needs_look(floor: i128, penalty: i128, total: i128, s: usize, last_cut: usize) -> bool
+// Whether place s has to be looked at: it may not be settled, or what the last segment makes, which is at least `floor`, may
+// be less than the total.
+fn needs_look(floor: i128, penalty: i128, total: i128, s: usize, reach: usize) -> bool
     requires low { pos 0 ≤ℤ penalty }
     requires high { penalty ≤ℤ pos (10 ^ 36) }
     requires floor_low { neg_ℤ (pos (10 ^ 36)) ≤ℤ floor }
     requires floor_high { floor ≤ℤ pos (2 * 10 ^ 37) }
-    ensures { IsTrue result ↔ ((s < last_cut) ⊎ ((floor +ℤ penalty) <ℤ total)) }
+    ensures { IsTrue result ↔ ((s < reach) ⊎ ((floor +ℤ penalty) <ℤ total)) }
 {
-    s < last_cut || floor + penalty < total
+    s < reach || floor + penalty < total
 }
 
 // Whether a number is that place.
@@ -146,12 +220,21 @@ pub fn is_mark(n: usize, s: usize, mark: usize) -> bool
     mark == 0 || s < mark && mark <= n
 }
 
-// The last place at which a place with that mark is open.
-pub fn last_open(n: usize, mark: usize) -> usize
-    ensures none { mark ≡ 0 → result ≡ n }
-    ensures some { mark ≢ 0 → result ≡ mark }
+// The last place up to `end` at which a place with that mark is open.
+pub fn last_open(len: usize, end: usize, mark: usize) -> usize
+    requires length { IsLength len }
+    requires few { end ≤ 16_384 }
+    ensures within { result ≤ end }
+    ensures open { (t : ℕ) → t ≤ result → (mark ≡ 0) ⊎ (t < mark + len) }
+    ensures all { (t : ℕ) → t ≤ end → (mark ≡ 0) ⊎ (t < mark + len) → t ≤ result }
 {
-    if mark == 0 { n } else { mark }
+    if mark == 0 {
+        return end;
+    }
+    if mark > end {
+        return end;
+    }
+    end.min(mark + len - 1)
 }
 
 // What a last segment from s makes at least to the places behind t, where the pair of places holds; none where it doesn't.
@@ -170,7 +253,7 @@ fn next_floor(tables: &Tables, floor: i128, s: usize, t: usize) -> Option<i128>
         tables.penalty,
         tables.least[t],
         s,
-        tables.back[t] as usize,
+        reach_of(tables.len, tables.back[t] as usize),
     ) {
         if is_place(tables.pruned[s], t) {
             return None;

@@ -1,13 +1,14 @@
 //! A certificate's text.
-ghost use Rattle.std.specs.Prelude.{◌≡◌, List, [], ◌∷◌, ◌++◌, map, decimal, length, take, OnOk, OnErr};
+ghost use Rattle.std.specs.Prelude.{◌≡◌, List, [], ◌∷◌, ◌++◌, map, codes, decimal, length, take, OnOk, OnErr};
 ghost use Rattle.std.specs.Fmt.{signed_decimal};
-ghost use Rattle.cost_certificate.specs.Text.{row, text_of};
+ghost use Rattle.cost_certificate.specs.Text.{row, length_row, text_of};
 
 use line_text::{Numbers, put_i128, put_u64};
 use segment_cost::{Cert, Costs, NoMemory, Places};
 use std::alloc::Global;
 
-/// Puts a certificate's text behind some bytes: seven lines, each a name and numbers after single spaces.
+/// Puts a certificate's text behind some bytes: seven lines, each a name and numbers after single spaces, or eight where
+/// its least length of segments is above 1.
 ///
 /// Linear in the certificate; changes nothing where there is no memory.
 pub fn put_cert(alloc: Global, out: &mut Vec<u8>, cert: &Cert) -> Result<(), NoMemory>
@@ -28,10 +29,35 @@ fn put_rows(alloc: Global, out: &mut Vec<u8>, cert: &Cert) -> Result<(), NoMemor
     ensures ok { OnOk result (out.new.items ≡ out.old.items ++ text_of cert.now) }
     ensures err { OnErr result (take (length out.old.items) out.new.items ≡ out.old.items) }
 {
-    put_number(alloc, out, b"points", cert.points)?;
-    put_cost(alloc, out, b"penalty", cert.penalty)?;
+    put_asked(alloc, out, cert)?;
     put_numbers(alloc, out, b"cuts", &cert.cuts)?;
     put_cost(alloc, out, b"total", cert.total)?;
+    put_tables(alloc, out, cert)?;
+    Ok(())
+}
+
+// The lines of what was asked for: how many points, at which penalty, and with which least length.
+fn put_asked(alloc: Global, out: &mut Vec<u8>, cert: &Cert) -> Result<(), NoMemory>
+    ensures ok { OnOk result (out.new.items ≡ out.old.items
+        ++ row (codes "points") (decimal cert.now.points ∷ [])
+        ++ row (codes "penalty") (signed_decimal cert.now.penalty ∷ [])
+        ++ length_row cert.now.length) }
+    ensures err { OnErr result (take (length out.old.items) out.new.items ≡ out.old.items) }
+{
+    put_number(alloc, out, b"points", cert.points)?;
+    put_cost(alloc, out, b"penalty", cert.penalty)?;
+    put_length(alloc, out, cert.length)?;
+    Ok(())
+}
+
+// The lines of the three tables.
+fn put_tables(alloc: Global, out: &mut Vec<u8>, cert: &Cert) -> Result<(), NoMemory>
+    ensures ok { OnOk result (out.new.items ≡ out.old.items
+        ++ row (codes "least") (map signed_decimal cert.now.least)
+        ++ row (codes "back") (map decimal cert.now.back)
+        ++ row (codes "pruned") (map decimal cert.now.pruned)) }
+    ensures err { OnErr result (take (length out.old.items) out.new.items ≡ out.old.items) }
+{
     put_costs(alloc, out, b"least", &cert.least)?;
     put_places(alloc, out, b"back", &cert.back)?;
     put_places(alloc, out, b"pruned", &cert.pruned)?;
@@ -47,6 +73,18 @@ fn put_number(alloc: Global, out: &mut Vec<u8>, name: &[u8], number: u64) -> Res
     out.push(b' ')?;
     put_u64(alloc, out, number)?;
     out.push(b'\n')?;
+    Ok(())
+}
+
+// A line of the least length, where it is above 1.
+#[tactic(auto, unfolding(crate::specs::Text::length_row))]
+fn put_length(alloc: Global, out: &mut Vec<u8>, len: u8) -> Result<(), NoMemory>
+    ensures ok { OnOk result (out.new.items ≡ out.old.items ++ length_row len) }
+    ensures err { OnErr result (take (length out.old.items) out.new.items ≡ out.old.items) }
+{
+    if len > 1 {
+        return put_number(alloc, out, b"length", u64::from(len));
+    }
     Ok(())
 }
 

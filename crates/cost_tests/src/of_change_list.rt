@@ -1,5 +1,6 @@
 //! The changes of a small series, by a metric of either direction.
 ghost use Rattle.std.specs.Prelude.{IsTrue, pos, ◌≤ℤ◌, ◌^◌};
+ghost use Rattle.segment_model.specs.Limits.{IsLength};
 ghost use Rattle.segment_cost.specs.Certificate.{StandsFor};
 
 use crate::given::points_of;
@@ -18,7 +19,8 @@ fn six_points(alloc: Global) -> Option<Points> {
 // Whether the certificate passes; no where there is no memory.
 fn stands(alloc: Global, cert: &Cert, points: &Points) -> bool
     ensures { IsTrue result → (pos 0 ≤ℤ cert.now.penalty) × (cert.now.penalty ≤ℤ pos (10 ^ 36))
-        × StandsFor points.now cert.now.penalty cert.now }
+        × IsLength cert.now.length
+        × StandsFor points.now cert.now.penalty cert.now.length cert.now }
 {
     match Square::of_points(alloc, points) {
         Ok(square) => check(cert, points, &square),
@@ -29,7 +31,7 @@ fn stands(alloc: Global, cert: &Cert, points: &Points) -> bool
 // Their finished segmentation at a penalty of 50, under these names; none where there is no memory.
 fn done_of(alloc: Global, test: Name, metric: Name) -> Option<Done> {
     let mut points = six_points(alloc)?;
-    let cert = part(alloc, &points, 50).ok()?;
+    let cert = part(alloc, &points, 50, 1).ok()?;
     if !stands(alloc, &cert, &points) {
         return None;
     }

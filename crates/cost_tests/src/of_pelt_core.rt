@@ -1,7 +1,9 @@
 //! A table that is advanced, with ample memory, and one of a drawn series beside the plain table.
 ghost use Rattle.std.specs.Prelude.{◌≡◌, ◌<◌, [], IfSome};
+ghost use Rattle.segment_model.specs.Limits.{IsLength};
 
 use crate::given::{has_text, points_of};
+use cost_certificate::check;
 use part_core::part;
 use pelt_core::{Steps, Table, segmentation};
 use segment_cost::{Cert, Square};
@@ -13,7 +15,7 @@ use std::sync::ledger::{Blank, Ledger};
 fn fresh(alloc: Global) -> Option<Table<Square>>
     ensures { IfSome result (λ table. table.positions ≡ []) }
 {
-    Table::start(alloc, 1).ok()
+    Table::start(alloc, 1, 1).ok()
 }
 
 // Whether such a table could go a position on.
@@ -95,16 +97,23 @@ fn are_one(plain: &Cert, pruned: &Cert) -> bool {
         && plain.pruned.as_slice() == pruned.pruned.as_slice()
 }
 
-// Whether both tables find one certificate of these runs.
-fn is_found_by_both(alloc: Global) -> Option<bool> {
+// Whether both tables find one certificate of these runs, and it passes.
+fn is_found_by_both(alloc: Global, length: u8) -> Option<bool>
+    requires { IsLength length }
+{
     let runs = drawn_runs(alloc)?;
     let points = points_of(alloc, &runs)?;
-    let plain = part(alloc, &points, PENALTY).ok()?;
-    let pruned = segmentation(alloc, &points, PENALTY).ok()?;
-    Some(plain.points == 300 && are_one(&plain, &pruned))
+    let plain = part(alloc, &points, PENALTY, length).ok()?;
+    let pruned = segmentation(alloc, &points, PENALTY, length).ok()?;
+    let square = Square::of_points(alloc, &points).ok()?;
+    Some(plain.points == 300 && are_one(&plain, &pruned) && check(&pruned, &points, &square))
 }
 
 #[test]
 fn the_plain_and_the_pruned_table_agree(rt: HostRuntime) {
-    assert_eq!(rt; is_found_by_both(rt.alloc()), Some(true));
+    assert_eq!(rt; is_found_by_both(rt.alloc(), 1), Some(true));
+    assert_eq!(rt; is_found_by_both(rt.alloc(), 2), Some(true));
+    assert_eq!(rt; is_found_by_both(rt.alloc(), 5), Some(true));
+    assert_eq!(rt; is_found_by_both(rt.alloc(), 20), Some(true));
+    assert_eq!(rt; is_found_by_both(rt.alloc(), 64), Some(true));
 }

@@ -38,7 +38,7 @@ fn centres_are_nearest_to_the_mean(rt: HostRuntime) {
 
 // A copy of the certificate of no position; none where there is no memory.
 fn copied(alloc: Global) -> Option<Cert> {
-    let cert = part(alloc, &points_of(alloc, &[])?, 5).ok()?;
+    let cert = part(alloc, &points_of(alloc, &[])?, 5, 1).ok()?;
     cert.copy(alloc).ok()
 }
 

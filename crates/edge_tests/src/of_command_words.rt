@@ -5,15 +5,22 @@ use std::alloc::Global;
 // Words, and how the command that they are is told.
 type Row = (&'static [&'static str], &'static str);
 
-const TOLD: [Row; 45] = [
-    (&["cut", "50"], "cut 50"),
-    (&["cut", "0"], "cut 0"),
-    (&["cut", "--", "50"], "cut 50"),
-    (&["cut", "50", "--"], "cut 50"),
+const TOLD: [Row; 52] = [
+    (&["cut", "50"], "cut 50 1"),
+    (&["cut", "0"], "cut 0 1"),
+    (&["cut", "--", "50"], "cut 50 1"),
+    (&["cut", "50", "--"], "cut 50 1"),
     (
         &["cut", "1000000000000000000000000000000000000"],
-        "cut 1000000000000000000000000000000000000",
+        "cut 1000000000000000000000000000000000000 1",
     ),
+    (&["cut", "50", "--least", "2"], "cut 50 2"),
+    (&["cut", "--least=64", "50"], "cut 50 64"),
+    (&["cut", "5", "--least", "65"], "none"),
+    (&["cut", "5", "--least", "0"], "none"),
+    (&["cut", "5", "--least", "02"], "none"),
+    (&["cut", "5", "--least"], "none"),
+    (&["cut", "--least", "2"], "none"),
     (&["apply"], "apply"),
     (&["apply", "--"], "apply"),
     (&["apply", "--store", "n"], "apply n"),
@@ -204,9 +211,12 @@ fn strings(alloc: Global, words: &[&str]) -> Result<Vec<String>, NoMemory> {
 // Whether the command is told so: its name, then what it has.
 fn is_told(alloc: Global, command: &Command<'_>, told: &str) -> bool {
     match command {
-        Command::Cut(penalty) => told
+        Command::Cut(penalty, least) => told
             .strip_prefix("cut ")
-            .is_some_and(|text| text.parse::<u128>() == Ok(*penalty)),
+            .and_then(|text| text.split_once(' '))
+            .is_some_and(|(text, more)| {
+                text.parse::<u128>() == Ok(*penalty) && more.parse::<u8>() == Ok(*least)
+            }),
         Command::Apply(None) => told == "apply",
         Command::Apply(Some(store)) => told.strip_prefix("apply ") == Some(store.as_str()),
         Command::Gen(number) => told

@@ -5,6 +5,7 @@ use Rattle.std.proofs.lemmas.List.{append-nil, append_assoc, length-map, map-app
 use Rattle.std.proofs.lemmas.List.Elements.{All-filter, All-head, All-tail}
 use Rattle.segment_model.proofs.Rising.{IsIn, RisesFrom, rising-rises, rising-only, in-append}
 use Rattle.segment_model.specs.Cuts.{RisesBetween}
+use Rattle.segment_model.proofs.CutLists.{places-rise}
 use Rattle.segment_model.specs.Limits.{commits_of}
 use Rattle.segment_model.specs.Segments.{Position}
 use Rattle.sample_model.specs.Samples.{Measurement}
@@ -104,7 +105,7 @@ module _ (h : List Entry) (p : Publication) (legal : Legal h) (stands : Stands h
 
   pub between-declared : (k : ℕ) → k < length p.cuts → IsBetweenDeclared h (commits_of (positions version (published p))) (slice_index p.cuts k)
   between-declared k lt =
-      let range = rises-between 0 (length (positions version (published p))) p.cuts k stands.best.best.is_cut_list lt in
+      let range = rises-between 0 (length (positions version (published p))) p.cuts k (places-rise 1 (length (positions version (published p))) p.cuts stands.best.best.is_cut_list) lt in
       let as_many : length (rising (map commit_of items)) ≡ length (positions version (published p)) =
       sym (ap length commits) ∙ length-map (positions version (published p)) (λ (x : Position). x.commit) in
       rw commits (at (slice_index p.cuts k) range.0 (omega (arith, range.1, as_many)))

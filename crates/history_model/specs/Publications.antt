@@ -47,11 +47,11 @@ abbrev pub IsUpTo : ℕ → Option Publication → Type 0
 IsUpTo version None = Unit {0}
 IsUpTo version (Some p) = p.version ≤ version
 
--- the cuts are the best cut list of the points at a penalty, and the total is theirs
+-- the cuts are the best cut list of the points at a penalty, with no least length of segments but 1, and the total is theirs
 pub record AreBest (points : List Position) (penalty : ℤ) (cuts : List ℕ) (sum : ℤ) : Type 0 where
   pub cost : ℕ → ℕ → ℤ
   pub is_cost : IsCost points cost
-  pub best : IsBest cost penalty (length points) cuts
+  pub best : IsBest cost penalty 1 (length points) cuts
   pub totalled : sum ≡ total cost penalty (length points) cuts
 
 -- the cuts are the best cut list of the positions that a version of the history gives the series, at its penalty

@@ -121,10 +121,10 @@ module _ (by_values : ValuesOfPoints) (h : List Entry) (s : Series) where
       let k : List Entry = kept_entries h in
       let one : IsPublished h base s o = found_in h base (is_known s h) o comes told in
       let other : IsPublished k kept_base s kept = found_in k kept_base (is_known s k) kept kept_comes kept_told in
-      let stands : StandsFor (positions k s) (penalty_of s.metric k) one.0 =
-      subst (λ (b : ℤ). StandsFor (positions k s) b one.0) (sym (penalty_so s.metric h))
-      (same_stands by_values (positions h s) (positions k s) same_points (penalty_of s.metric h) one.0 one.1) in
-      let same : other.0 ≡ one.0 = unique (positions k s) (penalty_of s.metric k) other.0 one.0 other.1 stands in
+      let stands : StandsFor (positions k s) (penalty_of s.metric k) 1 one.0 =
+      subst (λ (b : ℤ). StandsFor (positions k s) b 1 one.0) (sym (penalty_so s.metric h))
+      (same_stands by_values (positions h s) (positions k s) same_points (penalty_of s.metric h) 1 one.0 one.1) in
+      let same : other.0 ≡ one.0 = unique (positions k s) (penalty_of s.metric k) 1 other.0 one.0 other.1 stands in
       let redone : ℕ = redone_since k kept_base s in
       let told_again : kept ≡ publish k (publication s (length k) kept_base one.0) (segmented (length k) kept_base redone one.0) =
       other.2 ∙ ap (λ (c : Cert). publish k (publication s (length k) kept_base c) (segmented (length k) kept_base redone c)) same in

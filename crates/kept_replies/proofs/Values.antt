@@ -33,15 +33,16 @@ module _ (by_values : ValuesOfPoints) (points others : List Position) (same : va
     median = is.median;
   }
 
-  pub same_stands : (penalty : ℤ) (cert : Cert) → StandsFor points penalty cert → StandsFor others penalty cert
-  same_stands penalty cert is =
+  pub same_stands : (penalty : ℤ) (len : ℕ) (cert : Cert) → StandsFor points penalty len cert → StandsFor others penalty len cert
+  same_stands penalty len cert is =
       let many : length points ≡ length others = same_length points others same in
       record {
         cost = is.cost;
         is_cost = λ s t le last. subst (λ xs. IsLeastSum xs (is.cost s t)) (same_segment s t) (is.is_cost s t le (omega arith));
         counted = is.counted ∙ many;
         same_penalty = is.same_penalty;
-        best = subst (λ (n : ℕ). IsBest is.cost penalty n cert.cuts) many is.best;
+        same_length = is.same_length;
+        best = subst (λ (n : ℕ). IsBest is.cost penalty len n cert.cuts) many is.best;
         totalled = is.totalled ∙ ap (λ (n : ℕ). total is.cost penalty n cert.cuts) many;
-        table = subst (λ (n : ℕ). IsTable is.cost n penalty cert.least cert.back cert.pruned) many is.table;
+        table = subst (λ (n : ℕ). IsTable is.cost n penalty len cert.least cert.back cert.pruned) many is.table;
       }

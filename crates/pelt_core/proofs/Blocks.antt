@@ -1,15 +1,15 @@
 -- The bounds of the blocks of candidates.
-use Rattle.std.proofs.Common.{◌≡◌, ◌≢◌, ℕ, ℤ, zero, suc, ◌+◌, ◌-◌, ◌*◌, ◌^◌, ◌<◌, ◌≤◌, List, [], ◌∷◌, ◌++◌, length, set, slice_index, inl, inr, refl, sym, ◌∙◌, pos, neg_ℤ, ◌+ℤ◌, ◌≤ℤ◌, get_or-set_same, get_or-set_other, arith}
+use Rattle.std.proofs.Common.{◌≡◌, ◌≢◌, ℕ, ℤ, zero, suc, ◌+◌, ◌*◌, ◌^◌, ◌<◌, ◌≤◌, List, [], ◌∷◌, ◌++◌, length, set, slice_index, inl, inr, refl, sym, ap, ◌∙◌, pos, neg_ℤ, ◌+ℤ◌, ◌≤ℤ◌, get_or-set_same, get_or-set_other, arith}
 use Rattle.std.proofs.Math.ListN.{length-set}
 use Rattle.std.proofs.lemmas.Int.{ints}
 use Rattle.std.proofs.lemmas.Bool.{cases_lt, cases_eq}
 use Rattle.std.proofs.lemmas.List.{length-append, get_or_append_left, get_or_push}
 use Rattle.segment_model.specs.Cuts.{Agree, Merges}
-use Rattle.segment_model.specs.Tables.{int_at, IsFirstLeast}
+use Rattle.segment_model.specs.Tables.{int_at, IsCandidate, IsFirstLeast}
 use Rattle.pelt_core.specs.declared.bounds.Bound.{Bound}
 use Rattle.pelt_core.specs.declared.bounds.Found.{Found}
 use Rattle.pelt_core.specs.Candidates.{total_from}
-use Rattle.pelt_core.specs.Bounds.{bound_at, IsBound, HaveBounds, IsFirst, IsBelowBlock, IsLowered, AreInRange}
+use Rattle.pelt_core.specs.Bounds.{bound_at, IsBound, HaveBounds, HaveMore, IsFirst, IsBelowBlock, IsLowered, AreInRange}
 
 abbrev pub no_bound : Bound
 no_bound = record { at = 0; total = pos 0 }
@@ -35,27 +35,27 @@ module _ (cost : ℕ → ℕ → ℤ) (least : List ℤ) (t : ℕ) (merges : Mer
 
   module _ (cs : List ℕ) (below : (i : ℕ) → i < length cs → slice_index cs i < t) where
     -- one bound was lowered by the total of the candidate for which none held
-    pub apart-moves : (guess k : ℕ) (total : ℤ) (bounds bounds' : List Bound) → HaveBounds cost t least cs guess bounds → 256 * k ≤ guess → guess < 256 * k + 256 → k < 65
+    pub apart-moves : (guess k : ℕ) (total : ℤ) (bounds bounds' : List Bound) → HaveBounds cost t least cs guess bounds → 256 * k ≤ guess → guess < 256 * k + 256 → k < length bounds
         → neg_ℤ (pos (10 ^ 36)) ≤ℤ total → total ≤ℤ pos (2 * 10 ^ 37) → total ≡ total_from cost least t (slice_index cs guess)
         → length bounds' ≡ length bounds → IsLowered (bound_at bounds k) t total (bound_at bounds' k) → ((j : ℕ) → j ≢ k → bound_at bounds' j ≡ bound_at bounds j)
         → (other : ℕ) → HaveBounds cost t least cs other bounds'
     apart-moves guess k total bounds bounds' h start end in' low high is size lowered others other = record {
-      enough = size ∙ h.enough;
-      placed = λ j lt. elim (cases_eq j k) [ inl at ↦ rw at (omega (arith, lowered.at)) | inr away ↦ rw (others j away) (h.placed j lt) ];
+      enough = omega (arith, size, h.enough);
+      placed = λ j lt. elim (cases_eq j k) [ inl at ↦ rw at (omega (arith, lowered.at)) | inr away ↦ rw (others j away) (h.placed j (omega (arith, lt, size))) ];
       low = λ j lt. elim (cases_eq j k) [
         | inl at ↦ rw at (elim lowered.one [ inl same ↦ rw same (h.low k in') | inr same ↦ rw same low ])
-        | inr away ↦ rw (others j away) (h.low j lt)
+        | inr away ↦ rw (others j away) (h.low j (omega (arith, lt, size)))
       ];
       high = λ j lt. elim (cases_eq j k) [
         | inl at ↦ rw at (elim lowered.one [ inl same ↦ rw same (h.high k in') | inr same ↦ rw same high ])
-        | inr away ↦ rw (others j away) (h.high j lt)
+        | inr away ↦ rw (others j away) (h.high j (omega (arith, lt, size)))
       ];
       holds = λ j i lt from upto inside apart. elim (cases_eq j k) [
         | inl at ↦ rw at (elim (cases_eq i guess) [
           | inl here ↦ rw here (here_too (below guess (rw here at inside)))
           | inr there ↦ bound-later (slice_index cs i) total (bound_at bounds k) (bound_at bounds' k) (h.placed k in') lowered (h.holds k i in' (rw at at from) (rw at at upto) inside there)
         ])
-        | inr away ↦ rw (others j away) (h.holds j i lt from upto inside (λ here. away (omega (arith, start, end, from, upto, here))))
+        | inr away ↦ rw (others j away) (h.holds j i (omega (arith, lt, size)) from upto inside (λ here. away (omega (arith, start, end, from, upto, here))))
       ];
     }
       where
@@ -63,27 +63,27 @@ module _ (cost : ℕ → ℕ → ℤ) (least : List ℤ) (t : ℕ) (merges : Mer
         here_too lt = record { behind = omega (arith, lt, lowered.at); at_most = rw lowered.at (omega (arith, ints, lowered.below, is)) }
 
     -- a block was looked at
-    pub looked-at : (guess k : ℕ) (total : ℤ) (bounds : List Bound) → HaveBounds cost t least cs guess bounds → k < 65
+    pub looked-at : (guess k : ℕ) (total : ℤ) (bounds : List Bound) → HaveBounds cost t least cs guess bounds → k < length bounds
         → neg_ℤ (pos (10 ^ 36)) ≤ℤ total → total ≤ℤ pos (2 * 10 ^ 37)
         → ((i : ℕ) → 256 * k ≤ i → i < 256 * k + 256 → i < length cs → i ≢ guess → total ≤ℤ total_from cost least t (slice_index cs i))
         → HaveBounds cost t least cs guess (set bounds k (record { at = t; total = total }))
     looked-at guess k total bounds h in' low high at_most =
-        let inside : k < length bounds = omega (arith, in', h.enough) in
-        let new : bound_at (set bounds k (record { at = t; total = total })) k ≡ record { at = t; total = total } = get_or-set_same bounds k (record { at = t; total = total }) no_bound inside in
+        let size : length (set bounds k (record { at = t; total = total })) ≡ length bounds = length-set bounds k (record { at = t; total = total }) in
+        let new : bound_at (set bounds k (record { at = t; total = total })) k ≡ record { at = t; total = total } = get_or-set_same bounds k (record { at = t; total = total }) no_bound in' in
         let others : (j : ℕ) → j ≢ k → bound_at (set bounds k (record { at = t; total = total })) j ≡ bound_at bounds j = λ j away. get_or-set_other bounds k j (record { at = t; total = total }) no_bound away in
         record {
-          enough = length-set bounds k (record { at = t; total = total }) ∙ h.enough;
-          placed = λ j lt. elim (cases_eq j k) [ inl at ↦ rw (at, new) (omega arith) | inr away ↦ rw (others j away) (h.placed j lt) ];
-          low = λ j lt. elim (cases_eq j k) [ inl at ↦ rw (at, new) low | inr away ↦ rw (others j away) (h.low j lt) ];
-          high = λ j lt. elim (cases_eq j k) [ inl at ↦ rw (at, new) high | inr away ↦ rw (others j away) (h.high j lt) ];
+          enough = omega (arith, size, h.enough);
+          placed = λ j lt. elim (cases_eq j k) [ inl at ↦ rw (at, new) (omega arith) | inr away ↦ rw (others j away) (h.placed j (omega (arith, lt, size))) ];
+          low = λ j lt. elim (cases_eq j k) [ inl at ↦ rw (at, new) low | inr away ↦ rw (others j away) (h.low j (omega (arith, lt, size))) ];
+          high = λ j lt. elim (cases_eq j k) [ inl at ↦ rw (at, new) high | inr away ↦ rw (others j away) (h.high j (omega (arith, lt, size))) ];
           holds = λ j i lt from upto inside' apart. elim (cases_eq j k) [
             | inl at ↦ rw (at, new) (record { behind = omega (arith, below i inside'); at_most = at_most i (rw at at from) (rw at at upto) inside' apart })
-            | inr away ↦ rw (others j away) (h.holds j i lt from upto inside' apart)
+            | inr away ↦ rw (others j away) (h.holds j i (omega (arith, lt, size)) from upto inside' apart)
           ];
         }
 
     -- a block was passed over
-    pub passed-over : (guess k : ℕ) (bounds : List Bound) (best : Found) → HaveBounds cost t least cs guess bounds → k < 65 → IsFirst cost least t cs guess (256 * k) best
+    pub passed-over : (guess k : ℕ) (bounds : List Bound) (best : Found) → HaveBounds cost t least cs guess bounds → k < length bounds → IsFirst cost least t cs guess (256 * k) best
         → IsBelowBlock cost t (bound_at bounds k) (256 * k) best → IsFirst cost least t cs guess (256 * k + 256) best
     passed-over guess k bounds best h in' first above = record {
       made = first.made;
@@ -139,8 +139,8 @@ bounds-from cost t least x cs apart bounds below h = record {
 }
 
 -- each bound is the same
-pub bounds-reset : (cost : ℕ → ℕ → ℤ) (t : ℕ) (least : List ℤ) (cs : List ℕ) (apart : ℕ) (total : ℤ) (bounds : List Bound) → length bounds ≡ 65
-    → ((k : ℕ) → k < 65 → bound_at bounds k ≡ record { at = t; total = total }) → neg_ℤ (pos (10 ^ 36)) ≤ℤ total → total ≤ℤ pos (2 * 10 ^ 37)
+pub bounds-reset : (cost : ℕ → ℕ → ℤ) (t : ℕ) (least : List ℤ) (cs : List ℕ) (apart : ℕ) (total : ℤ) (bounds : List Bound) → length cs ≤ 256 * length bounds
+    → ((k : ℕ) → k < length bounds → bound_at bounds k ≡ record { at = t; total = total }) → neg_ℤ (pos (10 ^ 36)) ≤ℤ total → total ≤ℤ pos (2 * 10 ^ 37)
     → ((i : ℕ) → i < length cs → (slice_index cs i ≤ t) × (total ≤ℤ total_from cost least t (slice_index cs i))) → HaveBounds cost t least cs apart bounds
 bounds-reset cost t least cs apart total bounds size same low high at_most = record {
   enough = size;
@@ -151,75 +151,81 @@ bounds-reset cost t least cs apart total bounds size same low high at_most = rec
 }
 
 -- one candidate more, whose total lowered the bound of its block
-pub bounds-push : (cost : ℕ → ℕ → ℤ) (t : ℕ) (least : List ℤ) (cs : List ℕ) (apart k : ℕ) (x : ℤ) (bounds bounds' : List Bound) → Merges cost t → AreInRange cost t
-    → HaveBounds cost t least cs apart bounds → 256 * k ≤ length cs → length cs < 256 * k + 256 → k < 65 → length bounds' ≡ length bounds
-    → neg_ℤ (pos (10 ^ 36)) ≤ℤ x → x ≤ℤ pos (2 * 10 ^ 37) → x ≤ℤ total_from cost least t t
+pub bounds-push : (cost : ℕ → ℕ → ℤ) (t : ℕ) (least : List ℤ) (cs : List ℕ) (apart k c : ℕ) (x : ℤ) (bounds bounds' : List Bound) → Merges cost t → AreInRange cost t
+    → HaveBounds cost t least cs apart bounds → 256 * k ≤ length cs → length cs < 256 * k + 256 → length cs < 256 * length bounds → length bounds' ≡ length bounds
+    → neg_ℤ (pos (10 ^ 36)) ≤ℤ x → x ≤ℤ pos (2 * 10 ^ 37) → c ≤ t → x ≤ℤ total_from cost least t c
     → IsLowered (bound_at bounds k) t x (bound_at bounds' k) → ((j : ℕ) → j ≢ k → bound_at bounds' j ≡ bound_at bounds j)
-    → HaveBounds cost t least (cs ++ t ∷ []) apart bounds'
-bounds-push cost t least cs apart k x bounds bounds' merges range h start end in' size low high at_most lowered others = record {
-  enough = size ∙ h.enough;
-  placed = λ j lt. elim (cases_eq j k) [ inl at ↦ rw at (omega (arith, lowered.at)) | inr away ↦ rw (others j away) (h.placed j lt) ];
+    → HaveBounds cost t least (cs ++ c ∷ []) apart bounds'
+bounds-push cost t least cs apart k c x bounds bounds' merges range h start end room size low high le at_most lowered others = record {
+  enough = omega (arith, size, room, length-append cs (c ∷ []));
+  placed = λ j lt. elim (cases_eq j k) [ inl at ↦ rw at (omega (arith, lowered.at)) | inr away ↦ rw (others j away) (h.placed j (omega (arith, lt, size))) ];
   low = λ j lt. elim (cases_eq j k) [
     | inl at ↦ rw at (elim lowered.one [ inl same ↦ rw same (h.low k in') | inr same ↦ rw same low ])
-    | inr away ↦ rw (others j away) (h.low j lt)
+    | inr away ↦ rw (others j away) (h.low j (omega (arith, lt, size)))
   ];
   high = λ j lt. elim (cases_eq j k) [
     | inl at ↦ rw at (elim lowered.one [ inl same ↦ rw same (h.high k in') | inr same ↦ rw same high ])
-    | inr away ↦ rw (others j away) (h.high j lt)
+    | inr away ↦ rw (others j away) (h.high j (omega (arith, lt, size)))
   ];
   holds = λ j i lt from upto inside apart'. elim (cases_lt i (length cs)) [
     | inl before ↦
-        rw (get_or_append_left cs (t ∷ []) 0 i before) (elim (cases_eq j k) [
+        rw (get_or_append_left cs (c ∷ []) 0 i before) (elim (cases_eq j k) [
           | inl at ↦ rw at (bound-later cost least t merges range (slice_index cs i) x (bound_at bounds k) (bound_at bounds' k) (h.placed k in') lowered (h.holds k i in' (rw at at from) (rw at at upto) before apart'))
-          | inr away ↦ rw (others j away) (h.holds j i lt from upto before apart')
+          | inr away ↦ rw (others j away) (h.holds j i (omega (arith, lt, size)) from upto before apart')
         ])
     | inr behind ↦
-        let at : i ≡ length cs = omega (arith, behind, inside, length-append cs (t ∷ [])) in
+        let at : i ≡ length cs = omega (arith, behind, inside, length-append cs (c ∷ [])) in
         let here : j ≡ k = omega (arith, at, from, upto, start, end) in
-        rw (at, here, get_or_push cs t 0 (length cs) refl) (record { behind = omega (arith, lowered.at); at_most = rw lowered.at (omega (arith, ints, lowered.below, at_most)) })
+        rw (at, here, get_or_push cs c 0 (length cs) refl) (record { behind = omega (arith, lowered.at, le); at_most = rw lowered.at (omega (arith, ints, lowered.below, at_most)) })
+  ];
+}
+  where
+    in' : k < length bounds
+    in' = omega (arith, start, room)
+
+-- ---- more bounds
+pub more_none : (bounds : List Bound) → HaveMore bounds bounds
+more_none bounds = record { more = omega arith; same = λ k lt. refl; fresh = λ k le lt. absurd (omega (arith, le, lt)) }
+
+pub more_push : (old new : List Bound) → HaveMore old new → HaveMore old (new ++ record { at = 0; total = neg_ℤ (pos (10 ^ 36)) } ∷ [])
+more_push old new h = record {
+  more = omega (arith, h.more, length-append new (record { at = 0; total = neg_ℤ (pos (10 ^ 36)) } ∷ []));
+  same = λ k lt. get_or_append_left new (record { at = 0; total = neg_ℤ (pos (10 ^ 36)) } ∷ []) no_bound k (omega (arith, lt, h.more)) ∙ h.same k lt;
+  fresh = λ k le lt. elim (cases_lt k (length new)) [
+    | inl before ↦ get_or_append_left new (record { at = 0; total = neg_ℤ (pos (10 ^ 36)) } ∷ []) no_bound k before ∙ h.fresh k le before
+    | inr behind ↦ get_or_push new (record { at = 0; total = neg_ℤ (pos (10 ^ 36)) }) no_bound k (omega (arith, behind, lt, length-append new (record { at = 0; total = neg_ℤ (pos (10 ^ 36)) } ∷ [])))
   ];
 }
 
--- each place before t makes at least the total of the first least one, and so does t
-pub least-made : (cost : ℕ → ℕ → ℤ) (t best : ℕ) (least : List ℤ) (b x total : ℤ) → length least ≡ t → IsFirstLeast cost (int_at least) t best → total ≡ total_from cost least t best
-    → x ≡ total +ℤ b → pos 0 ≤ℤ b → pos 0 ≤ℤ cost t t → (s : ℕ) → s ≤ t → total ≤ℤ total_from cost (least ++ x ∷ []) t s
-least-made cost t best least b x total size found is x_is low none s le = elim (cases_lt s t) [
-  | inl before ↦
-      let most = found.at_most s before in
-      rw (get_or_append_left least (x ∷ []) (pos 0) s (omega (arith, before, size))) (omega (arith, ints, is, most))
-  | inr behind ↦
-      let at : s ≡ t = omega arith in
-      rw (at, get_or_push least x (pos 0) t size) (omega (arith, ints, x_is, low, none))
-]
+-- of blocks that have no candidate yet
+pub bounds-more : (cost : ℕ → ℕ → ℤ) (t : ℕ) (least : List ℤ) (cs : List ℕ) (apart : ℕ) (bounds bounds' : List Bound) → HaveMore bounds bounds'
+    → HaveBounds cost t least cs apart bounds → HaveBounds cost t least cs apart bounds'
+bounds-more cost t least cs apart bounds bounds' has h = record {
+  enough = omega (arith, h.enough, has.more);
+  placed = λ k lt. elim (cases_lt k (length bounds)) [ inl old ↦ rw (has.same k old) (h.placed k old) | inr new ↦ rw (has.fresh k new lt) (omega arith) ];
+  low = λ k lt. elim (cases_lt k (length bounds)) [ inl old ↦ rw (has.same k old) (h.low k old) | inr new ↦ rw (has.fresh k new lt) (omega (arith, ints)) ];
+  high = λ k lt. elim (cases_lt k (length bounds)) [ inl old ↦ rw (has.same k old) (h.high k old) | inr new ↦ rw (has.fresh k new lt) (omega (arith, ints)) ];
+  holds = λ k i lt from upto inside away. elim (cases_lt k (length bounds)) [
+    | inl old ↦ rw (has.same k old) (h.holds k i old from upto inside away)
+    | inr new ↦ absurd (omega (arith, new, from, inside, h.enough))
+  ];
+}
 
--- the bounds with one candidate more, where some of the candidates were dropped or none was
-pub bounds-renewed : (cost : ℕ → ℕ → ℤ) (t : ℕ) (least : List ℤ) (cs left : List ℕ) (best k marked : ℕ) (m x : ℤ) (bounds bounds' : List Bound) → Merges cost t → AreInRange cost t
-    → HaveBounds cost t least cs best bounds → 256 * k ≤ length left → length left < 256 * k + 256 → k < 65 → length bounds' ≡ length bounds
-    → neg_ℤ (pos (10 ^ 36)) ≤ℤ m → m ≤ℤ pos (2 * 10 ^ 37) → neg_ℤ (pos (10 ^ 36)) ≤ℤ x → x ≤ℤ pos (2 * 10 ^ 37) → x ≤ℤ total_from cost least t t
-    → ((s : ℕ) → s ≤ t → m ≤ℤ total_from cost least t s) → ((i : ℕ) → i < length left → slice_index left i < t)
-    → (0 < marked → (j : ℕ) → j < length bounds → bound_at bounds' j ≡ record { at = t; total = m })
-    → (marked ≡ 0 → IsLowered (bound_at bounds k) t x (bound_at bounds' k)) → (marked ≡ 0 → (j : ℕ) → j ≢ k → bound_at bounds' j ≡ bound_at bounds j)
-    → (marked ≡ 0 → left ≡ cs) → HaveBounds cost t least (left ++ t ∷ []) (best - marked) bounds'
-bounds-renewed cost t least cs left best k zero m x bounds bounds' merges range h start end in' size m_low m_high low high at_most all below some none others same =
-    let e : best - 0 ≡ best = omega arith in
-    rw e (bounds-push cost t least left best k x bounds bounds' merges range (rw (same refl) h) start end in' size low high at_most (none refl) (others refl))
-bounds-renewed cost t least cs left best k (suc marked) m x bounds bounds' merges range h start end in' size m_low m_high low high at_most all below some none others same =
-    bounds-reset cost t least (left ++ t ∷ []) (best - suc marked) m bounds' (size ∙ h.enough) (λ j lt. some (omega arith) j (omega (arith, lt, h.enough))) m_low m_high
-    (λ i lt. elim (cases_lt i (length left)) [
-      | inl before ↦ rw (get_or_append_left left (t ∷ []) 0 i before) (omega (arith, below i before), all (slice_index left i) (omega (arith, below i before)))
-      | inr behind ↦
-          let at : i ≡ length left = omega (arith, behind, lt, length-append left (t ∷ [])) in
-          rw (at, get_or_push left t 0 (length left) refl) (omega arith, all t (omega arith))
-    ])
+-- each candidate of t makes at least the total of the first least one
+pub least-made : (cost : ℕ → ℕ → ℤ) (len t best : ℕ) (least : List ℤ) (x total : ℤ) → length least ≡ t → IsFirstLeast cost len (int_at least) t best → total ≡ total_from cost least t best
+    → (s : ℕ) → IsCandidate len t s → total ≤ℤ total_from cost (least ++ x ∷ []) t s
+least-made cost len t best least x total size found is s may =
+    let most = found.at_most s may in
+    rw (get_or_append_left least (x ∷ []) (pos 0) s (omega (arith, may.0, size))) (omega (arith, ints, is, most))
 
 abbrev first_place : List ℕ
 first_place = 0 ∷ []
 
 -- the bounds of the first place
-pub first-bounds : (cost : ℕ → ℕ → ℤ) (b : ℤ) (least : List ℤ) (cs : List ℕ) (bounds : List Bound) → cost 0 0 ≡ pos 0 → b ≤ℤ pos (10 ^ 36) → least ≡ neg_ℤ b ∷ [] → cs ≡ 0 ∷ [] → length bounds ≡ 65
+pub first-bounds : (cost : ℕ → ℕ → ℤ) (b : ℤ) (least : List ℤ) (cs : List ℕ) (bounds : List Bound) → cost 0 0 ≡ pos 0 → b ≤ℤ pos (10 ^ 36) → least ≡ neg_ℤ b ∷ [] → cs ≡ 0 ∷ [] → length bounds ≡ 1
     → ((k : ℕ) → k < length bounds → bound_at bounds k ≡ record { at = 0; total = neg_ℤ (pos (10 ^ 36)) }) → HaveBounds cost 0 least cs 0 bounds
 first-bounds cost b least cs bounds none high is are size same =
-    bounds-reset cost 0 least cs 0 (neg_ℤ (pos (10 ^ 36))) bounds size (λ k lt. same k (omega (arith, lt, size))) (omega (arith, ints)) (omega (arith, ints)) (rw (is, are) one)
+    bounds-reset cost 0 least cs 0 (neg_ℤ (pos (10 ^ 36))) bounds (omega (arith, ap length are, size)) same (omega (arith, ints)) (omega (arith, ints)) (rw (is, are) one)
   where
     one : (i : ℕ) → i < length first_place → (slice_index first_place i ≤ 0) × (neg_ℤ (pos (10 ^ 36)) ≤ℤ total_from cost (neg_ℤ b ∷ []) 0 (slice_index first_place i))
     one zero lt = (omega arith, omega (arith, ints, none, high))

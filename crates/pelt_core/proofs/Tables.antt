@@ -1,15 +1,15 @@
 -- Pruned tables of positions: of none, before one more, and of the first ones.
-use Rattle.std.proofs.Common.{◌≡◌, ℕ, ℤ, ◌+◌, ◌-◌, ◌^◌, ◌≤◌, List, [], ◌∷◌, ◌++◌, length, take, drop, sym, ap, ◌∙◌, pos, ◌≤ℤ◌, arith}
+use Rattle.std.proofs.Common.{◌≡◌, ℕ, ℤ, ◌+◌, ◌-◌, ◌^◌, ◌≤◌, List, [], ◌∷◌, ◌++◌, length, take, drop, refl, sym, ap, ◌∙◌, pos, ◌≤ℤ◌, arith}
 use Rattle.std.proofs.lemmas.Int.{ints}
 use Rattle.std.proofs.lemmas.List.{length-append, length-take, take-append-drop}
 use Rattle.segment_model.specs.Cuts.{Agree, IsBest, total}
 use Rattle.segment_model.specs.Laws.{AgreeingCostsHaveOneTable, BestOfNoneIsEmpty}
 use Rattle.segment_model.specs.Values.{AreWithinLimits, values_between, cost_between, MergesValues, CostsInRange, FrontHasSameValues, FrontIsWithinLimits, SegmentsMerge, SegmentsAreInRange}
 use Rattle.pelt_core.specs.declared.rows.Rows.{Rows}
-use Rattle.pelt_core.specs.Rows.{ArePruned, IsPrunedTable, SameLists}
+use Rattle.pelt_core.specs.Rows.{ArePruned, IsPrunedTable, HasRoomMade}
 use Rattle.pelt_core.specs.Bounds.{AreInRange}
 use Rattle.pelt_core.proofs.Growth.{table-by, candidates-by}
-use Rattle.pelt_core.proofs.Blocks.{bounds-by, bounds-agree}
+use Rattle.pelt_core.proofs.Blocks.{bounds-by, bounds-more, bounds-agree}
 
 -- no values cost nothing
 pub nothing-costs : (f : List ℤ → ℤ) → MergesValues f → CostsInRange f → f [] ≡ pos 0
@@ -35,17 +35,20 @@ table-of-none f merging in_range ps none b rows low high are = rw none (record {
   pruned = are (cost_between f []) (nothing-costs f merging in_range);
 })
 
--- the same lists are pruned alike
-pub pruned-same : (cost : ℕ → ℕ → ℤ) (n : ℕ) (b : ℤ) (rows rows' : Rows) → SameLists rows rows' → ArePruned cost n b rows → ArePruned cost n b rows'
+-- the same lists, with room made, are pruned alike
+pub pruned-same : (cost : ℕ → ℕ → ℤ) (n : ℕ) (b : ℤ) (rows rows' : Rows) → HasRoomMade rows rows' → ArePruned cost n b rows → ArePruned cost n b rows'
 pruned-same cost n b rows rows' same h = record {
-  table = table-by cost n b rows.least.items rows'.least.items rows.back.items rows'.back.items rows.pruned.items rows'.pruned.items same.least same.back same.pruned h.table;
-  candidates = candidates-by rows.candidates.items rows'.candidates.items rows.pruned.items rows'.pruned.items (n + 1) same.candidates same.pruned h.candidates;
-  bounds = bounds-by cost n rows.least.items rows'.least.items rows.candidates.items rows'.candidates.items rows.leader rows'.leader rows.bounds.items rows'.bounds.items
-      same.least same.candidates same.leader same.bounds h.bounds;
+  length_from = rw same.len h.length_from;
+  table = rw same.len (table-by cost n b rows.length rows.least.items rows'.least.items rows.back.items rows'.back.items rows.pruned.items rows'.pruned.items same.least same.back same.pruned h.table);
+  swept = rw (same.len, same.swept) h.swept;
+  candidates = rw (same.len, same.swept) (candidates-by rows.length rows.swept rows.candidates.items rows'.candidates.items rows.pruned.items rows'.pruned.items (n + 1 - rows.length + 1) same.candidates same.pruned h.candidates);
+  bounds = bounds-by cost n rows.least.items rows'.least.items rows.candidates.items rows'.candidates.items rows.leader rows'.leader rows'.bounds.items rows'.bounds.items
+      same.least same.candidates same.leader refl (bounds-more cost n rows.least.items rows.candidates.items rows.leader rows.bounds.items rows'.bounds.items same.bounds h.bounds);
   room = omega (arith, h.room, same.capacity);
+  wide = omega (arith, h.wide, same.bounds.more);
 }
 
-pub table-same : (f : List ℤ → ℤ) (ps ps' : List (List ℤ)) (b : ℤ) (rows rows' : Rows) → ps' ≡ ps → SameLists rows rows' → IsPrunedTable f ps b rows → IsPrunedTable f ps' b rows'
+pub table-same : (f : List ℤ → ℤ) (ps ps' : List (List ℤ)) (b : ℤ) (rows rows' : Rows) → ps' ≡ ps → HasRoomMade rows rows' → IsPrunedTable f ps b rows → IsPrunedTable f ps' b rows'
 table-same f ps ps' b rows rows' e same h = rw e (record {
   low = h.low;
   high = h.high;
@@ -56,16 +59,19 @@ table-same f ps ps' b rows rows' e same h = rw e (record {
 -- costs that agree prune alike
 pub pruned-agree : AgreeingCostsHaveOneTable → (cost other : ℕ → ℕ → ℤ) (n : ℕ) (b : ℤ) (rows : Rows) → Agree cost other n → ArePruned cost n b rows → ArePruned other n b rows
 pruned-agree agreeing cost other n b rows agree h = record {
-  table = agreeing cost other n b rows.least.items rows.back.items rows.pruned.items agree h.table;
+  length_from = h.length_from;
+  table = agreeing cost other n b rows.length rows.least.items rows.back.items rows.pruned.items agree h.table;
+  swept = h.swept;
   candidates = h.candidates;
   bounds = bounds-agree cost other n n rows.least.items rows.candidates.items rows.leader rows.bounds.items agree (omega arith) h.bounds;
   room = h.room;
+  wide = h.wide;
 }
 
 module _ (f : List ℤ → ℤ) (merging : MergesValues f) (in_range : CostsInRange f) (agreeing : AgreeingCostsHaveOneTable) (merge : SegmentsMerge) (ranges : SegmentsAreInRange)
     (ps : List (List ℤ)) (b : ℤ) (rows : Rows) (h : IsPrunedTable f ps b rows) where
   -- before one position more
-  pub before-push : FrontHasSameValues → (v : List ℤ) (ps' : List (List ℤ)) → ps' ≡ ps ++ v ∷ [] → AreWithinLimits (ps ++ v ∷ []) → (rows' : Rows) → SameLists rows rows'
+  pub before-push : FrontHasSameValues → (v : List ℤ) (ps' : List (List ℤ)) → ps' ≡ ps ++ v ∷ [] → AreWithinLimits (ps ++ v ∷ []) → (rows' : Rows) → HasRoomMade rows rows'
       → ArePruned (cost_between f ps') (length ps' - 1) b rows'
   before-push front v ps' e within rows' same =
       let size : length (ps ++ v ∷ []) ≡ length ps + 1 = length-append ps (v ∷ []) in
@@ -96,8 +102,8 @@ module _ (f : List ℤ → ℤ) (merging : MergesValues f) (in_range : CostsInRa
       })
 
 -- no positions have a total of 0
-pub total-of-none : (f : List ℤ → ℤ) → MergesValues f → CostsInRange f → BestOfNoneIsEmpty → (ps : List (List ℤ)) (b : ℤ) (n : ℕ) (cuts : List ℕ) → n ≡ 0
-    → IsBest (cost_between f ps) b n cuts → total (cost_between f ps) b n cuts ≡ pos 0
-total-of-none f merging in_range empty ps b n cuts none best =
-    let best' : IsBest (cost_between f ps) b 0 cuts = rw none at best in
-    rw (none, empty (cost_between f ps) b cuts best') (nothing-costs f merging in_range)
+pub total-of-none : (f : List ℤ → ℤ) → MergesValues f → CostsInRange f → BestOfNoneIsEmpty → (ps : List (List ℤ)) (b : ℤ) (len n : ℕ) (cuts : List ℕ) → n ≡ 0
+    → IsBest (cost_between f ps) b len n cuts → total (cost_between f ps) b n cuts ≡ pos 0
+total-of-none f merging in_range empty ps b len n cuts none best =
+    let best' : IsBest (cost_between f ps) b len 0 cuts = rw none at best in
+    rw (none, empty (cost_between f ps) b len cuts best') (nothing-costs f merging in_range)

@@ -13,14 +13,21 @@ pub record IsBound (cost : ℕ → ℕ → ℤ) (least : List ℤ) (s : ℕ) (bo
   pub behind : s ≤ bound.at
   pub at_most : bound.total ≤ℤ total_from cost least bound.at s
 
--- there are 65 bounds, for places up to t; each holds for the candidates of its block, but for the one at index `apart`
+-- each block of candidates has a bound, for places up to t; each holds for the candidates of its block, but for the one at
+-- index `apart`
 pub record HaveBounds (cost : ℕ → ℕ → ℤ) (t : ℕ) (least : List ℤ) (candidates : List ℕ) (apart : ℕ) (bounds : List Bound) : Type 0 where
-  pub enough : length bounds ≡ 65
-  pub placed : (k : ℕ) → k < 65 → (bound_at bounds k).at ≤ t
-  pub low : (k : ℕ) → k < 65 → neg_ℤ (pos (10 ^ 36)) ≤ℤ (bound_at bounds k).total
-  pub high : (k : ℕ) → k < 65 → (bound_at bounds k).total ≤ℤ pos (2 * 10 ^ 37)
-  pub holds : (k i : ℕ) → k < 65 → 256 * k ≤ i → i < 256 * k + 256 → i < length candidates → i ≢ apart
+  pub enough : length candidates ≤ 256 * length bounds
+  pub placed : (k : ℕ) → k < length bounds → (bound_at bounds k).at ≤ t
+  pub low : (k : ℕ) → k < length bounds → neg_ℤ (pos (10 ^ 36)) ≤ℤ (bound_at bounds k).total
+  pub high : (k : ℕ) → k < length bounds → (bound_at bounds k).total ≤ℤ pos (2 * 10 ^ 37)
+  pub holds : (k i : ℕ) → k < length bounds → 256 * k ≤ i → i < 256 * k + 256 → i < length candidates → i ≢ apart
       → IsBound cost least (slice_index candidates i) (bound_at bounds k)
+
+-- more bounds at the end, each at most what any last segment makes; the first are the same
+pub record HaveMore (old new : List Bound) : Type 0 where
+  pub more : length old ≤ length new
+  pub same : (k : ℕ) → k < length old → bound_at new k ≡ bound_at old k
+  pub fresh : (k : ℕ) → length old ≤ k → k < length new → bound_at new k ≡ record { at = 0; total = neg_ℤ (pos (10 ^ 36)) }
 
 -- what was found is less than a total at an index, or equal to it and at no later index
 abbrev pub IsNoLater : Found → ℤ → ℕ → Type 0

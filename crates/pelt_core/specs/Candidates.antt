@@ -1,12 +1,24 @@
 -- Private: no public contract cites this. The places that may still be a last cut.
-use Rattle.std.specs.Prelude.{◌≡◌, ◌≢◌, ℕ, ℤ, zero, suc, ◌^◌, ◌<◌, ◌≤◌, List, [], ◌∷◌, ◌++◌, length, slice_index, slice_index_or, ◌==◌, if◌then◌else◌, pos, neg_ℤ, ◌+ℤ◌, ◌≤ℤ◌}
-use Rattle.segment_model.specs.Tables.{int_at, IsDear}
+use Rattle.std.specs.Prelude.{◌≡◌, ℕ, ℤ, Bool, ◌&&◌, ◌||◌, not, nat_lt, zero, suc, ◌+◌, ◌^◌, ◌<◌, ◌≤◌, List, [], ◌∷◌, ◌++◌, length, slice_index, ◌==◌, if◌then◌else◌, ◌⊎◌, pos, neg_ℤ, ◌+ℤ◌, ◌≤ℤ◌}
+use Rattle.segment_model.specs.Tables.{int_at, IsMarkedAt}
 use Rattle.segment_model.specs.Values.{AreWithinLimits}
 
--- the places below n that have no mark, in rising order
-abbrev pub open_places : List ℕ → ℕ → List ℕ
-open_places pruned zero = []
-open_places pruned (suc n) = open_places pruned n ++ (if slice_index_or pruned n 1 == 0 then n ∷ [] else [])
+-- the numbers below n that are chosen, in rising order
+abbrev pub chosen_below : (ℕ → Bool) → ℕ → List ℕ
+chosen_below chosen zero = []
+chosen_below chosen (suc n) = chosen_below chosen n ++ (if chosen n then n ∷ [] else [])
+
+-- whether a segment may begin at place s
+abbrev pub begins : ℕ → ℕ → Bool
+begins len s = s == 0 || not (nat_lt s len)
+
+-- whether place s is there, and has no mark up to place g
+abbrev pub stays : ℕ → List ℕ → ℕ → Bool
+stays g pruned s = nat_lt s (length pruned) && (slice_index pruned s == 0 || nat_lt g (slice_index pruned s))
+
+-- the places below n at which a segment may begin, and that have no mark up to place g, in rising order
+abbrev pub open_places : ℕ → ℕ → List ℕ → ℕ → List ℕ
+open_places len g pruned n = chosen_below (λ s. begins len s && stays g pruned s) n
 
 -- each number is a least total, or minus a penalty
 abbrev pub AreTotals : List ℤ → Type 0
@@ -28,12 +40,18 @@ pub record AreCandidates (positions : List (List ℤ)) (least : List ℤ) (candi
   pub totals : HaveTotals positions least
   pub below : (i : ℕ) → i < length candidates → slice_index candidates i < length positions
 
--- of the first `upto` candidates those that are dear at place t got the mark t, and no other place got one
-pub record MarksDear (cost : ℕ → ℕ → ℤ) (least : List ℤ) (t : ℕ) (candidates : List ℕ) (upto marked : ℕ) (old new : List ℕ) : Type 0 where
+-- the marks before and after some places were looked at, all of them before t: those that were looked at have their new ones,
+-- each other has its old one or its new one
+pub record AreLookedAt (cost : ℕ → ℕ → ℤ) (len : ℕ) (least : List ℤ) (t : ℕ) (looked : ℕ → Type 0) (old new : List ℕ) : Type 0 where
   pub size : length new ≡ length old
-  pub dear : (i : ℕ) → i < upto → IsDear cost least (slice_index candidates i) t → slice_index new (slice_index candidates i) ≡ t
-  pub cheap : (i : ℕ) → i < upto → ¬ IsDear cost least (slice_index candidates i) t
-      → slice_index new (slice_index candidates i) ≡ slice_index old (slice_index candidates i)
-  pub others : (s : ℕ) → ((i : ℕ) → i < upto → slice_index candidates i ≢ s) → slice_index new s ≡ slice_index old s
-  pub some : marked ≤ upto
-  pub none : marked ≡ 0 → new ≡ old
+  pub each : (s : ℕ) → (slice_index new s ≡ slice_index old s) ⊎ IsMarkedAt cost len least t s (slice_index old s) (slice_index new s)
+  pub all : (s : ℕ) → looked s → IsMarkedAt cost len least t s (slice_index old s) (slice_index new s)
+  pub behind : (s : ℕ) → t ≤ s → slice_index new s ≡ slice_index old s
+
+-- place s is one of the first `count` candidates
+abbrev pub IsAmong : List ℕ → ℕ → ℕ → Type 0
+IsAmong candidates count s = (i : ℕ) × (i < count) × (slice_index candidates i ≡ s)
+
+-- place s is one of the candidates before the last cut k, or lies behind it by less than len
+abbrev pub IsNear : List ℕ → ℕ → ℕ → ℕ → ℕ → Type 0
+IsNear candidates index len k s = IsAmong candidates index s ⊎ ((0 < k) × (k < s) × (s < k + len))

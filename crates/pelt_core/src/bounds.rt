@@ -2,20 +2,17 @@
 //!
 //! It begins with the candidate that won last, and no bound need hold for that one. Where another one wins, the bound
 //! of the first one's block is lowered by what the first one made.
-ghost use Rattle.std.specs.Prelude.{◌≡◌, ◌≢◌, ℕ, ◌+◌, ◌*◌, ◌^◌, ◌<◌, ◌≤◌, length, pos, neg_ℤ, ◌≤ℤ◌, ◌<ℤ◌, ◌↔◌, ◌⊎◌, IsTrue};
+ghost use Rattle.std.specs.Prelude.{◌≡◌, ◌≢◌, ℕ, ◌+◌, ◌*◌, ◌^◌, ◌<◌, ◌≤◌, length, pos, neg_ℤ, ◌≤ℤ◌, ◌<ℤ◌, ◌↔◌, ◌⊎◌, IsTrue, OnOk};
 ghost use Rattle.segment_model.specs.Values.{AreWithinLimits, cost_between};
 ghost use Rattle.pelt_core.specs.Candidates.{AreCandidates};
-ghost use Rattle.pelt_core.specs.Bounds.{bound_at, HaveBounds, IsFirst, AreLooked, IsBelowBlock, IsLowered, IsNoLater};
+ghost use Rattle.pelt_core.specs.Bounds.{bound_at, HaveBounds, IsFirst, AreLooked, IsBelowBlock, IsLowered, IsNoLater, HaveMore};
 
 use crate::candidates::last_total;
-use segment_cost::Cost;
+use segment_cost::{Cost, NoMemory};
 use segment_model::value_costs_law;
 
 // How many candidates a block has.
 const BLOCK: usize = 256;
-
-// How many blocks there are: enough for each place of 16,384 positions.
-pub const BLOCKS: usize = 65;
 
 // At least what each last segment can make.
 const LOWEST: i128 = -1_000_000_000_000_000_000_000_000_000_000_000_000;
@@ -92,10 +89,10 @@ fn release(bounds: &mut [Bound], k: usize, first: Found, found: usize, t: usize)
 }
 
 // How many blocks so many candidates fill.
-fn blocks_of(count: usize) -> usize
-    requires few { count ≤ 16_640 }
+pub fn blocks_of(count: usize) -> usize
+    requires few { count ≤ 65_536 }
     ensures enough { count ≤ 256 * result }
-    ensures needed { result ≤ 65 }
+    ensures needed { (n : ℕ) → count ≤ 256 * n → result ≤ n }
 {
     (count + (BLOCK - 1)) / BLOCK
 }
@@ -118,7 +115,8 @@ fn look_at_block<C: Cost>(
     k: usize,
     best: Found,
 ) -> Found
-    requires block { k < 65 }
+    requires few { k < 65 }
+    requires block { k < length bounds.old }
     requires candidates { AreCandidates (C.positions cost.now) least.now candidates.now }
     requires bounds { HaveBounds (cost_between C.cost_of (C.positions cost.now))
         (length (C.positions cost.now)) least.now candidates.now guess bounds.old }
@@ -224,6 +222,21 @@ fn lower_of(low: i128, here: Found, guess: usize) -> i128
     } else {
         low
     }
+}
+
+// Adds bounds that hold for any places, as many as are missing to a count.
+#[tactic(auto, using(crate::proofs::Blocks::more_none, crate::proofs::Blocks::more_push))]
+pub fn add_bounds(bounds: &mut Vec<Bound>, count: usize) -> Result<(), NoMemory>
+    ensures more { HaveMore bounds.old.items bounds.new.items }
+    ensures enough { OnOk result (count ≤ length bounds.new.items) }
+{
+    while bounds.len() < count {
+        bounds.push(Bound {
+            at: 0,
+            total: LOWEST,
+        })?;
+    }
+    Ok(())
 }
 
 // Lowers a block's bound by a total to place t.

@@ -5,8 +5,9 @@
 //! of segments: it is advanced by a position, rewound to the first ones, and gives its certificate at any time.
 //! `Steps` counts the positions that tables were advanced by, in proofs alone.
 //!
-//! A place is no candidate for a last cut any more once the least total up to it and a last segment from it come to
-//! more than the least total at that segment's end; at equality it stays one.
+//! A place is pruned once the least total up to it and a last segment from it come to more than the least total at that
+//! segment's end; at equality it isn't. It is no candidate for a last cut any more from the place on at which that end is one
+//! itself, which is a least length of segments behind it.
 //!
 //! The candidates stand in blocks of 256, and each block has a bound: a place, and at most the total that any of its
 //! candidates makes by a last segment to that place. Neighbouring segments cost together at most what their union

@@ -17,8 +17,9 @@ use std::sync::ledger::Ledger;
 /// The table of the best segmentations of all first positions, which keeps as candidates for a last cut only the places
 /// that can still be one (PELT; Killick, Fearnhead and Eckley, 2012).
 ///
-/// Contracts see the positions, each as the list of its values, and the penalty, from 0 to 10^36, of a cut. The only
-/// error of its functions is want of memory. What they cost is said for a `C` that answers in O(1), as `Square` does.
+/// Contracts see the positions, each as the list of its values, the penalty, from 0 to 10^36, of a cut, and the least length,
+/// from 1 to 64, of a segment where there are several. The only error of its functions is want of memory. What they cost is
+/// said for a `C` that answers in O(1), as `Square` does.
 #[derive(Drop)]
 pub struct Table<C: Cost> {
     cost: C,
@@ -32,7 +33,11 @@ impl<C: Cost> Model for Table<C> {
 
     ghost Value = { Tabled };
 
-    ghost view = { λ t. record { positions = C.positions t.cost; penalty = t.penalty } };
+    ghost view = { λ t. record {
+      positions = C.positions t.cost;
+      penalty = t.penalty;
+      length = t.rows.length;
+    } };
 
     ghost invariant = { λ t. IsPrunedTable C.cost_of (C.positions t.cost) t.penalty t.rows };
 }
@@ -40,16 +45,18 @@ impl<C: Cost> Model for Table<C> {
 impl<C: Cost + Drop> Table<C> {
     ghost use Rattle.pelt_core.specs.Seen.{table_of};
     ghost use Rattle.pelt_core.specs.Best.{IsBestOf};
+    ghost use Rattle.segment_model.specs.Limits.{IsLength};
     ghost use Rattle.segment_cost.specs.Certificate.{IsCertificate};
 
     /// The table of no positions, in O(1).
-    pub fn start(alloc: Global, penalty: i128) -> Result<Table<C>, NoMemory>
+    pub fn start(alloc: Global, penalty: i128, length: u8) -> Result<Table<C>, NoMemory>
         requires low { pos 0 ≤ℤ penalty }
         requires high { penalty ≤ℤ pos (10 ^ 36) }
-        ensures { IfOk result (λ table. table ≡ table_of [] penalty) }
+        requires length { IsLength length }
+        ensures { IfOk result (λ table. table ≡ table_of [] penalty length) }
     {
         value_costs_law();
-        let rows = Rows::start(alloc, penalty)?;
+        let rows = Rows::start(alloc, penalty, length)?;
         Ok(Table {
             cost: C::fresh(alloc),
             penalty,
@@ -62,13 +69,16 @@ impl<C: Cost + Drop> Table<C> {
         alloc: Global,
         points: &Points,
         penalty: i128,
+        length: u8,
     ) -> Result<Table<C>, NoMemory>
         requires low { pos 0 ≤ℤ penalty }
         requires high { penalty ≤ℤ pos (10 ^ 36) }
-        ensures { IfOk result (λ table. table ≡ table_of (values_by_position points.now) penalty) }
+        requires length { IsLength length }
+        ensures { IfOk result
+            (λ table. table ≡ table_of (values_by_position points.now) penalty length) }
     {
         points.limits();
-        let mut table = Table::start(alloc, penalty)?;
+        let mut table = Table::start(alloc, penalty, length)?;
         table.reserve(points.len() + 1, points.count())?;
         for i in 0..points.len() {
             table.push(points.values(i))?;
@@ -78,7 +88,7 @@ impl<C: Cost + Drop> Table<C> {
 
     /// The table with one position more: one step.
     ///
-    /// O(c + v) time, amortized, for c candidates, at most one for each place, and v values. Where there is no memory,
+    /// O(c + v + l) time, amortized, for c candidates, at most one for each place, v values and a least length l. Where there is no memory,
     /// only the count of steps is changed.
     pub fn advance<L: Ledger>(
         &mut self,
@@ -87,7 +97,8 @@ impl<C: Cost + Drop> Table<C> {
     ) -> Result<(), NoMemory>
         requires limits { AreWithinLimits (self.old.positions ++ values.now ∷ []) }
         ensures ok { OnOk result
-            (self.new ≡ table_of (self.old.positions ++ values.now ∷ []) self.old.penalty) }
+            (self.new ≡ table_of (self.old.positions ++ values.now ∷ []) self.old.penalty
+            self.old.length) }
         ensures err { OnErr result (self.new ≡ self.old) }
         ensures step { steps.new ≡ steps.old + 1 }
     {
@@ -109,7 +120,8 @@ impl<C: Cost + Drop> Table<C> {
     fn push(&mut self, values: &[i64]) -> Result<(), NoMemory>
         requires limits { AreWithinLimits (self.old.positions ++ values.now ∷ []) }
         ensures ok { OnOk result
-            (self.new ≡ table_of (self.old.positions ++ values.now ∷ []) self.old.penalty) }
+            (self.new ≡ table_of (self.old.positions ++ values.now ∷ []) self.old.penalty
+            self.old.length) }
         ensures err { OnErr result (self.new ≡ self.old) }
     {
         agreeing_costs_law();
@@ -125,7 +137,8 @@ impl<C: Cost + Drop> Table<C> {
     /// The table of the first k positions. O(k) time, and O(1) for each position that goes; O(1) where none goes.
     pub fn rewind(&mut self, k: usize)
         requires { k ≤ length self.old.positions }
-        ensures { self.new ≡ table_of (take k self.old.positions) self.old.penalty }
+        ensures { self.new
+            ≡ table_of (take k self.old.positions) self.old.penalty self.old.length }
     {
         agreeing_costs_law();
         values_law();
@@ -151,18 +164,26 @@ impl<C: Cost + Drop> Table<C> {
         self.penalty
     }
 
+    /// How many positions each segment has at least, where there is more than one.
+    pub fn length(&self) -> u8
+        ensures { result ≡ self.now.length }
+    {
+        self.rows.length
+    }
+
     /// The best cut list of all positions, with the table that shows it to be the best.
     ///
     /// O(n) time and memory for n positions.
     pub fn certificate(&self, alloc: Global) -> Result<Cert, NoMemory>
         ensures { IfOk result (λ cert. IsCertificate
             (cost_between C.cost_of self.now.positions) (length self.now.positions)
-            self.now.penalty cert) }
+            self.now.penalty self.now.length cert) }
     {
         let best = self.best(alloc)?;
         Ok(Cert {
             points: self.cost.len() as u64,
             penalty: self.penalty,
+            length: self.rows.length,
             cuts: Numbers::of(best.cuts),
             total: best.total,
             least: Costs::of(Vec::from_slice(alloc, &self.rows.least)?),
@@ -176,7 +197,8 @@ impl<C: Cost + Drop> Table<C> {
     /// O(c) time and memory for c cuts.
     pub fn into_certificate(self, alloc: Global) -> Result<Cert, NoMemory>
         ensures { IfOk result (λ cert. IsCertificate
-            (cost_between C.cost_of self.positions) (length self.positions) self.penalty cert) }
+            (cost_between C.cost_of self.positions) (length self.positions) self.penalty
+            self.length cert) }
     {
         let best = self.best(alloc)?;
         let Table {
@@ -186,6 +208,7 @@ impl<C: Cost + Drop> Table<C> {
         } = self;
         let points = cost.len() as u64;
         let Rows {
+            length,
             least,
             back,
             pruned,
@@ -194,6 +217,7 @@ impl<C: Cost + Drop> Table<C> {
         Ok(Cert {
             points,
             penalty,
+            length,
             cuts: Numbers::of(best.cuts),
             total: best.total,
             least: Costs::of(least),
@@ -206,7 +230,7 @@ impl<C: Cost + Drop> Table<C> {
     fn best(&self, alloc: Global) -> Result<Best, NoMemory>
         ensures { IfOk result (λ best. IsBestOf
             (cost_between C.cost_of self.now.positions) (length self.now.positions)
-            self.now.penalty best) }
+            self.now.penalty self.now.length best) }
     {
         best_list_law();
         table_law();

@@ -4,9 +4,9 @@ use Rattle.segment_model.specs.Values.{values_by_position}
 use Rattle.segment_cost.specs.declared.done.Done.{Done}
 use Rattle.pelt_core.specs.Seen.{Tabled, table_of}
 
--- the table of the segmentation's points, at its penalty
+-- the table of the segmentation's points, at its penalty and its least length
 abbrev pub table_for : Done → Tabled
-table_for done = table_of (values_by_position done.points) done.cert.penalty
+table_for done = table_of (values_by_position done.points) done.cert.penalty done.cert.length
 
 -- a table, if there is one, is that of the segmentation
 abbrev pub IsTableFor : Done → Option Tabled → Type 0

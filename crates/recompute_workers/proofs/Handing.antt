@@ -102,9 +102,9 @@ module _ (cuts : CutsGrow) (h : List Entry) (keeps : KeepsLimits h) (t : Track) 
 
   are-best : AreBest (positions h s) (penalty_of s.metric h) made.done.cert.cuts made.done.cert.total
   are-best =
-      let stands : StandsFor (positions h s) (penalty_of s.metric h) made.done.cert =
-      subst (λ (g : List Entry). StandsFor (positions g s) (penalty_of s.metric g) made.done.cert) same
-      (subst (λ (z : ℤ). StandsFor (positions (entries_of t.history) s) z made.done.cert) taken.penalty (subst (λ (ps : List Position). StandsFor ps x.penalty made.done.cert) taken.points is.stands)) in
+      let stands : StandsFor (positions h s) (penalty_of s.metric h) 1 made.done.cert =
+      subst (λ (g : List Entry). StandsFor (positions g s) (penalty_of s.metric g) 1 made.done.cert) same
+      (subst (λ (z : ℤ). StandsFor (positions (entries_of t.history) s) z 1 made.done.cert) taken.penalty (subst (λ (ps : List Position). StandsFor ps x.penalty 1 made.done.cert) taken.points is.stands)) in
       record { cost = stands.cost; is_cost = stands.is_cost; best = stands.best; totalled = stands.totalled }
 
   pub full-quiet : (l : Limit) → passed h made.done ≡ Some l → IsQuiet h s

@@ -25,8 +25,8 @@ use track_outside::{Sink, Source};
 /// replies. Ends at the end of the script, or at the first thing that stops it; what was answered by then stands, and is
 /// written.
 ///
-/// Replies are gathered as long as a whole line is kept of what was read, and handed out together: once no whole line is
-/// left, before more is read; once they are 64 KiB; and where the answering ends.
+/// Replies are gathered and handed out together: after a request after which no whole line is left of what was read, once
+/// they are 64 KiB, and where the answering ends. So those before a whole line that asks nothing wait for the next request.
 ///
 /// Linear in the bytes of the script, beside what the steps take. Keeps one request at once, and of the replies 64 KiB and
 /// one more at most.

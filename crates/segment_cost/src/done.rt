@@ -1,5 +1,6 @@
 //! A finished segmentation of a series.
 ghost use Rattle.std.specs.Prelude.{pos, ◌≤ℤ◌, ◌^◌};
+ghost use Rattle.segment_model.specs.Limits.{IsLength};
 ghost use Rattle.segment_cost.specs.Certificate.{StandsFor};
 
 use crate::FrozenPoints;
@@ -19,10 +20,10 @@ pub struct Done {
     pub base: u64,
     /// How many positions were looked at anew.
     pub redone: u64,
-    /// The best segmentation of the points, with its table, at a penalty from 0 to 10^36.
+    /// The best segmentation of the points, with its table, at a penalty from 0 to 10^36 and a least length from 1 to 64.
     pub cert: Cert,
     /// The positions of the series.
     pub points: FrozenPoints,
     pub ghost stands: { ∥ (pos 0 ≤ℤ cert.penalty) × (cert.penalty ≤ℤ pos (10 ^ 36))
-        × StandsFor points cert.penalty cert ∥₁ },
+        × IsLength cert.length × StandsFor points cert.penalty cert.length cert ∥₁ },
 }

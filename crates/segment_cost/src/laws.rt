@@ -5,7 +5,7 @@ use segment_model::{
     agreeing_costs_law, best_list_law, cost_law, squares_law, table_law, values_law,
 };
 
-/// No points and penalty have two certificates that stand for them.
+/// No points, penalty and least length have two certificates that stand for them.
 pub fn one_certificate_law()
     ensures { OneCertificate }
 {

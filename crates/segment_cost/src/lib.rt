@@ -2,8 +2,8 @@
 //!
 //! `Points` is a list of positions, each a commit with its values, from `point_list`, and `FrozenPoints` one that doesn't
 //! change any more. `Cert` is a certificate: a cut list, its total and the tables that show it to be the best.
-//! `specs/Certificate.antt` says when a certificate stands for points and a penalty, and `one_certificate_law` that no
-//! points and penalty have two.
+//! `specs/Certificate.antt` says when a certificate stands for points, a penalty and a least length of segments, and
+//! `one_certificate_law` that no such three have two.
 //!
 //! `Cost` says what each segment of some positions costs; `Square` is the least sum of squares about a whole number.
 //!

@@ -22,14 +22,15 @@ next_down cs k = slice_index (cs ++ 0 ∷ []) (suc k)
 abbrev next_up : ℕ → List ℕ → ℕ → ℕ
 next_up t cs k = slice_index (t ∷ cs) k
 
-falls-up : (low high : ℕ) (cs : List ℕ) → low ≤ high → FallsBelow low cs → FallsBelow high cs
-falls-up low high [] le h = tt
-falls-up low high (c ∷ cs) le h = (h.0, omega (arith, h.1), h.2)
+falls-up : (len low high : ℕ) (cs : List ℕ) → low ≤ high → FallsBelow len low cs → FallsBelow len high cs
+falls-up len low high [] le h = tt
+falls-up len low high (c ∷ cs) le h = (h.0, omega (arith, h.1), h.2, h.3, omega (arith, h.4))
 
-falls-without : (t k : ℕ) (cs : List ℕ) → FallsBelow t cs → FallsBelow t (without k cs)
-falls-without t k [] h = tt
-falls-without t zero (c ∷ cs) h = falls-up c t cs (omega (arith, h.1)) h.2
-falls-without t (suc k) (c ∷ cs) h = (h.0, h.1, falls-without c k cs h.2)
+falls-without : (len t k : ℕ) (cs : List ℕ) → FallsBelow len t cs → FallsBelow len t (without k cs)
+falls-without len t k [] h = tt
+falls-without len t zero (c ∷ cs) h = falls-up len c t cs (omega (arith, h.1)) h.2
+falls-without len t (suc k) (c ∷ []) h = h
+falls-without len t (suc k) (c ∷ d ∷ cs) h = (h.0, h.1, falls-without len c k (d ∷ cs) h.2, h.3, h.4)
 
 total-without : (cost : ℕ → ℕ → ℤ) (b : ℤ) (t k : ℕ) (cs : List ℕ) → k < length cs
     → total_back cost b t (without k cs) +ℤ cost (next_down cs k) (slice_index cs k) +ℤ b +ℤ cost (slice_index cs k) (next_up t cs k)
@@ -39,26 +40,26 @@ total-without cost b t zero (c ∷ []) h = omega (arith, ints)
 total-without cost b t zero (c ∷ e ∷ r) h = omega (arith, ints)
 total-without cost b t (suc k) (c ∷ cs) h = omega (arith, ints, total-without cost b c k cs (omega (arith, h)))
 
-after-without : (t k : ℕ) (cs : List ℕ) → FallsBelow t cs → k < length cs → IsNotAfter (cs ++ 0 ∷ []) (without k cs ++ 0 ∷ []) → ⊥
-after-without t k [] h p is = omega arith
-after-without t zero (c ∷ []) h p is = elim is [ inl lt ↦ omega (arith, lt) | inr eq ↦ omega (arith, eq.0, h.0) ]
-after-without t zero (c ∷ e ∷ r) h p is = elim is [ inl lt ↦ omega (arith, lt, h.2.1) | inr eq ↦ omega (arith, eq.0, h.2.1) ]
-after-without t (suc k) (c ∷ cs) h p is = elim is [ inl lt ↦ omega (arith, lt) | inr eq ↦ after-without c k cs h.2 (omega (arith, p)) eq.1 ]
+after-without : (len t k : ℕ) (cs : List ℕ) → FallsBelow len t cs → k < length cs → IsNotAfter (cs ++ 0 ∷ []) (without k cs ++ 0 ∷ []) → ⊥
+after-without len t k [] h p is = omega arith
+after-without len t zero (c ∷ []) h p is = elim is [ inl lt ↦ omega (arith, lt) | inr eq ↦ omega (arith, eq.0, h.0) ]
+after-without len t zero (c ∷ e ∷ r) h p is = elim is [ inl lt ↦ omega (arith, lt, h.2.1) | inr eq ↦ omega (arith, eq.0, h.2.1) ]
+after-without len t (suc k) (c ∷ cs) h p is = elim is [ inl lt ↦ omega (arith, lt) | inr eq ↦ after-without len c k cs h.2 (omega (arith, p)) eq.1 ]
 
-in-order : (t k : ℕ) (cs : List ℕ) → FallsBelow t cs → k < length cs
+in-order : (len t k : ℕ) (cs : List ℕ) → FallsBelow len t cs → k < length cs
     → (next_down cs k < slice_index cs k) × (slice_index cs k < next_up t cs k) × (next_up t cs k ≤ t)
-in-order t k [] h p = absurd (omega arith)
-in-order t zero (c ∷ []) h p = (h.0, h.1, omega arith)
-in-order t zero (c ∷ e ∷ r) h p = (h.2.1, h.1, omega arith)
-in-order t (suc k) (c ∷ cs) h p =
-    let rest = in-order c k cs h.2 (omega (arith, p)) in
+in-order len t k [] h p = absurd (omega arith)
+in-order len t zero (c ∷ []) h p = (h.0, h.1, omega arith)
+in-order len t zero (c ∷ e ∷ r) h p = (h.2.1, h.1, omega arith)
+in-order len t (suc k) (c ∷ cs) h p =
+    let rest = in-order len c k cs h.2 (omega (arith, p)) in
     (rest.0, rest.1, omega (arith, rest.2, h.1))
 
-needed-back : (cost : ℕ → ℕ → ℤ) (b : ℤ) (t k : ℕ) (cs : List ℕ) → IsBestBack cost b t cs → k < length cs
+needed-back : (cost : ℕ → ℕ → ℤ) (b : ℤ) (len t k : ℕ) (cs : List ℕ) → IsBestBack cost b len t cs → k < length cs
     → IsNeeded cost b t (next_down cs k) (slice_index cs k) (next_up t cs k)
-needed-back cost b t k cs best p =
-    let order = in-order t k cs best.falls p in
-    let falls = falls-without t k cs best.falls in
+needed-back cost b len t k cs best p =
+    let order = in-order len t k cs best.falls p in
+    let falls = falls-without len t k cs best.falls in
     let least : total_back cost b t cs ≤ℤ total_back cost b t (without k cs) = best.least (without k cs) falls in
     let sums = total-without cost b t k cs p in
     record {
@@ -67,7 +68,7 @@ needed-back cost b t k cs best p =
       placed = order.2;
       costs_more = by_lt_z (cost (next_down cs k) (slice_index cs k) +ℤ b +ℤ cost (slice_index cs k) (next_up t cs k)) (cost (next_down cs k) (next_up t cs k))
           (λ lt. lt)
-          (λ ge. absurd (after-without t k cs best.falls p (best.first (without k cs) falls (omega (arith, ints, least, sums, ge)))));
+          (λ ge. absurd (after-without len t k cs best.falls p (best.first (without k cs) falls (omega (arith, ints, least, sums, ge)))));
     }
 
 -- ---- forwards
@@ -92,11 +93,11 @@ module _ (cuts : List ℕ) (i : ℕ) (p : i < length cuts) where
       let there' = rw e at there in
       rw (reverse-append cuts (n ∷ [])) at there'
 
-pub cuts-needed : (cost : ℕ → ℕ → ℤ) (b : ℤ) (n : ℕ) (cuts : List ℕ) → IsBest cost b n cuts → (i : ℕ) → i < length cuts
+pub cuts-needed : (cost : ℕ → ℕ → ℤ) (b : ℤ) (len n : ℕ) (cuts : List ℕ) → IsBest cost b len n cuts → (i : ℕ) → i < length cuts
     → IsNeeded cost b n (place_before cuts i) (slice_index cuts i) (place_behind cuts n i)
-cuts-needed cost b n cuts best i p =
+cuts-needed cost b len n cuts best i p =
     rw (← cut-turned cuts i p, ← before-turned cuts i p, ← behind-turned cuts i p n)
-    (needed-back cost b n (length cuts - 1 - i) (reverse cuts) (best-reversed cost b n cuts best) (rw (length-reverse cuts) (omega (arith, p))))
+    (needed-back cost b len n (length cuts - 1 - i) (reverse cuts) (best-reversed cost b len n cuts best) (rw (length-reverse cuts) (omega (arith, p))))
 
 least-at : (xs : List ℤ) (k c : ℤ) → IsLeastSum xs k → IsCentre xs c → squares_about c xs ≤ℤ k
 least-at xs k c least centre = omega (arith, ints, centre.least least.centre, least.reached)

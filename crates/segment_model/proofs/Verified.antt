@@ -1,15 +1,15 @@
 -- Tables that were looked at entry by entry are the tables.
-use Rattle.std.proofs.Common.{◌≡◌, ◌≢◌, ℕ, ℤ, suc, zero, ◌+◌, ◌<◌, ◌≤◌, List, [], ◌∷◌, ◌++◌, reverse, length, map, cond, ltb, take, slice_index, inl, inr, refl, sym, ap, ◌∙◌, subst, pos, ◌+ℤ◌, ◌≤ℤ◌, arith}
+use Rattle.std.proofs.Common.{◌≡◌, ◌≢◌, ℕ, ℤ, suc, zero, ◌+◌, ◌<◌, ◌≤◌, List, [], ◌∷◌, ◌++◌, reverse, length, map, cond, ltb, take, slice_index, ◌⊎◌, inl, inr, refl, sym, ap, ◌∙◌, subst, pos, ◌+ℤ◌, ◌≤ℤ◌, arith}
 use Rattle.std.proofs.lemmas.Int.{ints}
 use Rattle.std.proofs.lemmas.Bool.{cases_lt, cases_eq, lt-ltb, le-ltb}
 use Rattle.std.proofs.lemmas.List.{length-take, length-map, take_more, take_all, get_or-take, get_or-map}
 use Rattle.segment_model.specs.Cuts.{Merges}
-use Rattle.segment_model.specs.Tables.{int_at, IsDear, IsTable, IsFirstLeast, IsMarkedAt, IsUnmarkedBehind, IsOpenAt, IsVerified, IsWalk}
+use Rattle.segment_model.specs.Tables.{int_at, IsCandidate, IsDear, IsTable, IsFirstLeast, IsMarkedAt, IsUnmarkedBehind, IsOpenAt, IsUnmarkedBefore, IsSettled, IsVerified, IsWalk}
 use Rattle.segment_model.specs.Laws.{VerifiedIsTable, TableIsVerified, BestIsWalk}
-use Rattle.segment_model.proofs.BestCuts.{IsBestBack, best-reversed, first_least-some, total_back}
+use Rattle.segment_model.proofs.BestCuts.{candidate-or, IsBestBack, best-reversed, first_least-some, total_back}
 use Rattle.segment_model.proofs.Rows.{IsPlace, head_or_zero, table-place, next-place, best_back-unique, place-best, tail-best}
 use Rattle.segment_model.proofs.Growth.{table-grows}
-use Rattle.segment_model.proofs.Pruning.{unmarked-first}
+use Rattle.segment_model.proofs.Pruning.{open-first}
 use Rattle.segment_model.proofs.Shrinking.{total-at-most, not-dear}
 
 -- a mark, where it isn't behind place m
@@ -23,11 +23,21 @@ mark-is m u = elim (cases_lt m u) [
   | inr within ↦ rw (le-ltb m u within) (inl (within, refl))
 ]
 
+-- a place is settled by a last cut, or it isn't
+settled-or : (len k s : ℕ) → IsSettled len k s ⊎ (¬ IsSettled len k s)
+settled-or len k s = elim (cases_eq k s) [
+  | inl same ↦ inl (inl same)
+  | inr apart ↦ elim (candidate-or len s k) [
+    | inl is ↦ inl (inr is)
+    | inr isnt ↦ inr (λ settled. elim settled [ inl same ↦ apart same | inr is ↦ isnt is ])
+  ]
+]
+
 -- the marks of the first m + 1 places that aren't behind place m
 marks-within : ℕ → List ℕ → List ℕ
 marks-within m pruned = map (mark-within m) (take (m + 1) pruned)
 
-module _ (cost : ℕ → ℕ → ℤ) (n : ℕ) (b : ℤ) (least : List ℤ) (back pruned : List ℕ) (merges : Merges cost n) (low : pos 0 ≤ℤ b) (h : IsVerified cost n b least back pruned) where
+module _ (cost : ℕ → ℕ → ℤ) (n : ℕ) (b : ℤ) (len : ℕ) (least : List ℤ) (back pruned : List ℕ) (merges : Merges cost n) (low : pos 0 ≤ℤ b) (length_some : 0 < len) (h : IsVerified cost n b len least back pruned) where
   marks-size : (m : ℕ) → m ≤ n → length (marks-within m pruned) ≡ m + 1
   unfolding marks-within
   marks-size m le = length-map (take (m + 1) pruned) (mark-within m) ∙ length-take (m + 1) pruned ∙ omega (arith, h.pruned_length)
@@ -47,28 +57,35 @@ module _ (cost : ℕ → ℕ → ℤ) (n : ℕ) (b : ℤ) (least : List ℤ) (ba
   mark-high : (m s : ℕ) → m ≤ n → s ≤ m → m < slice_index pruned s → slice_index (marks-within m pruned) s ≡ 0
   mark-high m s le in' high = elim (mark-at m s le in') [ inl stays ↦ absurd (omega (arith, stays.0)) | inr goes ↦ goes.1 ]
 
-  module _ (m : ℕ) (le : m + 1 ≤ n) (table : IsTable cost m b (take (m + 1) least) (take (m + 1) back) (marks-within m pruned)) where
-    s-is : slice_index back (m + 1) ≤ m
-    s-is = omega (arith, h.before (m + 1) (omega arith) le)
+  module _ (m : ℕ) (le : m + 1 ≤ n) (table : IsTable cost m b len (take (m + 1) least) (take (m + 1) back) (marks-within m pruned)) where
+    s-is : IsCandidate len (m + 1) (slice_index back (m + 1))
+    s-is = h.before (m + 1) (omega arith) le
 
-    open-at : (r : ℕ) → r ≤ m → slice_index (marks-within m pruned) r ≡ 0 → IsOpenAt pruned r (m + 1)
-    open-at r in' none = elim (mark-at m r (omega arith) in') [ inl stays ↦ inl (sym stays.1 ∙ none) | inr goes ↦ inr (omega (arith, goes.0)) ]
+    s-in : slice_index back (m + 1) ≤ m
+    s-in = omega (arith, s-is.0)
 
-    found : IsFirstLeast cost (int_at (take (m + 1) least)) (m + 1) (slice_index back (m + 1))
+    open-at : (r : ℕ) → r ≤ m → IsOpenAt len (marks-within m pruned) r (m + 1) → IsOpenAt len pruned r (m + 1)
+    open-at r in' is = elim (mark-at m r (omega arith) in') [
+      | inl stays ↦ elim is [ inl none ↦ inl (sym stays.1 ∙ none) | inr late ↦ inr (omega (arith, late, stays.1)) ]
+      | inr goes ↦ inr (omega (arith, goes.0, length_some))
+    ]
+
+    found : IsFirstLeast cost len (int_at (take (m + 1) least)) (m + 1) (slice_index back (m + 1))
     found =
-        unmarked-first cost m b (take (m + 1) least) (take (m + 1) back) (marks-within m pruned) (slice_index back (m + 1)) (λ s u t lo hi fits. merges s u t lo hi (omega (arith, fits, le))) table s-is
-        (λ r in' none.
-        let bound = h.at_most r (m + 1) (omega arith) le (open-at r in' none) in
+        open-first cost m b len (take (m + 1) least) (take (m + 1) back) (marks-within m pruned) (slice_index back (m + 1)) (λ s u t lo hi fits. merges s u t lo hi (omega (arith, fits, le))) low table s-is
+        (λ r is open'.
+        let in' : r ≤ m = omega (arith, is.0) in
+        let bound = h.at_most r (m + 1) is le (open-at r in' open') in
         let made = h.made (m + 1) (omega arith) le in
-        rw (least-first m (slice_index back (m + 1)) s-is, least-first m r in') (omega (arith, ints, bound, made)))
-        (λ r lt none.
-        let in' : r ≤ m = omega (arith, lt, s-is) in
-        let bound = h.earlier r (m + 1) lt le (open-at r in' none) in
+        rw (least-first m (slice_index back (m + 1)) s-in, least-first m r in') (omega (arith, ints, bound, made)))
+        (λ r lt is open'.
+        let in' : r ≤ m = omega (arith, is.0) in
+        let bound = h.earlier r (m + 1) lt is le (open-at r in' open') in
         let made = h.made (m + 1) (omega arith) le in
-        rw (least-first m (slice_index back (m + 1)) s-is, least-first m r in') (omega (arith, ints, bound, made)))
+        rw (least-first m (slice_index back (m + 1)) s-in, least-first m r in') (omega (arith, ints, bound, made)))
 
     x-is : int_at least (m + 1) ≡ int_at (take (m + 1) least) (slice_index back (m + 1)) +ℤ cost (slice_index back (m + 1)) (m + 1) +ℤ b
-    x-is = rw (least-first m (slice_index back (m + 1)) s-is) (h.made (m + 1) (omega arith) le)
+    x-is = rw (least-first m (slice_index back (m + 1)) s-in) (h.made (m + 1) (omega arith) le)
 
     more-least : take (m + 1 + 1) least ≡ take (m + 1) least ++ int_at least (m + 1) ∷ []
     more-least = take_more least (m + 1) (pos 0) (omega (arith, h.least_length))
@@ -79,31 +96,31 @@ module _ (cost : ℕ → ℕ → ℤ) (n : ℕ) (b : ℤ) (least : List ℤ) (ba
     now-at : (v : ℕ) → v ≤ m + 1 → int_at (take (m + 1) least ++ int_at least (m + 1) ∷ []) v ≡ int_at least v
     now-at v in' = ap (λ (xs : List ℤ). int_at xs v) (sym more-least) ∙ get_or-take (m + 1 + 1) least v (pos 0) (omega arith)
 
-    dear-here : (s : ℕ) → s ≤ m → IsDear cost least s (m + 1) → IsDear cost (take (m + 1) least ++ int_at least (m + 1) ∷ []) s (m + 1)
-    dear-here s in' dear = rw (now-at (m + 1) (omega arith), now-at s (omega arith)) dear
+    dear-here : (s : ℕ) → s ≤ m → IsDear cost len least s (m + 1) → IsDear cost len (take (m + 1) least ++ int_at least (m + 1) ∷ []) s (m + 1)
+    dear-here s in' dear = (dear.0, rw (now-at (m + 1) (omega arith), now-at s (omega arith)) dear.1)
 
-    dear-there : (s : ℕ) → s ≤ m → IsDear cost (take (m + 1) least ++ int_at least (m + 1) ∷ []) s (m + 1) → IsDear cost least s (m + 1)
-    dear-there s in' dear = rw (now-at (m + 1) (omega arith), now-at s (omega arith)) at dear
+    dear-there : (s : ℕ) → s ≤ m → IsDear cost len (take (m + 1) least ++ int_at least (m + 1) ∷ []) s (m + 1) → IsDear cost len least s (m + 1)
+    dear-there s in' dear = (dear.0, rw (now-at (m + 1) (omega arith), now-at s (omega arith)) at dear.1)
 
-    not-dear-here : (s : ℕ) → slice_index back (m + 1) ≤ s → s ≤ m → ¬ IsDear cost (take (m + 1) least ++ int_at least (m + 1) ∷ []) s (m + 1)
-    not-dear-here s from in' =
-        not-dear cost m b (take (m + 1) least) (take (m + 1) back) (marks-within m pruned) (slice_index back (m + 1)) (int_at least (m + 1))
-        (λ r u t lo hi fits. merges r u t lo hi (omega (arith, fits, le))) low table x-is s from in'
+    not-dear-here : (s : ℕ) → IsSettled len (slice_index back (m + 1)) s → s ≤ m → ¬ IsDear cost len (take (m + 1) least ++ int_at least (m + 1) ∷ []) s (m + 1)
+    not-dear-here s settled in' =
+        not-dear cost m b len (take (m + 1) least) (take (m + 1) back) (marks-within m pruned) (slice_index back (m + 1)) (int_at least (m + 1))
+        (λ r u t lo hi fits. merges r u t lo hi (omega (arith, fits, le))) low table x-is s in' settled
 
-    -- an open place that has no mark here isn't dear here, and one that has is
-    unmarked-cheap : (s : ℕ) → s ≤ m → IsOpenAt pruned s (m + 1) → slice_index pruned s ≢ m + 1 → ¬ IsDear cost (take (m + 1) least ++ int_at least (m + 1) ∷ []) s (m + 1)
-    unmarked-cheap s in' open' apart dear = elim (cases_lt s (slice_index back (m + 1))) [
-      | inl before ↦ apart ((h.dear s (m + 1) before le open').0 (dear-there s in' dear))
-      | inr from ↦ not-dear-here s from in' dear
+    -- a place without a mark before this one that has none here isn't dear here, and one that has is
+    unmarked-cheap : (s : ℕ) → s ≤ m → IsUnmarkedBefore pruned s (m + 1) → slice_index pruned s ≢ m + 1 → ¬ IsDear cost len (take (m + 1) least ++ int_at least (m + 1) ∷ []) s (m + 1)
+    unmarked-cheap s in' open' apart dear = elim (settled-or len (slice_index back (m + 1)) s) [
+      | inr free ↦ apart ((h.dear s (m + 1) (omega arith) le open' free).0 (dear-there s in' dear))
+      | inl settled ↦ not-dear-here s settled in' dear
     ]
 
-    marked-dear : (s : ℕ) → s ≤ m → IsOpenAt pruned s (m + 1) → slice_index pruned s ≡ m + 1 → IsDear cost (take (m + 1) least ++ int_at least (m + 1) ∷ []) s (m + 1)
-    marked-dear s in' open' at = elim (cases_lt s (slice_index back (m + 1))) [
-      | inl before ↦ dear-here s in' ((h.dear s (m + 1) before le open').1 at)
-      | inr from ↦ absurd (h.cheap s (m + 1) from (omega arith) le open' at)
+    marked-dear : (s : ℕ) → s ≤ m → IsUnmarkedBefore pruned s (m + 1) → slice_index pruned s ≡ m + 1 → IsDear cost len (take (m + 1) least ++ int_at least (m + 1) ∷ []) s (m + 1)
+    marked-dear s in' open' at = elim (settled-or len (slice_index back (m + 1)) s) [
+      | inr free ↦ dear-here s in' ((h.dear s (m + 1) (omega arith) le open' free).1 at)
+      | inl settled ↦ absurd (h.cheap s (m + 1) (omega arith) le open' settled at)
     ]
 
-    mark-of : (s : ℕ) → s < m + 1 → IsMarkedAt cost (take (m + 1) least ++ int_at least (m + 1) ∷ []) (m + 1) s (slice_index (marks-within m pruned) s) (slice_index (marks-within (m + 1) pruned) s)
+    mark-of : (s : ℕ) → s < m + 1 → IsMarkedAt cost len (take (m + 1) least ++ int_at least (m + 1) ∷ []) (m + 1) s (slice_index (marks-within m pruned) s) (slice_index (marks-within (m + 1) pruned) s)
     mark-of s lt =
         let in' : s ≤ m = omega arith in
         elim (h.marked s (omega arith)) [
@@ -135,13 +152,13 @@ module _ (cost : ℕ → ℕ → ℤ) (n : ℕ) (b : ℤ) (least : List ℤ) (ba
       | inr some ↦ mark-high (m + 1) (m + 1) le (omega arith) some.0
     ]
 
-    step : IsTable cost (m + 1) b (take (m + 1 + 1) least) (take (m + 1 + 1) back) (marks-within (m + 1) pruned)
+    step : IsTable cost (m + 1) b len (take (m + 1 + 1) least) (take (m + 1 + 1) back) (marks-within (m + 1) pruned)
     step =
         rw (more-least, more-back)
-        (table-grows cost m b (take (m + 1) least) (take (m + 1) back) (marks-within m pruned) (marks-within (m + 1) pruned) (slice_index back (m + 1)) (int_at least (m + 1)) table found x-is
+        (table-grows cost m b len (take (m + 1) least) (take (m + 1) back) (marks-within m pruned) (marks-within (m + 1) pruned) (slice_index back (m + 1)) (int_at least (m + 1)) table found x-is
         (record { marked_length = marks-size (m + 1) le; marked = mark-of; none_at_end = none-at-end }))
 
-  verified-upto : (m : ℕ) → m ≤ n → IsTable cost m b (take (m + 1) least) (take (m + 1) back) (marks-within m pruned)
+  verified-upto : (m : ℕ) → m ≤ n → IsTable cost m b len (take (m + 1) least) (take (m + 1) back) (marks-within m pruned)
   verified-upto zero le = record {
     least_length = length-take 1 least ∙ omega (arith, h.least_length);
     back_length = length-take 1 back ∙ omega (arith, h.back_length);
@@ -157,11 +174,11 @@ module _ (cost : ℕ → ℕ → ℤ) (n : ℕ) (b : ℤ) (least : List ℤ) (ba
   }
   verified-upto (suc m) le =
       let e : m + 1 ≡ suc m = omega arith in
-      subst (λ (k : ℕ). IsTable cost k b (take (k + 1) least) (take (k + 1) back) (marks-within k pruned)) e (step m (omega arith) (verified-upto m (omega arith)))
+      subst (λ (k : ℕ). IsTable cost k b len (take (k + 1) least) (take (k + 1) back) (marks-within k pruned)) e (step m (omega arith) (verified-upto m (omega arith)))
 
 pub verified-table : VerifiedIsTable
-verified-table cost n b least back pruned merges low h =
-    let is = verified-upto cost n b least back pruned merges low h n (omega arith) in
+verified-table cost n b len least back pruned merges low some h =
+    let is = verified-upto cost n b len least back pruned merges low some h n (omega arith) in
     let whole : take (n + 1) least ≡ least = take_all (n + 1) least (omega (arith, h.least_length)) in
     record {
       least_length = h.least_length;
@@ -172,66 +189,63 @@ verified-table cost n b least back pruned merges low h =
       row = λ t some le. rw (get_or-take (n + 1) least t (pos 0) (omega arith), get_or-take (n + 1) back t 0 (omega arith)) at (is.row t some le);
       pruned_at = λ s le.
           let at-most : slice_index pruned s ≤ n = elim (h.marked s le) [ inl none ↦ omega (arith, none) | inr some ↦ some.1 ] in
-          let same = mark-low cost n b least back pruned merges low h n s (omega arith) le at-most in
+          let same = mark-low cost n b len least back pruned merges low some h n s (omega arith) le at-most in
           rw (same, whole) at (is.pruned_at s le);
     }
 
-place-unique : (cost : ℕ → ℕ → ℤ) (b : ℤ) (t : ℕ) (l l' : ℤ) (k k' : ℕ) → 0 < t → IsPlace cost b t l k → IsPlace cost b t l' k' → (l ≡ l') × (k ≡ k')
-place-unique cost b t l l' k k' p h h' =
+place-unique : (cost : ℕ → ℕ → ℤ) (b : ℤ) (len t : ℕ) (l l' : ℤ) (k k' : ℕ) → 0 < t → IsPlace cost b len t l k → IsPlace cost b len t l' k' → (l ≡ l') × (k ≡ k')
+place-unique cost b len t l l' k k' p h h' =
     let one = h.some p in
     let other = h'.some p in
-    let same : one.0 ≡ other.0 = best_back-unique cost b t one.0 other.0 one.1 other.1 in
+    let same : one.0 ≡ other.0 = best_back-unique cost b len t one.0 other.0 one.1 other.1 in
     (one.2 ∙ ap (total_back cost b t) same ∙ sym other.2, one.3 ∙ ap head_or_zero same ∙ sym other.3)
 
--- the first least place of a table's place is its last cut
-table-first : (cost : ℕ → ℕ → ℤ) (n : ℕ) (b : ℤ) (least : List ℤ) (back pruned : List ℕ) → IsTable cost n b least back pruned → (t : ℕ) → 0 < t → t ≤ n
-    → IsFirstLeast cost (int_at least) t (slice_index back t) × (int_at least t ≡ int_at least (slice_index back t) +ℤ cost (slice_index back t) t +ℤ b)
-table-first cost n b least back pruned h t p le =
-    let some = first_least-some cost (int_at least) t p in
-    let place = next-place cost b (int_at least) (slice_index back) t (λ s lt. table-place cost n b least back pruned h s (omega arith)) some.0 some.1 in
-    let same = place-unique cost b t (int_at least t) (int_at least some.0 +ℤ cost some.0 t +ℤ b) (slice_index back t) some.0 p (table-place cost n b least back pruned h t le) place in
-    rw same.1 (some.1, same.0)
+module _ (cost : ℕ → ℕ → ℤ) (n : ℕ) (b : ℤ) (len : ℕ) (least : List ℤ) (back pruned : List ℕ) (h : IsTable cost n b len least back pruned) where
+  -- the first least place of a table's place is its last cut
+  table-first : (t : ℕ) → 0 < t → t ≤ n
+      → IsFirstLeast cost len (int_at least) t (slice_index back t) × (int_at least t ≡ int_at least (slice_index back t) +ℤ cost (slice_index back t) t +ℤ b)
+  table-first t p le =
+      let some = first_least-some cost len (int_at least) t p in
+      let place = next-place cost b len (int_at least) (slice_index back) t (λ s lt. table-place cost n b len least back pruned h s (omega arith)) some.0 some.1 in
+      let same = place-unique cost b len t (int_at least t) (int_at least some.0 +ℤ cost some.0 t +ℤ b) (slice_index back t) some.0 p (table-place cost n b len least back pruned h t le) place in
+      rw same.1 (some.1, same.0)
 
--- no place from the last cut on is dear
-cheap-from : (cost : ℕ → ℕ → ℤ) (n : ℕ) (b : ℤ) (least : List ℤ) (back pruned : List ℕ) → Merges cost n → pos 0 ≤ℤ b → IsTable cost n b least back pruned
-    → (s t : ℕ) → slice_index back t ≤ s → s < t → t ≤ n → ¬ IsDear cost least s t
-cheap-from cost n b least back pruned merges low h s t from lt le dear =
-    let first = table-first cost n b least back pruned h t (omega arith) le in
-    elim (cases_lt (slice_index back t) s) [
-      | inl before ↦ absurd (omega (
-        arith,
-        ints,
-        low,
-        dear,
-        first.1,
-        total-at-most cost n b least back pruned h (slice_index back t) s before (omega arith),
-        merges (slice_index back t) s t (omega (arith, before)) (omega (arith, lt)) le,
-      ))
-      | inr behind ↦
-          let e : slice_index back t ≡ s = omega arith in
-          let made = rw e at first.1 in
-          absurd (omega (arith, ints, low, dear, made))
-    ]
+  -- no place that the last cut settles is dear
+  cheap-where : Merges cost n → pos 0 ≤ℤ b → (s t : ℕ) → IsSettled len (slice_index back t) s → s < t → t ≤ n → ¬ IsDear cost len least s t
+  cheap-where merges low s t settled lt le dear =
+      let first = table-first t (omega arith) le in
+      elim settled [
+        | inr is ↦ absurd (omega (
+          arith,
+          ints,
+          low,
+          dear.1,
+          first.1,
+          total-at-most cost n b len least back pruned h (slice_index back t) s is (omega arith),
+          merges (slice_index back t) s t (omega (arith, is.0)) (omega (arith, lt)) le,
+        ))
+        | inl e ↦
+            let made = rw e at first.1 in
+            absurd (omega (arith, ints, low, dear.1, made))
+      ]
 
 pub table-verified : TableIsVerified
-table-verified cost n b least back pruned merges low h = record {
+table-verified cost n b len least back pruned merges low h = record {
   least_length = h.least_length;
   back_length = h.back_length;
   pruned_length = h.pruned_length;
   least_at_none = h.least_at_none;
   back_at_none = h.back_at_none;
-  before = λ t some le. (table-first cost n b least back pruned h t some le).0.below;
-  made = λ t some le. (table-first cost n b least back pruned h t some le).1;
-  at_most = λ s t lt le open'. total-at-most cost n b least back pruned h s t lt le;
-  earlier = λ s t lt le open'.
-      let some : 0 < t = positive t lt in
-      let first = table-first cost n b least back pruned h t some le in
-      let less = first.0.earlier s lt in
+  before = λ t some le. (table-first cost n b len least back pruned h t some le).0.candidate;
+  made = λ t some le. (table-first cost n b len least back pruned h t some le).1;
+  at_most = λ s t is le open'. total-at-most cost n b len least back pruned h s t is le;
+  earlier = λ s t lt is le open'.
+      let some : 0 < t = omega (arith, is.0) in
+      let first = table-first cost n b len least back pruned h t some le in
+      let less = first.0.earlier s lt is in
       omega (arith, ints, less, first.1);
   marked = λ s le. elim (h.pruned_at s le) [ inl none ↦ inl none.0 | inr some ↦ inr (some.0, some.1) ];
-  dear = λ s t lt le open'.
-      let below = (table-first cost n b least back pruned h t (positive t lt) le).0.below in
-      let above : s < t = omega (arith, lt, below) in
+  dear = λ s t above le open' free.
       elim (h.pruned_at s (omega (arith, above, le))) [
         | inl none ↦ ((λ dear. absurd (none.1 t above le dear)), (λ at. absurd (omega (arith, none.0, at, above))))
         | inr some ↦ (
@@ -245,24 +259,21 @@ table-verified cost n b least back pruned merges low h = record {
           (λ at. rw at at some.2),
         )
       ];
-  cheap = λ s t from lt le open' at.
-      elim (h.pruned_at s (omega (arith, lt, le))) [
-        | inl none ↦ absurd (omega (arith, none.0, at, lt))
-        | inr some ↦ cheap-from cost n b least back pruned merges low h s t from lt le (rw at at some.2)
+  cheap = λ s t above le open' settled at.
+      elim (h.pruned_at s (omega (arith, above, le))) [
+        | inl none ↦ absurd (omega (arith, none.0, at, above))
+        | inr some ↦ cheap-where cost n b len least back pruned h merges low s t settled above le (rw at at some.2)
       ];
 }
-  where
-    positive : (t : ℕ) {s : ℕ} → s < slice_index back t → 0 < t
-    positive zero lt = absurd (omega (arith, h.back_at_none))
-    positive (suc t) lt = omega arith
 
-best-back-walks : (cost : ℕ → ℕ → ℤ) (n : ℕ) (b : ℤ) (least : List ℤ) (back pruned : List ℕ) → IsTable cost n b least back pruned → (t : ℕ) (cs : List ℕ) → t ≤ n → IsBestBack cost b t cs → IsWalk back t cs
-best-back-walks cost n b least back pruned h t [] le best = place-best cost b t (int_at least t) (slice_index back t) (table-place cost n b least back pruned h t le) [] best
-best-back-walks cost n b least back pruned h t (c ∷ cs) le best = (
-  place-best cost b t (int_at least t) (slice_index back t) (table-place cost n b least back pruned h t le) (c ∷ cs) best,
+best-back-walks : (cost : ℕ → ℕ → ℤ) (n : ℕ) (b : ℤ) (len : ℕ) (least : List ℤ) (back pruned : List ℕ) → IsTable cost n b len least back pruned → (t : ℕ) (cs : List ℕ) → t ≤ n
+    → IsBestBack cost b len t cs → IsWalk back t cs
+best-back-walks cost n b len least back pruned h t [] le best = place-best cost b len t (int_at least t) (slice_index back t) (table-place cost n b len least back pruned h t le) [] best
+best-back-walks cost n b len least back pruned h t (c ∷ cs) le best = (
+  place-best cost b len t (int_at least t) (slice_index back t) (table-place cost n b len least back pruned h t le) (c ∷ cs) best,
   best.falls.0,
-  best-back-walks cost n b least back pruned h c cs (omega (arith, best.falls.1, le)) (tail-best cost b t c cs best),
+  best-back-walks cost n b len least back pruned h c cs (omega (arith, best.falls.1, le)) (tail-best cost b len t c cs best),
 )
 
 pub best-is-walk : BestIsWalk
-best-is-walk cost n b least back pruned h t cuts le best = best-back-walks cost n b least back pruned h t (reverse cuts) le (best-reversed cost b t cuts best)
+best-is-walk cost n b len least back pruned h t cuts le best = best-back-walks cost n b len least back pruned h t (reverse cuts) le (best-reversed cost b len t cuts best)

@@ -83,7 +83,7 @@ one-list unique points metric cuts xs ys p q =
 module _ (unique : CentreIsUnique) (certificate : OneCertificate) (noise : OneNoise) (h : List Entry) where
   one-segment : (base : ℕ) (s : Series) → IsOne (IsPublished h base s)
   one-segment base s one other p q =
-      let same = certificate (positions h s) (penalty_of s.metric h) p.0 q.0 p.1 q.1 in
+      let same = certificate (positions h s) (penalty_of s.metric h) 1 p.0 q.0 p.1 q.1 in
       p.2 ∙ ap (λ (cert : Cert). publish h (publication s (length h) base cert) (segmented (length h) base (redone_since h base s) cert)) same ∙ sym q.2
 
   one-changes : (s : Series) (x : Publication) → IsOne (TellsChanges h s x)
@@ -93,7 +93,7 @@ module _ (unique : CentreIsUnique) (certificate : OneCertificate) (noise : OneNo
 
   one-verified : (s : Series) (x : Publication) → IsOne (TellsCertificate h s x)
   one-verified s x one other p q =
-      let same = certificate (positions (spoken_of h x) s) (penalty_of s.metric (spoken_of h x)) p.0 q.0 p.1 q.1 in
+      let same = certificate (positions (spoken_of h x) s) (penalty_of s.metric (spoken_of h x)) 1 p.0 q.0 p.1 q.1 in
       p.2 ∙ ap (λ (cert : Cert). tells (answer.Verified x.version cert)) same ∙ sym q.2
 
   one-calibrated : (s : Series) (factor : ℕ) → IsOne (IsCalibrated h s factor)

@@ -56,7 +56,7 @@ segmented version base redone cert = answer.Segmented version base cert.points (
 -- published, where it began with the table of a base
 abbrev pub IsPublishedOf : List Entry → ℕ → List Entry → Series → Outcome → Type 0
 IsPublishedOf version base h s o =
-    (cert : Cert) × StandsFor (positions version s) (penalty_of s.metric version) cert
+    (cert : Cert) × StandsFor (positions version s) (penalty_of s.metric version) 1 cert
     × (o ≡ publish h (publication s (length version) base cert) (segmented (length version) base (redone_since version base s) cert))
 
 -- on one thread the version is the whole history
@@ -79,7 +79,7 @@ OfLatest (Some version) Comes o = o ≡ refuses (refusal.Stale version)
 -- a version is published on a longer history, from a base that the version allows
 abbrev pub IsPublishedFrom : List Entry → ℕ → List Entry → Series → Outcome → Type 0
 IsPublishedFrom version base h s o =
-    (cert : Cert) × StandsFor (positions version s) (penalty_of s.metric version) cert
+    (cert : Cert) × StandsFor (positions version s) (penalty_of s.metric version) 1 cert
     × IsBaseAt version (publication s (length version) base cert)
     × (o ≡ publish h (publication s (length version) base cert) (segmented (length version) base (redone_since version base s) cert))
 
@@ -110,7 +110,7 @@ ChangesComeTo h s o = OfKnown (is_known s h) (OfPublished (last_publication s h)
 -- the certificate of a publication stands for the positions of the version that it speaks of, at that version's penalty
 abbrev pub TellsCertificate : List Entry → Series → Publication → Outcome → Type 0
 TellsCertificate h s p o =
-    (cert : Cert) × StandsFor (positions (spoken_of h p) s) (penalty_of s.metric (spoken_of h p)) cert
+    (cert : Cert) × StandsFor (positions (spoken_of h p) s) (penalty_of s.metric (spoken_of h p)) 1 cert
     × (o ≡ tells (answer.Verified p.version cert))
 
 abbrev pub VerifyComesTo : List Entry → Series → Outcome → Type 0

@@ -1,5 +1,5 @@
 -- What a segmentation begins with, and with which base.
-use Rattle.std.proofs.Common.{◌≡◌, ℕ, zero, suc, ℤ, Bool, true, false, cond, List, [], ◌∷◌, take, refl, sym, ap, ap₂, subst, ◌∙◌, ◌⊎◌, inl, inr, Option, Some, None, true≢false, arith}
+use Rattle.std.proofs.Common.{◌≡◌, ℕ, zero, suc, ℤ, Bool, true, false, cond, List, [], ◌∷◌, take, refl, sym, ap, subst, ◌∙◌, ◌⊎◌, inl, inr, Option, Some, None, true≢false, arith}
 use Rattle.std.specs.Prelude.{nat_lt, unwrap_or}
 use Rattle.std.specs.FinSet as set
 use Rattle.std.specs.List.{Any, last_or}
@@ -10,7 +10,9 @@ use Rattle.std.proofs.lemmas.Bool.{cases_Bool, ltb-false}
 use Rattle.std.proofs.lemmas.Bool.Decides.{Decides-int_eq}
 use Rattle.segment_model.specs.Segments.{Position}
 use Rattle.segment_model.specs.Values.{values_by_position}
+use Rattle.segment_cost.specs.declared.done.Done.{Done}
 use Rattle.pelt_core.specs.Seen.{Tabled, table_of}
+use Rattle.publication_index.proofs.Standing.{same-table}
 use Rattle.history_model.specs.declared.entries.Entry.{Entry}
 use Rattle.history_model.specs.declared.publication.Publication.{Publication}
 use Rattle.history_model.specs.Allowed.{Legal}
@@ -20,12 +22,17 @@ use Rattle.history_model.specs.Penalties.{penalty_of}
 use Rattle.history_model.specs.Publications.{last_publication, publications_of, published, IsBaseAt, IsUpTo}
 use Rattle.history_model.specs.Runs.{Series, is_known}
 use Rattle.track_model.specs.Tracks.{Track, base_of, version_at}
+use Rattle.track_state.specs.State.{IsKept}
 use Rattle.track_series.specs.Begun.{Begins}
 use Rattle.track_series.specs.Publications.{later}
 
 -- ---- what a type says of its table
-pub begins-some : (base : ℕ) (old : List Position) (z : ℤ) (t : Tabled) → ∥ Begins base old z (Some t) ∥₁ → t ≡ table_of (values_by_position old) z
-begins-some base old z t s = ap₂ table_of (∥∥₁_elim s (search props) (λ x. ap (λ (u : Tabled). u.positions) x)) (∥∥₁_elim s (search props) (λ x. ap (λ (u : Tabled). u.penalty) x))
+pub begins-some : (base : ℕ) (old : List Position) (z : ℤ) (t : Tabled) → ∥ Begins base old z (Some t) ∥₁ → t ≡ table_of (values_by_position old) z 1
+begins-some base old z t s =
+    same-table t (values_by_position old) z 1
+    (∥∥₁_elim s (search props) (λ x. ap (λ (u : Tabled). u.positions) x))
+    (∥∥₁_elim s (search props) (λ x. ap (λ (u : Tabled). u.penalty) x))
+    (∥∥₁_elim s (search props) (λ x. ap (λ (u : Tabled). u.length) x))
 
 -- the values of no positions are none
 pub begins-none : (base : ℕ) (old : List Position) (z : ℤ) → ∥ Begins base old z None ∥₁ → [] ≡ values_by_position old
@@ -38,6 +45,12 @@ not-later version (Some p) is = elim (cases_Bool (nat_lt version p.version)) [
   | inl hit ↦ absurd (let no : Some p.version ≡ None = ap (λ b. cond b (Some p.version) None) (sym hit) ∙ is in cc)
   | inr miss ↦ ltb-false version p.version miss
 ]
+
+-- which version is told, from what is kept of the last publication
+pub later-kept : (h : List Entry) (version : ℕ) (o : Option Publication) (done : Done) → IsKept h o (Some done)
+    → later version o ≡ cond (nat_lt version done.version) (Some done.version) None
+later-kept h version None done kept = absurd kept
+later-kept h version (Some p) done kept = ap (λ (q : Publication). cond (nat_lt version q.version) (Some q.version) None) kept.0
 
 -- ---- bases
 last-any : (P : Publication → Type 0) (xs : List Publication) (q : Publication) → last_or None xs ≡ Some q → P q → Any P xs

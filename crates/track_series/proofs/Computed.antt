@@ -1,5 +1,5 @@
 -- The certificate of a table of points.
-use Rattle.std.proofs.Common.{◌≡◌, ℤ, List, length}
+use Rattle.std.proofs.Common.{◌≡◌, ℕ, ℤ, List, length}
 use Rattle.std.proofs.lemmas.List.{length-map}
 use Rattle.segment_model.specs.Segments.{Position, position_values}
 use Rattle.segment_model.specs.Computed.{least_sum_of}
@@ -8,8 +8,8 @@ use Rattle.segment_cost.specs.declared.cert.Cert.{Cert}
 use Rattle.segment_cost.specs.Certificate.{IsCertificate, squares_between}
 use Rattle.pelt_core.specs.Seen.{Tabled, table_of}
 
-pub of-points : (points : List Position) (b : ℤ) (cert : Cert) (t : Tabled) → t ≡ table_of (values_by_position points) b
-    → IsCertificate (cost_between least_sum_of t.positions) (length t.positions) t.penalty cert → IsCertificate (squares_between points) (length points) b cert
-of-points points b cert t e is =
+pub of-points : (points : List Position) (b : ℤ) (len : ℕ) (cert : Cert) (t : Tabled) → t ≡ table_of (values_by_position points) b len
+    → IsCertificate (cost_between least_sum_of t.positions) (length t.positions) t.penalty t.length cert → IsCertificate (squares_between points) (length points) b len cert
+of-points points b len cert t e is =
     let is' = rw e at is in
     rw (length-map points position_values) at is'

@@ -141,10 +141,10 @@ module _ (t : Track) (s : Series) (x : Snapshot) (made : Redone) (taken : IsTake
   redone-is : made.done.redone ≡ redone_since h x.base s
   redone-is = is.redone ∙ ap₂ (λ (old new : List Position). length new - common old new) taken.old taken.points
 
-  stands : StandsFor (positions h s) (penalty_of s.metric h) made.done.cert
+  stands : StandsFor (positions h s) (penalty_of s.metric h) 1 made.done.cert
   stands =
-      subst (λ (z : ℤ). StandsFor (positions h s) z made.done.cert) taken.penalty
-      (subst (λ (ps : List Position). StandsFor ps x.penalty made.done.cert) taken.points is.stands)
+      subst (λ (z : ℤ). StandsFor (positions h s) z 1 made.done.cert) taken.penalty
+      (subst (λ (ps : List Position). StandsFor ps x.penalty 1 made.done.cert) taken.points is.stands)
 
   pub made-from : LastStands → Legal h → IsMadeFrom h made.done
   made-from last legal =
@@ -159,8 +159,8 @@ module _ (t : Track) (s : Series) (x : Snapshot) (made : Redone) (taken : IsTake
             ap (λ (g : List Entry). redone_since g made.done.base (series_of made.done)) front
             ∙ ap (λ (u : Series). redone_since h made.done.base u) series-is
             ∙ ap (λ (b : ℕ). redone_since h b s) is.base);
-        stands = subst (λ (z : ℤ). StandsFor made.done.points z made.done.cert) (sym is.stands.same_penalty)
-            (subst (λ (ps : List Position). StandsFor ps x.penalty made.done.cert) (sym is.points) is.stands);
+        stands = subst (λ (z : ℤ). StandsFor made.done.points z 1 made.done.cert) (sym is.stands.same_penalty)
+            (subst (λ (ps : List Position). StandsFor ps x.penalty 1 made.done.cert) (sym is.points) is.stands);
       }
 
   publication-is : publication_from made.done ≡ publication s (length h) (base_of t s) made.done.cert

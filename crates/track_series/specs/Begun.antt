@@ -7,4 +7,4 @@ use Rattle.pelt_core.specs.Seen.{Tabled, table_of}
 -- a table is that of the old positions; where there is none, there is no base and there are no such positions
 abbrev pub Begins : ℕ → List Position → ℤ → Option Tabled → Type 0
 Begins base old penalty None = (base ≡ 0) × (old ≡ [])
-Begins base old penalty (Some table) = table ≡ table_of (values_by_position old) penalty
+Begins base old penalty (Some table) = table ≡ table_of (values_by_position old) penalty 1

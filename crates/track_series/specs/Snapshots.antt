@@ -35,5 +35,5 @@ pub record IsRedone (x : Snapshot) (made : Redone) : Type 0 where
   pub base : made.done.base ≡ x.base
   pub redone : made.done.redone ≡ length x.points - common x.old x.points
   pub points : made.done.points ≡ x.points
-  pub stands : StandsFor x.points x.penalty made.done.cert
+  pub stands : StandsFor x.points x.penalty 1 made.done.cert
   pub tabled : made.table ≡ table_for made.done

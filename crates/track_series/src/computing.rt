@@ -85,10 +85,10 @@ fn begun(
     requires low { pos 0 ≤ℤ penalty }
     requires high { penalty ≤ℤ pos (10 ^ 36) }
     requires begins { ∥ Begins base old.now penalty table ∥₁ }
-    ensures { IfOk result (λ made. made ≡ table_of (values_by_position old.now) penalty) }
+    ensures { IfOk result (λ made. made ≡ table_of (values_by_position old.now) penalty 1) }
 {
     match table {
         Some(table) => Ok(table),
-        None => Table::start(alloc, penalty),
+        None => Table::start(alloc, penalty, 1),
     }
 }

@@ -92,7 +92,7 @@ module _ (t : Track) (s : Series) (tests : Segmentations) (are : homes tests ≡
           some = subst (λ (v : ℕ). 0 < v) (sym version) (some-version h done last-some.1);
           version = version ∙ sym base-is;
           points = points ∙ last-some.1.points ∙ ap (positions (take done.version h)) (series-is last legal) ∙ ap (λ (v : ℕ). positions (take v h) s) (sym version);
-          table = tabled ∙ ap₂ (λ (ps : List Position) (y : ℤ). table_of (values_by_position ps) y) (sym points) penalty;
+          table = tabled ∙ ap₂ (λ (ps : List Position) (y : ℤ). table_of (values_by_position ps) y done.cert.length) (sym points) penalty ∙ ap (table_of (values_by_position b.points) (penalty_of s.metric h)) last-some.1.stands.same_length;
         }
 
 -- where there is no base, nothing is taken

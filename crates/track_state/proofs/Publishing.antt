@@ -125,10 +125,10 @@ just-kept last stays stay h done published published' made are written s =
 
 -- what was made from a history stands there, and may follow it where no later version was published
 pub made-stands : (h : List Entry) (done : Done) → IsMadeFrom h done
-    → StandsFor (positions (take done.version h) (series_of done)) (penalty_of done.metric (take done.version h)) done.cert
+    → StandsFor (positions (take done.version h) (series_of done)) (penalty_of done.metric (take done.version h)) 1 done.cert
 made-stands h done made =
-    subst (λ (z : ℤ). StandsFor (positions (take done.version h) (series_of done)) z done.cert) made.penalty
-    (subst (λ (ps : List Position). StandsFor ps done.cert.penalty done.cert) made.points made.stands)
+    subst (λ (z : ℤ). StandsFor (positions (take done.version h) (series_of done)) z 1 done.cert) made.penalty
+    (subst (λ (ps : List Position). StandsFor ps done.cert.penalty 1 done.cert) made.points made.stands)
 
 pub may-publish : (h : List Entry) (done : Done) → IsMadeFrom h done → IsUpTo done.version (last_publication (series_of done) h) → MayPublish h (publication_from done)
 may-publish h done made latest =

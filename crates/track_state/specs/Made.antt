@@ -35,7 +35,7 @@ pub record IsMadeFrom (h : List Entry) (done : Done) : Type 0 where
   pub penalty : done.cert.penalty ≡ penalty_of done.metric (take done.version h)
   pub based : IsBaseAt (take done.version h) (publication_from done)
   pub redone : done.redone ≡ redone_since (take done.version h) done.base (series_of done)
-  pub stands : StandsFor done.points done.cert.penalty done.cert
+  pub stands : StandsFor done.points done.cert.penalty 1 done.cert
 
 -- an entry that publishes nothing
 abbrev pub IsPlain : Entry → Type 0

@@ -60,7 +60,7 @@ pub record BeginsWith (t : Track) (s : Series) (b : Base) : Type 0 where
   pub version : b.version ≡ base_of t s
   pub points : b.points ≡ positions (take b.version (entries_of t.history)) s
   pub table : b.table
-      ≡ table_of (values_by_position b.points) (penalty_of s.metric (entries_of t.history))
+      ≡ table_of (values_by_position b.points) (penalty_of s.metric (entries_of t.history)) 1
 
 abbrev pub IsBegun : Track → Series → Option Base → Type 0
 IsBegun t s None = base_of t s ≡ 0

@@ -65,9 +65,9 @@ module _ {I O K : Type 0} (g : source.Ghosts I) (h : sink.Ghosts O) (k : keeper.
     wanted = if_some (g.left old) (λ bytes status due. inr (inl refl))
 
   -- ---- cut
-  module _ (rows : Option (List (List ℕ))) (penalty : ℕ) (spelled : IsSpelled words (Cut penalty)) where
+  module _ (rows : Option (List (List ℕ))) (penalty least : ℕ) (spelled : IsSpelled words (Cut penalty least)) where
     cut_shown : (result : Status) → IfSome (g.left old) (λ bytes. CutShows bytes result) → DueComes rows result
-    cut_shown result shows = shown rows (Cut penalty) spelled (g.left old) result _ _ _ shows
+    cut_shown result shows = shown rows (Cut penalty least) spelled (g.left old) result _ _ _ shows
 
     cut_comes : (Answers : List ℕ → Type 0) (result : Status) → HasCause g old new result → EndsOutput h Answers before after result → DueComes rows result
     cut_comes Answers ReadFault cause output = failed_read rows ReadFault cause.0
@@ -164,7 +164,7 @@ module _ {I O K : Type 0} (g : source.Ghosts I) (h : sink.Ghosts O) (k : keeper.
 
   pub comes : (command : Command) (result : Status) → IsSpelled words command → Ends g h k command old new before after first last from to result
       → DueComes (k.kept first) result
-  comes (Cut penalty) result spelled ends = cut_comes (k.kept first) penalty spelled (IsCertificateText penalty (g.left old)) result ends.0.input.cause ends.0.output
+  comes (Cut penalty least) result spelled ends = cut_comes (k.kept first) penalty least spelled (IsCertificateText penalty least (g.left old)) result ends.0.input.cause ends.0.output
   comes (Apply store) result spelled ends = apply_comes store spelled result ends
   comes (Gen number) result spelled ends = gen_comes (k.kept first) number spelled result ends.0.cause ends.0.output
   comes (Trial number) result spelled ends =
@@ -173,7 +173,7 @@ module _ {I O K : Type 0} (g : source.Ghosts I) (h : sink.Ghosts O) (k : keeper.
 
 -- words that don't ask for `play` spell a command of one thread
 pub is-alone : (words : List (List ℕ)) (command : Command) → IsSpelled words command → ¬ AsksPlay words → IsAlone command
-is-alone words (Cut penalty) spelled other = tt
+is-alone words (Cut penalty least) spelled other = tt
 is-alone words (Apply store) spelled other = tt
 is-alone words (Gen number) spelled other = tt
 is-alone words (Trial number) spelled other = tt

@@ -12,17 +12,17 @@ use Rattle.history_model.specs.Publications.{publications, Stands}
 use Rattle.track_model.specs.Tracks.{Track}
 use Rattle.script_desk.specs.Sessions.{State}
 
--- the text of the best segmentation of these points at the penalty
-pub record IsTextOf (points : List Position) (penalty : ℕ) (text : List ℕ) : Type 0 where
+-- the text of the best segmentation of these points at the penalty, with this least length
+pub record IsTextOf (points : List Position) (penalty least : ℕ) (text : List ℕ) : Type 0 where
   pub cert : Cert
-  pub stands : StandsFor points (pos penalty) cert
+  pub stands : StandsFor points (pos penalty) least cert
   pub spelled : text ≡ text_of cert
 
 -- the text of the best segmentation of the input's points, which are known where the input tells
 -- its bytes
-abbrev pub IsCertificateText : ℕ → Option (List ℕ) → List ℕ → Type 0
-IsCertificateText penalty input text =
-    (points : List Position) × ArePointsOfInput input points × IsTextOf points penalty text
+abbrev pub IsCertificateText : ℕ → ℕ → Option (List ℕ) → List ℕ → Type 0
+IsCertificateText penalty least input text =
+    (points : List Position) × ArePointsOfInput input points × IsTextOf points penalty least text
 
 -- the session of the one script, on these machines
 abbrev pub state_of : List Track → State

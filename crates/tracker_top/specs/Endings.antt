@@ -64,10 +64,10 @@ EndsOutput g Answers old new WriteFault = (text : List ℕ) × Answers text × F
 EndsOutput g Answers old new status = IsUntouched g old new
 
 -- the input and the output, at this status of `cut`
-pub record EndsCut {I O : Type 0} (g : source.Ghosts I) (h : sink.Ghosts O) (penalty : ℕ)
+pub record EndsCut {I O : Type 0} (g : source.Ghosts I) (h : sink.Ghosts O) (penalty least : ℕ)
     (old new : I) (before after : O) (status : Status) : Type 0 where
   pub input : EndsInput g old new status
-  pub output : EndsOutput h (IsCertificateText penalty (g.left old)) before after status
+  pub output : EndsOutput h (IsCertificateText penalty least (g.left old)) before after status
 
 -- ---- apply
 
@@ -262,8 +262,8 @@ pub record EndsTrial {I O : Type 0} (h : sink.Ghosts O) (number : ℕ) (old new 
 -- the keeper, and only it and `trial` take steps
 abbrev pub Ends : {I O K : Type 0} → source.Ghosts I → sink.Ghosts O → keeper.Ghosts K → Command → I
     → I → O → O → K → K → ℕ → ℕ → Status → Type 0
-Ends g h k (Cut penalty) old new before after first last from to status =
-    EndsCut g h penalty old new before after status × (last ≡ first) × (to ≡ from)
+Ends g h k (Cut penalty least) old new before after first last from to status =
+    EndsCut g h penalty least old new before after status × (last ≡ first) × (to ≡ from)
 Ends g h k (Apply store) old new before after first last from to status =
     EndsApply g h k store old new before after first last from to status
 Ends g h k (Gen number) old new before after first last from to status =

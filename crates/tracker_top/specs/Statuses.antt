@@ -88,7 +88,7 @@ AsksPlay words = (rest : List (List ℕ)) × (words ≡ codes "play" ∷ rest)
 -- command; a number shows that all is done; they never show a fault or want of memory, nor how
 -- scripts end that run at once
 abbrev pub Shows : Command → Option (List (List ℕ)) → List ℕ → Status → Type 0
-Shows (Cut penalty) rows bytes status = CutShows bytes status
+Shows (Cut penalty least) rows bytes status = CutShows bytes status
 Shows (Apply None) rows bytes status = ScriptShows bytes status
 Shows (Apply (Some name)) rows bytes status = StoreShows rows bytes status
 Shows (Gen number) rows bytes status = status ≡ Done

@@ -110,7 +110,7 @@ fn plan_in(alloc: Global, words: &[String]) -> Result<Option<PlayPlan<'_>>, NoMe
     };
     match command {
         Command::Play(plan) => Ok(Some(plan)),
-        Command::Cut(_) => unreachable!(),
+        Command::Cut(..) => unreachable!(),
         Command::Apply(_) => unreachable!(),
         Command::Gen(_) => unreachable!(),
         Command::Trial(_) => unreachable!(),

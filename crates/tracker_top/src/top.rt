@@ -1,5 +1,6 @@
 //! The top call: it runs the command that the words are.
 ghost use Rattle.std.specs.Prelude.{◌≡◌, ◌≢◌, ℕ, ◌^◌, ◌≤◌, ◌⊎◌, List, [], IfOk, IfSome, Result, Some};
+ghost use Rattle.segment_model.specs.Limits.{IsLength};
 ghost use Rattle.track_outside.specs.Counts.{Rose};
 ghost use Rattle.script_desk.specs.Sessions.{State};
 ghost use Rattle.script_loop.specs.declared.stop.Stop.{Stop};
@@ -43,14 +44,15 @@ pub fn one_status_law()
 /// Runs the command that the words are, those behind the program's name, and answers how it ends.
 ///
 /// `cut PENALTY`, with a number of at most 10^36, reads cut lines from the input, an order and a value each, and writes
-/// the certificate of the best segmentation of their points to `out`, in seven lines. `apply` reads the requests of a
-/// script from the input, answers one after another on the machines that it declares, and writes the replies to `out`.
-/// `apply --store NAME` begins with the machines that the keeper's rows of that name lead to, and adds the new rows at the
-/// end of the script, all or none. `gen NUMBER`, with a number of 64 bits, reads nothing and writes the script of the number
-/// to `out`; `trial NUMBER` answers that script and writes the replies about segmentations alone: the part of what `apply`
-/// answers it. That script is whole and none of its requests is refused, so only the output and want of memory stop a trial. The words
-/// are read as those of command lines (`command_words`), which takes memory; where it is wanting, nothing else is touched but the
-/// status' line.
+/// the certificate of the best segmentation of their points to `out`, in seven lines; with `--least L`, a number from 1 to
+/// 64, each segment has at least L positions where there are several; above 1 the text has a line more. `apply` reads the
+/// requests of a script from the input, answers one after another on the machines that it declares, and writes the
+/// replies to `out`. `apply --store NAME` begins with the machines that the keeper's rows of that name lead to, and adds
+/// the new rows at the end of the script, all or none. `gen NUMBER`, with a number of 64 bits, reads nothing and writes
+/// the script of the number to `out`; `trial NUMBER` answers that script and writes the replies about segmentations
+/// alone: the part of what `apply` answers it. That script is whole and none of its requests is refused, so only the
+/// output and want of memory stop a trial. The words are read as those of command lines (`command_words`), which takes
+/// memory; where it is wanting, nothing else is touched but the status' line.
 /// `apply` and `trial` count their steps: one for each position that a segmentation looks at anew. `play`, which runs scripts
 /// at once, is no command of one thread.
 /// The status' line goes to `err`; where that fails the status stands. At most 2^30 bytes of an input are read, and one
@@ -131,7 +133,7 @@ fn run_command<I: Source, O: Sink, K: Keeper, L: Ledger>(
         input.old input.new out.old out.new keeper.old keeper.new steps.old steps.new result }
 {
     match command {
-        Command::Cut(penalty) => cut(alloc, *penalty, input, out),
+        Command::Cut(penalty, least) => cut(alloc, *penalty, *least, input, out),
         Command::Apply(store) => apply_on(alloc, store, input, out, keeper, steps),
         Command::Gen(number) => generate(alloc, *number, out),
         Command::Trial(number) => run_trial(alloc, *number, out, steps),
@@ -140,17 +142,24 @@ fn run_command<I: Source, O: Sink, K: Keeper, L: Ledger>(
 }
 
 // Reads the lines, and prints the certificate of their points.
-fn cut<I: Source, O: Sink>(alloc: Global, penalty: u128, input: &mut I, out: &mut O) -> Status
-    requires { penalty ≤ 10 ^ 36 }
+fn cut<I: Source, O: Sink>(
+    alloc: Global,
+    penalty: u128,
+    least: u8,
+    input: &mut I,
+    out: &mut O,
+) -> Status
+    requires penalty { penalty ≤ 10 ^ 36 }
+    requires least { IsLength least }
     ensures input { EndsInput I.Source input.old input.new result }
-    ensures output { EndsOutput O.Sink (IsCertificateText penalty (I.left input.old))
+    ensures output { EndsOutput O.Sink (IsCertificateText penalty least (I.left input.old))
         out.old out.new result }
 {
     let points = match read_points(alloc, input) {
         Ok(points) => points,
         Err(stop) => return Status::from(stop),
     };
-    let Ok(text) = certificate_text(alloc, &points, penalty) else {
+    let Ok(text) = certificate_text(alloc, &points, penalty, least) else {
         return Status::NoMemory;
     };
     match put_all(out, &text) {
@@ -160,11 +169,17 @@ fn cut<I: Source, O: Sink>(alloc: Global, penalty: u128, input: &mut I, out: &mu
 }
 
 // The text of the certificate of some points.
-fn certificate_text(alloc: Global, points: &Points, penalty: u128) -> Result<Vec<u8>, NoMemory>
-    requires { penalty ≤ 10 ^ 36 }
-    ensures { IfOk result (λ text. IsTextOf points.now penalty text.items) }
+fn certificate_text(
+    alloc: Global,
+    points: &Points,
+    penalty: u128,
+    least: u8,
+) -> Result<Vec<u8>, NoMemory>
+    requires penalty { penalty ≤ 10 ^ 36 }
+    requires least { IsLength least }
+    ensures { IfOk result (λ text. IsTextOf points.now penalty least text.items) }
 {
-    let cert = segmentation(alloc, points, penalty as i128)?;
+    let cert = segmentation(alloc, points, penalty as i128, least)?;
     let mut text = Vec::new(alloc);
     put_cert(alloc, &mut text, &cert)?;
     Ok(text)

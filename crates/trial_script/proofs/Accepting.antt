@@ -5,6 +5,7 @@ use Rattle.metric_table.specs.Limits.{most}
 use Rattle.metric_table.specs.declared.limits.Limit.TheVariants as limit
 use Rattle.sample_model.specs.Samples.{Measurement, IsSample, AreSamples}
 use Rattle.segment_model.specs.Cuts.{RisesBetween}
+use Rattle.segment_model.proofs.CutLists.{places-rise}
 use Rattle.segment_model.specs.Brought.{ValuesAreBrought}
 use Rattle.segment_cost.specs.declared.cert.Cert.{Cert}
 use Rattle.history_model.specs.declared.entries.Entry.{Entry}
@@ -275,7 +276,7 @@ module _ (declared : DeclarationsGrow) (accepts : AcceptancesGrow) (retracts : R
         let p : Publication = publication series (length h) base cert in
         let few : length cert.cuts ≤ 16_384 = omega (
           arith,
-          cuts_few 0 (length (positions h series)) cert.cuts (omega arith) made.1.best.is_cut_list,
+          cuts_few 0 (length (positions h series)) cert.cuts (omega arith) (places-rise 1 (length (positions h series)) cert.cuts made.1.best.is_cut_list),
           (series_limits h series now.limits).1,
         ) in
         record {

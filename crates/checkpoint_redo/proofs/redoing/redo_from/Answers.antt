@@ -24,7 +24,7 @@ returns-in_err-advance-clause-err g c =
     let within : c.loop-i.i ≤ length c.args.new.now = omega (arith, c.loop-i-test.true, c.len-i-end.ensures) in
     let kept : c.advance.new.self ≡ c.loop-i.table = c.in_err-advance.ensures.err in
     any-err c.from_residual.result
-    (first-table c.args.new.now c.loop-i.i c.advance.new.self c.args.table.now.penalty within (kept ∙ c.loop-i.invariant.table))
+    (first-table c.args.new.now c.loop-i.i c.advance.new.self c.args.table.now.penalty c.args.table.now.length within (kept ∙ c.loop-i.invariant.table))
 
 pub loop-i-preserved : goal.loop-i-preserved
 loop-i-preserved g c =
@@ -33,7 +33,7 @@ loop-i-preserved g c =
     (ap (λ (t : Tabled). t.positions) c.loop-i.invariant.table) c.values.ensures refl in
     record {
       table = next-table c.loop-i.table c.advance.new.self (take c.loop-i.i (values_by_position c.args.new.now)) (take (c.loop-i.i + 1) (values_by_position c.args.new.now)) c.values.result.now
-          c.args.table.now.penalty c.in_ok-advance.ensures.ok c.loop-i.invariant.table next;
+          c.args.table.now.penalty c.args.table.now.length c.in_ok-advance.ensures.ok c.loop-i.invariant.table next;
       counted = omega (arith, c.loop-i.invariant.counted, c.in_ok-advance.ensures.step);
     }
 
@@ -42,7 +42,7 @@ returns-clause-ok g c =
     let low : length c.args.new.now ≤ c.loop-i.i = omega (arith, c.loop-i-test.false, c.len-i-end.ensures) in
     let high : c.loop-i.i ≤ length c.args.new.now = omega (arith, c.loop-i.auto.i-end, c.requires.within, c.len-i-end.ensures) in
     c.loop-i.invariant.table
-    ∙ ap (λ (ps : List (List ℤ)). table_of ps c.args.table.now.penalty)
+    ∙ ap (λ (ps : List (List ℤ)). table_of ps c.args.table.now.penalty c.args.table.now.length)
     (filled-all c.args.new.now c.loop-i.i (take c.loop-i.i (values_by_position c.args.new.now)) low high refl)
 
 pub returns-clause-steps : goal.returns-clause-steps

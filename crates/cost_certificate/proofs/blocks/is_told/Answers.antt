@@ -1,8 +1,13 @@
 use Rattle.std.proofs.Common.{FitsSigned, arith}
 use Rattle.std.specs.Int.{w128}
 use Rattle.std.proofs.lemmas.Int.{ints, to_z-of_z}
-use Rattle.cost_certificate.proofs.Needs.{told}
+use Rattle.cost_certificate.proofs.Needs.{told, closed}
 use Rattle.cost_certificate.proofs.blocks.is_told.Goals as goal
+
+pub returns-then-is_closed : goal.returns-then-is_closed
+returns-then-is_closed c holds =
+    let is = c.is_closed.ensures.0 c.if-is_closed.true in
+    closed c.args.tables.now c.args.s c.args.from c.args.end is.0 is.1
 
 pub returns : goal.returns
 returns c holds =
@@ -14,4 +19,4 @@ returns c holds =
     let need_fits : FitsSigned w128 c.args.need.total = omega (arith, ints, need_low, need_high) in
     let enough = simp to_z-of_z at (c.needs_no_look.ensures.total holds) in
     told c.args.tables.now c.args.need c.args.s c.args.from c.args.end c.made_from.result c.requires.placed (omega (arith, c.if-s-from.false)) c.requires.need
-    made.total enough (c.needs_no_look.ensures.last_cut holds) (c.is_open_behind.ensures.0 c.if-not-is_open_behind.false)
+    made.total enough (c.needs_no_look.ensures.reach holds) (c.is_open_behind.ensures.0 c.if-not-is_open_behind.false)

@@ -32,9 +32,10 @@ loop-t-preserved c =
     let cost_fits : FitsSigned w128 c.cost.result = record { sfits = c.cost.type_inv } in
     let less_fits : FitsSigned w128 (total_at c.args.tables.now c.loop-t.t -ℤ c.cost.result) = omega (arith, ints, total.0, total.1, cost.0, cost.1) in
     let more = simp to_z-of_z at c.need_with-need.ensures.total in
-    let cuts = c.need_with-need.ensures.last_cut in
+    let cuts = c.need_with-need.ensures.reach in
     next-need c.args.tables.now c.args.from c.loop-t.need c.need_with-need.result c.loop-t.t (total_at c.args.tables.now c.loop-t.t -ℤ c.cost.result) c.loop-t.invariant
-    (omega (arith, c.loop-t.auto.t)) (omega (arith, ints, c.cost.ensures)) (omega (arith, ints, total.0, cost.1)) (omega (arith, ints, total.1, cost.0)) more.0 more.1 more.2 cuts.0 cuts.1
+    (omega (arith, c.loop-t.auto.t)) (omega (arith, ints, c.cost.ensures)) (omega (arith, ints, total.0, cost.1)) (omega (arith, ints, total.1, cost.0)) more.0 more.1 more.2 cuts.0
+    (λ s from le. c.reach_of.ensures s (omega (arith, from, cuts.1)) (omega (arith, le, c.args.tables.now.few)))
 
 pub returns : goal.returns
 returns c = whole-need c.args.tables.now c.args.from c.loop-t.need c.loop-t.t c.args.end c.loop-t.invariant (omega (arith, c.loop-t-test.false))

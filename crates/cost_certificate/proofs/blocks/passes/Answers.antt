@@ -11,7 +11,7 @@ returns-then-needs_no_look c holds =
     let b_fits : FitsSigned w128 c.args.tables.now.penalty = omega (arith, ints, c.args.tables.now.low, c.args.tables.now.high) in
     let enough = simp to_z-of_z at (c.needs_no_look.ensures.total c.if-needs_no_look.true) in
     let cost = c.args.tables.now.costs c.args.watch.at c.args.from c.requires.before c.requires.placed in
-    inr (c.needs_no_look.ensures.last_cut c.if-needs_no_look.true, omega arith, omega (arith, ints, cost.0, enough))
+    inr (c.needs_no_look.ensures.reach c.if-needs_no_look.true, omega arith, omega (arith, ints, cost.0, enough))
 
 pub returns : goal.returns
 returns c holds =
@@ -21,4 +21,4 @@ returns c holds =
     let floor_fits : FitsSigned w128 c.floor_at.result = record { sfits = c.floor_at.type_inv } in
     let b_fits : FitsSigned w128 c.args.tables.now.penalty = omega (arith, ints, c.args.tables.now.low, c.args.tables.now.high) in
     let enough = simp to_z-of_z at (c.needs_no_look-2.ensures.total holds) in
-    inr (c.needs_no_look-2.ensures.last_cut holds, omega arith, omega (arith, ints, floor.total, enough))
+    inr (c.needs_no_look-2.ensures.reach holds, omega arith, omega (arith, ints, floor.total, enough))

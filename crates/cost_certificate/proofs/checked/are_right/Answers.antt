@@ -11,12 +11,12 @@ module _ (c : After-verifying_law) where
   looked_at : AreRight c.args.tables.now → IsLookedAt c.args.tables.now
   looked_at =
       let tables = c.args.tables.now in
-      c.verifying_law.ensures.table (cost_in tables) (last_place tables) tables.penalty tables.least.now tables.back.now tables.pruned.now tables.merges tables.low
+      c.verifying_law.ensures.table (cost_in tables) (last_place tables) tables.penalty tables.len tables.least.now tables.back.now tables.pruned.now tables.merges tables.low
 
   right : IsLookedAt c.args.tables.now → AreRight c.args.tables.now
   right =
       let tables = c.args.tables.now in
-      c.verifying_law.ensures.verified (cost_in tables) (last_place tables) tables.penalty tables.least.now tables.back.now tables.pruned.now tables.merges tables.low
+      c.verifying_law.ensures.verified (cost_in tables) (last_place tables) tables.penalty tables.len tables.least.now tables.back.now tables.pruned.now tables.merges tables.low tables.is_length.0
 
 pub returns-then-not-is_first : goal.returns-then-not-is_first
 returns-then-not-is_first c =

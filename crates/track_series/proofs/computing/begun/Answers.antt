@@ -14,5 +14,5 @@ returns-in-Some c =
 pub returns-in-None : goal.returns-in-None
 returns-in-None c =
     let none = begins-none c.args.base c.args.old.now c.args.penalty (subst (λ (o : Option Tabled). ∥ Begins c.args.base c.args.old.now c.args.penalty o ∥₁) c.in-None.is c.requires.begins) in
-    let started : IfOk c.start.result (λ made. made ≡ table_of [] c.args.penalty) = simp (to_z-of_z w128 c.args.penalty c.ranges.penalty) at c.start.ensures in
+    let started : IfOk c.start.result (λ made. made ≡ table_of [] c.args.penalty 1) = simp (to_z-of_z w128 c.args.penalty c.ranges.penalty) at c.start.ensures in
     rw (sym none) started

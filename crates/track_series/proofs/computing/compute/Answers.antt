@@ -3,6 +3,7 @@ use Rattle.std.specs.Int.{w128}
 use Rattle.std.proofs.lemmas.Int.{to_z-of_z, ints, fits_signed_from_abs}
 use Rattle.std.proofs.lemmas.List.{length-map}
 use Rattle.segment_model.specs.Segments.{position_values}
+use Rattle.segment_model.specs.Limits.{IsLength}
 use Rattle.segment_model.specs.Values.{values_by_position}
 use Rattle.segment_cost.specs.Certificate.{StandsFor}
 use Rattle.pelt_core.specs.Seen.{Tabled, table_of}
@@ -24,7 +25,7 @@ begun-requires-clause-begins g c =
 pub redo_from-requires : goal.redo_from-requires
 redo_from-requires g c =
     let z : ℤ = c.args.snapshot.penalty in
-    let table : c.in_ok-table.table ≡ table_of (values_by_position c.args.snapshot.old) z = simp (to_z-of_z w128 z (fits z c.args.snapshot.low c.args.snapshot.high)) at c.in_ok-table.ensures in
+    let table : c.in_ok-table.table ≡ table_of (values_by_position c.args.snapshot.old) z 1 = simp (to_z-of_z w128 z (fits z c.args.snapshot.low c.args.snapshot.high)) at c.in_ok-table.ensures in
     let first = ap (λ (t : Tabled). t.positions) table in
     let within = common-within c.args.snapshot.old c.args.snapshot.points in
     let size : length c.in_ok-table.table.positions ≡ length c.args.snapshot.old = ap length first ∙ length-map c.args.snapshot.old position_values in
@@ -39,16 +40,16 @@ overflow_sub-redone g c =
     let within = common-within c.args.snapshot.old c.args.snapshot.points in
     omega (arith, c.len.ensures, c.common_prefix-front.ensures, within.1)
 
-table-is : (g : _) (c : In_ok-cert g) → c.redo_from.new.table ≡ table_of (values_by_position c.args.snapshot.points) c.args.snapshot.penalty
+table-is : (g : _) (c : In_ok-cert g) → c.redo_from.new.table ≡ table_of (values_by_position c.args.snapshot.points) c.args.snapshot.penalty 1
 table-is g c =
     let z : ℤ = c.args.snapshot.penalty in
-    let first : c.in_ok-table.table ≡ table_of (values_by_position c.args.snapshot.old) z = simp (to_z-of_z w128 z (fits z c.args.snapshot.low c.args.snapshot.high)) at c.in_ok-table.ensures in
-    c.in_ok-redo_from.ensures.ok ∙ ap (table_of (values_by_position c.args.snapshot.points)) (ap (λ (t : Tabled). t.penalty) first)
+    let first : c.in_ok-table.table ≡ table_of (values_by_position c.args.snapshot.old) z 1 = simp (to_z-of_z w128 z (fits z c.args.snapshot.low c.args.snapshot.high)) at c.in_ok-table.ensures in
+    c.in_ok-redo_from.ensures.ok ∙ ap₂ (table_of (values_by_position c.args.snapshot.points)) (ap (λ (t : Tabled). t.penalty) first) (ap (λ (t : Tabled). t.length) first)
 
-stands : (g : _) (c : In_ok-cert g) → StandsFor c.args.snapshot.points c.args.snapshot.penalty c.in_ok-cert.cert
+stands : (g : _) (c : In_ok-cert g) → StandsFor c.args.snapshot.points c.args.snapshot.penalty 1 c.in_ok-cert.cert
 stands g c =
-    c.certificate_law.ensures.stands c.args.snapshot.points c.args.snapshot.penalty c.in_ok-cert.cert
-    (of-points c.args.snapshot.points c.args.snapshot.penalty c.in_ok-cert.cert c.redo_from.new.table (table-is g c) c.in_ok-cert.ensures)
+    c.certificate_law.ensures.stands c.args.snapshot.points c.args.snapshot.penalty 1 c.in_ok-cert.cert
+    (of-points c.args.snapshot.points c.args.snapshot.penalty 1 c.in_ok-cert.cert c.redo_from.new.table (table-is g c) c.in_ok-cert.ensures)
 
 pub invariant_of-done : goal.invariant_of-done
 invariant_of-done g c =
@@ -58,7 +59,9 @@ invariant_of-done g c =
       stands = ∣ (
         subst (λ (z : ℤ). pos 0 ≤ℤ z) (sym x.same_penalty) c.args.snapshot.low,
         subst (λ (z : ℤ). z ≤ℤ pos (10 ^ 36)) (sym x.same_penalty) c.args.snapshot.high,
-        subst (λ (z : ℤ). StandsFor c.args.snapshot.points z c.in_ok-cert.cert) (sym x.same_penalty) x,
+        subst (λ (len : ℕ). IsLength len) (sym x.same_length) (omega arith, omega arith),
+        subst (λ (len : ℕ). StandsFor c.args.snapshot.points c.in_ok-cert.cert.penalty len c.in_ok-cert.cert) (sym x.same_length)
+            (subst (λ (z : ℤ). StandsFor c.args.snapshot.points z 1 c.in_ok-cert.cert) (sym x.same_penalty) x),
       ) ∣₁;
     }
 
@@ -74,5 +77,5 @@ returns-clause-made g c =
       redone = ap₂ (λ (a b : ℕ). a - b) c.len.ensures c.common_prefix-front.ensures;
       points = refl;
       stands = x;
-      tabled = table-is g k ∙ ap (λ (z : ℤ). table_of (values_by_position c.args.snapshot.points) z) (sym x.same_penalty);
+      tabled = table-is g k ∙ ap₂ (table_of (values_by_position c.args.snapshot.points)) (sym x.same_penalty) (sym x.same_length);
     }

@@ -30,6 +30,6 @@ invariant_of-result c =
     let small : unsigned_abs z < 2 ^ 127 = omega (arith, ints, low, high) in
     let fits : FitsSigned w128 z = fits_signed_from_abs w128 z small in
     let begun : BeginsWith t s c.in-Some-2.base = subst (λ (o : Option Base). IsBegun t s o) c.in-Some-2.is c.in_ok-base.ensures.begun in
-    let table : c.in-Some-2.base.table ≡ table_of (values_by_position c.in-Some-2.base.points) z =
-    begun.table ∙ ap (table_of (values_by_position c.in-Some-2.base.points)) (sym c.penalty-penalty.ensures.given) in
+    let table : c.in-Some-2.base.table ≡ table_of (values_by_position c.in-Some-2.base.points) z 1 =
+    begun.table ∙ ap (λ (y : ℤ). table_of (values_by_position c.in-Some-2.base.points) y 1) (sym c.penalty-penalty.ensures.given) in
     rw (to_z-of_z w128 z fits) (record { low = low; high = high; begins = ∣ table ∣₁ })

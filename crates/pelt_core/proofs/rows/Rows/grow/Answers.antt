@@ -1,112 +1,163 @@
-use Rattle.std.proofs.Common.{◌≡◌, ℕ, ℤ, List, [], ◌∷◌, ◌++◌, ◌+◌, ◌-◌, ◌≤◌, length, slice_index, vec_capacity, pos, neg_ℤ, ◌^◌, ◌+ℤ◌, ◌≤ℤ◌, ◌∙◌, ap, FitsSigned, refl, arith}
+use Rattle.std.proofs.Common.{◌≡◌, ℕ, ℤ, List, [], ◌∷◌, ◌++◌, ◌+◌, ◌-◌, ◌*◌, ◌<◌, ◌≤◌, length, slice_index, vec_capacity, ◌+ℤ◌, ◌∙◌, ap, FitsSigned, arith}
 use Rattle.std.specs.Int.{w128}
-use Rattle.std.specs.Vec.{with_items}
 use Rattle.std.proofs.lemmas.Int.{ints, to_z-of_z}
-use Rattle.std.proofs.lemmas.List.{take_at, length-append}
-use Rattle.segment_model.specs.Tables.{int_at}
+use Rattle.std.proofs.lemmas.List.{length-append}
 use Rattle.segment_model.specs.Values.{cost_between}
+use Rattle.pelt_core.specs.Candidates.{open_places}
 use Rattle.pelt_core.specs.Bounds.{AreInRange, HaveBounds}
 use Rattle.pelt_core.specs.Rows.{AddsRow}
-use Rattle.pelt_core.proofs.Blocks.{bounds-by}
-use Rattle.pelt_core.proofs.Growth.{read-at, swept-by, table-by, candidates-by}
-use Rattle.pelt_core.proofs.Growing.{IsSwept, least-size, rising, next-candidates, next-total, left-few, whole-table, whole-candidates, whole-bounds}
+use Rattle.pelt_core.proofs.Growth.{table-by}
+use Rattle.pelt_core.proofs.Growing.{IsStep, least-size, are, next-candidates, next-totals, next-size, left-are, left-few, whole-table, whole-candidates, left-bounds, whole-bounds, filter-by, admitted-none, admitted-one}
 use Rattle.pelt_core.proofs.rows.Rows.grow.Goals as goal
-use Rattle.pelt_core.proofs.rows.Rows.grow.Goals.{After-sweep}
+use Rattle.pelt_core.proofs.rows.Rows.grow.Goals.{After-renew}
 
-pub mark_dear-marked-requires-clause-candidates : goal.mark_dear-marked-requires-clause-candidates
-mark_dear-marked-requires-clause-candidates g c =
-    let range : AreInRange (cost_between g.C.Cost.cost_of (g.C.Cost.positions c.args.cost.now)) (length (g.C.Cost.positions c.args.cost.now)) =
-    c.value_costs_law.ensures.in_range g.C.Cost.cost_of g.met.C.Cost.in_range (g.C.Cost.positions c.args.cost.now) c.requires.limits in
-    let row = simp (to_z-of_z w128 c.args.penalty c.ranges.penalty) at c.next_row-found.ensures.row in
-    rw (c.deref.ensures.value, c.deref-2.ensures.value, row.least, row.candidates)
-    (next-candidates c.requires range c.table_law.ensures.in_range c.next_row-found.result c.next_row-found.ensures.found c.next_row-found.ensures.made)
+pub mark_dear-any-requires : goal.mark_dear-any-requires
+mark_dear-any-requires g c =
+    let row : AddsRow c.args.penalty c.next_row-found.result c.args.self.now c.next_row-found.new.self = simp (to_z-of_z w128 c.args.penalty c.ranges.penalty) at c.next_row-found.ensures.row in
+    let range = c.value_costs_law.ensures.in_range g.C.Cost.cost_of g.met.C.Cost.in_range (g.C.Cost.positions c.args.cost.now) c.requires.limits in
+    record {
+      candidates = rw (row.least, row.candidates) (next-candidates c.requires range c.table_law.ensures.in_range c.next_row-found.result c.next_row-found.ensures.found c.next_row-found.ensures.made);
+      begins = rw (row.len, row.candidates) (are c.requires);
+      index = rw row.candidates c.next_row-found.ensures.made.inside;
+      least = rw row.least (next-size c.requires range c.table_law.ensures.in_range c.next_row-found.result c.next_row-found.ensures.found c.next_row-found.ensures.made);
+      pruned = rw row.unmarked (omega (arith, length-append c.args.self.now.pruned.items (0 ∷ []), c.requires.pruned.table.pruned_length, c.requires.some));
+      length = rw row.len c.requires.pruned.length_from;
+    }
 
-pub mark_dear-marked-requires-clause-rising : goal.mark_dear-marked-requires-clause-rising
-mark_dear-marked-requires-clause-rising g c = rw (c.deref-2.ensures.value, c.next_row-found.ensures.row.candidates) (rising c.requires)
+pub sweep-swept-requires : goal.sweep-swept-requires
+sweep-swept-requires g c = record {
+  few = omega (arith, c.len-t.ensures, c.requires.limits.few_positions);
+  length = rw (c.mark_dear-any.ensures.same.len ∙ c.next_row-found.ensures.row.len) c.requires.pruned.length_from;
+}
 
-module _ (g : _) (c : After-sweep g) where
+module _ (g : _) (c : After-renew g) where
   abbrev ps : List (List ℤ)
   ps = g.C.Cost.positions c.args.cost.now
 
   abbrev cost : ℕ → ℕ → ℤ
   cost = cost_between g.C.Cost.cost_of (g.C.Cost.positions c.args.cost.now)
 
-  -- the least totals with that of the last place
+  -- the least totals with that of the last place, the marks, and the candidates that are left
   abbrev least : List ℤ
   least = c.args.self.now.least.items ++ (c.next_row-found.result.total +ℤ c.args.penalty) ∷ []
 
-  abbrev marks : List ℕ
-  marks = c.mark_dear-marked.new.pruned
+  abbrev marked : List ℕ
+  marked = c.mark_dear-any.new.self.pruned.items
 
   abbrev left : List ℕ
-  left = c.sweep.new.candidates.items
+  left = c.sweep-swept.new.self.candidates.items
+
+  range : AreInRange cost (length ps)
+  range = c.value_costs_law.ensures.in_range g.C.Cost.cost_of g.met.C.Cost.in_range ps c.requires.limits
 
   row : AddsRow c.args.penalty c.next_row-found.result c.args.self.now c.next_row-found.new.self
   row = simp (to_z-of_z w128 c.args.penalty c.ranges.penalty) at c.next_row-found.ensures.row
 
-  written : (with_items c.next_row-found.new.self.pruned marks).items ≡ marks
-  written = take_at marks _ c.next_row-found.new.self.pruned.len (omega (arith, c.mark_dear-marked.auto.pruned, c.deref_mut.ensures.len, c.next_row-found.new.self.pruned.ok.0))
+  ready : c.saturating_sub-ready.result ≡ length ps + 1 - c.args.self.now.length
+  ready = omega (arith, c.saturating_sub-ready.ensures, c.len-t.ensures, c.from.ensures)
 
-  swept : IsSwept g.C.Cost.cost_of ps c.args.penalty c.args.self.now c.next_row-found.result c.mark_dear-marked.result marks left
-  swept = record {
+  step : IsStep g.C.Cost.cost_of ps c.args.penalty c.args.self.now c.next_row-found.result marked
+  step = record {
     can = c.requires;
-    range = c.value_costs_law.ensures.in_range g.C.Cost.cost_of g.met.C.Cost.in_range ps c.requires.limits;
+    range = range;
     merges = c.value_costs_law.ensures.merge g.C.Cost.cost_of g.met.C.Cost.merging ps (length ps);
     in_range = c.table_law.ensures.in_range;
     not_dear = c.last_cut_law.ensures.not_dear;
     first = c.next_row-found.ensures.found;
     made = c.next_row-found.ensures.made;
-    marked = rw (c.deref.ensures.value ∙ row.least, c.deref-2.ensures.value ∙ row.candidates, c.deref_mut.ensures.value ∙ row.unmarked) at c.mark_dear-marked.ensures;
-    some = λ more. swept-by c.deref-3.result.now marks c.next_row-found.new.self.candidates.items c.args.self.now.candidates.items left (c.deref-3.ensures.value ∙ written) row.candidates (c.sweep.ensures.some more);
-    none = rw row.candidates at c.sweep.ensures.none;
+    looked = rw (row.len, row.least, row.candidates, row.unmarked) at c.mark_dear-any.ensures.marks;
   }
 
-  -- the total of the last place, and its range
-  total : (int_at least (length ps) ≡ c.next_row-found.result.total +ℤ c.args.penalty) × (neg_ℤ (pos (10 ^ 36)) ≤ℤ (c.next_row-found.result.total +ℤ c.args.penalty)) × ((c.next_row-found.result.total +ℤ c.args.penalty) ≤ℤ pos (10 ^ 37))
-  total = next-total c.requires swept.range swept.in_range c.next_row-found.result swept.first swept.made
+  candidates-same : c.mark_dear-any.new.self.candidates.items ≡ c.args.self.now.candidates.items
+  candidates-same = c.mark_dear-any.ensures.same.candidates ∙ row.candidates
 
-  capacity : length ps + 1 ≤ vec_capacity c.sweep.new.candidates
-  capacity = omega (arith, c.sweep.ensures.capacity, row.capacity, c.requires.room.candidates, c.args.self.now.least.ok.0, least-size c.requires)
+  swept-same : c.mark_dear-any.new.self.swept ≡ c.args.self.now.swept
+  swept-same = c.mark_dear-any.ensures.same.swept ∙ row.swept
 
-pub renew-requires : goal.renew-requires
-renew-requires g c =
-    let few = left-few (swept g (goal.at.renew-requires g c).After-sweep) in
-    rw c.deref_mut-2.ensures.value (omega (arith, few, c.block_of-block.ensures.start, c.len.ensures, c.sweep.new.candidates.ok.0, c.requires.limits.few_positions, c.next_row-found.ensures.bounds.enough))
+  left-open : (left ≡ open_places c.args.self.now.length c.sweep-swept.new.self.swept marked (length ps - c.args.self.now.length + 1)) × (c.sweep-swept.new.self.swept ≤ length ps + 1 - c.args.self.now.length)
+  left-open =
+      left-are step c.sweep-swept.result c.sweep-swept.new.self.swept left
+      (λ no'. let is = c.sweep-swept.ensures.same no' in (is.0 ∙ candidates-same, is.1 ∙ swept-same))
+      (λ yes'.
+      let is = c.sweep-swept.ensures.fewer yes' in
+      (filter-by c.saturating_sub-ready.result (length ps + 1 - c.args.self.now.length) marked c.mark_dear-any.new.self.candidates.items c.args.self.now.candidates.items left ready candidates-same is.0, is.1 ∙ ready))
 
-pub push_reserved-requires : goal.push_reserved-requires
-push_reserved-requires g c =
-    let k = (goal.at.push_reserved-requires g c).After-sweep in
-    let few = left-few (swept g k) in
-    omega (arith, few, capacity g k, c.sweep.new.candidates.ok.0)
+  length-same : c.renew.new.self.length ≡ c.args.self.now.length
+  length-same = c.renew.ensures.len ∙ c.sweep-swept.ensures.len ∙ c.mark_dear-any.ensures.same.len ∙ row.len
 
-pub returns : goal.returns
-returns g c =
-    let k = (goal.at.returns g c).After-sweep in
-    let last = total g k in
-    let read : c.index.result.now ≡ int_at (least g k) (length (ps g k)) =
-    read-at (least g k) (length (ps g k)) c.len-t.result c.index.result.now c.len-t.ensures (omega (arith, length-append c.args.self.now.least.items ((c.next_row-found.result.total +ℤ c.args.penalty) ∷ []), least-size c.requires))
-    (rw (row g k).least at c.index.ensures) in
-    let fits : FitsSigned w128 c.index.result.now = omega (arith, ints, read, last.0, last.1, last.2) in
-    let made_low = c.next_row-found.ensures.made.low in
-    let made_high = c.next_row-found.ensures.made.high in
-    let made_fits : FitsSigned w128 c.next_row-found.result.total = omega (arith, ints, made_low, made_high) in
-    let bounds_read : c.deref_mut-2.result.now ≡ c.next_row-found.new.self.bounds.items = c.deref_mut-2.ensures.value in
-    let reset_all = rw (bounds_read, c.len-t.ensures) at (simp to_z-of_z at c.renew.ensures.some) in
-    let lowered = rw (bounds_read, c.len-t.ensures, read, last.0) at (simp to_z-of_z at c.renew.ensures.none) in
-    let other_bounds = rw bounds_read at c.renew.ensures.others in
-    let bounds : HaveBounds (cost g k) (length (ps g k)) (least g k) (left g k ++ length (ps g k) ∷ []) (c.next_row-found.result.index - c.mark_dear-marked.result) c.renew.new.bounds =
-    whole-bounds (swept g k) c.block_of-block.result c.next_row-found.new.self.bounds.items c.renew.new.bounds c.next_row-found.ensures.bounds
-    (omega (arith, c.block_of-block.ensures.start, c.len.ensures, c.sweep.new.candidates.ok.0)) (omega (arith, c.block_of-block.ensures.end, c.len.ensures, c.sweep.new.candidates.ok.0)) (c.renew.auto.bounds ∙ ap length bounds_read)
-    reset_all lowered other_bounds in
-    let pushed : c.push_reserved.new.self.items ≡ left g k ++ length (ps g k) ∷ [] = rw c.len-t.ensures at c.push_reserved.ensures.items in
-    let bounds_written = take_at c.renew.new.bounds _ c.next_row-found.new.self.bounds.len (omega (arith, c.renew.auto.bounds, c.deref_mut-2.ensures.len, c.next_row-found.new.self.bounds.ok.0)) in
+  least-same : c.renew.new.self.least.items ≡ least
+  least-same = c.renew.ensures.least ∙ c.sweep-swept.ensures.least ∙ c.mark_dear-any.ensures.same.least ∙ row.least
+
+  bounds-same : c.sweep-swept.new.self.bounds.items ≡ c.next_row-found.new.self.bounds.items
+  bounds-same = c.sweep-swept.ensures.bounds ∙ c.mark_dear-any.ensures.same.bounds
+
+  few : length left ≤ length ps
+  few = left-few step c.sweep-swept.new.self.swept left left-open.0 left-open.1
+
+  capacity : length ps + 1 ≤ vec_capacity c.renew.new.self.candidates
+  capacity = omega (arith, c.renew.ensures.capacity, c.sweep-swept.ensures.capacity, c.mark_dear-any.ensures.same.capacity, row.capacity, c.requires.room.candidates, c.args.self.now.least.ok.0, least-size c.requires)
+
+  many : length c.renew.new.self.bounds.items ≡ length c.args.self.now.bounds.items
+  many = c.renew.ensures.many ∙ ap length bounds-same ∙ row.many
+
+  room : length left < 256 * length c.args.self.now.bounds.items
+  room = omega (arith, few, c.requires.room.bounds, least-size c.requires)
+
+  bounds-left : HaveBounds cost (length ps) least left c.renew.new.self.leader c.renew.new.self.bounds.items
+  bounds-left =
+      let made_low = c.next_row-found.ensures.made.low in
+      let made_high = c.next_row-found.ensures.made.high in
+      let made_fits : FitsSigned w128 c.next_row-found.result.total = omega (arith, ints, made_low, made_high) in
+      left-bounds step c.sweep-swept.new.self.swept left left-open.0 left-open.1 c.sweep-swept.result c.renew.new.self.leader c.next_row-found.new.self.bounds.items c.renew.new.self.bounds.items c.next_row-found.ensures.bounds
+      (λ no'. (c.sweep-swept.ensures.same no').0 ∙ candidates-same)
+      (λ no'. let is = c.renew.ensures.same no' in (is.0 ∙ bounds-same, is.1))
+      (c.renew.ensures.many ∙ ap length bounds-same)
+      (rw (bounds-same, c.len-t.ensures) at (simp to_z-of_z at c.renew.ensures.all)) (omega (arith, room, row.many))
+
+pub admit-requires : goal.admit-requires
+admit-requires g c =
+    let k = (goal.at.admit-requires g c).After-renew in
+    let size = next-size c.requires (range g k) c.table_law.ensures.in_range c.next_row-found.result c.next_row-found.ensures.found c.next_row-found.ensures.made in
+    let placed : c.saturating_sub-ready.result ≤ length (g.C.Cost.positions c.args.cost.now) = omega (arith, ready g k, c.requires.pruned.length_from.0) in
+    let kept : c.renew.new.self.candidates.items ≡ c.sweep-swept.new.self.candidates.items = c.renew.ensures.candidates in
     record {
-      table =
-          table-by (cost g k) (length (ps g k)) c.args.penalty (least g k) _ (c.args.self.now.back.items ++ slice_index c.args.self.now.candidates.items c.next_row-found.result.index ∷ []) _ (marks g k) _
-          (row g k).least (row g k).back (written g k) (whole-table (swept g k) c.growth_law.ensures.next);
-      candidates = candidates-by (left g k ++ length (ps g k) ∷ []) _ (marks g k) _ (length (ps g k) + 1) pushed (written g k) (whole-candidates (swept g k));
-      bounds =
-          bounds-by (cost g k) (length (ps g k)) (least g k) _ (left g k ++ length (ps g k) ∷ []) _ (c.next_row-found.result.index - c.mark_dear-marked.result) _ c.renew.new.bounds _
-          (row g k).least pushed refl bounds_written bounds;
-      room = omega (arith, capacity g k, c.push_reserved.ensures.capacity);
+      placed = rw (least-same g k) (omega (arith, size, placed));
+      totals = rw (least-same g k) (next-totals c.requires (range g k) c.table_law.ensures.in_range c.next_row-found.result c.next_row-found.ensures.found c.next_row-found.ensures.made);
+      few = rw kept (omega (arith, few g k, c.requires.limits.few_positions));
+      bounds = rw kept (omega (arith, room g k, many g k));
+      small = omega (arith, placed, c.requires.limits.few_positions);
+      room = omega (arith, few g k, capacity g k, c.renew.new.self.candidates.ok.0, ap length kept);
     }
+
+pub returns-clause-pruned : goal.returns-clause-pruned
+returns-clause-pruned g c =
+    let k = (goal.at.returns-clause-pruned g c).After-renew in
+    let n : ℕ = length (g.C.Cost.positions c.args.cost.now) in
+    let len : ℕ = c.args.self.now.length in
+    let kept : c.renew.new.self.candidates.items ≡ left g k = c.renew.ensures.candidates in
+    let same-length : c.admit.new.self.length ≡ c.args.self.now.length = c.admit.ensures.len ∙ length-same g k in
+    let least-now : c.admit.new.self.least.items ≡ least g k = c.admit.ensures.least ∙ least-same g k in
+    let back-now : c.admit.new.self.back.items ≡ c.args.self.now.back.items ++ slice_index c.args.self.now.candidates.items c.next_row-found.result.index ∷ [] =
+    c.admit.ensures.back ∙ c.renew.ensures.back ∙ c.sweep-swept.ensures.back ∙ c.mark_dear-any.ensures.same.back ∙ (row g k).back in
+    let pruned-now : c.admit.new.self.pruned.items ≡ marked g k = c.admit.ensures.pruned ∙ c.renew.ensures.pruned ∙ c.sweep-swept.ensures.pruned in
+    let swept-now : c.admit.new.self.swept ≡ c.sweep-swept.new.self.swept = c.admit.ensures.swept ∙ c.renew.ensures.swept in
+    let none = admitted-none c.len-t.result c.saturating_sub-ready.result n (n + 1 - len) len c.renew.new.self c.admit.new.self (left g k) (least g k) c.admit.ensures c.len-t.ensures (ready g k) (length-same g k) kept (least-same g k) in
+    let one = admitted-one c.len-t.result c.saturating_sub-ready.result n (n + 1 - len) len c.renew.new.self c.admit.new.self (left g k) (least g k) c.admit.ensures c.len-t.ensures (ready g k) (length-same g k) kept (least-same g k) in
+    let candidates = whole-candidates (step g k) c.sweep-swept.new.self.swept (left g k) (left-open g k).0 (left-open g k).1 c.admit.new.self.candidates.items
+    (λ short. (none short).0) (λ enough. (one enough).1) in
+    let bounds = whole-bounds (step g k) c.sweep-swept.new.self.swept (left g k) (left-open g k).0 (left-open g k).1 c.renew.new.self.leader c.admit.new.self.candidates.items c.renew.new.self.bounds.items c.admit.new.self.bounds.items
+    (bounds-left g k) (omega (arith, room g k, many g k)) c.admit.ensures.many none one in
+    record {
+      length_from = rw same-length c.requires.pruned.length_from;
+      table =
+          rw same-length (table-by (cost g k) n c.args.penalty len (least g k) c.admit.new.self.least.items (c.args.self.now.back.items ++ slice_index c.args.self.now.candidates.items c.next_row-found.result.index ∷ []) c.admit.new.self.back.items
+          (marked g k) c.admit.new.self.pruned.items least-now back-now pruned-now (whole-table (step g k) c.growth_law.ensures.next));
+      swept = rw (same-length, swept-now) (left-open g k).1;
+      candidates = rw (same-length, swept-now, pruned-now) candidates;
+      bounds = rw (least-now, c.admit.ensures.leader) bounds;
+      room = omega (arith, capacity g k, c.admit.ensures.capacity);
+      wide = omega (arith, c.admit.ensures.many, many g k, c.requires.room.bounds, least-size c.requires);
+    }
+
+pub returns-clause-length : goal.returns-clause-length
+returns-clause-length g c = c.admit.ensures.len ∙ c.renew.ensures.len ∙ c.sweep-swept.ensures.len ∙ c.mark_dear-any.ensures.same.len ∙ c.next_row-found.ensures.row.len

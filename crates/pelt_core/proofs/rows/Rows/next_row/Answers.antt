@@ -1,7 +1,7 @@
 use Rattle.std.proofs.Common.{ℕ, ℤ, List, [], ◌∷◌, ◌++◌, ◌-◌, ◌*◌, ◌^◌, ap, ◌∙◌, length, pos, neg_ℤ, ◌+ℤ◌, ◌≤ℤ◌, FitsSigned, refl, arith}
 use Rattle.std.specs.Int.{w128}
 use Rattle.std.proofs.lemmas.Int.{ints, to_z-of_z}
-use Rattle.std.proofs.lemmas.List.{get_or_read}
+use Rattle.std.proofs.lemmas.List.{take_at, get_or_read}
 use Rattle.segment_model.specs.Values.{cost_between}
 use Rattle.pelt_core.specs.Bounds.{AreInRange, IsFirst}
 use Rattle.pelt_core.proofs.Search.{found}
@@ -11,12 +11,12 @@ use Rattle.pelt_core.proofs.rows.Rows.next_row.Goals as goal
 
 pub overflow_sub-len : goal.overflow_sub-len
 overflow_sub-len g c =
-    let p = some c.requires in
+    let p = some c.requires c.pruning_law.ensures.mark in
     omega (arith, p, c.len.ensures, c.args.self.now.candidates.ok.0)
 
 pub first_least-found-requires-clause-some : goal.first_least-found-requires-clause-some
 first_least-found-requires-clause-some g c =
-    let p = some c.requires in
+    let p = some c.requires c.pruning_law.ensures.mark in
     omega (arith, p, c.min-guess.ensures, c.len.ensures, c.deref-2.ensures.len, c.args.self.now.candidates.ok.0)
 
 pub first_least-found-requires-clause-few : goal.first_least-found-requires-clause-few
@@ -42,10 +42,11 @@ returns-clause-found g c =
     (length c.args.self.now.candidates.items) c.first_least-found.result =
     rw (c.deref.ensures.value, c.deref-2.ensures.value) at c.first_least-found.ensures.found in
     let best = found (cost_between g.C.Cost.cost_of (g.C.Cost.positions c.args.cost.now)) c.args.self.now.least.items (length (g.C.Cost.positions c.args.cost.now)) c.args.self.now.candidates.items c.min-guess.result c.first_least-found.result is in
-    first-at (cost_between g.C.Cost.cost_of (g.C.Cost.positions c.args.cost.now)) (length (g.C.Cost.positions c.args.cost.now) - 1) c.args.penalty c.args.self.now.least.items c.args.self.now.back.items c.args.self.now.pruned.items c.args.self.now.candidates.items c.requires.pruned.table c.requires.pruned.candidates
-    c.pruning_law.ensures (length (g.C.Cost.positions c.args.cost.now)) (last c.requires)
+    first-at (cost_between g.C.Cost.cost_of (g.C.Cost.positions c.args.cost.now)) (length (g.C.Cost.positions c.args.cost.now) - 1) c.args.penalty c.args.self.now.length c.args.self.now.swept c.args.self.now.least.items c.args.self.now.back.items c.args.self.now.pruned.items c.args.self.now.candidates.items c.requires.pruned.table
+    c.requires.pruned.length_from.0 c.requires.pruned.swept c.requires.pruned.candidates
+    c.pruning_law.ensures.first (length (g.C.Cost.positions c.args.cost.now)) (last c.requires)
     (c.value_costs_law.ensures.merge g.C.Cost.cost_of g.met.C.Cost.merging (g.C.Cost.positions c.args.cost.now) (length (g.C.Cost.positions c.args.cost.now)))
-    c.first_least-found.result.index is.made.inside best.0 best.1
+    c.requires.low c.first_least-found.result.index is.made.inside best.0 best.1
 
 sum_fits : (b total : ℤ) → pos 0 ≤ℤ b → b ≤ℤ pos (10 ^ 36) → neg_ℤ (pos (10 ^ 36)) ≤ℤ total → total ≤ℤ pos (2 * 10 ^ 37) → FitsSigned w128 (total +ℤ b)
 sum_fits b total b_low b_high low high = omega (arith, ints, b_low, b_high, low, high)
@@ -62,6 +63,9 @@ returns-clause-row g c =
       least = simp to_z-of_z at c.push_reserved.ensures.items;
       back = c.push_reserved-2.ensures.items ∙ ap (λ (s : ℕ). c.args.self.now.back.items ++ s ∷ []) (get_or_read c.args.self.now.candidates.items c.first_least-found.result.index c.index.result.now inside c.index.ensures 0);
       unmarked = c.push_reserved-3.ensures.items;
+      len = refl {A = ℕ};
+      swept = refl {A = ℕ};
       candidates = refl {A = List ℕ};
       capacity = refl {A = ℕ};
+      many = ap length (take_at c.first_least-found.new.bounds _ c.args.self.now.bounds.len (omega (arith, c.first_least-found.auto.bounds, c.deref_mut.ensures.len, c.args.self.now.bounds.ok.0))) ∙ c.first_least-found.auto.bounds ∙ ap length c.deref_mut.ensures.value;
     }

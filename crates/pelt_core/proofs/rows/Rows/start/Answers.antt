@@ -1,4 +1,4 @@
-use Rattle.std.proofs.Common.{◌≡◌, ℤ, [], ◌∷◌, length, pos, neg_ℤ, ◌-ℤ◌, FitsSigned, refl, ap, ◌∙◌, arith}
+use Rattle.std.proofs.Common.{◌≡◌, ℕ, ◌+◌, ◌-◌, ℤ, [], ◌∷◌, length, pos, neg_ℤ, ◌-ℤ◌, FitsSigned, refl, ap, ◌∙◌, arith}
 use Rattle.std.specs.Int.{w128}
 use Rattle.std.proofs.lemmas.Int.{ints, to_z-of_z}
 use Rattle.std.proofs.lemmas.List.{take_at}
@@ -6,8 +6,12 @@ use Rattle.pelt_core.proofs.Growth.{table-by, candidates-by}
 use Rattle.pelt_core.proofs.Blocks.{first-bounds, bounds-by}
 use Rattle.pelt_core.proofs.rows.Rows.start.Goals as goal
 
-pub returns : goal.returns
-returns c cost none =
+-- the last place of the candidates of the first position
+abbrev n-less : ℕ → ℕ
+n-less len = 0 + 1 - len
+
+pub returns-clause-pruned : goal.returns-clause-pruned
+returns-clause-pruned c cost none =
     let low = c.requires.low in
     let high = c.requires.high in
     let b_fits : FitsSigned w128 c.args.penalty = c.ranges.penalty in
@@ -18,13 +22,17 @@ returns c cost none =
     let back : c.in_ok-vec-2.field-0.items ≡ 0 ∷ [] = c.in_ok-vec-2.ensures.items in
     let pruned : c.in_ok-vec-3.field-0.items ≡ 0 ∷ [] = c.in_ok-vec-3.ensures.items in
     let candidates : c.in_ok-vec-4.field-0.items ≡ 0 ∷ [] = c.in_ok-vec-4.ensures.items in
-    let bounds_size : length c.forget.new.bounds ≡ 65 = omega (arith, c.forget.auto.bounds, c.deref_mut.ensures.len, c.in_ok-bounds.ensures.len) in
+    let bounds_size : length c.forget.new.bounds ≡ 1 = omega (arith, c.forget.auto.bounds, c.deref_mut.ensures.len, c.in_ok-bounds.ensures.len) in
     let written = take_at c.forget.new.bounds _ c.in_ok-bounds.bounds.len (omega (arith, c.forget.auto.bounds, c.deref_mut.ensures.len)) in
+    let first : n-less c.args.len + 1 ≡ 1 = omega (arith, c.requires.length.0) in
     record {
-      table = table-by cost 0 c.args.penalty (neg_ℤ c.args.penalty ∷ []) _ (0 ∷ []) _ (0 ∷ []) _ least back pruned (c.growth_law.ensures.of_none cost c.args.penalty);
-      candidates = candidates-by (0 ∷ []) _ (0 ∷ []) _ 1 candidates pruned refl;
+      length_from = c.requires.length;
+      swept = omega arith;
+      table = table-by cost 0 c.args.penalty c.args.len (neg_ℤ c.args.penalty ∷ []) _ (0 ∷ []) _ (0 ∷ []) _ least back pruned (c.growth_law.ensures.of_none cost c.args.penalty c.args.len);
+      candidates = rw first (candidates-by c.args.len 0 (0 ∷ []) _ (0 ∷ []) _ 1 candidates pruned refl);
       bounds =
           bounds-by cost 0 (neg_ℤ c.args.penalty ∷ []) _ (0 ∷ []) _ 0 0 c.forget.new.bounds _ least candidates refl written
           (first-bounds cost c.args.penalty (neg_ℤ c.args.penalty ∷ []) (0 ∷ []) c.forget.new.bounds none high refl refl bounds_size (λ k lt. c.forget.ensures k (omega (arith, lt, c.forget.auto.bounds))));
       room = omega (arith, ap length candidates, c.in_ok-vec-4.field-0.ok.0);
+      wide = rw written (omega (arith, bounds_size));
     }

@@ -37,7 +37,7 @@ invariant_of-self-2 g c =
     let fits : FitsSigned w128 c.self.inside.penalty = omega (arith, ints, c.self.invariant.low, c.self.invariant.high) in
     after-push g.C.Cost.cost_of g.met.C.Cost.merging g.met.C.Cost.in_range c.agreeing_costs_law.ensures.table c.value_costs_law.ensures.merge c.value_costs_law.ensures.in_range
     (g.C.Cost.positions c.self.inside.cost) c.self.inside.penalty c.self.inside.rows c.self.invariant c.args.values.now (g.C.Cost.positions c.push.new.self)
-    (positions_are g k) (within g k) c.grow.new.self (rw (to_z-of_z w128 c.self.inside.penalty fits) at c.grow.ensures)
+    (positions_are g k) (within g k) c.grow.new.self (rw (to_z-of_z w128 c.self.inside.penalty fits) at c.grow.ensures.pruned)
 
 pub invariant_of-self-in_err-reserve-2 : goal.invariant_of-self-in_err-reserve-2
 invariant_of-self-in_err-reserve-2 g c =

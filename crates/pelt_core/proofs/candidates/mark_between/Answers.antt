@@ -1,0 +1,35 @@
+use Rattle.std.proofs.Common.{◌≡◌, ℕ, ◌<◌, ◌≤◌, ◌+◌, length, ◌⊎◌, inl, inr, arith}
+use Rattle.std.proofs.lemmas.Bool.{cases_lt}
+use Rattle.segment_model.specs.Values.{cost_between}
+use Rattle.pelt_core.proofs.Marks.{none-looked, one-looked, looked-as}
+use Rattle.pelt_core.proofs.candidates.mark_between.Goals as goal
+
+between-more : (from i s : ℕ) → (from ≤ s) × (s < i + 1) → ((from ≤ s) × (s < i)) ⊎ (s ≡ i)
+between-more from i s is = elim (cases_lt s i) [
+  | inl before ↦ inl (is.0, before)
+  | inr at ↦ inr (omega (arith, is.1, at))
+]
+
+pub loop-s-init : goal.loop-s-init
+loop-s-init g c = (
+  omega arith,
+  λ len may. none-looked (cost_between g.C.Cost.cost_of (g.C.Cost.positions c.args.cost.now)) len c.args.least.now (length (g.C.Cost.positions c.args.cost.now)) (λ s. (c.args.from ≤ s) × (s < c.args.from)) c.args.pruned.now
+      (λ s is. absurd (omega (arith, is.0, is.1))),
+)
+
+pub loop-s-preserved : goal.loop-s-preserved
+loop-s-preserved g c = (
+  omega (arith, c.loop-s.invariant.0),
+  λ len may.
+      let lt : c.loop-s.s < length (g.C.Cost.positions c.args.cost.now) = omega (arith, c.loop-s-test.true, c.requires.inside) in
+      one-looked (cost_between g.C.Cost.cost_of (g.C.Cost.positions c.args.cost.now)) len c.args.least.now (length (g.C.Cost.positions c.args.cost.now))
+      (λ s. (c.args.from ≤ s) × (s < c.loop-s.s)) (λ s. (c.args.from ≤ s) × (s < c.loop-s.s + 1)) c.args.pruned.now c.loop-s.pruned c.mark-here.new.pruned c.loop-s.s (c.loop-s.invariant.1 len may)
+      lt c.mark-here.auto.pruned (c.mark-here.ensures.marked len (may c.loop-s.s c.loop-s.invariant.0 c.loop-s-test.true)) c.mark-here.ensures.others
+      (between-more c.args.from c.loop-s.s),
+)
+
+pub returns : goal.returns
+returns g c len may =
+    looked-as (cost_between g.C.Cost.cost_of (g.C.Cost.positions c.args.cost.now)) len c.args.least.now (length (g.C.Cost.positions c.args.cost.now)) (λ s. (c.args.from ≤ s) × (s < c.loop-s.s)) (λ s. (c.args.from ≤ s) × (s < c.args.to))
+    c.args.pruned.now c.loop-s.pruned (c.loop-s.invariant.1 len may)
+    (λ s is. (is.0, omega (arith, is.1, c.loop-s-test.false)))
