@@ -5,4 +5,4 @@ mod job;
 mod run;
 
 pub use job::{Job, Worker};
-pub use run::{run_at_once, run_with_helpers, run_with_workers};
+pub use run::{run_at_once, run_with_helpers, run_with_workers, work_at_once};

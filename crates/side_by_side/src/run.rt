@@ -66,6 +66,37 @@ pub fn run_with_helpers<
     );
 }
 
+/// Lets each worker work in a thread of its own with the tool in its place, and returns when all have returned. Workers whose
+/// thread can't be started work one after another in the thread that calls, when those behind them have.
+pub fn work_at_once<R: Threads + Wait + Sync, W: Worker<R, T> + Send, T: Send>(
+    rt: &R,
+    workers: &mut [W],
+    tools: &mut [T],
+)
+    requires { AllCanWork W.can_work workers.old tools.old }
+    ensures { AllWorked W.work_gives workers.old tools.old workers.new tools.new }
+{
+    let Some((worker, rest)) = workers.split_first_mut() else {
+        return;
+    };
+    let Some((tool, others)) = tools.split_first_mut() else {
+        unreachable!()
+    };
+    join_mut(
+        rt,
+        &mut ||
+            requires { W.can_work worker.now tool.now }
+            ensures { W.work_gives worker.entry.now tool.entry.now worker.exit.now tool.exit.now }
+        { worker.work(rt, tool) },
+        &mut ||
+            requires shared { IsSync R.row }
+            requires work { AllCanWork W.can_work rest.now others.now }
+            ensures { AllWorked W.work_gives rest.entry.now others.entry.now
+                rest.exit.now others.exit.now }
+        { work_at_once(rt, rest, others) },
+    );
+}
+
 /// As [`run_with_helpers`], with workers beside the helpers, each of which is lent the tool in its place.
 pub fn run_with_workers<
     R: Threads + Wait + Sync,
