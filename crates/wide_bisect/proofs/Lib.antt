@@ -1,0 +1,6 @@
+mod Lists
+mod Rounds
+mod Gaps
+mod Ranges
+mod Histories
+mod Asking

@@ -1,0 +1,4 @@
+pub mod Answers
+pub mod Searches
+pub mod Sound
+pub mod Laws
