@@ -1,0 +1,121 @@
+-- A refusal that some bytes show stands, whatever comes behind them.
+use Rattle.std.proofs.Common.{◌≡◌, ℕ, ◌+◌, ◌<◌, inl, inr, List, [], ◌∷◌, ◌++◌, length, take, drop, get_or, refl, sym, ap, subst, ◌∙◌, append_assoc, true, Bool, eqb}
+use Rattle.std.proofs.lemmas.Bool.{eqb-true}
+use Rattle.std.proofs.lemmas.List.{take-append-drop, drop_more}
+use Rattle.std.specs.List.{slice_split}
+use Rattle.line_text.proofs.Parts.{first_part, goes_on}
+use Rattle.commit_lines.specs.declared.stop.Refusal.{Refusal}
+use Rattle.commit_lines.specs.declared.stop.Refusal.TheVariants.{Bad}
+use Rattle.commit_lines.specs.declared.stop.Stop.{Stop}
+use Rattle.commit_lines.specs.declared.stop.Stop.TheVariants.{Fault, TooLong, Refused, NoMemory}
+use Rattle.commit_lines.specs.Lines.{MayGo}
+use Rattle.commit_lines.specs.Reading.{HasBegun, IsFirstRefused, FrontRefuses}
+use Rattle.commit_lines.specs.HasRead.{OnRefused, ShowsRefused}
+use Rattle.commit_lines.proofs.Words.{may_front, good_may}
+
+abbrev pub is_feed : ℕ → Bool
+is_feed b = eqb b 10
+
+-- a list with an item, from its last one
+record Ends (x : List ℕ) (behind : List (List ℕ)) : Type 0 where
+  front : List (List ℕ)
+  last : List ℕ
+  is : x ∷ behind ≡ front ++ last ∷ []
+
+ends : (x : List ℕ) (behind : List (List ℕ)) → Ends x behind
+ends x [] = record { front = []; last = x; is = refl }
+ends x (y ∷ behind) =
+    let rest = ends y behind in
+    record { front = x ∷ rest.front; last = rest.last; is = ap (λ (ls : List (List ℕ)). x ∷ ls) rest.is }
+
+-- the first refused line stays it where more lines come
+pub first_later : (why : Refusal) (lines more : List (List ℕ)) (k : ℕ) → IsFirstRefused why lines k → IsFirstRefused why (lines ++ more) k
+first_later why lines more k first = record {
+  before = first.before;
+  line = first.line;
+  behind = first.behind ++ more;
+  names = first.names;
+  split = ap (λ (ls : List (List ℕ)). ls ++ more) first.split ∙ append_assoc first.before (first.line ∷ first.behind) more;
+  number = first.number;
+  accepted = first.accepted;
+  refused = first.refused;
+}
+
+open_more : (bytes next : List ℕ) (lines : List (List ℕ)) (rest : List ℕ) (names : List (List ℕ)) (k : ℕ) (first : List ℕ) (behind : List (List ℕ))
+    → HasBegun bytes lines rest names → k ≡ length lines + 1 → ¬ MayGo names rest → slice_split is_feed next ≡ first ∷ behind → FrontRefuses Bad (bytes ++ next) k
+open_more bytes next lines rest names k first [] begun number never parts =
+    inr (
+      lines,
+      rest ++ first,
+      names,
+      record { split = goes_on is_feed bytes next lines rest first [] begun.split parts; accepted = begun.accepted },
+      refl,
+      number,
+      λ may. never (may_front names rest first may),
+    )
+open_more bytes next lines rest names k first (x ∷ behind) begun number never parts =
+    let end = ends x behind in
+    inl (
+      lines ++ (rest ++ first) ∷ end.front,
+      end.last,
+      goes_on is_feed bytes next lines rest first (x ∷ behind) begun.split parts
+          ∙ ap (λ (ls : List (List ℕ)). lines ++ (rest ++ first) ∷ ls) end.is
+          ∙ sym (append_assoc lines ((rest ++ first) ∷ end.front) (end.last ∷ [])),
+      record {
+        before = lines;
+        line = rest ++ first;
+        behind = end.front;
+        names = names;
+        split = refl;
+        number = number;
+        accepted = begun.accepted;
+        refused = λ good. never (may_front names rest first (good_may names (rest ++ first) good));
+      },
+    )
+
+pub front_more : (why : Refusal) (bytes next : List ℕ) (k : ℕ) → FrontRefuses why bytes k → FrontRefuses why (bytes ++ next) k
+front_more why bytes next k (inl (lines, rest, split, first)) =
+    let part = first_part is_feed next in
+    let end = ends (rest ++ part.first) part.behind in
+    inl (
+      lines ++ end.front,
+      end.last,
+      goes_on is_feed bytes next lines rest part.first part.behind split part.is
+          ∙ ap (λ (ls : List (List ℕ)). lines ++ ls) end.is
+          ∙ sym (append_assoc lines end.front (end.last ∷ [])),
+      first_later why lines end.front k first,
+    )
+front_more why bytes next k (inr (lines, rest, names, begun, is, number, never)) =
+    let part = first_part is_feed next in
+    subst (λ (w : Refusal). FrontRefuses w (bytes ++ next) k) (sym is)
+    (open_more bytes next lines rest names k part.first part.behind begun number never part.is)
+
+-- what follows for each refused line follows for the stop
+pub on_refused-weaker : (P Q : Refusal → ℕ → Type 0) (stop : Stop) → ((why : Refusal) (k : ℕ) → P why k → Q why k) → OnRefused P stop → OnRefused Q stop
+on_refused-weaker P Q (Refused why k) all holds = all why k holds
+on_refused-weaker P Q NoMemory all holds = tt
+on_refused-weaker P Q Fault all holds = holds
+on_refused-weaker P Q TooLong all holds = holds
+
+pub shows_more : (bytes next : List ℕ) (stop : Stop) → ShowsRefused bytes stop → ShowsRefused (bytes ++ next) stop
+shows_more bytes next stop =
+    on_refused-weaker (λ why k. FrontRefuses why bytes k) (λ why k. FrontRefuses why (bytes ++ next) k) stop (λ why k. front_more why bytes next k)
+
+-- a part of bytes refuses, whatever comes behind it
+pub shows_front : (read done part back bytes : List ℕ) (stop : Stop) → done ++ (part ++ back) ≡ bytes → ShowsRefused ((read ++ done) ++ part) stop
+    → ShowsRefused (read ++ bytes) stop
+shows_front read done part back bytes stop whole shown =
+    let all : ((read ++ done) ++ part) ++ back ≡ read ++ bytes =
+    append_assoc (read ++ done) part back ∙ append_assoc read done (part ++ back) ∙ ap (λ bs. read ++ bs) whole in
+    subst (λ bs. ShowsRefused bs stop) all (shows_more ((read ++ done) ++ part) back stop shown)
+
+-- a line feed, and the bytes before and behind it
+pub parted : (rest : List ℕ) (end : ℕ) → end < length rest → eqb (get_or rest end 0) 10 ≡ true → take end rest ++ 10 ∷ drop (end + 1) rest ≡ rest
+parted rest end few told =
+    let split : drop end rest ≡ get_or rest end 0 ∷ drop (end + 1) rest = drop_more rest end 0 few in
+    let is : get_or rest end 0 ≡ 10 = eqb-true (get_or rest end 0) 10 told in
+    ap (λ bs. take end rest ++ bs) (ap (λ b. b ∷ drop (end + 1) rest) (sym is) ∙ sym split) ∙ take-append-drop end rest
+
+pub joined : (done part back rest bytes : List ℕ) → part ++ 10 ∷ back ≡ rest → done ++ rest ≡ bytes → (done ++ (part ++ 10 ∷ [])) ++ back ≡ bytes
+joined done part back rest bytes split whole =
+    append_assoc done (part ++ 10 ∷ []) back ∙ ap (λ bs. done ++ bs) (append_assoc part (10 ∷ []) back ∙ split) ∙ whole

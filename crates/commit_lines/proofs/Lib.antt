@@ -1,0 +1,9 @@
+mod CharEnds
+mod WordEnds
+mod Words
+mod LineEnds
+mod Judged
+mod Fronts
+mod ReaderSteps
+mod PieceSteps
+mod Exclusion

@@ -1,0 +1,129 @@
+-- What a reader keeps of the bytes that it has read. Private: no public contract cites this.
+use Rattle.std.specs.Prelude.{◌≡◌, ◌⊎◌, ℕ, ◌<◌, ◌≤◌, List, [], ◌∷◌, ◌++◌, length, slice_index, Contains}
+use Rattle.line_text.specs.Lines.{lines_of, words_of}
+use Rattle.commit_lines.specs.declared.line.LineKind.{LineKind}
+use Rattle.commit_lines.specs.declared.line.LineKind.TheVariants.{Skipped, Named, Bad as BadKind}
+use Rattle.commit_lines.specs.declared.reader.Reader.{Reader}
+use Rattle.commit_lines.specs.declared.stop.Refusal.{Refusal}
+use Rattle.commit_lines.specs.declared.stop.Refusal.TheVariants.{Bad, Full}
+use Rattle.commit_lines.specs.declared.stop.Stop.{Stop}
+use Rattle.commit_lines.specs.declared.stop.Stop.TheVariants.{Refused, NoMemory}
+use Rattle.commit_lines.specs.Lines.{IsSkipped, IsNameLine}
+use Rattle.commit_lines.specs.Ends.{end_at}
+use Rattle.commit_lines.specs.Reading.{AreAccepted, HasBegun, IsFirstRefused, FrontRefuses, MayGoOn}
+
+-- what a line of this kind says
+abbrev pub IsKind : List ℕ → LineKind → Type 0
+IsKind line Skipped = IsSkipped line
+IsKind line (Named name) = IsNameLine line name
+IsKind line BadKind = (¬ IsSkipped line) × ((name : List ℕ) → ¬ IsNameLine line name)
+
+-- it says some name
+abbrev pub SaysName : List ℕ → Type 0
+SaysName line = (name : List ℕ) × IsNameLine line name
+
+-- it says one with an end that is tried
+abbrev pub IsTried : List ℕ → Type 0
+IsTried line = (n : ℕ) × (n < 9_216) × SaysName (line ++ end_at n)
+
+-- both begin with #, or have no word
+abbrev pub AreSkipped : List ℕ → List ℕ → Type 0
+AreSkipped one other =
+    ((slice_index one 0 ≡ 35) × (slice_index other 0 ≡ 35))
+    ⊎ ((words_of one ≡ []) × (words_of other ≡ []))
+
+-- a line that is longer than a line may be, of which the first bytes are kept
+pub record IsLong (kept line : List ℕ) : Type 0 where
+  pub kept_long : 4_096 < length kept
+  pub long : 4_096 < length line
+  pub skipped : AreSkipped kept line
+
+-- what is kept of a line: all of it, or the first bytes of one that is skipped
+abbrev pub Keeps : List ℕ → List ℕ → Type 0
+Keeps kept line = ((kept ≡ line) × (length line ≤ 4_096)) ⊎ IsLong kept line
+
+-- what is kept of bytes: the names of their whole lines, how many those are, and the first bytes of the line that has begun
+pub record Kept : Type 0 where
+  pub names : List (List ℕ)
+  pub whole_lines : ℕ
+  pub line : List ℕ
+
+-- the bytes are whole lines, which are accepted, and a line that has begun
+pub record HasKept (bytes : List ℕ) (kept : Kept) : Type 0 where
+  pub lines : List (List ℕ)
+  pub rest : List ℕ
+  pub begun : HasBegun bytes lines rest kept.names
+  pub whole : kept.whole_lines ≡ length lines
+  pub keeps : Keeps kept.line rest
+
+-- what a reader keeps
+abbrev pub kept_by : Reader → Kept
+kept_by reader =
+    record { names = reader.names.keys; whole_lines = reader.whole_lines; line = reader.line.items }
+
+-- the reader has read the bytes
+abbrev pub HasRead : List ℕ → Reader → Type 0
+HasRead bytes reader = HasKept bytes (kept_by reader)
+
+-- a line is refused, of which this holds, or memory is wanting
+abbrev pub OnRefused : (Refusal → ℕ → Type 0) → Stop → Type 0
+OnRefused Holds (Refused why k) = Holds why k
+OnRefused Holds NoMemory = Unit {0}
+OnRefused Holds stop = ⊥
+
+-- the bytes show that a line is refused, whatever comes behind them
+abbrev pub ShowsRefused : List ℕ → Stop → Type 0
+ShowsRefused bytes stop = OnRefused (λ why k. FrontRefuses why bytes k) stop
+
+-- the bytes are all, and their last line is refused
+abbrev pub EndsRefused : List ℕ → Stop → Type 0
+EndsRefused bytes stop = OnRefused (λ why k. IsFirstRefused why (lines_of bytes) k) stop
+
+-- ---- what a call does to a reader, whatever it had read before
+
+-- it has read these bytes more
+abbrev pub ReadsMore : List ℕ → Reader → Reader → Type 0
+ReadsMore bytes old new = (read : List ℕ) → HasRead read old → HasRead (read ++ bytes) new
+
+-- these bytes more show that a line is refused
+abbrev pub MoreRefused : List ℕ → Reader → Stop → Type 0
+MoreRefused bytes old stop = (read : List ℕ) → HasRead read old → ShowsRefused (read ++ bytes) stop
+
+-- what it has read shows that a line is refused
+abbrev pub IsRefused : Reader → Stop → Type 0
+IsRefused old stop = (read : List ℕ) → HasRead read old → ShowsRefused read stop
+
+-- its last line is refused, where the bytes end and where a line feed comes
+abbrev pub LastRefused : Reader → Stop → Type 0
+LastRefused old stop =
+    (read : List ℕ) → HasRead read old → EndsRefused read stop × ShowsRefused (read ++ 10 ∷ []) stop
+
+-- its last line is refused, where the bytes end
+abbrev pub EndRefused : Reader → Stop → Type 0
+EndRefused old stop = (read : List ℕ) → HasRead read old → EndsRefused read stop
+
+-- bytes behind those that it has read may make the line good
+abbrev pub IsOpen : Reader → Type 0
+IsOpen old = (read : List ℕ) → HasRead read old → MayGoOn read
+
+-- these are the names of all lines that it has read
+abbrev pub HasNames : Reader → List (List ℕ) → Type 0
+HasNames old names = (read : List ℕ) → HasRead read old → AreAccepted (lines_of read) names
+
+-- ---- the names
+
+-- a new name came behind the others, and there are not too many
+pub record AddsName (name : List ℕ) (old new : List (List ℕ)) : Type 0 where
+  pub fresh : ¬ Contains old name
+  pub few : length old < 65_536
+  pub added : new ≡ old ++ name ∷ []
+
+-- why a name doesn't come behind the others: it is one of them, or there are too many
+abbrev pub RefusesName : List ℕ → List (List ℕ) → Refusal → Type 0
+RefusesName name old Bad = Contains old name
+RefusesName name old Full = (65_536 ≤ length old) × (¬ Contains old name)
+
+-- the line is skipped, or its name came behind the others
+abbrev pub TakesLine : List ℕ → List (List ℕ) → List (List ℕ) → Type 0
+TakesLine line old new =
+    (IsSkipped line × (new ≡ old)) ⊎ ((name : List ℕ) × IsNameLine line name × AddsName name old new)
