@@ -11,3 +11,5 @@ mod of_bisect_core;
 mod of_history_model;
 #[cfg(test)]
 mod of_order_index;
+#[cfg(test)]
+mod of_wide_bisect;

@@ -110,7 +110,8 @@ const CASES: [Case; 10] = [
     (&[7, 9], &[], (0, 7, 9), None),
 ];
 
-fn is_rising(commits: &[u64]) -> bool
+/// Whether the commits rise.
+pub fn is_rising(commits: &[u64]) -> bool
     ensures { IsTrue result → IsStrictlyIncreasing commits.now }
 {
     for i in 1..commits.len() {
