@@ -6,7 +6,7 @@ use std::io::{self, BufWriter, Read, Write};
 
 /// The count, the sum and the sum of squares of the values of the first positions.
 #[derive(Clone, Copy)]
-struct Sums {
+pub struct Sums {
     count: i128,
     sum: i128,
     squares: i128,
@@ -21,18 +21,21 @@ fn cost(from: &Sums, to: &Sums) -> i128 {
     squares - centre * (2 * sum - count * centre)
 }
 
+/// The orders and the values of some cut lines.
+pub fn lines_of(text: &str) -> impl Iterator<Item = (u64, i128)> + '_ {
+    text.lines().filter_map(|line| {
+        let mut words = line.split_ascii_whitespace();
+        let first = words.next().filter(|word| !word.starts_with('#'))?;
+        let commit = first.parse().expect("an order");
+        Some((commit, words.next().expect("a value").parse().expect("a whole number")))
+    })
+}
+
 /// The prefix sums of the positions of some cut lines.
-fn prefix_sums(text: &str) -> Vec<Sums> {
+pub fn prefix_sums(text: &str) -> Vec<Sums> {
     let mut sums = vec![Sums { count: 0, sum: 0, squares: 0 }];
     let mut order = None;
-    for line in text.lines() {
-        let mut words = line.split_ascii_whitespace();
-        let Some(first) = words.next() else { continue };
-        if first.starts_with('#') {
-            continue;
-        }
-        let commit: u64 = first.parse().expect("an order");
-        let value: i128 = words.next().expect("a value").parse().expect("a whole number");
+    for (commit, value) in lines_of(text) {
         if order != Some(commit) {
             order = Some(commit);
             sums.push(sums[sums.len() - 1]);
@@ -46,13 +49,28 @@ fn prefix_sums(text: &str) -> Vec<Sums> {
 }
 
 /// The least totals, the last cuts and the places of pruning.
-struct Tables {
-    least: Vec<i128>,
-    back: Vec<usize>,
-    pruned: Vec<usize>,
+pub struct Tables {
+    pub least: Vec<i128>,
+    pub back: Vec<usize>,
+    pub pruned: Vec<usize>,
 }
 
-fn tables(sums: &[Sums], penalty: i128, length: usize) -> Tables {
+impl Tables {
+    /// The best cut list of all positions.
+    pub fn cuts(&self) -> Vec<usize> {
+        let mut cuts: Vec<usize> =
+            std::iter::successors(self.back.last().copied(), |&t| Some(self.back[t])).take_while(|&t| t > 0).collect();
+        cuts.reverse();
+        cuts
+    }
+
+    /// Its total, 0 where there are no positions.
+    pub fn total(&self) -> i128 {
+        if self.least.len() == 1 { 0 } else { self.least[self.least.len() - 1] }
+    }
+}
+
+pub fn tables(sums: &[Sums], penalty: i128, length: usize) -> Tables {
     let mut least = vec![-penalty];
     let mut back = vec![0];
     let mut pruned = vec![0; sums.len()];
@@ -89,31 +107,37 @@ fn put_row<T: std::fmt::Display>(out: &mut impl Write, name: &str, items: &[T]) 
     writeln!(out)
 }
 
-fn main() -> io::Result<()> {
-    let penalty: i128 = std::env::args().nth(1).expect("a penalty").parse().expect("a whole number");
-    let length: usize = std::env::args().nth(2).map_or(1, |word| word.parse().expect("a least length"));
+/// The text of a certificate.
+pub fn put_certificate(out: &mut impl Write, penalty: i128, length: usize, tables: &Tables) -> io::Result<()> {
+    put_row(out, "points", &[tables.least.len() - 1])?;
+    put_row(out, "penalty", &[penalty])?;
+    if length > 1 {
+        put_row(out, "length", &[length])?;
+    }
+    put_row(out, "cuts", &tables.cuts())?;
+    put_row(out, "total", &[tables.total()])?;
+    put_row(out, "least", &tables.least)?;
+    put_row(out, "back", &tables.back)?;
+    put_row(out, "pruned", &tables.pruned)
+}
+
+/// The whole standard input.
+pub fn input() -> io::Result<String> {
     let mut text = String::new();
     io::stdin().read_to_string(&mut text)?;
-    let sums = prefix_sums(&text);
-    let n = sums.len() - 1;
-    let Tables { least, back, pruned } = tables(&sums, penalty, length);
-    let mut cuts = Vec::new();
-    let mut t = n;
-    while back[t] > 0 {
-        t = back[t];
-        cuts.push(t);
-    }
-    cuts.reverse();
+    Ok(text)
+}
+
+/// The word of this number as a whole number.
+pub fn number(word: usize) -> Option<i128> {
+    std::env::args().nth(word).map(|word| word.parse().expect("a whole number"))
+}
+
+fn main() -> io::Result<()> {
+    let penalty = number(1).expect("a penalty");
+    let length = number(2).unwrap_or(1) as usize;
+    let sums = prefix_sums(&input()?);
     let mut out = BufWriter::new(io::stdout().lock());
-    put_row(&mut out, "points", &[n])?;
-    put_row(&mut out, "penalty", &[penalty])?;
-    if length > 1 {
-        put_row(&mut out, "length", &[length])?;
-    }
-    put_row(&mut out, "cuts", &cuts)?;
-    put_row(&mut out, "total", &[if n == 0 { 0 } else { least[n] }])?;
-    put_row(&mut out, "least", &least)?;
-    put_row(&mut out, "back", &back)?;
-    put_row(&mut out, "pruned", &pruned)?;
+    put_certificate(&mut out, penalty, length, &tables(&sums, penalty, length))?;
     out.flush()
 }

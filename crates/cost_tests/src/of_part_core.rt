@@ -7,10 +7,10 @@ use pelt_core::segmentation;
 use segment_cost::Cert;
 use std::alloc::Global;
 
-/// Penalties, least lengths, commits with values, and the text of the certificate: a cut; one that ties with no cut; three last cuts that
-/// tie and a candidate at equality; no points; one position; the greatest and the least value; a place that is pruned before it
-/// can be a last cut, and is one; a change that is too short.
-const CERTIFICATES: [(u8, u8, &[(u64, i64)], &str); 8] = [
+/// Penalties, least lengths, commits with values, and the text of the certificate: a cut; one that ties with no cut; three
+/// last cuts that tie and a candidate at equality; an outlier, which is a segment of its own; no points; one position; the
+/// greatest and the least value; a place that is pruned before it can be a last cut, and is one; a change that is too short.
+const CERTIFICATES: [(u8, u8, &[(u64, i64)], &str); 9] = [
     (
         50,
         1,
@@ -39,6 +39,12 @@ const CERTIFICATES: [(u8, u8, &[(u64, i64)], &str); 8] = [
             (10, 2),
         ],
         "points 10\npenalty 8\ncuts\ntotal 16\nleast -8 0 0 8 8 11 12 13 14 15 16\nback 0 0 0 2 2 2 2 2 2 2 0\npruned 0 4 0 0 0 0 0 0 0 0 0\n",
+    ),
+    (
+        6,
+        1,
+        &[(1, 0), (2, 0), (3, 9), (4, 0), (5, 0)],
+        "points 5\npenalty 6\ncuts 2 3\ntotal 12\nleast -6 0 0 6 12 12\nback 0 0 0 2 3 3\npruned 3 3 4 0 0 0\n",
     ),
     (
         5,

@@ -3,9 +3,9 @@ use Rattle.std.proofs.Common.{◌≡◌, ℕ, ℤ, ◌+◌, inl, inr, List, [], 
 use Rattle.std.proofs.lemmas.List.{append_assoc}
 use Rattle.line_text.specs.Lines.{lines_of}
 use Rattle.cut_lines.specs.Lines.{CutLine, IsSkipped, IsCutLine, AreCutLines}
-use Rattle.cut_lines.specs.Points.{FitsSeries}
+use Rattle.cut_lines.specs.Points.{FitsWithin}
 use Rattle.cut_lines.specs.declared.stop.Refusal.{Refusal}
-use Rattle.cut_lines.specs.Reading.{AreAccepted, IsFirstRefused, Breaks, with_line}
+use Rattle.cut_lines.specs.Reading.{AreAcceptedWithin, IsFirstRefusedWithin, BreaksWithin, with_line}
 use Rattle.line_text.proofs.Parts.{first_part, goes_on}
 
 -- ---- the cut lines of one line more
@@ -26,16 +26,16 @@ cut-append n (first ∷ lines) cuts line cut (inl (skipped, are)) number is =
 cut-append n (first ∷ lines) cuts line cut (inr (other, rest, split, own, its, are)) number is =
     inr (other, rest ++ cut ∷ [], ap (λ (cs : List CutLine). cs ++ cut ∷ []) split, own, its, cut-append (n + 1) lines rest line cut are (omega arith) is)
 
-pub accepts_skipped : (lines : List (List ℕ)) (cuts : List CutLine) (line : List ℕ) → AreAccepted lines cuts → IsSkipped line → AreAccepted (lines ++ line ∷ []) cuts
-accepts_skipped lines cuts line are skipped = record {
+pub accepts_skipped : (most : ℕ) (lines : List (List ℕ)) (cuts : List CutLine) (line : List ℕ) → AreAcceptedWithin most lines cuts → IsSkipped line → AreAcceptedWithin most (lines ++ line ∷ []) cuts
+accepts_skipped most lines cuts line are skipped = record {
   read = skipped-append 1 lines cuts line are.read skipped;
   fits = are.fits;
 }
 
-pub accepts_cut : (lines : List (List ℕ)) (cuts : List CutLine) (line : List ℕ) (number order : ℕ) (value : ℤ) → AreAccepted lines cuts
-    → number ≡ length lines + 1 → IsCutLine line order value → FitsSeries (with_line cuts number order value)
-    → AreAccepted (lines ++ line ∷ []) (with_line cuts number order value)
-accepts_cut lines cuts line number order value are is cut fits = record {
+pub accepts_cut : (most : ℕ) (lines : List (List ℕ)) (cuts : List CutLine) (line : List ℕ) (number order : ℕ) (value : ℤ) → AreAcceptedWithin most lines cuts
+    → number ≡ length lines + 1 → IsCutLine line order value → FitsWithin most (with_line cuts number order value)
+    → AreAcceptedWithin most (lines ++ line ∷ []) (with_line cuts number order value)
+accepts_cut most lines cuts line number order value are is cut fits = record {
   read = cut-append 1 lines cuts line (record { number = number; order = order; value = value }) are.read (omega arith) cut;
   fits = fits;
 }
@@ -45,10 +45,10 @@ accepts_cut lines cuts line number order value are is cut fits = record {
 abbrev pub is_feed : ℕ → Bool
 is_feed b = eqb b 10
 
-pub first_refused : (why : Refusal) (bytes : List ℕ) (lines : List (List ℕ)) (rest : List ℕ) (cuts : List CutLine) (number : ℕ) (next : List ℕ)
-    → lines_of bytes ≡ lines ++ rest ∷ [] → AreAccepted lines cuts → number ≡ length lines + 1
-    → ((first : List ℕ) → Breaks why cuts number (rest ++ first)) → IsFirstRefused why (lines_of (bytes ++ next)) number
-first_refused why bytes lines rest cuts number next split are is refused =
+pub first_refused : (most : ℕ) (why : Refusal) (bytes : List ℕ) (lines : List (List ℕ)) (rest : List ℕ) (cuts : List CutLine) (number : ℕ) (next : List ℕ)
+    → lines_of bytes ≡ lines ++ rest ∷ [] → AreAcceptedWithin most lines cuts → number ≡ length lines + 1
+    → ((first : List ℕ) → BreaksWithin most why cuts number (rest ++ first)) → IsFirstRefusedWithin most why (lines_of (bytes ++ next)) number
+first_refused most why bytes lines rest cuts number next split are is refused =
     let part = first_part is_feed next in
     record {
       before = lines;
@@ -62,10 +62,10 @@ first_refused why bytes lines rest cuts number next split are is refused =
     }
 
 -- the line is refused as it stands: at the end, or where a line feed comes
-pub ended_refused : (why : Refusal) (bytes : List ℕ) (lines : List (List ℕ)) (rest : List ℕ) (cuts : List CutLine) (number : ℕ)
-    → lines_of bytes ≡ lines ++ rest ∷ [] → AreAccepted lines cuts → number ≡ length lines + 1 → Breaks why cuts number rest
-    → IsFirstRefused why (lines_of bytes) number × ((more : List ℕ) → IsFirstRefused why (lines_of ((bytes ++ 10 ∷ []) ++ more)) number)
-ended_refused why bytes lines rest cuts number split are is refused = (
+pub ended_refused : (most : ℕ) (why : Refusal) (bytes : List ℕ) (lines : List (List ℕ)) (rest : List ℕ) (cuts : List CutLine) (number : ℕ)
+    → lines_of bytes ≡ lines ++ rest ∷ [] → AreAcceptedWithin most lines cuts → number ≡ length lines + 1 → BreaksWithin most why cuts number rest
+    → IsFirstRefusedWithin most why (lines_of bytes) number × ((more : List ℕ) → IsFirstRefusedWithin most why (lines_of ((bytes ++ 10 ∷ []) ++ more)) number)
+ended_refused most why bytes lines rest cuts number split are is refused = (
   record { before = lines; line = rest; behind = []; cuts = cuts; split = split; number = is; accepted = are; refused = refused },
   λ more. record {
     before = lines;
@@ -76,7 +76,7 @@ ended_refused why bytes lines rest cuts number split are is refused = (
         ap lines_of (append_assoc bytes (10 ∷ []) more) ∙ goes_on is_feed bytes (10 ∷ more) lines rest [] (lines_of more) split refl;
     number = is;
     accepted = are;
-    refused = subst (Breaks why cuts number) (sym (append-nil rest)) refused;
+    refused = subst (BreaksWithin most why cuts number) (sym (append-nil rest)) refused;
   },
 )
 

@@ -14,9 +14,9 @@ use Rattle.cut_lines.specs.declared.stop.Stop.{Stop}
 use Rattle.cut_lines.specs.declared.stop.Stop.TheVariants.{Fault, TooLong, Refused, NoMemory}
 use Rattle.segment_model.specs.Segments.{Position}
 use Rattle.cut_lines.specs.Lines.{CutLine, IsSkipped, IsCutLine, IsGood, AreCutLines}
-use Rattle.cut_lines.specs.Points.{FitsSeries}
-use Rattle.cut_lines.specs.Reading.{AreAccepted, with_line, Breaks, IsFirstRefused, within_limit, Refuses, MayGoOn, IsTooLong, AreCutLinesOf, ArePointsOf}
-use Rattle.cut_lines.specs.Stops.{BytesShow}
+use Rattle.cut_lines.specs.Points.{FitsWithin}
+use Rattle.cut_lines.specs.Reading.{AreAcceptedWithin, with_line, BreaksWithin, IsFirstRefusedWithin, within_limit, RefusesWithin, MayGoOnWithin, IsTooLongWithin, AreCutLinesWithin, ArePointsWithin}
+use Rattle.cut_lines.specs.Stops.{BytesShowWithin}
 use Rattle.line_text.proofs.SignedWords.{one_number, no_minus, behind_minus}
 use Rattle.line_text.proofs.Parts.{first_part, goes_on}
 use Rattle.line_text.proofs.Blank.{is_space, word_first}
@@ -115,9 +115,9 @@ record Goes (before : List (List ℕ)) (line : List ℕ) (cuts all : List CutLin
   good : IsGood line
   begins : (order : ℕ) (value : ℤ) → IsCutLine line order value → (rest : List CutLine) × (all ≡ with_line cuts (length before + 1) order value ++ rest)
 
-goes : (before : List (List ℕ)) (line : List ℕ) (behind : List (List ℕ)) (cuts all : List CutLine)
-    → AreCutLines 1 before cuts → AreAccepted (before ++ line ∷ behind) all → Goes before line cuts all
-goes before line behind cuts all are accepted = at parts.behind
+goes : (most : ℕ) (before : List (List ℕ)) (line : List ℕ) (behind : List (List ℕ)) (cuts all : List CutLine)
+    → AreCutLines 1 before cuts → AreAcceptedWithin most (before ++ line ∷ behind) all → Goes before line cuts all
+goes most before line behind cuts all are accepted = at parts.behind
   where
     parts : Parts 1 before (line ∷ behind) all
     parts = parts_of 1 before (line ∷ behind) all accepted.read
@@ -140,16 +140,16 @@ goes before line behind cuts all are accepted = at parts.behind
           );
     }
 
-not_among : (why : Refusal) (before : List (List ℕ)) (line : List ℕ) (behind : List (List ℕ)) (cuts all : List CutLine) (k : ℕ)
-    → AreCutLines 1 before cuts → AreAccepted (before ++ line ∷ behind) all → k ≡ length before + 1 → Breaks why cuts k line → ⊥
-not_among why before line behind cuts all k are accepted number refused =
-    at why (goes before line behind cuts all are accepted) (subst (λ n. Breaks why cuts n line) number refused)
+not_among : (most : ℕ) (why : Refusal) (before : List (List ℕ)) (line : List ℕ) (behind : List (List ℕ)) (cuts all : List CutLine) (k : ℕ)
+    → AreCutLines 1 before cuts → AreAcceptedWithin most (before ++ line ∷ behind) all → k ≡ length before + 1 → BreaksWithin most why cuts k line → ⊥
+not_among most why before line behind cuts all k are accepted number refused =
+    at why (goes most before line behind cuts all are accepted) (subst (λ n. BreaksWithin most why cuts n line) number refused)
   where
-    at : (why : Refusal) → Goes before line cuts all → Breaks why cuts (length before + 1) line → ⊥
-    at Bad goes bad = bad goes.good
-    at Full goes (order, value, is, over) =
-        let all' = goes.begins order value is in
-        over (fits_front (with_line cuts (length before + 1) order value) all'.0 (subst FitsSeries all'.1 accepted.fits))
+    at : (why : Refusal) → Goes before line cuts all → BreaksWithin most why cuts (length before + 1) line → ⊥
+    at Bad past bad = bad past.good
+    at Full past (order, value, is, over) =
+        let all' = past.begins order value is in
+        over (fits_front most (with_line cuts (length before + 1) order value) all'.0 (subst (FitsWithin most) all'.1 accepted.fits))
 
 -- ---- the first refused line is one line
 
@@ -178,22 +178,22 @@ one_split (next ∷ one) (first ∷ two) line other behind rest same count =
     (ap₂ (λ (l : List ℕ) (ls : List (List ℕ)). l ∷ ls) is found.0, found.1)
 
 -- a line is refused for one reason
-one_reason : (why other : Refusal) (cuts : List CutLine) (k : ℕ) (line : List ℕ) → Breaks why cuts k line → Breaks other cuts k line → why ≡ other
-one_reason Bad Bad cuts k line one two = refl
-one_reason Full Full cuts k line one two = refl
-one_reason Bad Full cuts k line bad (order, value, is, over) = absurd (bad (inr (order, value, is)))
-one_reason Full Bad cuts k line (order, value, is, over) bad = absurd (bad (inr (order, value, is)))
+one_reason : (most : ℕ) (why other : Refusal) (cuts : List CutLine) (k : ℕ) (line : List ℕ) → BreaksWithin most why cuts k line → BreaksWithin most other cuts k line → why ≡ other
+one_reason most Bad Bad cuts k line one two = refl
+one_reason most Full Full cuts k line one two = refl
+one_reason most Bad Full cuts k line bad (order, value, is, over) = absurd (bad (inr (order, value, is)))
+one_reason most Full Bad cuts k line (order, value, is, over) bad = absurd (bad (inr (order, value, is)))
 
 -- no lines reach past the first refused one and are accepted
-not_past : (why : Refusal) (lines : List (List ℕ)) (k : ℕ) (first : IsFirstRefused why lines k) (two rest : List (List ℕ)) (cuts : List CutLine)
-    → lines ≡ two ++ rest → AreAccepted two cuts → length first.before < length two → ⊥
-not_past why lines k first two rest cuts split are less =
+not_past : (most : ℕ) (why : Refusal) (lines : List (List ℕ)) (k : ℕ) (first : IsFirstRefusedWithin most why lines k) (two rest : List (List ℕ)) (cuts : List CutLine)
+    → lines ≡ two ++ rest → AreAcceptedWithin most two cuts → length first.before < length two → ⊥
+not_past most why lines k first two rest cuts split are less =
     let past = goes_past first.before two first.line first.behind rest (sym first.split ∙ split) less in
-    not_among why first.before first.line past.0 first.cuts cuts k first.accepted.read (subst (λ ls. AreAccepted ls cuts) past.1 are) first.number first.refused
+    not_among most why first.before first.line past.0 first.cuts cuts k first.accepted.read (subst (λ ls. AreAcceptedWithin most ls cuts) past.1 are) first.number first.refused
 
 -- the first refused line is one line, refused for one reason
-one_refused : (why other : Refusal) (lines : List (List ℕ)) (k j : ℕ) → IsFirstRefused why lines k → IsFirstRefused other lines j → (why ≡ other) × (k ≡ j)
-one_refused why other lines k j one two = at (cases_order (length one.before) (length two.before))
+one_refused : (most : ℕ) (why other : Refusal) (lines : List (List ℕ)) (k j : ℕ) → IsFirstRefusedWithin most why lines k → IsFirstRefusedWithin most other lines j → (why ≡ other) × (k ≡ j)
+one_refused most why other lines k j one two = at (cases_order (length one.before) (length two.before))
   where
     at : (length one.before ≡ length two.before) ⊎ ((length one.before < length two.before) ⊎ (length two.before < length one.before)) → (why ≡ other) × (k ≡ j)
     at (inl count) =
@@ -201,44 +201,44 @@ one_refused why other lines k j one two = at (cases_order (length one.before) (l
         let number : j ≡ k = two.number ∙ ap (λ n. n + 1) (sym count) ∙ sym one.number in
         let cuts : two.cuts ≡ one.cuts =
         one_list 1 one.before two.cuts one.cuts (subst (λ ls. AreCutLines 1 ls two.cuts) (sym split.0) two.accepted.read) one.accepted.read in
-        let again : Breaks other one.cuts k one.line =
-        subst (λ (x : List CutLine). Breaks other x k one.line) cuts (subst (λ n. Breaks other two.cuts n one.line) number (subst (λ l. Breaks other two.cuts j l) (sym split.1) two.refused)) in
-        (one_reason why other one.cuts k one.line one.refused again, sym number)
-    at (inr (inl less)) = absurd (not_past why lines k one two.before (two.line ∷ two.behind) two.cuts two.split two.accepted less)
-    at (inr (inr less)) = absurd (not_past other lines j two one.before (one.line ∷ one.behind) one.cuts one.split one.accepted less)
+        let again : BreaksWithin most other one.cuts k one.line =
+        subst (λ (x : List CutLine). BreaksWithin most other x k one.line) cuts (subst (λ n. BreaksWithin most other two.cuts n one.line) number (subst (λ l. BreaksWithin most other two.cuts j l) (sym split.1) two.refused)) in
+        (one_reason most why other one.cuts k one.line one.refused again, sym number)
+    at (inr (inl less)) = absurd (not_past most why lines k one two.before (two.line ∷ two.behind) two.cuts two.split two.accepted less)
+    at (inr (inr less)) = absurd (not_past most other lines j two one.before (one.line ∷ one.behind) one.cuts one.split one.accepted less)
 
 -- ---- whole inputs and inputs that are too long have no refused line
 
 no_more : (bytes : List ℕ) → length bytes ≤ 2 ^ 30 → within_limit bytes ++ [] ≡ bytes
 no_more bytes short = append-nil (within_limit bytes) ∙ take_all (2 ^ 30) bytes short
 
-done_not_refused : (why : Refusal) (bytes : List ℕ) (cuts : List CutLine) (k : ℕ)
-    → AreCutLinesOf bytes cuts → Refuses why bytes k → ⊥
-done_not_refused why bytes cuts k done refused =
+done_not_refused : (most : ℕ) (why : Refusal) (bytes : List ℕ) (cuts : List CutLine) (k : ℕ)
+    → AreCutLinesWithin most bytes cuts → RefusesWithin most why bytes k → ⊥
+done_not_refused most why bytes cuts k done refused =
     let whole : lines_of (within_limit bytes ++ []) ≡ lines_of bytes = ap lines_of (no_more bytes done.short) in
     let first = refused [] (λ short. refl) in
-    not_among why first.before first.line first.behind first.cuts cuts k first.accepted.read
-    (subst (λ ls. AreAccepted ls cuts) (sym whole ∙ first.split) done.accepted) first.number first.refused
+    not_among most why first.before first.line first.behind first.cuts cuts k first.accepted.read
+    (subst (λ ls. AreAcceptedWithin most ls cuts) (sym whole ∙ first.split) done.accepted) first.number first.refused
 
 -- the line that has begun is refused, whatever line it becomes
-open_refused : (why : Refusal) (bytes : List ℕ) (k : ℕ) → 2 ^ 30 < length bytes
-    → (open' : MayGoOn (within_limit bytes)) → Refuses why bytes k → (more : List ℕ) → lines_of more ≡ more ∷ []
-    → (cuts : List CutLine) × Breaks why cuts k (open'.rest ++ more)
-open_refused why bytes k long open' refused more line = at (cases_order (length first.before) (length open'.lines))
+open_refused : (most : ℕ) (why : Refusal) (bytes : List ℕ) (k : ℕ) → 2 ^ 30 < length bytes
+    → (open' : MayGoOnWithin most (within_limit bytes)) → RefusesWithin most why bytes k → (more : List ℕ) → lines_of more ≡ more ∷ []
+    → (cuts : List CutLine) × BreaksWithin most why cuts k (open'.rest ++ more)
+open_refused most why bytes k long open' refused more line = at (cases_order (length first.before) (length open'.lines))
   where
-    first : IsFirstRefused why (lines_of (within_limit bytes ++ more)) k
+    first : IsFirstRefusedWithin most why (lines_of (within_limit bytes ++ more)) k
     first = refused more (λ short. absurd (omega arith))
 
     whole : lines_of (within_limit bytes ++ more) ≡ open'.lines ++ (open'.rest ++ more) ∷ []
     whole = goes_on is_feed (within_limit bytes) more open'.lines open'.rest more [] open'.split line
 
     at : (length first.before ≡ length open'.lines) ⊎ ((length first.before < length open'.lines) ⊎ (length open'.lines < length first.before))
-        → (cuts : List CutLine) × Breaks why cuts k (open'.rest ++ more)
+        → (cuts : List CutLine) × BreaksWithin most why cuts k (open'.rest ++ more)
     at (inl count) =
         let split = one_split first.before open'.lines first.line (open'.rest ++ more) first.behind [] (sym first.split ∙ whole) count in
-        (first.cuts, subst (λ l. Breaks why first.cuts k l) split.1 first.refused)
+        (first.cuts, subst (λ l. BreaksWithin most why first.cuts k l) split.1 first.refused)
     at (inr (inl less)) =
-        absurd (not_past why (lines_of (within_limit bytes ++ more)) k first open'.lines ((open'.rest ++ more) ∷ []) open'.cuts whole open'.accepted less)
+        absurd (not_past most why (lines_of (within_limit bytes ++ more)) k first open'.lines ((open'.rest ++ more) ∷ []) open'.cuts whole open'.accepted less)
     at (inr (inr less)) =
         let all : length (first.before ++ first.line ∷ first.behind) ≡ length first.before + length (first.line ∷ first.behind) = length-append first.before (first.line ∷ first.behind) in
         let few : length (open'.lines ++ (open'.rest ++ more) ∷ []) ≡ length open'.lines + 1 = length-append open'.lines ((open'.rest ++ more) ∷ []) in
@@ -267,44 +267,44 @@ too_many rest n order value many is =
     omega (arith, is.short)
 
 -- what is refused for this reason is a cut line, so the line that has begun isn't where too many bytes come
-not_cut : (why : Refusal) (bytes : List ℕ) (k n : ℕ) → 4_096 < n → ((cuts : List CutLine) (line : List ℕ) → Breaks why cuts k line → HasNumbers line)
-    → IsTooLong bytes → Refuses why bytes k → ⊥
-not_cut why bytes k n many says (long, open') refused =
-    let found = open_refused why bytes k long open' refused (zeros n) (line_of_zeros n) in
+not_cut : (most : ℕ) (why : Refusal) (bytes : List ℕ) (k n : ℕ) → 4_096 < n → ((cuts : List CutLine) (line : List ℕ) → BreaksWithin most why cuts k line → HasNumbers line)
+    → IsTooLongWithin most bytes → RefusesWithin most why bytes k → ⊥
+not_cut most why bytes k n many says (long, open') refused =
+    let found = open_refused most why bytes k long open' refused (zeros n) (line_of_zeros n) in
     let cut = says found.0 (open'.rest ++ zeros n) found.1 in
     too_many open'.rest n cut.0 cut.1 many cut.2
 
 -- what is refused as bad becomes good with an end
-not_bad : (bytes : List ℕ) (k : ℕ) → IsTooLong bytes → Refuses Bad bytes k → ⊥
-not_bad bytes k (long, open') refused = at (ends_well open'.rest open'.may.0 open'.may.2)
+not_bad : (most : ℕ) (bytes : List ℕ) (k : ℕ) → IsTooLongWithin most bytes → RefusesWithin most Bad bytes k → ⊥
+not_bad most bytes k (long, open') refused = at (ends_well open'.rest open'.may.0 open'.may.2)
   where
     at : EndsWell open'.rest → ⊥
-    at (inl good) = (open_refused Bad bytes k long open' refused [] refl).1 (subst IsGood (sym (append-nil open'.rest)) good)
-    at (inr (inl numbers)) = (open_refused Bad bytes k long open' refused (32 ∷ 48 ∷ []) refl).1 (inr numbers)
-    at (inr (inr numbers)) = (open_refused Bad bytes k long open' refused (49 ∷ []) refl).1 (inr numbers)
+    at (inl good) = (open_refused most Bad bytes k long open' refused [] refl).1 (subst IsGood (sym (append-nil open'.rest)) good)
+    at (inr (inl numbers)) = (open_refused most Bad bytes k long open' refused (32 ∷ 48 ∷ []) refl).1 (inr numbers)
+    at (inr (inr numbers)) = (open_refused most Bad bytes k long open' refused (49 ∷ []) refl).1 (inr numbers)
 
-too_long_not_refused : (why : Refusal) (bytes : List ℕ) (k : ℕ) → IsTooLong bytes → Refuses why bytes k → ⊥
-too_long_not_refused Bad bytes k = not_bad bytes k
-too_long_not_refused Full bytes k = not_cut Full bytes k 4_097 (omega arith) (λ cuts line told. (told.0, told.1, told.2))
+too_long_not_refused : (most : ℕ) (why : Refusal) (bytes : List ℕ) (k : ℕ) → IsTooLongWithin most bytes → RefusesWithin most why bytes k → ⊥
+too_long_not_refused most Bad bytes k = not_bad most bytes k
+too_long_not_refused most Full bytes k = not_cut most Full bytes k 4_097 (omega arith) (λ cuts line told. (told.0, told.1, told.2))
 
 -- ---- all stops
 
-pub one_stop : (bytes : List ℕ) (one other : Stop) → BytesShow bytes one → BytesShow bytes other → one ≡ other
-one_stop bytes TooLong TooLong one two = refl
-one_stop bytes TooLong (Refused why k) one two = absurd (too_long_not_refused why bytes k one two)
-one_stop bytes (Refused why k) TooLong one two = absurd (too_long_not_refused why bytes k two one)
-one_stop bytes (Refused why k) (Refused other j) one two =
-    let same = one_refused why other (lines_of (within_limit bytes ++ [])) k j (one [] (λ short. refl)) (two [] (λ short. refl)) in
+pub one_stop : (most : ℕ) (bytes : List ℕ) (one other : Stop) → BytesShowWithin most bytes one → BytesShowWithin most bytes other → one ≡ other
+one_stop most bytes TooLong TooLong one two = refl
+one_stop most bytes TooLong (Refused why k) one two = absurd (too_long_not_refused most why bytes k one two)
+one_stop most bytes (Refused why k) TooLong one two = absurd (too_long_not_refused most why bytes k two one)
+one_stop most bytes (Refused why k) (Refused other j) one two =
+    let same = one_refused most why other (lines_of (within_limit bytes ++ [])) k j (one [] (λ short. refl)) (two [] (λ short. refl)) in
     ap₂ Refused same.0 same.1
-one_stop bytes TooLong Fault one two = absurd two
-one_stop bytes TooLong NoMemory one two = absurd two
-one_stop bytes (Refused why k) Fault one two = absurd two
-one_stop bytes (Refused why k) NoMemory one two = absurd two
-one_stop bytes Fault other one two = absurd one
-one_stop bytes NoMemory other one two = absurd one
+one_stop most bytes TooLong Fault one two = absurd two
+one_stop most bytes TooLong NoMemory one two = absurd two
+one_stop most bytes (Refused why k) Fault one two = absurd two
+one_stop most bytes (Refused why k) NoMemory one two = absurd two
+one_stop most bytes Fault other one two = absurd one
+one_stop most bytes NoMemory other one two = absurd one
 
-pub no_stop : (bytes : List ℕ) (points : List Position) (stop : Stop) → ArePointsOf bytes points → ¬ BytesShow bytes stop
-no_stop bytes points TooLong (cuts, are, is) told = omega (arith, are.short, told.0)
-no_stop bytes points (Refused why k) (cuts, are, is) told = done_not_refused why bytes cuts k are told
-no_stop bytes points Fault (cuts, are, is) told = told
-no_stop bytes points NoMemory (cuts, are, is) told = told
+pub no_stop : (most : ℕ) (bytes : List ℕ) (points : List Position) (stop : Stop) → ArePointsWithin most bytes points → ¬ BytesShowWithin most bytes stop
+no_stop most bytes points TooLong (cuts, are, is) told = omega (arith, are.short, told.0)
+no_stop most bytes points (Refused why k) (cuts, are, is) told = done_not_refused most why bytes cuts k are told
+no_stop most bytes points Fault (cuts, are, is) told = told
+no_stop most bytes points NoMemory (cuts, are, is) told = told

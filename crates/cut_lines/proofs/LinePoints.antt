@@ -7,7 +7,7 @@ use Rattle.segment_model.proofs.Rising.{IsIn, append-in, rising-fewer}
 use Rattle.segment_model.proofs.Insertions.{positions-push}
 use Rattle.segment_model.proofs.Inserted.{values-brought}
 use Rattle.cut_lines.specs.Lines.{CutLine}
-use Rattle.cut_lines.specs.Points.{brought_by, points_of, FitsSeries}
+use Rattle.cut_lines.specs.Points.{brought_by, points_of, FitsWithin}
 use Rattle.cut_lines.specs.Adding.{with_value_of}
 
 -- a line more puts its value into the points
@@ -26,8 +26,8 @@ positions-counted : (cuts : List CutLine) → length (points_of cuts) ≡ length
 positions-counted cuts = length-map (rising (commits_brought cuts)) (position_at (map brought_by cuts))
 
 -- fewer lines pass no limit that more lines keep
-pub fits_front : (front back : List CutLine) → FitsSeries (front ++ back) → FitsSeries front
-fits_front front back fits =
+pub fits_front : (most : ℕ) (front back : List CutLine) → FitsWithin most (front ++ back) → FitsWithin most front
+fits_front most front back fits =
     let count : length (front ++ back) ≡ length front + length back = length-append front back in
     let commits : commits_brought (front ++ back) ≡ commits_brought front ++ commits_brought back =
     ap (map (λ (x : Brought). x.commit)) (map-append brought_by front back) ∙ map-append (λ (x : Brought). x.commit) (map brought_by front) (map brought_by back) in

@@ -11,8 +11,8 @@ use Rattle.line_text.specs.Lines.{lines_of}
 use Rattle.cut_lines.specs.declared.reader.Reader.{Reader}
 use Rattle.cut_lines.specs.declared.stop.Stop.{Stop}
 use Rattle.cut_lines.specs.declared.stop.Stop.TheVariants.{Fault, TooLong, Refused, NoMemory}
-use Rattle.cut_lines.specs.Reading.{ArePointsOf, IsFirstRefused, MayGoOn, IsTooLong, within_limit}
-use Rattle.cut_lines.specs.Stops.{StopsFor}
+use Rattle.cut_lines.specs.Reading.{ArePointsWithin, IsFirstRefusedWithin, MayGoOnWithin, IsTooLongWithin, within_limit}
+use Rattle.cut_lines.specs.Stops.{StopsWithin}
 use Rattle.cut_lines.specs.HasRead.{HasRead, AreLinesPoints, ShowsRefused, EndsRefused}
 use Rattle.cut_lines.specs.Pieces.{Gave, HasCause}
 
@@ -24,44 +24,44 @@ within-append given rest short =
     ap (λ n. take n (given ++ rest)) split ∙ take-append-add given rest (2 ^ 30 - length given)
 
 -- a line that the first bytes refuse, they all refuse
-pub cause : (given rest : List ℕ) (stop : Stop) → length given ≤ 2 ^ 30 → ShowsRefused given stop → HasCause (given ++ rest) stop
-cause given rest (Refused why k) short shown = λ more none.
-    subst (λ bytes. IsFirstRefused why (lines_of bytes) k)
+pub cause : (most : ℕ) (given rest : List ℕ) (stop : Stop) → length given ≤ 2 ^ 30 → ShowsRefused most given stop → HasCause most (given ++ rest) stop
+cause most given rest (Refused why k) short shown = λ more none.
+    subst (λ bytes. IsFirstRefusedWithin most why (lines_of bytes) k)
     (sym (append_assoc given (take (2 ^ 30 - length given) rest) more) ∙ ap (λ bytes. bytes ++ more) (sym (within-append given rest short)))
     (shown (take (2 ^ 30 - length given) rest ++ more))
-cause given rest NoMemory short shown = tt
-cause given rest Fault short shown = shown
-cause given rest TooLong short shown = absurd shown
+cause most given rest NoMemory short shown = tt
+cause most given rest Fault short shown = shown
+cause most given rest TooLong short shown = absurd shown
 
 -- a line that as many bytes refuse as are allowed
-pub front_cause : (read bytes rest : List ℕ) (allowed : ℕ) (stop : Stop) → length read + allowed ≡ 2 ^ 30 → ShowsRefused (read ++ take allowed bytes) stop
-    → HasCause ((read ++ bytes) ++ rest) stop
-front_cause read bytes rest allowed stop short told =
+pub front_cause : (most : ℕ) (read bytes rest : List ℕ) (allowed : ℕ) (stop : Stop) → length read + allowed ≡ 2 ^ 30 → ShowsRefused most (read ++ take allowed bytes) stop
+    → HasCause most ((read ++ bytes) ++ rest) stop
+front_cause most read bytes rest allowed stop short told =
     let count : length (read ++ take allowed bytes) ≡ length read + length (take allowed bytes) = length-append read (take allowed bytes) in
     let split : (read ++ take allowed bytes) ++ (drop allowed bytes ++ rest) ≡ (read ++ bytes) ++ rest =
     sym (append_assoc (read ++ take allowed bytes) (drop allowed bytes) rest)
     ∙ ap (λ bs. bs ++ rest) (append_assoc read (take allowed bytes) (drop allowed bytes) ∙ ap (λ bs. read ++ bs) (take-append-drop allowed bytes)) in
-    subst (λ bs. HasCause bs stop) split
-    (cause (read ++ take allowed bytes) (drop allowed bytes ++ rest) stop (omega (arith, length-take allowed bytes)) told)
+    subst (λ bs. HasCause most bs stop) split
+    (cause most (read ++ take allowed bytes) (drop allowed bytes ++ rest) stop (omega (arith, length-take allowed bytes)) told)
 
 -- the bytes are all, and the last line is refused
-end_cause : (bytes : List ℕ) (stop : Stop) → length bytes ≤ 2 ^ 30 → EndsRefused bytes stop → HasCause bytes stop
-end_cause bytes (Refused why k) short told = λ more none.
+end_cause : (most : ℕ) (bytes : List ℕ) (stop : Stop) → length bytes ≤ 2 ^ 30 → EndsRefused most bytes stop → HasCause most bytes stop
+end_cause most bytes (Refused why k) short told = λ more none.
     let whole : within_limit bytes ++ more ≡ bytes = ap (λ bs. within_limit bytes ++ bs) (none short) ∙ append-nil (within_limit bytes) ∙ take_all (2 ^ 30) bytes short in
-    subst (λ bs. IsFirstRefused why (lines_of bs) k) (sym whole) told
-end_cause bytes NoMemory short told = tt
-end_cause bytes Fault short told = told
-end_cause bytes TooLong short told = absurd told
+    subst (λ bs. IsFirstRefusedWithin most why (lines_of bs) k) (sym whole) told
+end_cause most bytes NoMemory short told = tt
+end_cause most bytes Fault short told = told
+end_cause most bytes TooLong short told = absurd told
 
 -- there are more bytes than are allowed, and the first ones may go on
-pub too_long : (read bytes rest : List ℕ) (allowed : ℕ) → length read + allowed ≡ 2 ^ 30 → allowed < length bytes → MayGoOn (read ++ take allowed bytes)
-    → IsTooLong ((read ++ bytes) ++ rest)
-too_long read bytes rest allowed short many may =
+pub too_long : (most : ℕ) (read bytes rest : List ℕ) (allowed : ℕ) → length read + allowed ≡ 2 ^ 30 → allowed < length bytes → MayGoOnWithin most (read ++ take allowed bytes)
+    → IsTooLongWithin most ((read ++ bytes) ++ rest)
+too_long most read bytes rest allowed short many may =
     let count : length (read ++ bytes) ≡ length read + length bytes = length-append read bytes in
     let all : length ((read ++ bytes) ++ rest) ≡ length (read ++ bytes) + length rest = length-append (read ++ bytes) rest in
     let long : 2 ^ 30 < length ((read ++ bytes) ++ rest) = omega arith in (
       long,
-      subst MayGoOn
+      subst (MayGoOnWithin most)
           (sym (take-append-add read bytes allowed) ∙ ap (λ n. take n (read ++ bytes)) short ∙ sym (take-append-le (2 ^ 30) (read ++ bytes) rest (omega arith))) may,
     )
 
@@ -99,11 +99,11 @@ always (Err e) holds = tt
 
 module _ {I : Type 0} (g : Ghosts I) (first : I) where
   -- some bytes show the stop, so it is no fault, and those of the input do
-  stops : (new : I) (stop : Stop) (bytes : List ℕ) → HasCause bytes stop → IfSome (g.left first) (λ bs. HasCause bs stop) → StopsFor g first new stop
-  stops new (Refused why k) bytes is shown = shown
-  stops new TooLong bytes is shown = shown
-  stops new NoMemory bytes is shown = tt
-  stops new Fault bytes is shown = absurd is
+  stops : (most : ℕ) (new : I) (stop : Stop) (bytes : List ℕ) → HasCause most bytes stop → IfSome (g.left first) (λ bs. HasCause most bs stop) → StopsWithin most g first new stop
+  stops most new (Refused why k) bytes is shown = shown
+  stops most new TooLong bytes is shown = shown
+  stops most new NoMemory bytes is shown = tt
+  stops most new Fault bytes is shown = absurd is
 
   pub gave_none : (reader : Reader) → reader.whole_lines ≡ 0 → HasRead [] reader → Gave g first first reader (2 ^ 30)
   gave_none reader whole has =
@@ -117,21 +117,21 @@ module _ {I : Type 0} (g : Ghosts I) (first : I) where
     kept same = gave.gave ∙ ap (prepend_known gave.read) (sym same)
 
     -- the input failed
-    pub faulted : g.left new ≡ g.left old → Rose (g.faults old) (g.faults new) → ((read : List ℕ) → HasRead read reader → MayGoOn read) → StopsFor g first new Fault
+    pub faulted : g.left new ≡ g.left old → Rose (g.faults old) (g.faults new) → ((read : List ℕ) → HasRead read reader → MayGoOnWithin reader.most read) → StopsWithin reader.most g first new Fault
     faulted same rose may =
         (omega (arith, rose, gave.counts), record { given = gave.read; gave = kept same; may_go_on = may gave.read gave.has })
 
-    pub faulted_refused : (stop : Stop) → g.left new ≡ g.left old → ((read : List ℕ) → HasRead read reader → ShowsRefused read stop) → StopsFor g first new stop
+    pub faulted_refused : (stop : Stop) → g.left new ≡ g.left old → ((read : List ℕ) → HasRead read reader → ShowsRefused reader.most read stop) → StopsWithin reader.most g first new stop
     faulted_refused stop same told =
-        let shown : (rest : List ℕ) → HasCause (gave.read ++ rest) stop = λ rest. cause gave.read rest stop (omega (arith, gave.short)) (told gave.read gave.has) in
-        stops new stop (gave.read ++ []) (shown []) (given_all (λ bs. HasCause bs stop) (g.left first) (g.left new) gave.read (kept same) shown)
+        let shown : (rest : List ℕ) → HasCause reader.most (gave.read ++ rest) stop = λ rest. cause reader.most gave.read rest stop (omega (arith, gave.short)) (told gave.read gave.has) in
+        stops reader.most new stop (gave.read ++ []) (shown []) (given_all (λ bs. HasCause reader.most bs stop) (g.left first) (g.left new) gave.read (kept same) shown)
 
     pub piece_stops : (stop : Stop) (piece bytes : List ℕ) → g.left old ≡ prepend_known piece (g.left new) → bytes ≡ piece
-        → ((read rest : List ℕ) → HasRead read reader → length read + allowed ≡ 2 ^ 30 → HasCause ((read ++ bytes) ++ rest) stop) → StopsFor g first new stop
+        → ((read rest : List ℕ) → HasRead read reader → length read + allowed ≡ 2 ^ 30 → HasCause reader.most ((read ++ bytes) ++ rest) stop) → StopsWithin reader.most g first new stop
     piece_stops stop piece bytes next is told =
-        let shown : (rest : List ℕ) → HasCause ((gave.read ++ piece) ++ rest) stop =
-        subst (λ bs. (rest : List ℕ) → HasCause ((gave.read ++ bs) ++ rest) stop) is (λ rest. told gave.read rest gave.has gave.short) in
-        stops new stop ((gave.read ++ piece) ++ []) (shown []) (given_all (λ bs. HasCause bs stop) (g.left first) (g.left new) (gave.read ++ piece) (more piece next) shown)
+        let shown : (rest : List ℕ) → HasCause reader.most ((gave.read ++ piece) ++ rest) stop =
+        subst (λ bs. (rest : List ℕ) → HasCause reader.most ((gave.read ++ bs) ++ rest) stop) is (λ rest. told gave.read rest gave.has gave.short) in
+        stops reader.most new stop ((gave.read ++ piece) ++ []) (shown []) (given_all (λ bs. HasCause reader.most bs stop) (g.left first) (g.left new) (gave.read ++ piece) (more piece next) shown)
 
     pub piece_taken : (next_reader : Reader) (count : ℕ) (piece bytes : List ℕ) → g.left old ≡ prepend_known piece (g.left new) → bytes ≡ piece → count ≡ length bytes
         → count ≤ allowed → g.faults old ≤ g.faults new → next_reader.whole_lines ≤ reader.whole_lines + length bytes
@@ -161,12 +161,12 @@ module _ {I : Type 0} (g : Ghosts I) (first : I) where
     whole : (P : List ℕ → Type 0) → P gave.read → IfSome (g.left first) P
     whole P holds = given_whole P (g.left first) (g.left now) gave.read gave.gave end holds
 
-    pub end_stops : (stop : Stop) → ((read : List ℕ) → HasRead read reader → EndsRefused read stop) → StopsFor g first now stop
+    pub end_stops : (stop : Stop) → ((read : List ℕ) → HasRead read reader → EndsRefused reader.most read stop) → StopsWithin reader.most g first now stop
     end_stops stop told =
-        let shown : HasCause gave.read stop = end_cause gave.read stop (omega (arith, gave.short)) (told gave.read gave.has) in
-        stops now stop gave.read shown (whole (λ bs. HasCause bs stop) shown)
+        let shown : HasCause reader.most gave.read stop = end_cause reader.most gave.read stop (omega (arith, gave.short)) (told gave.read gave.has) in
+        stops reader.most now stop gave.read shown (whole (λ bs. HasCause reader.most bs stop) shown)
 
-    pub end_points : (points : List Position) → ((read : List ℕ) → HasRead read reader → AreLinesPoints read points) → IfSome (g.left first) (λ bytes. ArePointsOf bytes points)
+    pub end_points : (points : List Position) → ((read : List ℕ) → HasRead read reader → AreLinesPoints reader.most read points) → IfSome (g.left first) (λ bytes. ArePointsWithin reader.most bytes points)
     end_points points told =
         let are = told gave.read gave.has in
-        whole (λ bytes. ArePointsOf bytes points) (are.0, record { short = omega (arith, gave.short); accepted = are.1 }, are.2)
+        whole (λ bytes. ArePointsWithin reader.most bytes points) (are.0, record { short = omega (arith, gave.short); accepted = are.1 }, are.2)

@@ -6,12 +6,13 @@ use Rattle.cut_lines.specs.declared.reader.Reader.{Reader}
 use Rattle.cut_lines.specs.declared.stop.Stop.{Stop}
 use Rattle.cut_lines.specs.Lines.{CutLine, IsSkipped}
 use Rattle.cut_lines.specs.Points.{points_of}
-use Rattle.cut_lines.specs.Reading.{AreAccepted, IsFirstRefused, MayGoOn}
+use Rattle.cut_lines.specs.Reading.{AreAcceptedWithin, IsFirstRefusedWithin, MayGoOnWithin}
 use Rattle.cut_lines.specs.Adding.{OnRefused}
 
--- what is kept of bytes: the points of their whole lines, how many those are, and the first bytes
--- of the line that has begun
+-- what is kept of bytes: how many positions there may be, the points of their whole lines, how many
+-- those are, and the first bytes of the line that has begun
 pub record Kept : Type 0 where
+  pub most : ℕ
   pub points : List Position
   pub whole_lines : ℕ
   pub line : List ℕ
@@ -22,7 +23,7 @@ pub record HasKept (bytes : List ℕ) (kept : Kept) : Type 0 where
   pub rest : List ℕ
   pub cuts : List CutLine
   pub split : lines_of bytes ≡ lines ++ rest ∷ []
-  pub accepted : AreAccepted lines cuts
+  pub accepted : AreAcceptedWithin kept.most lines cuts
   pub points : kept.points ≡ points_of cuts
   pub whole : kept.whole_lines ≡ length lines
   pub begun : kept.line ≡ take 4_097 rest
@@ -31,25 +32,25 @@ pub record HasKept (bytes : List ℕ) (kept : Kept) : Type 0 where
 -- what a reader keeps
 abbrev pub kept_by : Reader → Kept
 kept_by reader =
-    record { points = reader.points; whole_lines = reader.whole_lines; line = reader.line.items }
+    record { most = reader.most; points = reader.points; whole_lines = reader.whole_lines; line = reader.line.items }
 
 -- the reader has read the bytes
 abbrev pub HasRead : List ℕ → Reader → Type 0
 HasRead bytes reader = HasKept bytes (kept_by reader)
 
 -- all lines of the bytes are accepted, and these are their points
-abbrev pub AreLinesPoints : List ℕ → List Position → Type 0
-AreLinesPoints bytes points =
-    (cuts : List CutLine) × AreAccepted (lines_of bytes) cuts × (points ≡ points_of cuts)
+abbrev pub AreLinesPoints : ℕ → List ℕ → List Position → Type 0
+AreLinesPoints most bytes points =
+    (cuts : List CutLine) × AreAcceptedWithin most (lines_of bytes) cuts × (points ≡ points_of cuts)
 
 -- the bytes show that a line is refused, whatever comes behind them
-abbrev pub ShowsRefused : List ℕ → Stop → Type 0
-ShowsRefused bytes stop =
-    OnRefused (λ why k. (more : List ℕ) → IsFirstRefused why (lines_of (bytes ++ more)) k) stop
+abbrev pub ShowsRefused : ℕ → List ℕ → Stop → Type 0
+ShowsRefused most bytes stop =
+    OnRefused (λ why k. (more : List ℕ) → IsFirstRefusedWithin most why (lines_of (bytes ++ more)) k) stop
 
 -- the bytes are all, and their last line is refused
-abbrev pub EndsRefused : List ℕ → Stop → Type 0
-EndsRefused bytes stop = OnRefused (λ why k. IsFirstRefused why (lines_of bytes) k) stop
+abbrev pub EndsRefused : ℕ → List ℕ → Stop → Type 0
+EndsRefused most bytes stop = OnRefused (λ why k. IsFirstRefusedWithin most why (lines_of bytes) k) stop
 
 -- ---- what a call does to a reader, whatever it had read before
 
@@ -59,25 +60,25 @@ ReadsMore bytes old new = (read : List ℕ) → HasRead read old → HasRead (re
 
 -- these bytes more show that a line is refused
 abbrev pub MoreRefused : List ℕ → Reader → Stop → Type 0
-MoreRefused bytes old stop = (read : List ℕ) → HasRead read old → ShowsRefused (read ++ bytes) stop
+MoreRefused bytes old stop = (read : List ℕ) → HasRead read old → ShowsRefused old.most (read ++ bytes) stop
 
 -- what it has read shows that a line is refused
 abbrev pub IsRefused : Reader → Stop → Type 0
-IsRefused old stop = (read : List ℕ) → HasRead read old → ShowsRefused read stop
+IsRefused old stop = (read : List ℕ) → HasRead read old → ShowsRefused old.most read stop
 
 -- its last line is refused, where the bytes end and where a line feed comes
 abbrev pub LastRefused : Reader → Stop → Type 0
 LastRefused old stop =
-    (read : List ℕ) → HasRead read old → EndsRefused read stop × ShowsRefused (read ++ 10 ∷ []) stop
+    (read : List ℕ) → HasRead read old → EndsRefused old.most read stop × ShowsRefused old.most (read ++ 10 ∷ []) stop
 
 -- its last line is refused, where the bytes end
 abbrev pub EndRefused : Reader → Stop → Type 0
-EndRefused old stop = (read : List ℕ) → HasRead read old → EndsRefused read stop
+EndRefused old stop = (read : List ℕ) → HasRead read old → EndsRefused old.most read stop
 
 -- bytes behind those that it has read may make the line good
 abbrev pub IsOpen : Reader → Type 0
-IsOpen old = (read : List ℕ) → HasRead read old → MayGoOn read
+IsOpen old = (read : List ℕ) → HasRead read old → MayGoOnWithin old.most read
 
 -- these are the points of all lines that it has read
 abbrev pub HasPoints : Reader → List Position → Type 0
-HasPoints old points = (read : List ℕ) → HasRead read old → AreLinesPoints read points
+HasPoints old points = (read : List ℕ) → HasRead read old → AreLinesPoints old.most read points

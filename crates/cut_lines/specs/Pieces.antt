@@ -7,7 +7,7 @@ use Rattle.cut_lines.specs.declared.reader.Reader.{Reader}
 use Rattle.cut_lines.specs.declared.stop.Stop.{Stop}
 use Rattle.cut_lines.specs.declared.stop.Stop.TheVariants.{NoMemory}
 use Rattle.cut_lines.specs.HasRead.{HasRead}
-use Rattle.cut_lines.specs.Stops.{BytesShow, StopsFor}
+use Rattle.cut_lines.specs.Stops.{BytesShowWithin, StopsWithin}
 
 -- the input gave some bytes since the first state, the reader has them, and this many more are
 -- allowed
@@ -24,20 +24,21 @@ pub record Gave {I : Type 0} (g : Ghosts I) (first now : I) (reader : Reader) (a
 pub record TakesAll (bytes : List ℕ) (allowed : ℕ) (old new : Reader) (count : ℕ) : Type 0 where
   pub counted : count ≡ length bytes
   pub few : count ≤ allowed
+  pub limit : new.most ≡ old.most
   pub lines : new.whole_lines ≤ old.whole_lines + length bytes
   pub reads : (read : List ℕ) → HasRead read old → HasRead (read ++ bytes) new
 
 -- the bytes show the stop, or memory is wanting
-abbrev pub HasCause : List ℕ → Stop → Type 0
-HasCause bytes NoMemory = Unit {0}
-HasCause bytes stop = BytesShow bytes stop
+abbrev pub HasCause : ℕ → List ℕ → Stop → Type 0
+HasCause most bytes NoMemory = Unit {0}
+HasCause most bytes stop = BytesShowWithin most bytes stop
 
 -- whatever the reader had read of an input, of which this many bytes more are allowed, these bytes
 -- more have the cause of the stop, whatever comes behind them
 abbrev pub MoreHasCause : List ℕ → ℕ → Reader → Stop → Type 0
 MoreHasCause bytes allowed old stop =
     (read rest : List ℕ) → HasRead read old → length read + allowed ≡ 2 ^ 30
-    → HasCause ((read ++ bytes) ++ rest) stop
+    → HasCause old.most ((read ++ bytes) ++ rest) stop
 
 -- whatever the input gave since a first state, so many bytes are then allowed
 abbrev pub GivesMore : {I : Type 0} → Ghosts I → I → I → Reader → Reader → ℕ → ℕ → Type 0
@@ -50,12 +51,13 @@ pub record TakesPiece {I : Type 0} (g : Ghosts I) (old new : I) (before after : 
     (allowed count : ℕ) : Type 0 where
   pub more : GivesMore g old new before after allowed (allowed - count)
   pub few : count ≤ allowed
+  pub limit : after.most ≡ before.most
   pub end : count ≡ 0 → IsAtEnd (g.left new)
 
 -- whatever it gave since a first state, it stopped for this
 abbrev pub GivesStop : {I : Type 0} → Ghosts I → I → I → Reader → ℕ → Stop → Type 0
 GivesStop {I} g old new before allowed stop =
-    (first : I) → Gave g first old before allowed → StopsFor g first new stop
+    (first : I) → Gave g first old before allowed → StopsWithin before.most g first new stop
 
 -- whatever it gave since a first state, it gave no more than an input may be asked for
 abbrev pub GivesFew : {I : Type 0} → Ghosts I → I → I → Reader → ℕ → Type 0

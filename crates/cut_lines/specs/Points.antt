@@ -1,5 +1,5 @@
 -- The points that cut lines give, and the limits of a series.
-use Rattle.std.specs.Prelude.{◌≤◌, List, length, map}
+use Rattle.std.specs.Prelude.{◌≤◌, ℕ, List, length, map}
 use Rattle.segment_model.specs.Segments.{Position}
 use Rattle.segment_model.specs.Brought.{Brought, positions_of}
 use Rattle.cut_lines.specs.Lines.{CutLine}
@@ -13,7 +13,7 @@ brought_by cut = record { commit = cut.order; step = cut.number; value = cut.val
 abbrev pub points_of : List CutLine → List Position
 points_of cuts = positions_of (map brought_by cuts)
 
--- at most 65,536 values at 16,384 positions
-pub record FitsSeries (cuts : List CutLine) : Type 0 where
+-- at most 65,536 values at this many positions
+pub record FitsWithin (most : ℕ) (cuts : List CutLine) : Type 0 where
   pub few_values : length cuts ≤ 65_536
-  pub few_positions : length (points_of cuts) ≤ 16_384
+  pub few_positions : length (points_of cuts) ≤ most

@@ -20,5 +20,5 @@ mod points;
 mod reader;
 mod stop;
 
-pub use input::{one_stop_law, read_points};
+pub use input::{one_stop_law, read_points, read_points_within};
 pub use stop::{Refusal, Stop};

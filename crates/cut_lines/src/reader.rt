@@ -18,10 +18,12 @@ const KEPT: usize = LINE_LIMIT + 1;
 /// Reads cut lines: it keeps the points of the whole lines, and the first bytes of the line that is not yet whole.
 #[derive(Drop)]
 pub struct Reader {
+    most: u64,
     points: Points,
     whole_lines: u64,
     line: Vec<u8>,
     ghost short: { length line.items ≤ 4_097 },
+    ghost fits: { most ≤ 16_384 },
     ghost steps: { CameUpTo whole_lines points },
 }
 
@@ -39,13 +41,16 @@ impl Reader {
     };
     ghost use Rattle.cut_lines.specs.Pieces.{TakesAll, MoreHasCause};
 
-    /// A reader of no bytes.
-    pub fn new(alloc: Global) -> Reader
+    /// A reader of no bytes, for so many positions at most.
+    pub fn new(alloc: Global, most: u64) -> Reader
+        requires { most ≤ 16_384 }
+        ensures limit { result.most ≡ most }
         ensures none { result.whole_lines ≡ 0 }
         ensures read { HasRead [] result }
     {
         steps_law();
         Reader {
+            most,
             points: Points::new(alloc),
             whole_lines: 0,
             line: Vec::new(alloc),
@@ -55,6 +60,7 @@ impl Reader {
     /// Takes the next bytes, up to the first line that they show to be refused. Linear in the bytes.
     pub fn take(&mut self, bytes: &[u8]) -> Result<(), Stop>
         requires { self.old.whole_lines + length bytes.now < 2 ^ 32 }
+        ensures limit { self.new.most ≡ self.old.most }
         ensures lines { self.new.whole_lines ≤ self.old.whole_lines + length bytes.now }
         ensures ok { OnOk result (ReadsMore bytes.now self.old self.new) }
         ensures err { IfErr result (MoreRefused bytes.now self.old) }
@@ -72,6 +78,7 @@ impl Reader {
         requires allowed { allowed ≤ 2 ^ 30 }
         requires bytes { length bytes.now ≤ 2 ^ 30 + 1 }
         requires lines { self.old.whole_lines ≤ 2 ^ 30 }
+        ensures limit { self.new.most ≡ self.old.most }
         ensures ok { IfOk result (TakesAll bytes.now allowed self.old self.new) }
         ensures err { IfErr result (MoreHasCause bytes.now allowed self.old) }
     {
@@ -90,6 +97,7 @@ impl Reader {
     fn take_line(&mut self, part: &[u8]) -> Result<(), Stop>
         requires number { self.old.whole_lines < 2 ^ 32 }
         requires part { HasNoLineFeed part.now }
+        ensures limit { self.new.most ≡ self.old.most }
         ensures lines { self.new.whole_lines ≤ self.old.whole_lines + 1 }
         ensures ok { OnOk result (ReadsMore (part.now ++ 10 ∷ []) self.old self.new) }
         ensures err { IfErr result (MoreRefused (part.now ++ 10 ∷ []) self.old) }
@@ -100,7 +108,7 @@ impl Reader {
         }
         steps_law();
         self.whole_lines += 1;
-        add_line(&mut self.points, self.whole_lines, part)?;
+        add_line(&mut self.points, self.most, self.whole_lines, part)?;
         Ok(())
     }
 
@@ -109,6 +117,7 @@ impl Reader {
     fn extend_line(&mut self, part: &[u8]) -> Result<(), Stop>
         requires number { self.old.whole_lines < 2 ^ 32 }
         requires part { HasNoLineFeed part.now }
+        ensures limit { self.new.most ≡ self.old.most }
         ensures lines { self.new.whole_lines ≡ self.old.whole_lines }
         ensures ok { OnOk result (ReadsMore part.now self.old self.new) }
         ensures err { IfErr result (MoreRefused part.now self.old) }
@@ -129,13 +138,14 @@ impl Reader {
     // Ends the line, which may be the last one and empty.
     fn end_line(&mut self) -> Result<(), Stop>
         requires { self.old.whole_lines < 2 ^ 32 }
+        ensures limit { self.new.most ≡ self.old.most }
         ensures lines { self.new.whole_lines ≤ self.old.whole_lines + 1 }
         ensures ok { OnOk result (ReadsMore (10 ∷ []) self.old self.new) }
         ensures err { IfErr result (LastRefused self.old) }
     {
         steps_law();
         self.whole_lines += 1;
-        add_line(&mut self.points, self.whole_lines, &self.line)?;
+        add_line(&mut self.points, self.most, self.whole_lines, &self.line)?;
         self.line.clear();
         Ok(())
     }
@@ -143,6 +153,7 @@ impl Reader {
     /// Whether bytes behind those that were read may make the line good; else how it is refused.
     pub fn may_go_on(&mut self) -> Result<(), Stop>
         requires { self.old.whole_lines < 2 ^ 32 }
+        ensures limit { self.new.most ≡ self.old.most }
         ensures ok { OnOk result (IsOpen self.old) }
         ensures err { IfErr result (IsRefused self.old) }
     {

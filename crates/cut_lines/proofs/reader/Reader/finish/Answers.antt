@@ -1,5 +1,6 @@
+use Rattle.std.proofs.Common.{subst}
 use Rattle.std.proofs.lemmas.Result.{err_from_is_err_and}
-use Rattle.cut_lines.specs.HasRead.{kept_by}
+use Rattle.cut_lines.specs.HasRead.{AreLinesPoints, kept_by}
 use Rattle.cut_lines.proofs.ReaderSteps.{accepted_whole}
 use Rattle.cut_lines.proofs.reader.Reader.finish.Goals as goal
 
@@ -10,4 +11,5 @@ returns-in_err-end_line-clause-err c =
 
 pub returns-clause-ok : goal.returns-clause-ok
 returns-clause-ok c read has =
+    subst (λ m. AreLinesPoints m read c.end_line.new.self.points) c.end_line.ensures.limit
     (accepted_whole read (kept_by c.end_line.new.self) (c.in_ok-end_line.ensures.ok read has))

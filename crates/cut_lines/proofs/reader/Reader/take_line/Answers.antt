@@ -12,14 +12,15 @@ pub returns-in_err-extend_line-clause-err : goal.returns-in_err-extend_line-clau
 returns-in_err-extend_line-clause-err c =
     let p = err_from_is_err_and c.from_residual.result c.from_residual.ensures.1 in
     rw (p.1, p.2) (λ read has.
-    subst (λ bs. ShowsRefused bs c.in_err-extend_line.field-0.0) (append_assoc read c.args.part.now (10 ∷ []))
-    (shows_more (read ++ c.args.part.now) (10 ∷ []) c.in_err-extend_line.field-0.0 (c.in_err-extend_line.ensures.err read has)))
+    subst (λ bs. ShowsRefused c.args.self.now.most bs c.in_err-extend_line.field-0.0) (append_assoc read c.args.part.now (10 ∷ []))
+    (shows_more c.args.self.now.most (read ++ c.args.part.now) (10 ∷ []) c.in_err-extend_line.field-0.0 (c.in_err-extend_line.ensures.err read has)))
 
 pub returns-then-not-is_empty-clause-err : goal.returns-then-not-is_empty-clause-err
 returns-then-not-is_empty-clause-err c =
     MatchResult-weaker c.end_line.result c.end_line.ensures.err (λ x told. told) (λ stop told read has.
-    subst (λ bs. ShowsRefused bs stop) (append_assoc read c.args.part.now (10 ∷ []))
-    (told (read ++ c.args.part.now) (c.in_ok-extend_line.ensures.ok read has)).1)
+    subst (λ m. ShowsRefused m (read ++ (c.args.part.now ++ 10 ∷ [])) stop) c.extend_line.ensures.limit
+    (subst (λ bs. ShowsRefused c.extend_line.new.self.most bs stop) (append_assoc read c.args.part.now (10 ∷ []))
+    (told (read ++ c.args.part.now) (c.in_ok-extend_line.ensures.ok read has)).1))
 
 pub returns-in_err-add_line-clause-err : goal.returns-in_err-add_line-clause-err
 returns-in_err-add_line-clause-err c =
@@ -35,7 +36,7 @@ returns-clause-ok c read has =
     let none : vec_len c.args.self.now.line ≡ 0 = eqb-true (vec_len c.args.self.now.line) 0 (sym c.is_empty.ensures ∙ c.if-not-is_empty.false) in
     let empty : c.args.self.now.line.items ≡ [] = nil_from_length c.args.self.now.line.items (omega (arith, none, c.args.self.now.line.ok)) in
     let short : length c.args.part.now ≤ 4_096 = omega arith in
-    whole_taken read c.args.part.now (kept_by c.args.self.now) _ _ c.requires.part empty short (record { whole = refl; line = empty }) refl c.in_ok-add_line.ensures.ok has
+    whole_taken read c.args.part.now (kept_by c.args.self.now) _ _ c.requires.part empty short (record { most = refl; whole = refl; line = empty }) refl c.in_ok-add_line.ensures.ok has
 
 pub returns-then-not-is_empty-clause-ok : goal.returns-then-not-is_empty-clause-ok
 returns-then-not-is_empty-clause-ok c =

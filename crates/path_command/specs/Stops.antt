@@ -1,0 +1,14 @@
+-- How a path ends where reading of its lines stops.
+use Rattle.std.specs.Prelude.{ℕ}
+use Rattle.cut_lines.specs.declared.stop.Refusal.TheVariants as refusal
+use Rattle.cut_lines.specs.declared.stop.Stop.{Stop}
+use Rattle.cut_lines.specs.declared.stop.Stop.TheVariants as stop
+use Rattle.path_command.specs.declared.end.PathEnd.{PathEnd}
+use Rattle.path_command.specs.declared.end.PathEnd.TheVariants.{ReadFault, NoMemory, TooLong, BadLine, Full}
+
+abbrev pub end_of : Stop → PathEnd
+end_of stop.Fault = ReadFault
+end_of stop.TooLong = TooLong
+end_of (stop.Refused refusal.Bad line) = BadLine line
+end_of (stop.Refused refusal.Full line) = Full line
+end_of stop.NoMemory = NoMemory

@@ -1,0 +1,10 @@
+mod Penalties
+mod Known
+mod Runs
+mod Whole
+mod Checks
+mod Ahead
+mod Growing
+mod Crossing
+mod Room
+mod Bounds
