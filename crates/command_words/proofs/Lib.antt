@@ -1,4 +1,3 @@
-mod Behind
 mod Commands
 mod Different
 mod Pieces

@@ -1,16 +1,14 @@
 -- What is asked for is one thing.
-use Rattle.std.proofs.Common.{◌≡◌, ◌≢◌, ◌↔◌, ℕ, zero, suc, ◌<◌, ◌≤◌, ◌^◌, List, [], ◌∷◌, length, get_or, Bool, codes, decimal, Option, Some, None, refl, sym, subst, ap, ◌∙◌, arith}
+use Rattle.std.proofs.Common.{◌≡◌, ◌≢◌, ◌↔◌, ℕ, zero, suc, ◌<◌, ◌≤◌, List, [], ◌∷◌, length, get_or, Bool, codes, Option, Some, None, refl, sym, subst, ap, ◌∙◌, arith}
 use Rattle.std.specs.Prelude.{All, AllPairs, Contains, IsTrue, IsSome, Result, Ok, Err, IfOk}
 use Rattle.std.specs.List.{AllZip, slice_split}
 use Rattle.std.specs.Borrow.{Bor}
 use Rattle.line_text.specs.Names.{Spells}
 use Rattle.line_text.proofs.SignedWords.{one_number}
-use Rattle.clap.specs.Words.{matches_of}
-use Rattle.command_words.specs.Simple.{play_app}
-use Rattle.command_words.specs.Plans.{Plan, Values, GivesValues, AsksFor, AreMachines, AreScripts, IsListOf, IsCountOf, is_comma, transcript_of, values_in}
-use Rattle.command_words.specs.Commands.{Finds, IsPlayCommand}
+use Rattle.clap.specs.Words.{Row}
+use Rattle.command_words.specs.Simple.{IsNumberOr, value_in}
+use Rattle.command_words.specs.Plans.{Plan, AsksFor, AreMachines, AreScripts, IsListOf, IsWithinLimits, is_comma, transcript_of}
 use Rattle.command_words.specs.Texts.{shown, shown_if}
-use Rattle.command_words.proofs.Behind.{same_rest}
 
 -- pieces spell one list of names
 pub spelt_once : (pieces one other : List (List ℕ)) → AllZip Spells pieces one → AllZip Spells pieces other → one ≡ other
@@ -28,9 +26,9 @@ pub list_once : (list : Option (List ℕ)) (one other : List (List ℕ)) → IsL
 list_once None one other is its = is ∙ sym its
 list_once (Some list) one other is its = spelt_once (slice_split is_comma list) one other is its
 
-pub count_once : (word : Option (List ℕ)) (m n : ℕ) → m ≤ 8 → n ≤ 8 → IsCountOf word m → IsCountOf word n → m ≡ n
-count_once None m n few small is its = is ∙ sym its
-count_once (Some word) m n few small is its = one_number m n (omega (arith, few)) (omega (arith, small)) (sym is ∙ its)
+pub number_once : (none : ℕ) (word : Option (List ℕ)) (m n : ℕ) → m ≤ 64 → n ≤ 64 → IsNumberOr none word m → IsNumberOr none word n → m ≡ n
+number_once none None m n few small is its = is ∙ sym its
+number_once none (Some word) m n few small is its = one_number m n (omega (arith, few)) (omega (arith, small)) (sym is ∙ its)
 
 -- a list whose names aren't apart names no machines
 pub not_apart : (list : Option (Bor (List ℕ))) (l : Bor (List ℕ)) (names : List (List ℕ)) → list ≡ Some l → AllZip Spells (slice_split is_comma l.now) names
@@ -56,38 +54,17 @@ scripts_by scripts some few named apart (Ok b) own = (
 )
 scripts_by scripts some few named apart (Err e) own = tt
 
--- the words behind `play` give one list of values
-pub values_once : (words : List (List ℕ)) (one other : Values) → GivesValues words one → GivesValues words other → one ≡ other
-values_once words one other is its = sym is.given ∙ its.given
-
-found_plan : (words : List (List ℕ)) (values : Values) → GivesValues words values → (told : Option Plan) → Finds (AsksFor values) told
-    → Finds (IsPlayCommand (codes "play" ∷ words)) told
-found_plan words values gives (Some plan) asks =
-    record { rest = words; named = refl; values = values; gives = gives; asks = asks }
-found_plan words values gives None none = λ (plan : Plan) (is : IsPlayCommand (codes "play" ∷ words) plan).
-    let rest : is.rest ≡ words = same_rest (codes "play") (codes "play") words is.rest is.named in
-    let its : GivesValues words is.values = subst (λ (w : List (List ℕ)). GivesValues w is.values) rest is.gives in
-    none plan (subst (λ (v : Values). AsksFor v plan) (values_once words is.values values its gives) is.asks)
-
-pub found_asked : {E : Type 0} (words : List (List ℕ)) (values : Values) → GivesValues words values → (told : Result (Option Plan) E)
-    → IfOk told (Finds (AsksFor values)) → IfOk told (Finds (IsPlayCommand (codes "play" ∷ words)))
-found_asked words values gives (Ok told) asks = found_plan words values gives told asks
-found_asked words values gives (Err e) asks = tt
-
--- words ask for one plan
-pub plan_once : (words : List (List ℕ)) (one other : Plan) → IsPlayCommand (codes "play" ∷ words) one → IsPlayCommand (codes "play" ∷ words) other → one ≡ other
-plan_once words one other is its =
-    let rest : is.rest ≡ its.rest =
-    same_rest (codes "play") (codes "play") words is.rest is.named ∙ sym (same_rest (codes "play") (codes "play") words its.rest its.named) in
-    let given : GivesValues its.rest is.values = subst (λ (w : List (List ℕ)). GivesValues w is.values) rest is.gives in
-    let same : is.values ≡ its.values = values_once its.rest is.values its.values given its.gives in
-    let asks : AsksFor its.values one = subst (λ (v : Values). AsksFor v one) same is.asks in
-    let machines = list_once its.values.machines one.machines other.machines asks.machines its.asks.machines in
-    let recompute = count_once its.values.recompute one.recompute other.recompute asks.limits.recompute its.asks.limits.recompute asks.recompute its.asks.recompute in
-    let bisect = count_once its.values.bisect one.bisect other.bisect asks.limits.bisect its.asks.limits.bisect asks.bisect its.asks.bisect in
-    let store = asks.store ∙ sym its.asks.store in
-    let test = asks.test ∙ sym its.asks.test in
-    let scripts = asks.scripts ∙ sym its.asks.scripts in
+-- arguments ask for one plan
+pub plan_once : (given : List Row) (one other : Plan) → AsksFor given one → IsWithinLimits one → AsksFor given other → IsWithinLimits other → one ≡ other
+plan_once given one other is within its limits =
+    let machines = list_once (value_in given (codes "machines")) one.machines other.machines is.machines its.machines in
+    let recompute = number_once 0 (value_in given (codes "recompute")) one.recompute other.recompute
+    (omega (arith, within.recompute)) (omega (arith, limits.recompute)) is.recompute its.recompute in
+    let bisect = number_once 0 (value_in given (codes "bisect")) one.bisect other.bisect
+    (omega (arith, within.bisect)) (omega (arith, limits.bisect)) is.bisect its.bisect in
+    let store = sym is.store ∙ its.store in
+    let test = sym is.test ∙ its.test in
+    let scripts = sym is.scripts ∙ its.scripts in
     λ i. record {
       machines = machines i;
       store = store i;
@@ -98,10 +75,13 @@ plan_once words one other is its =
     }
 
 -- without a word of the test no bisect workers are asked for
-pub untested : (values : Values) (n : ℕ) → IsCountOf values.bisect n → n ≤ 8 → ((0 < n → IsSome values.test) → ⊥) → (x : Plan) → AsksFor values x → ⊥
-untested values n is few none x asks =
-    let same : x.bisect ≡ n = count_once values.bisect x.bisect n asks.limits.bisect few asks.bisect is in
-    none (λ some. subst (λ (test : Option (List ℕ)). IsSome test) asks.test (asks.limits.tested (subst (λ (m : ℕ). 0 < m) (sym same) some)))
+pub untested : (given : List Row) (n : ℕ) (word test : Option (List ℕ)) → word ≡ value_in given (codes "bisect") → IsNumberOr 0 word n → n ≤ 8
+    → test ≡ value_in given (codes "test") → ((0 < n → IsSome test) → ⊥) → (x : Plan) → AsksFor given x → IsWithinLimits x → ⊥
+untested given n word test at is few named none x asks within =
+    let its : IsNumberOr 0 (value_in given (codes "bisect")) n = subst (λ (w : Option (List ℕ)). IsNumberOr 0 w n) at is in
+    let same : x.bisect ≡ n = number_once 0 (value_in given (codes "bisect")) x.bisect n (omega (arith, within.bisect)) (omega (arith, few)) asks.bisect its in
+    let same_test : x.test ≡ test = sym asks.test ∙ sym named in
+    none (λ some. subst (λ (t : Option (List ℕ)). IsSome t) same_test (within.tested (subst (λ (m : ℕ). 0 < m) (sym same) some)))
 
 -- ---- texts that are lent
 

@@ -1,105 +1,98 @@
 -- Which words are a command.
-use Rattle.std.specs.Prelude.{◌≡◌, ℕ, ◌^◌, ◌<◌, ◌≤◌, List, [], ◌∷◌, ◌++◌, length, map, codes, decimal, String, string_bytes, Option, Some, None, IfSome, nat_lt, if◌then◌else◌}
-use Rattle.command_words.specs.Simple.{cut_app, number_app, apply_app, Gives}
-use Rattle.command_words.specs.Plans.{Plan, Values, GivesValues, AsksFor, IsWithinLimits}
+use Rattle.std.specs.Prelude.{◌≡◌, ℕ, ◌^◌, ◌<◌, ◌≤◌, ◌↔◌, List, [], ◌∷◌, ◌++◌, length, codes, decimal, IsTrue, Bool, nat_lt, if◌then◌else◌, Option, Some, None, IfSome}
+use Rattle.clap.specs.Words.{Row}
+use Rattle.command_words.specs.Simple.{Gives, HasFlag, IsNumberOr, value_in}
+use Rattle.command_words.specs.Kinds.{name_of, app_for}
+use Rattle.command_words.specs.Plans.{AsksFor, IsWithinLimits}
+use Rattle.command_words.specs.declared.kind.Kind.{Kind}
+use Rattle.command_words.specs.declared.kind.Kind.TheVariants as kind
 use Rattle.command_words.specs.declared.command.Command.{Command}
-use Rattle.command_words.specs.declared.command.Command.TheVariants.{Cut, Apply, Gen, Trial, Play}
+use Rattle.command_words.specs.declared.command.Command.TheVariants.{Cut, Apply, Gen, Trial, Play, Path, Hunt}
 
--- the bytes of the words
-abbrev pub texts : {A : Type 0} → List (String A) → List (List ℕ)
-texts words = map string_bytes words
+-- which command it is
+abbrev pub kind_of : Command → Kind
+kind_of (Cut cut) = kind.Cut
+kind_of (Apply store) = kind.Apply
+kind_of (Gen number) = kind.Gen
+kind_of (Trial number) = kind.Trial
+kind_of (Play plan) = kind.Play
+kind_of (Path path) = kind.Path
+kind_of (Hunt hunt) = kind.Hunt
 
--- what is found is it, and where nothing is found, nothing is it
-abbrev pub Finds : {T : Type 0} → (T → Type 0) → Option T → Type 0
-Finds {T} IsIt None = (x : T) → ¬ IsIt x
-Finds IsIt (Some x) = IsIt x
+-- the argument has a value, which is the number in decimal digits
+abbrev pub IsNumber : List Row → List ℕ → ℕ → Type 0
+IsNumber given id n = value_in given id ≡ Some (decimal n)
 
--- words that give `cut` a penalty of at most 10^36
-pub record HavePenalty (rest : List (List ℕ)) (penalty : ℕ) : Type 0 where
-  pub gives : Gives cut_app (codes "PENALTY") rest (Some (decimal penalty))
-  pub small : penalty ≤ 10 ^ 36
+-- what words give its arguments says what the command has
+abbrev pub Says : List Row → Command → Type 0
+Says given (Cut cut) =
+    IsNumber given (codes "PENALTY") cut.penalty
+    × IsNumberOr 1 (value_in given (codes "least")) cut.least
+    × (IsTrue cut.absolute ↔ HasFlag given (codes "absolute"))
+Says given (Apply store) = value_in given (codes "store") ≡ store
+Says given (Gen number) = IsNumber given (codes "NUMBER") number
+Says given (Trial number) = IsNumber given (codes "NUMBER") number
+Says given (Play plan) = AsksFor given plan
+Says given (Path path) =
+    IsNumber given (codes "LOW") path.low × IsNumber given (codes "HIGH") path.high
+Says given (Hunt hunt) =
+    IsNumber given (codes "K") hunt.width × (value_in given (codes "test") ≡ Some hunt.test)
 
--- a value of the option is the number in decimal digits; without one the number is 1
-abbrev pub IsLeast : Option (List ℕ) → ℕ → Type 0
-IsLeast None least = least ≡ 1
-IsLeast (Some word) least = word ≡ decimal least
+-- the command's numbers are within their limits, and its names as they must be
+abbrev pub IsInRange : Command → Type 0
+IsInRange (Cut cut) = (cut.penalty ≤ 10 ^ 36) × (1 ≤ cut.least) × (cut.least ≤ 64)
+IsInRange (Apply store) = IfSome store (λ name. 0 < length name)
+IsInRange (Gen number) = number < 2 ^ 64
+IsInRange (Trial number) = number < 2 ^ 64
+IsInRange (Play plan) = IsWithinLimits plan
+IsInRange (Path path) = (path.low ≤ path.high) × (path.high ≤ 10 ^ 36)
+IsInRange (Hunt hunt) = (1 ≤ hunt.width) × (hunt.width ≤ 8) × (0 < length hunt.test)
 
--- words that give it a least length from 1 to 64, or none
-pub record HaveLeast (rest : List (List ℕ)) (least : ℕ) : Type 0 where
-  pub word : Option (List ℕ)
-  pub gives : Gives cut_app (codes "least") rest word
-  pub is_least : IsLeast word least
-  pub low : 0 < least
-  pub high : least ≤ 64
+-- it is what the words say, and within its limits
+abbrev pub IsSaid : List Row → Command → Type 0
+IsSaid given command = Says given command × IsInRange command
 
--- `cut`, and words that give it both
-pub record IsCutCommand (words : List (List ℕ)) (penalty least : ℕ) : Type 0 where
+-- the words are this command: its name, and words that its simple command takes, which say it
+pub record IsSpelled (words : List (List ℕ)) (command : Command) : Type 0 where
   pub rest : List (List ℕ)
-  pub named : words ≡ codes "cut" ∷ rest
-  pub penalty_of : HavePenalty rest penalty
-  pub least_of : HaveLeast rest least
-
--- the command's name, and words that give it a number of 64 bits
-pub record IsNumbered (name : List ℕ) (words : List (List ℕ)) (number : ℕ) : Type 0 where
-  pub rest : List (List ℕ)
-  pub named : words ≡ name ∷ rest
-  pub gives : Gives (number_app name) (codes "NUMBER") rest (Some (decimal number))
-  pub small : number < 2 ^ 64
-
--- `apply`, and words that give it no store, or the name of one, which isn't empty
-pub record IsApplyCommand (words : List (List ℕ)) (store : Option (List ℕ)) : Type 0 where
-  pub rest : List (List ℕ)
-  pub named : words ≡ codes "apply" ∷ rest
-  pub gives : Gives apply_app (codes "store") rest store
-  pub some : IfSome store (λ name. 0 < length name)
-
--- `play`, and words that give its options and scripts values, which ask for this
-pub record IsPlayCommand (words : List (List ℕ)) (plan : Plan) : Type 0 where
-  pub rest : List (List ℕ)
-  pub named : words ≡ codes "play" ∷ rest
-  pub values : Values
-  pub gives : GivesValues rest values
-  pub asks : AsksFor values plan
-
--- the words are this command
-abbrev pub IsSpelled : List (List ℕ) → Command → Type 0
-IsSpelled words (Cut penalty least) = IsCutCommand words penalty least
-IsSpelled words (Apply store) = IsApplyCommand words store
-IsSpelled words (Gen number) = IsNumbered (codes "gen") words number
-IsSpelled words (Trial number) = IsNumbered (codes "trial") words number
-IsSpelled words (Play plan) = IsPlayCommand words plan
+  pub named : words ≡ name_of (kind_of command) ∷ rest
+  pub given : List Row
+  pub gives : Gives (app_for (kind_of command)) rest given
+  pub said : IsSaid given command
 
 -- the words are no command
 abbrev pub AreNoCommand : List (List ℕ) → Type 0
 AreNoCommand words = (command : Command) → ¬ IsSpelled words command
 
--- the numbers of the command are within their limits, and the name of its store isn't empty
-abbrev pub IsInRange : Command → Type 0
-IsInRange (Cut penalty least) = (penalty ≤ 10 ^ 36) × (0 < least) × (least ≤ 64)
-IsInRange (Apply store) = IfSome store (λ name. 0 < length name)
-IsInRange (Gen number) = number < 2 ^ 64
-IsInRange (Trial number) = number < 2 ^ 64
-IsInRange (Play plan) = IsWithinLimits plan
-
 -- no words are two commands
 abbrev pub AreOneCommand : Type 0
-AreOneCommand = (words : List (List ℕ)) (one other : Command) → IsSpelled words one → IsSpelled words other → one ≡ other
+AreOneCommand =
+    (words : List (List ℕ)) (one other : Command) → IsSpelled words one → IsSpelled words other
+    → one ≡ other
 
 -- the plain words of a least length: none where it is 1
 abbrev pub plain_least : ℕ → List (List ℕ)
 plain_least least = if nat_lt 1 least then (codes "--least=" ++ decimal least) ∷ [] else []
 
--- the plain words of a command other than `play`: its name, then its number in decimal digits, and
--- for `cut` those of its least length, or `--store=` and the name of its store
+-- the plain words of the flag that asks for distances
+abbrev pub plain_flag : Bool → List (List ℕ)
+plain_flag absolute = if absolute then codes "--absolute" ∷ [] else []
+
+-- the plain words of a command other than `play`: its name, then its numbers in decimal digits, its
+-- options with `=` before their values, and its flag
 abbrev pub plain_words : Command → Option (List (List ℕ))
-plain_words (Cut penalty least) = Some (codes "cut" ∷ decimal penalty ∷ plain_least least)
+plain_words (Cut cut) =
+    Some (codes "cut" ∷ decimal cut.penalty ∷ plain_least cut.least ++ plain_flag cut.absolute)
 plain_words (Apply None) = Some (codes "apply" ∷ [])
 plain_words (Apply (Some name)) = Some (codes "apply" ∷ (codes "--store=" ++ name) ∷ [])
 plain_words (Gen number) = Some (codes "gen" ∷ decimal number ∷ [])
 plain_words (Trial number) = Some (codes "trial" ∷ decimal number ∷ [])
 plain_words (Play plan) = None
+plain_words (Path path) = Some (codes "path" ∷ decimal path.low ∷ decimal path.high ∷ [])
+plain_words (Hunt hunt) =
+    Some (codes "hunt" ∷ decimal hunt.width ∷ (codes "--test=" ++ hunt.test) ∷ [])
 
--- the plain words of each command whose numbers are within their limits are it
+-- the plain words of each command that is within its limits are it
 abbrev pub PlainWordsAreCommands : Type 0
 PlainWordsAreCommands = (command : Command) → IsInRange command
     → IfSome (plain_words command) (λ words. IsSpelled words command)

@@ -1,4 +1,5 @@
-pub mod Simple
-pub mod Commands
-pub mod Plans
 pub mod Texts
+pub mod Simple
+pub mod Kinds
+pub mod Plans
+pub mod Commands

@@ -1,64 +1,98 @@
 //! The commands, and the words that spell them.
-ghost use Rattle.std.specs.Prelude.{◌≡◌, ℕ, ◌<◌, List, ◌∷◌, codes, Option, Some, option_map, IfOk, IfSome, IfNone};
-ghost use Rattle.command_words.specs.Simple.{Gives, value_app};
-ghost use Rattle.command_words.specs.Commands.{texts, Finds, HavePenalty, HaveLeast, IsApplyCommand, IsNumbered, IsSpelled, AreNoCommand, AreOneCommand, PlainWordsAreCommands};
+ghost use Rattle.std.specs.Prelude.{◌≡◌, ◌<◌, ◌^◌, codes, IfOk, IfSome, IfNone};
+ghost use Rattle.command_words.specs.Commands.{kind_of, IsNumber, IsSaid, IsSpelled, AreNoCommand, AreOneCommand, PlainWordsAreCommands};
+ghost use Rattle.command_words.specs.Texts.{Finds, texts};
+ghost use Rattle.command_words.specs.declared.command.Command.TheVariants.{Cut, Apply, Path, Hunt};
 
 use crate::NoMemory;
-use crate::plan::{PlayPlan, plan_of};
-use crate::simple::{apply_command, cut_command, value_command, value_of};
-use line_text::{read_u64, read_u128};
+use crate::given::{Given, given_by};
+use crate::kind::{Kind, kind_named};
+use crate::numbers::{count_in, count_or, number_in};
+use crate::plan::{PlayPlan, plan_said};
+use line_text::read_u64;
 use std::alloc::Global;
 use std::marker::Model;
 
-/// The greatest penalty.
+// The greatest penalty, the greatest least length of segments, and the most commits of a round.
 const PENALTY_LIMIT: u128 = 1_000_000_000_000_000_000_000_000_000_000_000_000;
 
-/// The name of a store, as the words have it. Contracts see its bytes.
+const LENGTH_LIMIT: u8 = 64;
+
+const WIDTH_LIMIT: u8 = 8;
+
+/// A text that the words have. Contracts see its bytes.
 #[derive(Drop)]
-pub struct StoreName<'a> {
-    name: &'a str,
+pub struct Word<'a> {
+    text: &'a str,
 }
 
-impl<'a> Model for StoreName<'a> {
+impl<'a> Model for Word<'a> {
     ghost use Rattle.std.specs.Prelude.{List, ℕ};
 
     ghost Value = { List ℕ };
 
-    ghost view = { λ s. s.name.now };
+    ghost view = { λ s. s.text.now };
 }
 
-impl<'a> StoreName<'a> {
-    /// The name of these bytes.
-    pub fn of(name: &'a str) -> StoreName<'a>
-        ensures { result ≡ name.now }
+impl<'a> Word<'a> {
+    /// The word of this text.
+    pub fn of(text: &'a str) -> Word<'a>
+        ensures { result ≡ text.now }
     {
-        StoreName { name }
+        Word { text }
     }
 
     /// Its text.
     pub fn as_str(&self) -> &'a str
         ensures { result.now ≡ self.now }
     {
-        self.name
+        self.text
     }
+}
+
+/// What `cut` is asked for: the penalty, the least length of segments, and whether distances are summed and not squares.
+#[derive(Drop)]
+pub struct CutPlan {
+    pub penalty: u128,
+    pub least: u8,
+    pub absolute: bool,
+}
+
+/// What `path` is asked for: the least and the greatest penalty.
+#[derive(Drop)]
+pub struct PathPlan {
+    pub low: u128,
+    pub high: u128,
+}
+
+/// What `hunt` is asked for: how many commits a round asks at most, and the word of the test.
+#[derive(Drop)]
+pub struct HuntPlan<'a> {
+    pub width: u8,
+    pub test: Word<'a>,
 }
 
 /// A command, as the words say it.
 #[derive(Drop)]
 pub enum Command<'a> {
-    /// Reads cut lines, and prints the certificate of the best segmentation at this penalty, with this least length of segments.
-    Cut(u128, u8),
+    /// Reads cut lines, and prints the certificate of the best segmentation.
+    Cut(CutPlan),
     /// Answers the script that the input has, on the machines of this store, if there is one.
-    Apply(Option<StoreName<'a>>),
+    Apply(Option<Word<'a>>),
     /// Writes the script of this number.
     Gen(u64),
     /// Answers the script of this number, and writes the replies about segmentations.
     Trial(u64),
     /// Answers these scripts at once.
     Play(PlayPlan<'a>),
+    /// Reads cut lines, and prints every best segmentation of a range of penalties.
+    Path(PathPlan),
+    /// Reads names of commits, and searches the first bad one by rounds of tests.
+    Hunt(HuntPlan<'a>),
 }
 
-/// The command that the words are, if they are one: a command's name, and words that its simple command takes.
+/// The command that the words are, if they are one: a command's name, and words that its simple command takes, which say
+/// what the command has.
 ///
 /// Linear in the bytes of the words. Takes memory, as a reader of command lines does.
 pub fn command_of(alloc: Global, words: &[String]) -> Result<Option<Command<'_>>, NoMemory>
@@ -68,123 +102,129 @@ pub fn command_of(alloc: Global, words: &[String]) -> Result<Option<Command<'_>>
     let Some((name, rest)) = words.split_first() else {
         return Ok(None);
     };
-    let name = name.as_str();
-    if name == "cut" {
-        let Some(penalty) = penalty_of(alloc, rest)? else {
-            return Ok(None);
-        };
-        let Some(least) = least_of(alloc, rest)? else {
-            return Ok(None);
-        };
-        return Ok(Some(Command::Cut(penalty, least)));
-    }
-    if name == "apply" {
-        let Some(store) = store_of(alloc, rest)? else {
-            return Ok(None);
-        };
-        return Ok(Some(Command::Apply(store)));
-    }
-    if name == "gen" {
-        let Some(number) = number_of(alloc, "gen", rest)? else {
-            return Ok(None);
-        };
-        return Ok(Some(Command::Gen(number)));
-    }
-    if name == "trial" {
-        let Some(number) = number_of(alloc, "trial", rest)? else {
-            return Ok(None);
-        };
-        return Ok(Some(Command::Trial(number)));
-    }
-    if name == "play" {
-        let Some(plan) = plan_of(alloc, rest)? else {
-            return Ok(None);
-        };
-        return Ok(Some(Command::Play(plan)));
-    }
-    Ok(None)
+    let Some(kind) = kind_named(name.as_str()) else {
+        return Ok(None);
+    };
+    let Some(given) = given_by(alloc, kind, rest)? else {
+        return Ok(None);
+    };
+    said_by(alloc, kind, &given)
 }
 
-// The penalty that the words behind `cut` give.
-fn penalty_of(alloc: Global, rest: &[String]) -> Result<Option<u128>, NoMemory>
-    ensures { IfOk result (Finds (HavePenalty (texts rest.now))) }
-{
-    let Some(value) = value_of(cut_command(alloc)?, "PENALTY", rest)? else {
-        return Ok(None);
-    };
-    let Some(word) = value else {
-        return Ok(None);
-    };
-    let Some(penalty) = read_u128(word.as_bytes()) else {
-        return Ok(None);
-    };
-    if penalty > PENALTY_LIMIT {
-        return Ok(None);
-    }
-    Ok(Some(penalty))
-}
-
-// The least length that the words behind `cut` give, or 1.
-fn least_of(alloc: Global, rest: &[String]) -> Result<Option<u8>, NoMemory>
-    ensures { IfOk result (Finds (HaveLeast (texts rest.now))) }
-{
-    let Some(value) = value_of(cut_command(alloc)?, "least", rest)? else {
-        return Ok(None);
-    };
-    let Some(word) = value else {
-        return Ok(Some(1));
-    };
-    let Some(number) = read_u64(word.as_bytes()) else {
-        return Ok(None);
-    };
-    if number == 0 || number > 64 {
-        return Ok(None);
-    }
-    Ok(Some(number as u8))
-}
-
-// The number that the words behind the command's name give.
-fn number_of<'a>(alloc: Global, name: &'a str, rest: &'a [String]) -> Result<Option<u64>, NoMemory>
-    ensures { IfOk result (Finds (IsNumbered name.now (name.now ∷ texts rest.now))) }
-{
-    let Some(word) = value_behind(alloc, name, "NUMBER", rest)? else {
-        return Ok(None);
-    };
-    Ok(read_u64(word.as_bytes()))
-}
-
-// The value that the words behind the command's name give the one argument of this id.
-fn value_behind<'a>(
+// The command of this kind that its arguments say, if they say one.
+fn said_by<'a>(
     alloc: Global,
-    name: &'a str,
-    id: &'a str,
-    rest: &'a [String],
-) -> Result<Option<&'a str>, NoMemory>
-    ensures { IfOk result (λ told. Finds (λ word. Gives (value_app name.now id.now) id.now
-        (texts rest.now) (Some word)) (option_map (λ s. s.now) told)) }
+    kind: Kind,
+    given: &Given<'a>,
+) -> Result<Option<Command<'a>>, NoMemory>
+    ensures { IfOk result (Finds (λ c. (kind_of c ≡ kind) × IsSaid given.now c)) }
 {
-    let command = value_command(alloc, name, id)?;
-    let Some(value) = value_of(command, id, rest)? else {
-        return Ok(None);
-    };
-    Ok(value)
+    match kind {
+        Kind::Cut => {
+            let Some(cut) = cut_said(given) else {
+                return Ok(None);
+            };
+            Ok(Some(Command::Cut(cut)))
+        }
+        Kind::Apply => {
+            let Some(store) = store_said(given) else {
+                return Ok(None);
+            };
+            Ok(Some(Command::Apply(store)))
+        }
+        Kind::Gen => {
+            let Some(number) = number_said(given) else {
+                return Ok(None);
+            };
+            Ok(Some(Command::Gen(number)))
+        }
+        Kind::Trial => {
+            let Some(number) = number_said(given) else {
+                return Ok(None);
+            };
+            Ok(Some(Command::Trial(number)))
+        }
+        Kind::Play => {
+            let Some(plan) = plan_said(alloc, given)? else {
+                return Ok(None);
+            };
+            Ok(Some(Command::Play(plan)))
+        }
+        Kind::Path => {
+            let Some(path) = path_said(given) else {
+                return Ok(None);
+            };
+            Ok(Some(Command::Path(path)))
+        }
+        Kind::Hunt => {
+            let Some(hunt) = hunt_said(given) else {
+                return Ok(None);
+            };
+            Ok(Some(Command::Hunt(hunt)))
+        }
+    }
 }
 
-// The store that the words behind `apply` give, if they give one.
-fn store_of(alloc: Global, rest: &[String]) -> Result<Option<Option<StoreName<'_>>>, NoMemory>
-    ensures { IfOk result (Finds (IsApplyCommand (codes "apply" ∷ texts rest.now))) }
+// What the arguments of `cut` ask for.
+fn cut_said(given: &Given<'_>) -> Option<CutPlan>
+    ensures { Finds (λ cut. IsSaid given.now (Cut cut)) result }
 {
-    let command = apply_command(alloc)?;
-    let Some(value) = value_of(command, "store", rest)? else {
-        return Ok(None);
-    };
-    let Some(name) = value else {
-        return Ok(Some(None));
+    let penalty = number_in(given.value("PENALTY"), PENALTY_LIMIT)?;
+    let least = count_or(1, given.value("least"), 1, LENGTH_LIMIT)?;
+    let absolute = given.has_flag("absolute");
+    Some(CutPlan {
+        penalty,
+        least,
+        absolute,
+    })
+}
+
+// The store that the arguments of `apply` name, if they name one.
+fn store_said<'a>(given: &Given<'a>) -> Option<Option<Word<'a>>>
+    ensures { Finds (λ store. IsSaid given.now (Apply store)) result }
+{
+    let Some(name) = given.value("store") else {
+        return Some(None);
     };
     if name.is_empty() {
-        return Ok(None);
+        return None;
     }
-    Ok(Some(Some(StoreName::of(name))))
+    Some(Some(Word::of(name)))
+}
+
+// The number that the one argument has.
+fn number_said(given: &Given<'_>) -> Option<u64>
+    ensures { Finds (λ number.
+        IsNumber given.now (codes "NUMBER") number × (number < 2 ^ 64)) result }
+{
+    read_u64(given.value("NUMBER")?.as_bytes())
+}
+
+// What the arguments of `path` ask for.
+fn path_said(given: &Given<'_>) -> Option<PathPlan>
+    ensures { Finds (λ path. IsSaid given.now (Path path)) result }
+{
+    let low = number_in(given.value("LOW"), PENALTY_LIMIT)?;
+    let high = number_in(given.value("HIGH"), PENALTY_LIMIT)?;
+    if low > high {
+        return None;
+    }
+    Some(PathPlan { low, high })
+}
+
+// What the arguments of `hunt` ask for.
+fn hunt_said<'a>(given: &Given<'a>) -> Option<HuntPlan<'a>>
+    ensures { Finds (λ hunt. IsSaid given.now (Hunt hunt)) result }
+{
+    let width = count_in(given.value("K"), 1, WIDTH_LIMIT)?;
+    let test = given.value("test")?;
+    if test.is_empty() {
+        return None;
+    }
+    Some(HuntPlan {
+        width,
+        test: Word::of(test),
+    })
 }
 
 /// No words are two commands. Does nothing: its contract is what it is for.

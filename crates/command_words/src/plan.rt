@@ -1,24 +1,26 @@
 //! What `play` is asked for.
-ghost use Rattle.std.specs.Prelude.{◌≡◌, ◌<◌, ◌≤◌, ◌↔◌, ◌∷◌, codes, string_bytes, All, Contains, IsTrue, IsSome, IfOk};
+ghost use Rattle.std.specs.Prelude.{◌≡◌, ◌<◌, ◌↔◌, string_bytes, All, Contains, IsTrue, IsSome, IfOk};
 ghost use Rattle.std.specs.List.{AllZip};
 ghost use Rattle.line_text.specs.Names.{Spells};
-ghost use Rattle.command_words.specs.Commands.{texts, Finds, IsPlayCommand};
-ghost use Rattle.command_words.specs.Plans.{AreMachines, AreScripts, AsksFor, IsCountOf, IsListOf, transcript_of};
-ghost use Rattle.command_words.specs.Texts.{shown, shown_if, items_if};
+ghost use Rattle.command_words.specs.Commands.{IsSaid};
+ghost use Rattle.command_words.specs.Plans.{AreMachines, AreScripts, IsListOf, transcript_of};
+ghost use Rattle.command_words.specs.Texts.{Finds, shown, shown_if, items_if};
+ghost use Rattle.command_words.specs.declared.command.Command.TheVariants.{Play};
 
 use crate::NoMemory;
+use crate::given::Given;
+use crate::numbers::count_or;
 use crate::texts::{all_named, are_apart, has_text, is_named, pieces_of};
-use crate::values::{PlayValues, values_of};
-use line_text::{Name, NameError, read_name, read_u64};
+use line_text::{Name, NameError, read_name};
 use std::alloc::{AllocError, Global};
 use std::marker::Model;
 
-/// The most machines, scripts, and workers of one kind.
+// The most machines, scripts, and workers of one kind.
 const MACHINES: usize = 16;
 
 const SCRIPTS: usize = 8;
 
-const WORKERS: u64 = 8;
+const WORKERS: u8 = 8;
 
 /// What `play` is asked for: the names of machines to add, the name of the store, how many workers of each kind, the word of
 /// the test, and the names of the scripts.
@@ -101,68 +103,45 @@ pub fn transcript_name(alloc: Global, script: &str) -> Result<String, NoMemory>
     Ok(name)
 }
 
-// What the words behind `play` ask for.
-pub(crate) fn plan_of<'a>(
+// What the arguments of `play` ask for.
+pub(crate) fn plan_said<'a>(
     alloc: Global,
-    rest: &'a [String],
+    given: &Given<'a>,
 ) -> Result<Option<PlayPlan<'a>>, NoMemory>
-    ensures { IfOk result (Finds (IsPlayCommand (codes "play" ∷ texts rest.now))) }
+    ensures { IfOk result (Finds (λ plan. IsSaid given.now (Play plan))) }
 {
-    let Some(values) = values_of(alloc, rest)? else {
+    let Some(machines) = machines_of(alloc, given.value("machines"))? else {
         return Ok(None);
     };
-    asked_for(alloc, values)
-}
-
-// What the values ask for.
-fn asked_for<'a>(alloc: Global, values: PlayValues<'a>) -> Result<Option<PlayPlan<'a>>, NoMemory>
-    ensures { IfOk result (Finds (AsksFor values.entry)) }
-{
-    let Some(machines) = machines_of(alloc, values.machines)? else {
+    let Some(recompute) = count_or(0, given.value("recompute"), 0, WORKERS) else {
         return Ok(None);
     };
-    let Some(recompute) = count_of(values.recompute) else {
+    let Some(bisect) = count_or(0, given.value("bisect"), 0, WORKERS) else {
         return Ok(None);
     };
-    let Some(bisect) = count_of(values.bisect) else {
-        return Ok(None);
-    };
-    if !is_named(values.store) {
+    let store = given.value("store");
+    let test = given.value("test");
+    if !is_named(store) {
         return Ok(None);
     }
-    if !is_named(values.test) {
+    if !is_named(test) {
         return Ok(None);
     }
-    if !is_tested(bisect, values.test) {
+    if !is_tested(bisect, test) {
         return Ok(None);
     }
-    if !are_scripts(alloc, &values.scripts)? {
+    let scripts = given.values(alloc, "SCRIPT")?;
+    if !are_scripts(alloc, &scripts)? {
         return Ok(None);
     }
     Ok(Some(PlayPlan {
         machines,
-        store: values.store,
+        store,
         recompute,
         bisect,
-        test: values.test,
-        scripts: values.scripts,
+        test,
+        scripts,
     }))
-}
-
-// The number that the word is, if it is one of at most 8; 0 without a word.
-fn count_of(word: Option<&str>) -> Option<u8>
-    ensures { Finds (λ n. IsCountOf (shown_if word.entry) n × (n ≤ 8)) result }
-{
-    let Some(word) = word else {
-        return Some(0);
-    };
-    let Some(number) = read_u64(word.as_bytes()) else {
-        return None;
-    };
-    if number > WORKERS {
-        return None;
-    }
-    Some(number as u8)
 }
 
 // Whether there is a word of the test, where bisect workers run.
@@ -224,7 +203,7 @@ fn texts_in<'a>(alloc: Global, names: &'a [Name]) -> Result<Vec<&'a str>, NoMemo
 }
 
 // Whether they are names of scripts that can run at once.
-fn are_scripts(alloc: Global, scripts: &[&str]) -> Result<bool, NoMemory>
+pub(crate) fn are_scripts(alloc: Global, scripts: &[&str]) -> Result<bool, NoMemory>
     ensures { IfOk result (λ yes. IsTrue yes ↔ AreScripts (shown scripts.now)) }
 {
     if scripts.is_empty() || scripts.len() > SCRIPTS {

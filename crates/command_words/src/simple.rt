@@ -1,44 +1,65 @@
 //! The simple commands that read the words behind a command's name.
-ghost use Rattle.std.specs.Prelude.{◌≡◌, ◌≢◌, List, [], ℕ, IfOk, IfSome, IfNone, Option, option_map, true};
-ghost use Rattle.clap.specs.Words.{app_of, fault_of, is_simple_and_free, matches_of, first_of};
-ghost use Rattle.command_words.specs.Commands.{texts};
-ghost use Rattle.command_words.specs.Simple.{Gives, named_app, value_app, cut_app, apply_app};
+ghost use Rattle.std.specs.Prelude.{◌≡◌, IfOk};
+ghost use Rattle.clap.specs.Words.{app_of, with_rule};
+ghost use Rattle.command_words.specs.Simple.{named_app, value_rule, values_rule, option_rule, flag_rule};
+ghost use Rattle.command_words.specs.Kinds.{app_for};
+ghost use Rattle.command_words.specs.declared.kind.Kind.TheVariants as kinds;
 
 use crate::NoMemory;
-use clap::error::ErrorKind;
-use clap::{Arg, Command};
-use std::alloc::{AllocError, Global};
+use crate::kind::Kind;
+use clap::{Arg, ArgAction, Command};
+use std::alloc::Global;
 
-// The command of this name whose one argument is a required positional of this id.
-pub(crate) fn value_command<'a>(
-    alloc: Global,
-    name: &'a str,
-    id: &'a str,
-) -> Result<Command<'a>, NoMemory>
-    ensures { IfOk result (λ c. app_of c ≡ value_app name.entry.now id.entry.now) }
+// The simple command of this kind.
+pub(crate) fn command_for<'a>(alloc: Global, kind: Kind) -> Result<Command<'a>, NoMemory>
+    ensures { IfOk result (λ c. app_of c ≡ app_for kind) }
 {
-    let value = Arg::new(alloc, id).required(true);
-    named_command(alloc, name).arg(value)
+    match kind {
+        Kind::Cut => cut_command(alloc),
+        Kind::Apply => with_option(alloc, named(alloc, "apply"), "store"),
+        Kind::Gen => with_value(alloc, named(alloc, "gen"), "NUMBER"),
+        Kind::Trial => with_value(alloc, named(alloc, "trial"), "NUMBER"),
+        Kind::Play => play_command(alloc),
+        Kind::Path => path_command(alloc),
+        Kind::Hunt => hunt_command(alloc),
+    }
 }
 
-// The command `cut`, with its positional and its option.
-pub(crate) fn cut_command<'a>(alloc: Global) -> Result<Command<'a>, NoMemory>
-    ensures { IfOk result (λ c. app_of c ≡ cut_app) }
+fn cut_command<'a>(alloc: Global) -> Result<Command<'a>, NoMemory>
+    ensures { IfOk result (λ c. app_of c ≡ app_for kinds.Cut) }
 {
-    let least = Arg::new(alloc, "least").long("least");
-    value_command(alloc, "cut", "PENALTY")?.arg(least)
+    let mut command = with_value(alloc, named(alloc, "cut"), "PENALTY")?;
+    command = with_option(alloc, command, "least")?;
+    with_flag(alloc, command, "absolute")
 }
 
-// The command `apply`, with its one option.
-pub(crate) fn apply_command<'a>(alloc: Global) -> Result<Command<'a>, NoMemory>
-    ensures { IfOk result (λ c. app_of c ≡ apply_app) }
+fn play_command<'a>(alloc: Global) -> Result<Command<'a>, NoMemory>
+    ensures { IfOk result (λ c. app_of c ≡ app_for kinds.Play) }
 {
-    let store = Arg::new(alloc, "store").long("store");
-    named_command(alloc, "apply").arg(store)
+    let mut command = with_option(alloc, named(alloc, "play"), "machines")?;
+    command = with_option(alloc, command, "store")?;
+    command = with_option(alloc, command, "recompute")?;
+    command = with_option(alloc, command, "bisect")?;
+    command = with_option(alloc, command, "test")?;
+    with_values(alloc, command, "SCRIPT")
+}
+
+fn path_command<'a>(alloc: Global) -> Result<Command<'a>, NoMemory>
+    ensures { IfOk result (λ c. app_of c ≡ app_for kinds.Path) }
+{
+    let command = with_value(alloc, named(alloc, "path"), "LOW")?;
+    with_value(alloc, command, "HIGH")
+}
+
+fn hunt_command<'a>(alloc: Global) -> Result<Command<'a>, NoMemory>
+    ensures { IfOk result (λ c. app_of c ≡ app_for kinds.Hunt) }
+{
+    let command = with_value(alloc, named(alloc, "hunt"), "K")?;
+    with_option(alloc, command, "test")
 }
 
 // The command of this name, with no argument yet.
-pub(crate) fn named_command<'a>(alloc: Global, name: &'a str) -> Command<'a>
+fn named<'a>(alloc: Global, name: &'a str) -> Command<'a>
     ensures { app_of result ≡ named_app name.entry.now }
 {
     Command::new(alloc, name)
@@ -47,26 +68,46 @@ pub(crate) fn named_command<'a>(alloc: Global, name: &'a str) -> Command<'a>
         .disable_version_flag(true)
 }
 
-// What the command gives its argument of this id, where it takes the words.
-pub(crate) fn value_of<'a>(
-    command: Command<'a>,
-    id: &str,
-    words: &'a [String],
-) -> Result<Option<Option<&'a str>>, NoMemory>
-    requires { is_simple_and_free (app_of command) ≡ true }
-    ensures taken { IfOk result (λ told. IfSome told (λ value. Gives (app_of command.entry) id.now
-        (texts words.entry.now) (option_map (λ s. s.now) value))) }
-    ensures refused { IfOk result (λ told. IfNone told (fault_of (app_of command.entry)
-        (texts words.entry.now) ≢ [])) }
+// The command with a positional more, which must be given.
+fn with_value<'a>(alloc: Global, command: Command<'a>, id: &'a str) -> Result<Command<'a>, NoMemory>
+    ensures { IfOk result
+        (λ c. app_of c ≡ with_rule (app_of command.entry) (value_rule id.entry.now)) }
 {
-    match command.try_get_matches_from(words) {
-        Ok(matches) => Ok(Some(matches.get_str(id))),
-        Err(error) => {
-            if error.kind() == ErrorKind::OutOfMemory {
-                Err(AllocError)
-            } else {
-                Ok(None)
-            }
-        }
-    }
+    command.arg(Arg::new(alloc, id).required(true))
+}
+
+// The command with a positional of one or more values more, which must be given.
+fn with_values<'a>(
+    alloc: Global,
+    command: Command<'a>,
+    id: &'a str,
+) -> Result<Command<'a>, NoMemory>
+    ensures { IfOk result
+        (λ c. app_of c ≡ with_rule (app_of command.entry) (values_rule id.entry.now)) }
+{
+    command.arg(Arg::new(alloc, id).required(true).num_args(1..))
+}
+
+// The command with an option more.
+fn with_option<'a>(
+    alloc: Global,
+    command: Command<'a>,
+    name: &'a str,
+) -> Result<Command<'a>, NoMemory>
+    ensures { IfOk result
+        (λ c. app_of c ≡ with_rule (app_of command.entry) (option_rule name.entry.now)) }
+{
+    command.arg(Arg::new(alloc, name).long(name))
+}
+
+// The command with a flag more.
+fn with_flag<'a>(
+    alloc: Global,
+    command: Command<'a>,
+    name: &'a str,
+) -> Result<Command<'a>, NoMemory>
+    ensures { IfOk result
+        (λ c. app_of c ≡ with_rule (app_of command.entry) (flag_rule name.entry.now)) }
+{
+    command.arg(Arg::new(alloc, name).long(name).action(ArgAction::SetTrue))
 }

@@ -35,7 +35,7 @@ pub(crate) fn has_text(texts: &[&str], text: &str) -> bool
 }
 
 // Whether they are the same.
-fn is_same(one: &str, other: &str) -> bool
+pub(crate) fn is_same(one: &str, other: &str) -> bool
     ensures { IsTrue result ↔ (one.now ≡ other.now) }
 {
     one == other

@@ -1,21 +1,21 @@
 //! Words that are a command, and words that are none, with ample memory.
-use command_words::{Command, NoMemory, PlayPlan, command_of};
+use command_words::{Command, CutPlan, HuntPlan, NoMemory, PathPlan, PlayPlan, command_of};
 use std::alloc::Global;
 
 // Words, and how the command that they are is told.
 type Row = (&'static [&'static str], &'static str);
 
 const TOLD: [Row; 52] = [
-    (&["cut", "50"], "cut 50 1"),
-    (&["cut", "0"], "cut 0 1"),
-    (&["cut", "--", "50"], "cut 50 1"),
-    (&["cut", "50", "--"], "cut 50 1"),
+    (&["cut", "50"], "cut 50 1 squares"),
+    (&["cut", "0"], "cut 0 1 squares"),
+    (&["cut", "--", "50"], "cut 50 1 squares"),
+    (&["cut", "50", "--"], "cut 50 1 squares"),
     (
         &["cut", "1000000000000000000000000000000000000"],
-        "cut 1000000000000000000000000000000000000 1",
+        "cut 1000000000000000000000000000000000000 1 squares",
     ),
-    (&["cut", "50", "--least", "2"], "cut 50 2"),
-    (&["cut", "--least=64", "50"], "cut 50 64"),
+    (&["cut", "50", "--least", "2"], "cut 50 2 squares"),
+    (&["cut", "--least=64", "50"], "cut 50 64 squares"),
     (&["cut", "5", "--least", "65"], "none"),
     (&["cut", "5", "--least", "0"], "none"),
     (&["cut", "5", "--least", "02"], "none"),
@@ -188,6 +188,84 @@ fn words_of_play_are_none_where_they_break_a_rule(rt: HostRuntime) {
     }
 }
 
+const DISTANCES: [Row; 12] = [
+    (&["cut", "5", "--absolute"], "cut 5 1 distances"),
+    (&["cut", "--absolute", "5"], "cut 5 1 distances"),
+    (
+        &["cut", "--absolute", "--least=3", "5"],
+        "cut 5 3 distances",
+    ),
+    (&["cut", "--absolute", "--", "5"], "cut 5 1 distances"),
+    (&["cut", "5", "--least", "1"], "cut 5 1 squares"),
+    (&["cut", "--absolute"], "none"),
+    (&["cut", "--absolute=true", "5"], "none"),
+    (&["cut", "5", "--absolute", "--absolute"], "none"),
+    (&["cut", "5", "--abs"], "none"),
+    (&["cut", "5", "--least="], "none"),
+    (&["cut", "5", "--least=2", "--least=2"], "none"),
+    (&["gen", "7", "--absolute"], "none"),
+];
+
+#[test]
+fn words_of_cut_ask_for_distances(rt: HostRuntime) {
+    for row in &DISTANCES {
+        assert!(rt; are_told(rt.alloc(), row.0, row.1), "{}", row.1);
+    }
+}
+
+const RANGES: [Row; 13] = [
+    (&["path", "0", "120"], "path 0 120"),
+    (&["path", "8", "8"], "path 8 8"),
+    (&["path", "--", "5", "9"], "path 5 9"),
+    (
+        &["path", "0", "1000000000000000000000000000000000000"],
+        "path 0 1000000000000000000000000000000000000",
+    ),
+    (&["path", "9", "5"], "none"),
+    (
+        &["path", "0", "1000000000000000000000000000000000001"],
+        "none",
+    ),
+    (&["path"], "none"),
+    (&["path", "1"], "none"),
+    (&["path", "1", "2", "3"], "none"),
+    (&["path", "1", "02"], "none"),
+    (&["path", "1", "-2"], "none"),
+    (&["path", "--least=2", "1", "2"], "none"),
+    (&["path", "--absolute", "1", "2"], "none"),
+];
+
+#[test]
+fn words_of_path_ask_for_a_range(rt: HostRuntime) {
+    for row in &RANGES {
+        assert!(rt; are_told(rt.alloc(), row.0, row.1), "{}", row.1);
+    }
+}
+
+const HUNTS: [Row; 14] = [
+    (&["hunt", "3", "--test", "sh"], "hunt 3 sh"),
+    (&["hunt", "--test=-x", "8"], "hunt 8 -x"),
+    (&["hunt", "1", "--test", "-"], "hunt 1 -"),
+    (&["hunt"], "none"),
+    (&["hunt", "3"], "none"),
+    (&["hunt", "--test", "sh"], "none"),
+    (&["hunt", "0", "--test", "sh"], "none"),
+    (&["hunt", "9", "--test", "sh"], "none"),
+    (&["hunt", "03", "--test", "sh"], "none"),
+    (&["hunt", "3", "--test"], "none"),
+    (&["hunt", "3", "--test", ""], "none"),
+    (&["hunt", "3", "--test="], "none"),
+    (&["hunt", "3", "4", "--test", "sh"], "none"),
+    (&["hunt", "3", "--test", "a", "--test", "b"], "none"),
+];
+
+#[test]
+fn words_of_hunt_ask_for_a_search(rt: HostRuntime) {
+    for row in &HUNTS {
+        assert!(rt; are_told(rt.alloc(), row.0, row.1), "{}", row.1);
+    }
+}
+
 // Whether the words are the command that is told so.
 fn are_told(alloc: Global, words: &[&str], told: &str) -> bool {
     let Ok(texts) = strings(alloc, words) else {
@@ -211,12 +289,7 @@ fn strings(alloc: Global, words: &[&str]) -> Result<Vec<String>, NoMemory> {
 // Whether the command is told so: its name, then what it has.
 fn is_told(alloc: Global, command: &Command<'_>, told: &str) -> bool {
     match command {
-        Command::Cut(penalty, least) => told
-            .strip_prefix("cut ")
-            .and_then(|text| text.split_once(' '))
-            .is_some_and(|(text, more)| {
-                text.parse::<u128>() == Ok(*penalty) && more.parse::<u8>() == Ok(*least)
-            }),
+        Command::Cut(cut) => is_text(told, "cut ", cut_text(alloc, cut)),
         Command::Apply(None) => told == "apply",
         Command::Apply(Some(store)) => told.strip_prefix("apply ") == Some(store.as_str()),
         Command::Gen(number) => told
@@ -225,11 +298,37 @@ fn is_told(alloc: Global, command: &Command<'_>, told: &str) -> bool {
         Command::Trial(number) => told
             .strip_prefix("trial ")
             .is_some_and(|text| text.parse::<u64>() == Ok(*number)),
-        Command::Play(plan) => match plan_text(alloc, plan) {
-            Ok(text) => told.strip_prefix("play ") == Some(text.as_str()),
-            Err(_) => false,
-        },
+        Command::Play(plan) => is_text(told, "play ", plan_text(alloc, plan)),
+        Command::Path(path) => is_text(told, "path ", path_text(alloc, path)),
+        Command::Hunt(hunt) => is_text(told, "hunt ", hunt_text(alloc, hunt)),
     }
+}
+
+// Whether what is told is the name with the text behind it.
+fn is_text(told: &str, name: &str, text: Result<String, NoMemory>) -> bool {
+    match text {
+        Ok(text) => told.strip_prefix(name) == Some(text.as_str()),
+        Err(_) => false,
+    }
+}
+
+// The penalty, the least length, and what is summed.
+fn cut_text(alloc: Global, cut: &CutPlan) -> Result<String, NoMemory> {
+    let (penalty, least) = (cut.penalty, cut.least);
+    let summed = if cut.absolute { "distances" } else { "squares" };
+    format!(in alloc; "{penalty} {least} {summed}")
+}
+
+// The least and the greatest penalty.
+fn path_text(alloc: Global, path: &PathPlan) -> Result<String, NoMemory> {
+    let (low, high) = (path.low, path.high);
+    format!(in alloc; "{low} {high}")
+}
+
+// How many commits a round asks, and the word of the test.
+fn hunt_text(alloc: Global, hunt: &HuntPlan<'_>) -> Result<String, NoMemory> {
+    let (width, test) = (hunt.width, hunt.test.as_str());
+    format!(in alloc; "{width} {test}")
 }
 
 // The machines with a comma behind each, the store, the numbers of workers, the word of the test, and the scripts.

@@ -1,4 +1,4 @@
-use Rattle.std.proofs.Common.{◌≢◌, ℕ, ◌<◌, ◌≤◌, List, length, refl, arith}
+use Rattle.std.proofs.Common.{◌≢◌, ◌<◌, ◌≤◌, length, refl, arith}
 use Rattle.std.specs.Prelude.{All, AllPairs}
 use Rattle.command_words.specs.Texts.{shown}
 use Rattle.command_words.proofs.Plans.{scripts_by, length_shown}

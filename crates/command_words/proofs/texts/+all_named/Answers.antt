@@ -1,4 +1,4 @@
-use Rattle.std.proofs.Common.{◌≡◌, ◌↔◌, ◌==◌, ℕ, zero, suc, ◌<◌, List, length, false, sym, subst, arith}
+use Rattle.std.proofs.Common.{◌↔◌, ℕ, ◌<◌, List, length, sym, subst}
 use Rattle.std.specs.Prelude.{All, IsTrue}
 use Rattle.std.specs.Borrow.{Bor}
 use Rattle.command_words.specs.Texts.{shown}

@@ -1,4 +1,4 @@
-use Rattle.std.proofs.Common.{◌≢◌, ◌↔◌, ℕ, List, ◌∷◌, true, false, refl, sym, subst}
+use Rattle.std.proofs.Common.{◌≢◌, ◌↔◌, ℕ, List, false, refl, sym, subst}
 use Rattle.std.specs.Prelude.{AllPairs, Contains, IsTrue}
 use Rattle.std.specs.Borrow.{Bor}
 use Rattle.command_words.specs.Texts.{shown}
