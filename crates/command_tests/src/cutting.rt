@@ -12,9 +12,9 @@ const ONE: &str = "points 1\npenalty 1\ncuts\ntotal 0\nleast -1 0\nback 0 0\npru
 const FOUR: &str =
     "points 4\npenalty 50\ncuts 2\ntotal 50\nleast -50 0 0 50 50\nback 0 0 0 2 2\npruned 0 4 0 0 0\n";
 
-/// Words, inputs and what is printed. The last rows have a least length of segments: a place that is pruned before it wins,
-/// and three positions that no cut leaves long enough.
-const CERTIFICATES: [(&[&str], &str, &str); 12] = [
+/// Words, inputs and what is printed. Some rows have a least length of segments: a place that is pruned before it wins, and
+/// three positions that no cut leaves long enough. The last rows are by distances, and one by squares beside them.
+const CERTIFICATES: [(&[&str], &str, &str); 17] = [
     (&["cut", "50"], "1 0\n2 0\n3 10\n4 10\n", FOUR),
     (&["cut", "50"], "1 0\n# x\n2 0\n\n3 10\n4 10\n", FOUR),
     (&["cut", "50"], "  1   0\n 2 0 \n3 10  \n   \n4 10", FOUR),
@@ -63,6 +63,31 @@ const CERTIFICATES: [(&[&str], &str, &str); 12] = [
         "",
         "points 0\npenalty 5\nlength 64\ncuts\ntotal 0\nleast -5\nback 0\npruned 0\n",
     ),
+    (
+        &["cut", "5", "--absolute"],
+        "1 0\n2 0\n3 10\n4 10\n",
+        "points 4\npenalty 5\ncuts 2\ntotal 5\nleast -5 0 0 5 5\nback 0 0 0 2 2\npruned 4 3 0 0 0\n",
+    ),
+    (
+        &["cut", "6", "--absolute"],
+        "1 0\n2 0\n3 9\n4 0\n5 0\n",
+        "points 5\npenalty 6\ncuts\ntotal 9\nleast -6 0 0 6 9 9\nback 0 0 0 2 0 0\npruned 0 3 0 0 0 0\n",
+    ),
+    (
+        &["cut", "6"],
+        "1 0\n2 0\n3 9\n4 0\n5 0\n",
+        "points 5\npenalty 6\ncuts 2 3\ntotal 12\nleast -6 0 0 6 12 12\nback 0 0 0 2 3 3\npruned 3 3 4 0 0 0\n",
+    ),
+    (
+        &["cut", "--absolute", "1"],
+        "5 0\n5 100\n5 -100\n",
+        "points 1\npenalty 1\ncuts\ntotal 200\nleast -1 200\nback 0 0\npruned 0 0\n",
+    ),
+    (
+        &["cut", "3", "--absolute", "--least", "2"],
+        "1 0\n2 0\n3 9\n4 0\n5 0\n",
+        "points 5\npenalty 3\nlength 2\ncuts\ntotal 9\nleast -3 0 0 9 9 9\nback 0 0 0 0 0 0\npruned 0 0 0 0 0 0\n",
+    ),
 ];
 
 #[test]
@@ -72,8 +97,8 @@ fn certificates_are_printed(rt: HostRuntime) {
     }
 }
 
-// Whether the words on the input come to the end, and print this.
-fn prints<'a>(alloc: Global, words: &'a [&'a str], input: &'a str, out: &'a str) -> bool {
+/// Whether the words on the input come to the end, and print this.
+pub fn prints<'a>(alloc: Global, words: &'a [&'a str], input: &'a str, out: &'a str) -> bool {
     let run = Run {
         words,
         input: input.as_bytes(),
@@ -121,6 +146,8 @@ fn lines_come_in_any_order(rt: HostRuntime) {
     }
 }
 
+const CUT: &[&str] = &["cut", "1"];
+
 // Inputs, the calls that fail, the status and its line, where nothing is printed.
 const STOPPED: [(&str, Fails, Status, &str); 9] = [
     (
@@ -147,14 +174,24 @@ const STOPPED: [(&str, Fails, Status, &str); 9] = [
 #[test]
 fn lines_are_refused(rt: HostRuntime) {
     for (input, fails, status, err) in &STOPPED {
-        assert!(rt; stops(rt.alloc(), input, fails, *status, err), "{input}");
+        assert!(rt;
+            stops(rt.alloc(), CUT, input, fails, *status, err),
+            "{input}"
+        );
     }
 }
 
-// Whether `cut` ends so, and prints nothing.
-fn stops(alloc: Global, input: &str, fails: &Fails, status: Status, err: &str) -> bool {
+/// Whether the words on the input end so, and print nothing.
+pub fn stops(
+    alloc: Global,
+    words: &[&str],
+    input: &str,
+    fails: &Fails,
+    status: Status,
+    err: &str,
+) -> bool {
     let run = Run {
-        words: &["cut", "1"],
+        words,
         input: input.as_bytes(),
         fails: *fails,
         status,
@@ -191,12 +228,15 @@ const FAULTS: [(&str, Fails, Status, &str); 5] = [
 #[test]
 fn outside_fails(rt: HostRuntime) {
     for (input, fails, status, err) in &FAULTS {
-        assert!(rt; stops(rt.alloc(), input, fails, *status, err), "{input}");
+        assert!(rt;
+            stops(rt.alloc(), CUT, input, fails, *status, err),
+            "{input}"
+        );
     }
 }
 
 // Words that are no command; the first penalty has a zero too many, the second is above all penalties.
-const NO_COMMANDS: [&[&str]; 7] = [
+const NO_COMMANDS: [&[&str]; 11] = [
     &[],
     &["cut", "05"],
     &["cut", "5", "--least", "65"],
@@ -204,6 +244,10 @@ const NO_COMMANDS: [&[&str]; 7] = [
     &["cut", "1000000000000000000000000000000000001"],
     &["apply", "--store="],
     &["trial", "7", "8"],
+    &["cut", "5", "--absolute=true"],
+    &["path", "9", "5"],
+    &["path", "0"],
+    &["path", "0", "1000000000000000000000000000000000001"],
 ];
 
 #[test]
@@ -265,7 +309,10 @@ const LONG_LINES: [(&[Piece], Status, &str, &str); 6] = [
 #[test]
 fn long_lines(rt: HostRuntime) {
     for (pieces, status, out, err) in &LONG_LINES {
-        assert!(rt; cuts(rt.alloc(), pieces, *status, out, err), "{out}{err}");
+        assert!(rt;
+            prints_of(rt.alloc(), CUT, pieces, *status, out, err),
+            "{out}{err}"
+        );
     }
 }
 
@@ -300,22 +347,39 @@ const FULL: [(&[Piece], Status, &str, &str); 4] = [
 #[test]
 fn full_series(rt: HostRuntime) {
     for (pieces, status, out, err) in &FULL {
-        assert!(rt; cuts(rt.alloc(), pieces, *status, out, err), "{err}");
+        assert!(rt;
+            prints_of(rt.alloc(), CUT, pieces, *status, out, err),
+            "{err}"
+        );
     }
 }
 
-// Whether `cut` of the pieces ends so.
-fn cuts(alloc: Global, pieces: &[Piece], status: Status, out: &str, err: &str) -> bool {
+/// Whether the words on the pieces end so.
+pub fn prints_of(
+    alloc: Global,
+    words: &[&str],
+    pieces: &[Piece],
+    status: Status,
+    out: &str,
+    err: &str,
+) -> bool {
     match text_of(alloc, pieces) {
-        Ok(input) => ends_so(alloc, &input, status, out, err),
+        Ok(input) => ends_so(alloc, words, &input, status, out, err),
         Err(_) => false,
     }
 }
 
-// Whether `cut` of the input ends so.
-fn ends_so<'a>(alloc: Global, input: &'a [u8], status: Status, out: &'a str, err: &'a str) -> bool {
+// Whether the words on the input end so.
+fn ends_so<'a>(
+    alloc: Global,
+    words: &'a [&'a str],
+    input: &'a [u8],
+    status: Status,
+    out: &'a str,
+    err: &'a str,
+) -> bool {
     let run = Run {
-        words: &["cut", "1"],
+        words,
         input,
         fails: NO_FAILS,
         status,

@@ -1,5 +1,5 @@
 //! Whole runs of the commands of one thread, over objects in memory with ample memory: what scripts are answered, what `cut`
-//! prints, what a store keeps, and sources that come byte by byte, fail, or are too long.
+//! and `path` print, what a store keeps, and sources that come byte by byte, fail, or are too long.
 //!
 //! They are rows of tables, and call what `tracker_top` exports and nothing else of it: tests in its own folder would prove it
 //! once more. `run.rt` has what a run is given and how it is to end, and says whether it ends so: each function makes one object
@@ -18,6 +18,8 @@ mod failing;
 mod following;
 #[cfg(test)]
 mod limits;
+#[cfg(test)]
+mod paths;
 #[cfg(test)]
 mod publications;
 #[cfg(test)]

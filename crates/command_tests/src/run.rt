@@ -7,7 +7,7 @@ use std::alloc::{AllocError, Global};
 use std::marker::Brand;
 use std::sync::ledger::{Blank, Ledger};
 use track_outside::{MemKeeper, MemSink, MemSource, Source};
-use tracker_top::{Status, alone, asks_play};
+use tracker_top::{Status, alone, asks_hunt, asks_play};
 
 /// The calls of each object that fail, counted from 1.
 #[derive(Clone, Copy)]
@@ -106,7 +106,8 @@ fn tells_over<I: Source + Send + Drop>(
     }
 }
 
-// The status of the words on these objects; none where there is no memory for the words, or the first of them is `play`.
+// The status of the words on these objects; none where there is no memory for the words, or the first of them is `play` or
+// `hunt`.
 fn status_of<I: Source + Send + Drop>(
     alloc: Global,
     words: &[&str],
@@ -138,6 +139,9 @@ fn status_counted<I: Source + Send + Drop, L: Ledger>(
     requires some { 0 < L.parts }
 {
     if asks_play(texts) {
+        return None;
+    }
+    if asks_hunt(texts) {
         return None;
     }
     let mut steps = Steps::<L>::start(blank);

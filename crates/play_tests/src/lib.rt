@@ -1,5 +1,5 @@
-//! Shared runs, from their words to journals, transcripts and rows, over objects in memory with ample memory, and over
-//! files of the system.
+//! Shared runs, from their words to journals, transcripts and rows, and hunts, over objects in memory with ample memory, and
+//! over files of the system.
 //!
 //! They are rows of a table, and call what `tracker_top` exports and nothing else of it. `run.rt` makes the objects of a run,
 //! one after another, and answers false where there is no memory.
@@ -7,6 +7,8 @@
 
 #[cfg(test)]
 mod closes;
+#[cfg(test)]
+mod hunts;
 #[cfg(test)]
 mod long;
 #[cfg(test)]

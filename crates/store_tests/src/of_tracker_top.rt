@@ -7,7 +7,7 @@ use std::alloc::{AllocError, Global};
 use std::marker::Brand;
 use std::sync::ledger::{Blank, Ledger};
 use track_outside::{MemFiles, MemSink, MemSource};
-use tracker_top::{Status, alone, asks_play};
+use tracker_top::{Status, alone, asks_hunt, asks_play};
 
 // A script, and what it is answered.
 type Run = (&'static str, &'static str);
@@ -92,6 +92,9 @@ fn answer_counted<L: Ledger>(
     requires some { 0 < L.parts }
 {
     if asks_play(words) {
+        return Err(AllocError);
+    }
+    if asks_hunt(words) {
         return Err(AllocError);
     }
     let mut input = MemSource::new(alloc, script, &[])?;

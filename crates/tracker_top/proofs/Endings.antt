@@ -1,5 +1,5 @@
 -- How a command ends, and that what is due comes.
-use Rattle.std.proofs.Common.{◌≡◌, ◌≢◌, ℕ, ◌≤◌, ◌⊎◌, inl, inr, List, [], ◌∷◌, Option, None, Some, Result, Ok, Err, IfSome, map, refl, sym, ap, subst, ◌∙◌, arith}
+use Rattle.std.proofs.Common.{◌≡◌, ◌≢◌, ℕ, ◌≤◌, ◌⊎◌, inl, inr, List, [], ◌∷◌, Option, None, Some, Result, Ok, Err, IfSome, map, pos, refl, sym, ap, subst, ◌∙◌, arith}
 use Rattle.track_outside.specs.Counts.{Rose}
 use Rattle.track_outside.specs.declared.source.Source as source
 use Rattle.track_outside.specs.declared.sink.Sink as sink
@@ -11,12 +11,24 @@ use Rattle.script_loop.specs.declared.stop.Stop.{Stop as ScriptStop}
 use Rattle.script_loop.specs.declared.stop.Stop.TheVariants as script
 use Rattle.script_loop.specs.Endings.{HasRead, HasWritten}
 use Rattle.command_words.specs.declared.command.Command.{Command}
-use Rattle.command_words.specs.declared.command.Command.TheVariants.{Cut, Apply, Gen, Trial, Play}
+use Rattle.command_words.specs.declared.command.CutPlan.{CutPlan}
+use Rattle.command_words.specs.declared.command.PathPlan.{PathPlan}
+use Rattle.segment_model.specs.Segments.{Position}
+use Rattle.cut_lines.specs.declared.stop.Refusal.TheVariants as refusal
+use Rattle.cut_lines.specs.declared.stop.Stop.{Stop as LinesStop}
+use Rattle.cut_lines.specs.declared.stop.Stop.TheVariants as lines
+use Rattle.cut_lines.specs.Reading.{ArePointsWithin}
+use Rattle.cut_lines.specs.Stops.{BytesShowWithin}
+use Rattle.path_command.specs.Endings.{EndsPath as PutsPath, HasCause as HasPathCause}
+use Rattle.path_command.specs.declared.end.PathEnd.{PathEnd}
+use Rattle.path_command.specs.declared.end.PathEnd.TheVariants as path
+use Rattle.tracker_top.specs.Paths.{path_status_of}
+use Rattle.command_words.specs.declared.command.Command.TheVariants.{Cut, Apply, Gen, Trial, Play, Path, Hunt}
 use Rattle.tracker_top.specs.declared.status.Status.{Status}
-use Rattle.tracker_top.specs.declared.status.Status.TheVariants.{Done, BadWords, ReadFault, WriteFault, StoreFault, BadStore, CutOff, NoMemory, InputTooLong}
+use Rattle.tracker_top.specs.declared.status.Status.TheVariants.{Done, BadWords, ReadFault, WriteFault, StoreFault, BadStore, CutOff, NoMemory, InputTooLong, BadLine, Full, TooFew}
 use Rattle.command_words.specs.Commands.{IsSpelled, AreOneCommand}
 use Rattle.script_session.specs.Counts.{RoseByRedone}
-use Rattle.tracker_top.specs.Statuses.{AsksPlay, script_status_of, script_status, ended, CutShows, ScriptShows, Shows, IsDue, OneStatusIsDue}
+use Rattle.tracker_top.specs.Statuses.{AsksHunt, AsksPlay, status_of, script_status_of, script_status, ended, CutShows, PathShows, ScriptShows, Shows, IsDue, OneStatusIsDue}
 use Rattle.tracker_top.specs.Endings.{HasCause, EndsOutput, AnswersScript, Begins, WasStarted, Keeps, Prints, AppendCause, LoadCause, EndsSo, EndsScript, EndsApply, IsOfOutput, HasAsked, IsAlone, Ends}
 use Rattle.tracker_top.specs.Answers.{IsCertificateText, state_of}
 use Rattle.track_outside.specs.Kept.{with_more}
@@ -34,6 +46,15 @@ use Rattle.series_gen.specs.Script.{script as script_of}
 if_some : {P : List ℕ → Type 0} (known : Option (List ℕ)) → ((bytes : List ℕ) → P bytes) → IfSome known P
 if_some None all = tt
 if_some (Some bytes) all = all bytes
+
+-- cut lines that have points, or stop, show it
+points_show : (known : Option (List ℕ)) (points : List Position) → IfSome known (λ bytes. ArePointsWithin 1_024 bytes points) → IfSome known (λ bytes. PathShows bytes Done)
+points_show None points are = tt
+points_show (Some bytes) points are = inl (refl, points, are)
+
+stop_shows : (known : Option (List ℕ)) (stop : LinesStop) → IfSome known (λ bytes. BytesShowWithin 1_024 bytes stop) → IfSome known (λ bytes. PathShows bytes (status_of stop))
+stop_shows None stop show = tt
+stop_shows (Some bytes) stop show = inr (stop, refl, show)
 
 -- the answer is the status that is due, or memory was wanting, or an object failed
 abbrev Comes : Type 0 → Type 0 → Type 0 → Status → Status → Type 0
@@ -65,9 +86,9 @@ module _ {I O K : Type 0} (g : source.Ghosts I) (h : sink.Ghosts O) (k : keeper.
     wanted = if_some (g.left old) (λ bytes status due. inr (inl refl))
 
   -- ---- cut
-  module _ (rows : Option (List (List ℕ))) (penalty least : ℕ) (spelled : IsSpelled words (Cut penalty least)) where
+  module _ (rows : Option (List (List ℕ))) (cut : CutPlan) (spelled : IsSpelled words (Cut cut)) where
     cut_shown : (result : Status) → IfSome (g.left old) (λ bytes. CutShows bytes result) → DueComes rows result
-    cut_shown result shows = shown rows (Cut penalty least) spelled (g.left old) result _ _ _ shows
+    cut_shown result shows = shown rows (Cut cut) spelled (g.left old) result _ _ _ shows
 
     cut_comes : (Answers : List ℕ → Type 0) (result : Status) → HasCause g old new result → EndsOutput h Answers before after result → DueComes rows result
     cut_comes Answers ReadFault cause output = failed_read rows ReadFault cause.0
@@ -76,7 +97,23 @@ module _ {I O K : Type 0} (g : source.Ghosts I) (h : sink.Ghosts O) (k : keeper.
     cut_comes Answers BadWords cause output = absurd cause
     cut_comes Answers StoreFault cause output = absurd cause
     cut_comes Answers (BadStore row) cause output = absurd cause
+    cut_comes Answers (TooFew count) cause output = absurd cause
     cut_comes Answers other cause output = cut_shown other cause
+
+  -- ---- path
+  module _ (rows : Option (List (List ℕ))) (plan : PathPlan) (spelled : IsSpelled words (Path plan)) where
+    path_shown : (result : Status) → IfSome (g.left old) (λ bytes. PathShows bytes result) → DueComes rows result
+    path_shown result shows = shown rows (Path plan) spelled (g.left old) result _ _ _ shows
+
+    path_comes : (why : PathEnd) → HasPathCause g old new why → PutsPath h (g.left old) (pos plan.low) (pos plan.high) before after why
+        → DueComes rows (path_status_of why)
+    path_comes path.Done cause output = path_shown Done (points_show (g.left old) output.1.points output.1.points_are)
+    path_comes path.ReadFault cause output = failed_read rows ReadFault cause.0
+    path_comes path.WriteFault cause output = failed_write rows WriteFault output.2.rose
+    path_comes path.NoMemory cause output = wanted rows
+    path_comes path.TooLong cause output = path_shown (InputTooLong 0) (stop_shows (g.left old) lines.TooLong cause)
+    path_comes (path.BadLine k) cause output = path_shown (BadLine k) (stop_shows (g.left old) (lines.Refused refusal.Bad k) cause)
+    path_comes (path.Full k) cause output = path_shown (Full k) (stop_shows (g.left old) (lines.Refused refusal.Full k) cause)
 
   -- ---- apply
   script_shows : (known : Option (List ℕ)) (items : List Item) (ending : Ending) → IfSome known (λ bytes. IsScript bytes items ending)
@@ -164,20 +201,25 @@ module _ {I O K : Type 0} (g : source.Ghosts I) (h : sink.Ghosts O) (k : keeper.
 
   pub comes : (command : Command) (result : Status) → IsSpelled words command → Ends g h k command old new before after first last from to result
       → DueComes (k.kept first) result
-  comes (Cut penalty least) result spelled ends = cut_comes (k.kept first) penalty least spelled (IsCertificateText penalty least (g.left old)) result ends.0.input.cause ends.0.output
+  comes (Cut cut) result spelled ends = cut_comes (k.kept first) cut spelled (IsCertificateText cut (g.left old)) result ends.0.input.cause ends.0.output
   comes (Apply store) result spelled ends = apply_comes store spelled result ends
   comes (Gen number) result spelled ends = gen_comes (k.kept first) number spelled result ends.0.cause ends.0.output
   comes (Trial number) result spelled ends =
       subst (DueComes (k.kept first)) (sym ends.0.run.told) (trial_comes (k.kept first) number spelled ends.0.run.items ends.0.run.text ends.0.run.result ends.0.run.read ends.0.run.wrote)
+  comes (Path plan) result spelled ends =
+      subst (DueComes (k.kept first)) (sym ends.0.told) (path_comes (k.kept first) plan spelled ends.0.why ends.0.input.cause ends.0.output)
   comes (Play plan) result spelled ends = absurd ends
+  comes (Hunt plan) result spelled ends = absurd ends
 
--- words that don't ask for `play` spell a command of one thread
-pub is-alone : (words : List (List ℕ)) (command : Command) → IsSpelled words command → ¬ AsksPlay words → IsAlone command
-is-alone words (Cut penalty least) spelled other = tt
-is-alone words (Apply store) spelled other = tt
-is-alone words (Gen number) spelled other = tt
-is-alone words (Trial number) spelled other = tt
-is-alone words (Play plan) spelled other = absurd (other (spelled.rest, spelled.named))
+-- words that ask for neither `play` nor `hunt` spell a command of one thread
+pub is-alone : (words : List (List ℕ)) (command : Command) → IsSpelled words command → ¬ AsksPlay words → ¬ AsksHunt words → IsAlone command
+is-alone words (Cut cut) spelled other another = tt
+is-alone words (Apply store) spelled other another = tt
+is-alone words (Gen number) spelled other another = tt
+is-alone words (Trial number) spelled other another = tt
+is-alone words (Path path) spelled other another = tt
+is-alone words (Play plan) spelled other another = absurd (other (spelled.rest, spelled.named))
+is-alone words (Hunt plan) spelled other another = absurd (another (spelled.rest, spelled.named))
 
 -- ---- how `apply` ends
 not_done : (stop : ScriptStop) → script_status_of stop ≢ Done

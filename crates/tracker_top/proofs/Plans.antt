@@ -1,12 +1,12 @@
--- What runners that weren't asked tell, the name of a script, and whether the first word is `play`.
-use Rattle.std.proofs.Common.{◌≡◌, ℕ, ◌-◌, ◌↔◌, Bool, true, IsTrue, String, string_bytes, zero, suc, ◌⊎◌, inl, inr, List, [], ◌∷◌, ◌++◌, All, codes, drop, length, map, slice_get, take, Option, None, Some, IfSome, OnOk, OnErr, Result, Ok, Err, option_map, refl, sym, ap, subst, ◌∙◌, arith}
+-- What runners that weren't asked tell, the name of a script, and which word is the first.
+use Rattle.std.proofs.Common.{◌≡◌, ℕ, ◌-◌, ◌↔◌, Bool, true, IsTrue, String, string_bytes, zero, suc, ◌⊎◌, inl, inr, List, [], ◌∷◌, ◌++◌, All, drop, length, map, slice_get, take, Option, None, Some, IfSome, OnOk, OnErr, Result, Ok, Err, option_map, refl, sym, ap, subst, ◌∙◌, arith}
 use Rattle.std.specs.Borrow.{Bor}
 use Rattle.std.specs.Option.{option_copied}
 use Rattle.std.specs.Slice.{IsItemAt}
 use Rattle.std.proofs.lemmas.Option.{slice_get-get_or, slice_get-map, slice_get_past}
 use Rattle.command_words.specs.declared.command.Command.TheVariants.{Play}
-use Rattle.command_words.specs.Commands.{AreNoCommand, AreOneCommand, IsSpelled, texts}
-use Rattle.command_words.specs.Texts.{shown}
+use Rattle.command_words.specs.Commands.{AreNoCommand, AreOneCommand, IsSpelled}
+use Rattle.command_words.specs.Texts.{shown, texts}
 use Rattle.command_words.specs.Plans.{Plan}
 use Rattle.shared_run.specs.declared.stop.RunStop.{RunStop}
 use Rattle.shared_run.specs.declared.stop.RunStop.TheVariants as run
@@ -19,7 +19,7 @@ use Rattle.track_outside.specs.declared.runner.Runner as runner
 use Rattle.tracker_top.specs.Plays.{IsNewRunner, IsToldIn, PlaysAsDue, line_in, run_status, script_name}
 use Rattle.tracker_top.specs.declared.status.Status.{Status}
 use Rattle.tracker_top.specs.declared.status.Status.TheVariants.{BadWords, NoMemory}
-use Rattle.tracker_top.specs.Statuses.{AsksPlay}
+use Rattle.tracker_top.specs.Statuses.{Asks}
 
 none-or-empty : {A : Type 0} (known : Option (List A)) → IfSome known (λ asks. asks ≡ []) → (known ≡ None) ⊎ (known ≡ Some [])
 none-or-empty None is = inl refl
@@ -43,15 +43,15 @@ name-of names (suc k) r above item =
     ap (option_map (λ (name : Bor (List ℕ)). name.now)) (at-place names (suc k - 1) r item ∙ ap (slice_get names) here)
     ∙ sym (slice_get-map (λ (name : Bor (List ℕ)). name.now) names k)
 
--- whether the first word is `play`
-pub asks-first : {A : Type 0} (words : List (String A)) (word : String A) (given : List ℕ) (b : Bool) → Some word ≡ slice_get words 0 → given ≡ string_bytes word
-    → IsTrue b ↔ (given ≡ codes "play") → (b ≡ true) ↔ AsksPlay (texts words)
-asks-first [] word given b is same tells = let no : Some word ≡ None = is in cc
-asks-first (w ∷ ws) word given b is same tells =
+-- whether the first word is this one
+pub asks-first : {A : Type 0} (words : List (String A)) (word : String A) (name given : List ℕ) (b : Bool) → Some word ≡ slice_get words 0 → given ≡ string_bytes word
+    → IsTrue b ↔ (given ≡ name) → (b ≡ true) ↔ Asks name (texts words)
+asks-first [] word name given b is same tells = let no : Some word ≡ None = is in cc
+asks-first (w ∷ ws) word name given b is same tells =
     let its : word ≡ w = cc in (
       λ yes. (texts ws, ap (λ (n : List ℕ). n ∷ texts ws) (ap string_bytes (sym its) ∙ sym same ∙ tells.0 yes)),
-      λ asks. let all : string_bytes w ∷ texts ws ≡ codes "play" ∷ asks.0 = asks.1 in
-          let first : string_bytes w ≡ codes "play" = cc in
+      λ asks. let all : string_bytes w ∷ texts ws ≡ name ∷ asks.0 = asks.1 in
+          let first : string_bytes w ≡ name = cc in
           tells.1 (same ∙ ap string_bytes its ∙ first),
     )
 

@@ -1,8 +1,10 @@
 -- Which text answers `cut`, what `apply` begins with, and what its machines publish and bisect.
-use Rattle.std.specs.Prelude.{◌≡◌, ℕ, List, [], All, Option, pos}
+use Rattle.std.specs.Prelude.{◌≡◌, ℕ, List, [], All, Option, Bool, true, false, pos}
 use Rattle.segment_model.specs.Segments.{Position}
 use Rattle.segment_cost.specs.declared.cert.Cert.{Cert}
 use Rattle.segment_cost.specs.Certificate.{StandsFor}
+use Rattle.absolute_cut.specs.Certificate.{StandsFor as StandsByDistances}
+use Rattle.command_words.specs.declared.command.CutPlan.{CutPlan}
 use Rattle.cut_lines.specs.Reading.{ArePointsOfInput}
 use Rattle.cost_certificate.specs.Text.{text_of}
 use Rattle.history_model.specs.declared.entries.Author.TheVariants as author
@@ -12,17 +14,23 @@ use Rattle.history_model.specs.Publications.{publications, Stands}
 use Rattle.track_model.specs.Tracks.{Track}
 use Rattle.script_desk.specs.Sessions.{State}
 
--- the text of the best segmentation of these points at the penalty, with this least length
-pub record IsTextOf (points : List Position) (penalty least : ℕ) (text : List ℕ) : Type 0 where
+-- the certificate stands for the points, by squares or by distances
+abbrev pub StandsBy : Bool → List Position → ℕ → ℕ → Cert → Type 0
+StandsBy true points penalty least cert = StandsByDistances points (pos penalty) least cert
+StandsBy false points penalty least cert = StandsFor points (pos penalty) least cert
+
+-- the text of the best segmentation of these points at the penalty, with this least length, by what
+-- is asked for
+pub record IsTextOf (points : List Position) (cut : CutPlan) (text : List ℕ) : Type 0 where
   pub cert : Cert
-  pub stands : StandsFor points (pos penalty) least cert
+  pub stands : StandsBy cut.absolute points cut.penalty cut.least cert
   pub spelled : text ≡ text_of cert
 
 -- the text of the best segmentation of the input's points, which are known where the input tells
 -- its bytes
-abbrev pub IsCertificateText : ℕ → ℕ → Option (List ℕ) → List ℕ → Type 0
-IsCertificateText penalty least input text =
-    (points : List Position) × ArePointsOfInput input points × IsTextOf points penalty least text
+abbrev pub IsCertificateText : CutPlan → Option (List ℕ) → List ℕ → Type 0
+IsCertificateText cut input text =
+    (points : List Position) × ArePointsOfInput input points × IsTextOf points cut text
 
 -- the session of the one script, on these machines
 abbrev pub state_of : List Track → State

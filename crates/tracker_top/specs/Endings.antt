@@ -26,11 +26,13 @@ use Rattle.script_session.specs.Part.{IsPart}
 use Rattle.script_desk.specs.Sessions.{State, AnswersFor, AnswersSome}
 use Rattle.series_gen.specs.Script.{script as script_of}
 use Rattle.command_words.specs.declared.command.Command.{Command}
-use Rattle.command_words.specs.declared.command.Command.TheVariants.{Cut, Apply, Gen, Trial, Play}
+use Rattle.command_words.specs.declared.command.CutPlan.{CutPlan}
+use Rattle.command_words.specs.declared.command.Command.TheVariants.{Cut, Apply, Gen, Trial, Play, Path, Hunt}
 use Rattle.tracker_top.specs.declared.status.Status.{Status}
-use Rattle.tracker_top.specs.declared.status.Status.TheVariants.{Done, BadWords, ReadFault, WriteFault, StoreFault, BadStore, NoMemory}
+use Rattle.tracker_top.specs.declared.status.Status.TheVariants.{Done, BadWords, ReadFault, WriteFault, StoreFault, BadStore, NoMemory, TooFew}
 use Rattle.tracker_top.specs.Answers.{IsCertificateText, state_of, new_state, AllPublishWell, AllBisectWell}
 use Rattle.tracker_top.specs.Statuses.{CutShows, script_status, script_status_of}
+use Rattle.tracker_top.specs.Paths.{EndsPath}
 use Rattle.tracker_top.specs.Text.{line_of}
 
 -- ---- cut
@@ -46,6 +48,7 @@ HasCause g old new NoMemory = Unit {0}
 HasCause g old new BadWords = ⊥
 HasCause g old new StoreFault = ⊥
 HasCause g old new (BadStore row) = ⊥
+HasCause g old new (TooFew count) = ⊥
 HasCause g old new status = IfSome (g.left old) (λ bytes. CutShows bytes status)
 
 -- the input, at this status of `cut`
@@ -64,10 +67,10 @@ EndsOutput g Answers old new WriteFault = (text : List ℕ) × Answers text × F
 EndsOutput g Answers old new status = IsUntouched g old new
 
 -- the input and the output, at this status of `cut`
-pub record EndsCut {I O : Type 0} (g : source.Ghosts I) (h : sink.Ghosts O) (penalty least : ℕ)
+pub record EndsCut {I O : Type 0} (g : source.Ghosts I) (h : sink.Ghosts O) (cut : CutPlan)
     (old new : I) (before after : O) (status : Status) : Type 0 where
   pub input : EndsInput g old new status
-  pub output : EndsOutput h (IsCertificateText penalty least (g.left old)) before after status
+  pub output : EndsOutput h (IsCertificateText cut (g.left old)) before after status
 
 -- ---- apply
 
@@ -262,19 +265,23 @@ pub record EndsTrial {I O : Type 0} (h : sink.Ghosts O) (number : ℕ) (old new 
 -- the keeper, and only it and `trial` take steps
 abbrev pub Ends : {I O K : Type 0} → source.Ghosts I → sink.Ghosts O → keeper.Ghosts K → Command → I
     → I → O → O → K → K → ℕ → ℕ → Status → Type 0
-Ends g h k (Cut penalty least) old new before after first last from to status =
-    EndsCut g h penalty least old new before after status × (last ≡ first) × (to ≡ from)
+Ends g h k (Cut cut) old new before after first last from to status =
+    EndsCut g h cut old new before after status × (last ≡ first) × (to ≡ from)
 Ends g h k (Apply store) old new before after first last from to status =
     EndsApply g h k store old new before after first last from to status
 Ends g h k (Gen number) old new before after first last from to status =
     EndsGen h number old new before after status × (last ≡ first) × (to ≡ from)
 Ends g h k (Trial number) old new before after first last from to status =
     EndsTrial h number old new before after from to status × (last ≡ first)
+Ends g h k (Path path) old new before after first last from to status =
+    EndsPath g h path old new before after status × (last ≡ first) × (to ≡ from)
 Ends g h k (Play plan) old new before after first last from to status = ⊥
+Ends g h k (Hunt hunt) old new before after first last from to status = ⊥
 
 -- the command is one of one thread
 abbrev pub IsAlone : Command → Type 0
 IsAlone (Play plan) = ⊥
+IsAlone (Hunt hunt) = ⊥
 IsAlone command = Unit {0}
 
 -- memory was wanting to read the words, so no command was begun: nothing was read, written, kept or

@@ -1,4 +1,4 @@
--- How the program runs: a command of one thread, or scripts that run at once.
+-- How the program runs: a command of one thread, scripts that run at once, or a hunt.
 use Rattle.std.specs.Prelude.{◌≡◌, ◌≢◌, ◌⊎◌, ℕ, List, length, Option, IfSome}
 use Rattle.track_outside.specs.Counts.{Rose}
 use Rattle.track_outside.specs.declared.source.Source as source
@@ -6,7 +6,8 @@ use Rattle.track_outside.specs.declared.sink.Sink as sink
 use Rattle.track_outside.specs.declared.keeper.Keeper as keeper
 use Rattle.track_outside.specs.declared.runner.Runner as runner
 use Rattle.command_words.specs.declared.command.Command.{Command}
-use Rattle.command_words.specs.declared.command.Command.TheVariants.{Play}
+use Rattle.command_words.specs.declared.command.HuntPlan.{HuntPlan}
+use Rattle.command_words.specs.declared.command.Command.TheVariants.{Play, Hunt}
 use Rattle.command_words.specs.Commands.{AreNoCommand, IsSpelled}
 use Rattle.command_words.specs.Plans.{Plan}
 use Rattle.shared_run.specs.Crews.{asked_by}
@@ -14,6 +15,7 @@ use Rattle.shared_run.specs.Endings.{Objects, Told}
 use Rattle.tracker_top.specs.declared.status.Status.{Status}
 use Rattle.tracker_top.specs.declared.status.Status.TheVariants.{BadWords, NoMemory}
 use Rattle.tracker_top.specs.Endings.{Ends, EndsUnbegun, IsTold}
+use Rattle.tracker_top.specs.Hunts.{AreAsBefore, EndsHunt, HuntsAsDue}
 use Rattle.tracker_top.specs.Plays.{AreNamesIn, AreUntouched, EndsPlay, IsToldIn, PlaysAsDue}
 use Rattle.tracker_top.specs.Statuses.{IsDue}
 
@@ -48,3 +50,18 @@ pub record RunsPlay {F I O K N : Type 0} (t : Told F I O K) (n : runner.Ghosts N
   pub complete : PlaysAsDue t words before after status
   pub told : (names : List (List ℕ)) → AreNamesIn words names
       → IsToldIn t.out names told_to telling status
+
+-- a hunt was run on its input, its output and the runners, or the words are no command: as many
+-- runners stand there
+pub record RunsHunt {I O N : Type 0} (g : source.Ghosts I) (h : sink.Ghosts O) (n : runner.Ghosts N)
+    (words : List (List ℕ)) (old new : I) (before after : O) (told_to telling : O)
+    (runners runners' : List N) (status : Status) : Type 0 where
+  pub bad_words : status ≡ BadWords → AreNoCommand words
+  pub untouched : status ≡ BadWords → AreAsBefore old new before after runners runners'
+  pub as_many : length runners' ≡ length runners
+  pub command : status ≢ BadWords
+      → ((status ≡ NoMemory) × AreAsBefore old new before after runners runners')
+      ⊎ ((plan : HuntPlan) × IsSpelled words (Hunt plan)
+      × EndsHunt g h n plan old new before after runners runners' status)
+  pub complete : HuntsAsDue g h words old new before after status
+  pub told : IsTold h told_to telling status

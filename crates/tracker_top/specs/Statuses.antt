@@ -8,8 +8,8 @@ use Rattle.script_loop.specs.declared.stop.Stop.TheVariants as script
 use Rattle.cut_lines.specs.declared.stop.Refusal.TheVariants as refusal
 use Rattle.cut_lines.specs.declared.stop.Stop.{Stop}
 use Rattle.cut_lines.specs.declared.stop.Stop.TheVariants as stop
-use Rattle.cut_lines.specs.Reading.{ArePointsOf}
-use Rattle.cut_lines.specs.Stops.{BytesShow}
+use Rattle.cut_lines.specs.Reading.{ArePointsWithin}
+use Rattle.cut_lines.specs.Stops.{BytesShowWithin}
 use Rattle.keep_rows.specs.declared.append.AppendFault.{AppendFault}
 use Rattle.keep_rows.specs.declared.append.AppendFault.TheVariants as append
 use Rattle.keep_rows.specs.declared.load.LoadFault.{LoadFault}
@@ -17,9 +17,9 @@ use Rattle.keep_rows.specs.declared.load.LoadFault.TheVariants as load
 use Rattle.kept_machines.specs.Loading.{LeadTo, IsFirstBad}
 use Rattle.track_model.specs.Tracks.{Track}
 use Rattle.command_words.specs.declared.command.Command.{Command}
-use Rattle.command_words.specs.declared.command.Command.TheVariants.{Cut, Apply, Gen, Trial, Play}
+use Rattle.command_words.specs.declared.command.Command.TheVariants.{Cut, Apply, Gen, Trial, Play, Path, Hunt}
 use Rattle.tracker_top.specs.declared.status.Status.{Status}
-use Rattle.tracker_top.specs.declared.status.Status.TheVariants.{Done, BadWords, ReadFault, WriteFault, StoreFault, BadStore, CutOff, NoMemory, InputTooLong, BadLine, Full}
+use Rattle.tracker_top.specs.declared.status.Status.TheVariants.{Done, BadWords, ReadFault, WriteFault, StoreFault, BadStore, CutOff, NoMemory, InputTooLong, BadLine, Full, TooFew}
 use Rattle.command_words.specs.Commands.{IsSpelled, AreNoCommand}
 
 -- the status at which a command ends where reading of its cut lines stops
@@ -53,12 +53,19 @@ abbrev pub append_status_of : AppendFault → Status
 append_status_of append.KeepFault = StoreFault
 append_status_of append.NoMemory = NoMemory
 
--- the bytes show this status of `cut`: it is Done and they have points, or they show the stop that
--- it is the status of
+-- the bytes show this status of a command on cut lines of so many positions at most: it is Done and
+-- they have points, or they show the stop that it is the status of
+abbrev pub LinesShow : ℕ → List ℕ → Status → Type 0
+LinesShow most bytes status =
+    ((status ≡ Done) × ((points : List Position) × ArePointsWithin most bytes points))
+    ⊎ ((stop : Stop) × (status ≡ status_of stop) × BytesShowWithin most bytes stop)
+
+-- that of `cut`, as many as a series has, and that of `path`
 abbrev pub CutShows : List ℕ → Status → Type 0
-CutShows bytes status =
-    ((status ≡ Done) × ((points : List Position) × ArePointsOf bytes points))
-    ⊎ ((stop : Stop) × (status ≡ status_of stop) × BytesShow bytes stop)
+CutShows bytes status = LinesShow 16_384 bytes status
+
+abbrev pub PathShows : List ℕ → Status → Type 0
+PathShows bytes status = LinesShow 1_024 bytes status
 
 -- the status at which a command ends where the script on standard input ends so; it takes a byte
 -- past the most that are read where the script is unfinished
@@ -80,20 +87,29 @@ StoreShows (Some rows) bytes status =
     ((row : ℕ) × IsFirstBad rows row × (status ≡ BadStore row))
     ⊎ ((tracks : List Track) × LeadTo rows tracks × ScriptShows bytes status)
 
--- the first word is `play`, which is no command of one thread
+-- the first word is this one
+abbrev pub Asks : List ℕ → List (List ℕ) → Type 0
+Asks name words = (rest : List (List ℕ)) × (words ≡ name ∷ rest)
+
+-- the first word is `play` or `hunt`, which are no commands of one thread
 abbrev pub AsksPlay : List (List ℕ) → Type 0
-AsksPlay words = (rest : List (List ℕ)) × (words ≡ codes "play" ∷ rest)
+AsksPlay words = Asks (codes "play") words
+
+abbrev pub AsksHunt : List (List ℕ) → Type 0
+AsksHunt words = Asks (codes "hunt") words
 
 -- the rows of the keeper, where it tells them, and the input's bytes show this status of the
 -- command; a number shows that all is done; they never show a fault or want of memory, nor how
--- scripts end that run at once
+-- a command ends that runs threads
 abbrev pub Shows : Command → Option (List (List ℕ)) → List ℕ → Status → Type 0
-Shows (Cut penalty least) rows bytes status = CutShows bytes status
+Shows (Cut cut) rows bytes status = CutShows bytes status
 Shows (Apply None) rows bytes status = ScriptShows bytes status
 Shows (Apply (Some name)) rows bytes status = StoreShows rows bytes status
 Shows (Gen number) rows bytes status = status ≡ Done
 Shows (Trial number) rows bytes status = status ≡ Done
+Shows (Path path) rows bytes status = PathShows bytes status
 Shows (Play plan) rows bytes status = ⊥
+Shows (Hunt hunt) rows bytes status = ⊥
 
 -- the words, the rows and the bytes show this status: the words are no command, or one of which the
 -- others show it
@@ -121,3 +137,4 @@ number_of NoMemory = 8
 number_of (InputTooLong script) = 9
 number_of (BadLine k) = 10
 number_of (Full k) = 11
+number_of (TooFew count) = 14

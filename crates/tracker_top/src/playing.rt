@@ -1,8 +1,9 @@
 //! `play`: scripts that run at once.
 ghost use Rattle.std.specs.Prelude.{◌≡◌, ◌≢◌, ◌≤◌, ◌⊎◌, ℕ, List, All, length, IfOk, IfSome, IfNone};
 ghost use Rattle.command_words.specs.declared.command.Command.TheVariants.{Play};
-ghost use Rattle.command_words.specs.Commands.{texts, AreNoCommand, IsSpelled};
+ghost use Rattle.command_words.specs.Commands.{AreNoCommand, IsSpelled};
 ghost use Rattle.command_words.specs.Plans.{Plan};
+ghost use Rattle.command_words.specs.Texts.{texts};
 ghost use Rattle.tracker_top.specs.declared.status.Status.{Status};
 ghost use Rattle.tracker_top.specs.Plays.{AreNamesIn, AreUntouched, EndsPlay, IsNewRunner, IsToldIn, PlaysAsDue};
 ghost use Rattle.shared_run.specs.Crews.{asked_by};
@@ -110,9 +111,11 @@ fn plan_in(alloc: Global, words: &[String]) -> Result<Option<PlayPlan<'_>>, NoMe
     };
     match command {
         Command::Play(plan) => Ok(Some(plan)),
-        Command::Cut(..) => unreachable!(),
+        Command::Cut(_) => unreachable!(),
         Command::Apply(_) => unreachable!(),
         Command::Gen(_) => unreachable!(),
         Command::Trial(_) => unreachable!(),
+        Command::Path(_) => unreachable!(),
+        Command::Hunt(_) => unreachable!(),
     }
 }

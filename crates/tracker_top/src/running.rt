@@ -1,14 +1,15 @@
 //! The whole program, on its objects.
 ghost use Rattle.std.specs.Prelude.{◌≡◌, ◌≤◌, All, length};
-ghost use Rattle.command_words.specs.Commands.{texts};
+ghost use Rattle.command_words.specs.Texts.{texts};
 ghost use Rattle.tracker_top.specs.Plays.{IsNewRunner};
-ghost use Rattle.tracker_top.specs.Runs.{RunsAlone, RunsPlay};
-ghost use Rattle.tracker_top.specs.Statuses.{AsksPlay};
+ghost use Rattle.tracker_top.specs.Runs.{RunsAlone, RunsHunt, RunsPlay};
+ghost use Rattle.tracker_top.specs.Statuses.{AsksHunt, AsksPlay};
 
+use crate::hunting::hunt;
 use crate::playing::play;
 use crate::status::Status;
 use crate::top::alone;
-use crate::words::asks_play;
+use crate::words::{asks_hunt, asks_play};
 use pelt_core::Steps;
 use std::alloc::Global;
 use std::sync::Wait;
@@ -16,8 +17,8 @@ use std::sync::ledger::Ledger;
 use std::thread::Threads;
 use track_outside::{Files, Gate, Keeper, Runner};
 
-/// Runs the program on its words: scripts at once where the first word is `play` ([`play`]), else a command of one thread
-/// ([`alone`]).
+/// Runs the program on its words: scripts at once where the first word is `play` ([`play`]), a search by rounds of tests where
+/// it is `hunt` ([`hunt`]), else a command of one thread ([`alone`]).
 pub fn run<R: Threads + Wait + Sync, F: Files, K: Keeper, N: Runner + Send, G: Gate, L: Ledger>(
     rt: &R,
     alloc: Global,
@@ -44,15 +45,27 @@ pub fn run<R: Threads + Wait + Sync, F: Files, K: Keeper, N: Runner + Send, G: G
     ensures unread { AsksPlay (texts words.now)
         → (input.new ≡ input.old) × (steps.new ≡ steps.old) }
 
+    // `hunt` opens no file, calls no keeper and counts no steps.
+    ensures hunt { AsksHunt (texts words.now) → RunsHunt
+        F.Input.Source F.Output.Sink N.Runner (texts words.now)
+        input.old input.new out.old out.new err.old err.new
+        runners.old.items runners.new.items result }
+    ensures unopened { AsksHunt (texts words.now)
+        → (files.new ≡ files.old) × (keeper.new ≡ keeper.old) × (steps.new ≡ steps.old) }
+
     // The others take no runner.
-    ensures alone { ¬ AsksPlay (texts words.now) → RunsAlone
+    ensures alone { ¬ AsksPlay (texts words.now) → ¬ AsksHunt (texts words.now) → RunsAlone
         F.Input.Source F.Output.Sink K.Keeper (texts words.now)
         input.old input.new out.old out.new err.old err.new files.old files.new
         keeper.old keeper.new steps.old steps.new result }
-    ensures unasked { ¬ AsksPlay (texts words.now) → runners.new.items ≡ runners.old.items }
+    ensures unasked { ¬ AsksPlay (texts words.now) → ¬ AsksHunt (texts words.now)
+        → runners.new.items ≡ runners.old.items }
 {
     if asks_play(words) {
         return play(rt, alloc, words, out, err, files, keeper, runners, gate);
+    }
+    if asks_hunt(words) {
+        return hunt::<_, F, _>(rt, alloc, words, input, out, err, runners);
     }
     alone(alloc, words, input, out, err, files, keeper, steps)
 }

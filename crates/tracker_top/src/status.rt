@@ -2,11 +2,15 @@
 ghost use Rattle.std.specs.Prelude.{◌≡◌};
 ghost use Rattle.std.specs.Process.{exit_status};
 ghost use Rattle.tracker_top.specs.Statuses.{append_status_of, load_status_of, number_of, script_status_of, status_of};
+ghost use Rattle.tracker_top.specs.Hunts.{hunt_status_of};
+ghost use Rattle.tracker_top.specs.Paths.{path_status_of};
 ghost use Rattle.tracker_top.specs.Plays.{run_status_of, stopped_status_of};
 ghost use Rattle.tracker_top.specs.declared.status.Status.{Status};
 
 use cut_lines::{Refusal, Stop as CutStop};
+use hunt_command::HuntEnd;
 use kept_machines::{AppendFault, LoadFault};
+use path_command::PathEnd;
 use script_session::Stop as ScriptStop;
 use shared_run::RunStop;
 use std::alloc::AllocError;
@@ -34,14 +38,16 @@ pub enum Status {
     NoMemory,
     /// A byte past the first 2^30 of this input was needed, and there is one.
     InputTooLong(u64),
-    /// This line is no cut line.
+    /// This line is no cut line, or says no new commit.
     BadLine(u64),
-    /// This line would pass a limit of a series.
+    /// This line would pass a limit of a series, or of commits.
     Full(u64),
+    /// There are only so many commits, fewer than two.
+    TooFew(u64),
 }
 
 impl Status {
-    /// The number that the program ends with, from 0 to 11.
+    /// The number that the program ends with, from 0 to 14.
     pub fn number(&self) -> u8
         ensures { result ≡ number_of self.now }
     {
@@ -57,6 +63,7 @@ impl Status {
             Status::InputTooLong(_) => 9,
             Status::BadLine(_) => 10,
             Status::Full(_) => 11,
+            Status::TooFew(_) => 14,
         }
     }
 
@@ -87,6 +94,41 @@ impl From<CutStop> for Status {
             CutStop::Refused(Refusal::Bad, line) => Status::BadLine(line),
             CutStop::Refused(Refusal::Full, line) => Status::Full(line),
             CutStop::NoMemory => Status::NoMemory,
+        }
+    }
+}
+
+/// How `path` ends.
+impl From<PathEnd> for Status {
+    ghost from_gives = { λ end status. status ≡ path_status_of end };
+
+    fn from(end: PathEnd) -> Status {
+        match end {
+            PathEnd::Done => Status::Done,
+            PathEnd::ReadFault => Status::ReadFault,
+            PathEnd::WriteFault => Status::WriteFault,
+            PathEnd::NoMemory => Status::NoMemory,
+            PathEnd::TooLong => Status::InputTooLong(0),
+            PathEnd::BadLine(line) => Status::BadLine(line),
+            PathEnd::Full(line) => Status::Full(line),
+        }
+    }
+}
+
+/// How `hunt` ends.
+impl From<HuntEnd> for Status {
+    ghost from_gives = { λ end status. status ≡ hunt_status_of end };
+
+    fn from(end: HuntEnd) -> Status {
+        match end {
+            HuntEnd::Done => Status::Done,
+            HuntEnd::ReadFault => Status::ReadFault,
+            HuntEnd::WriteFault => Status::WriteFault,
+            HuntEnd::NoMemory => Status::NoMemory,
+            HuntEnd::TooLong => Status::InputTooLong(0),
+            HuntEnd::BadLine(line) => Status::BadLine(line),
+            HuntEnd::Full(line) => Status::Full(line),
+            HuntEnd::TooFew(count) => Status::TooFew(count),
         }
     }
 }

@@ -1,27 +1,31 @@
 //! The top call: it runs the command that the words are.
 ghost use Rattle.std.specs.Prelude.{◌≡◌, ◌≢◌, ℕ, ◌^◌, ◌≤◌, ◌⊎◌, List, [], IfOk, IfSome, Result, Some};
-ghost use Rattle.segment_model.specs.Limits.{IsLength};
 ghost use Rattle.track_outside.specs.Counts.{Rose};
 ghost use Rattle.script_desk.specs.Sessions.{State};
 ghost use Rattle.script_loop.specs.declared.stop.Stop.{Stop};
 ghost use Rattle.command_words.specs.declared.command.Command.{Command};
-ghost use Rattle.command_words.specs.Commands.{texts, IsSpelled, IsInRange, AreNoCommand};
-ghost use Rattle.tracker_top.specs.Statuses.{script_status, AsksPlay, IsDue, OneStatusIsDue};
-ghost use Rattle.tracker_top.specs.Answers.{IsCertificateText, IsTextOf, state_of, AllBisectWell};
+ghost use Rattle.command_words.specs.declared.command.Command.TheVariants.{Cut, Path};
+ghost use Rattle.command_words.specs.Commands.{IsSpelled, IsInRange, AreNoCommand};
+ghost use Rattle.command_words.specs.Texts.{texts};
+ghost use Rattle.tracker_top.specs.Paths.{EndsPath};
+ghost use Rattle.tracker_top.specs.Statuses.{script_status, AsksHunt, AsksPlay, IsDue, OneStatusIsDue};
+ghost use Rattle.tracker_top.specs.Answers.{IsCertificateText, IsTextOf, StandsBy, state_of, AllBisectWell};
 ghost use Rattle.tracker_top.specs.Endings.{EndsInput, EndsOutput, AnswersScript, EndsApply, EndsWell, RefusesNone, IsOfOutput, RunsScript, IsAlone, Ends, EndsUnbegun, IsTold};
 ghost use Rattle.series_gen.specs.Script.{script as script_of};
 
 use crate::printing::put_status;
 use crate::status::Status;
-use command_words::{Command, StoreName, command_of, one_command_law};
+use absolute_cut::segmentation as segmentation_by_distances;
+use command_words::{Command, CutPlan, PathPlan, Word, command_of, one_command_law};
 use cost_certificate::put_cert;
 use cut_lines::{one_stop_law, read_points};
 use history_model::{Author, finished_law, publication_law};
 use kept_machines::{append_all, load, rows_law};
+use path_command::path_points;
 use pelt_core::{Steps, segmentation};
 use script_desk::{Session, Trial};
 use script_session::{Stop, answer_counted, count_law, output_law, part_law};
-use segment_cost::Points;
+use segment_cost::{Cert, Points};
 use series_gen::put_script;
 use std::alloc::Global;
 use std::mem::forget;
@@ -45,7 +49,10 @@ pub fn one_status_law()
 ///
 /// `cut PENALTY`, with a number of at most 10^36, reads cut lines from the input, an order and a value each, and writes
 /// the certificate of the best segmentation of their points to `out`, in seven lines; with `--least L`, a number from 1 to
-/// 64, each segment has at least L positions where there are several; above 1 the text has a line more. `apply` reads the
+/// 64, each segment has at least L positions where there are several; above 1 the text has a line more. With `--absolute`
+/// a segment costs the least sum of distances from a whole number, and not of their squares. `path LOW HIGH`, with two such
+/// numbers, reads cut lines of 1,024 positions at most, and writes the best segmentations of their points at all penalties
+/// from one to the other, by squares and with the least length 1, in stretches of one list. `apply` reads the
 /// requests of a script from the input, answers one after another on the machines that it declares, and writes the
 /// replies to `out`. `apply --store NAME` begins with the machines that the keeper's rows of that name lead to, and adds
 /// the new rows at the end of the script, all or none. `gen NUMBER`, with a number of 64 bits, reads nothing and writes
@@ -53,13 +60,14 @@ pub fn one_status_law()
 /// alone: the part of what `apply` answers it. That script is whole and none of its requests is refused, so only the
 /// output and want of memory stop a trial. The words are read as those of command lines (`command_words`), which takes
 /// memory; where it is wanting, nothing else is touched but the status' line.
-/// `apply` and `trial` count their steps: one for each position that a segmentation looks at anew. `play`, which runs scripts
-/// at once, is no command of one thread.
+/// `apply` and `trial` count their steps: one for each position that a segmentation looks at anew. `play` and `hunt`,
+/// which run threads, are no commands of one.
 /// The status' line goes to `err`; where that fails the status stands. At most 2^30 bytes of an input are read, and one
 /// more to see that there are no more. The texts are those of docs/FORMATS.md, the statuses those of docs/COMMANDS.md.
 ///
 /// Linear in the bytes read. `cut` is quadratic in the positions, and linear in the values for each position; its memory
-/// is linear in the values. `apply` takes what each request and each kept entry takes of its machine's state
+/// is linear in the values. By distances each cost that it asks for is linear in the segment's values besides. `path` makes
+/// three such tables at most for each stretch, of which there are no more than positions. `apply` takes what each request and each kept entry takes of its machine's state
 /// (`track_step::step`, `track_replay::replay`), and keeps the histories, one line and one body.
 pub fn alone<F: Files, K: Keeper, L: Ledger>(
     alloc: Global,
@@ -71,7 +79,8 @@ pub fn alone<F: Files, K: Keeper, L: Ledger>(
     keeper: &mut K,
     steps: &mut Steps<L>,
 ) -> Status
-    requires { ¬ AsksPlay (texts words.now) }
+    requires play { ¬ AsksPlay (texts words.now) }
+    requires hunt { ¬ AsksHunt (texts words.now) }
 
     // Bad words are no command, and then nothing is read, written, kept or counted but the status' line.
     ensures bad_words { result ≡ Status.BadWords → AreNoCommand (texts words.now) }
@@ -133,33 +142,28 @@ fn run_command<I: Source, O: Sink, K: Keeper, L: Ledger>(
         input.old input.new out.old out.new keeper.old keeper.new steps.old steps.new result }
 {
     match command {
-        Command::Cut(penalty, least) => cut(alloc, *penalty, *least, input, out),
+        Command::Cut(plan) => cut(alloc, plan, input, out),
         Command::Apply(store) => apply_on(alloc, store, input, out, keeper, steps),
         Command::Gen(number) => generate(alloc, *number, out),
         Command::Trial(number) => run_trial(alloc, *number, out, steps),
+        Command::Path(plan) => path(alloc, plan, input, out),
         Command::Play(_) => unreachable!(),
+        Command::Hunt(_) => unreachable!(),
     }
 }
 
 // Reads the lines, and prints the certificate of their points.
-fn cut<I: Source, O: Sink>(
-    alloc: Global,
-    penalty: u128,
-    least: u8,
-    input: &mut I,
-    out: &mut O,
-) -> Status
-    requires penalty { penalty ≤ 10 ^ 36 }
-    requires least { IsLength least }
+fn cut<I: Source, O: Sink>(alloc: Global, plan: &CutPlan, input: &mut I, out: &mut O) -> Status
+    requires { IsInRange (Cut plan.now) }
     ensures input { EndsInput I.Source input.old input.new result }
-    ensures output { EndsOutput O.Sink (IsCertificateText penalty least (I.left input.old))
+    ensures output { EndsOutput O.Sink (IsCertificateText plan.now (I.left input.old))
         out.old out.new result }
 {
     let points = match read_points(alloc, input) {
         Ok(points) => points,
         Err(stop) => return Status::from(stop),
     };
-    let Ok(text) = certificate_text(alloc, &points, penalty, least) else {
+    let Ok(text) = certificate_text(alloc, &points, plan) else {
         return Status::NoMemory;
     };
     match put_all(out, &text) {
@@ -169,26 +173,42 @@ fn cut<I: Source, O: Sink>(
 }
 
 // The text of the certificate of some points.
-fn certificate_text(
-    alloc: Global,
-    points: &Points,
-    penalty: u128,
-    least: u8,
-) -> Result<Vec<u8>, NoMemory>
-    requires penalty { penalty ≤ 10 ^ 36 }
-    requires least { IsLength least }
-    ensures { IfOk result (λ text. IsTextOf points.now penalty least text.items) }
+fn certificate_text(alloc: Global, points: &Points, plan: &CutPlan) -> Result<Vec<u8>, NoMemory>
+    requires { IsInRange (Cut plan.now) }
+    ensures { IfOk result (λ text. IsTextOf points.now plan.now text.items) }
 {
-    let cert = segmentation(alloc, points, penalty as i128, least)?;
+    let cert = certificate_of(alloc, points, plan)?;
     let mut text = Vec::new(alloc);
     put_cert(alloc, &mut text, &cert)?;
     Ok(text)
 }
 
+// The certificate of some points, by squares or by distances.
+fn certificate_of(alloc: Global, points: &Points, plan: &CutPlan) -> Result<Cert, NoMemory>
+    requires { IsInRange (Cut plan.now) }
+    ensures { IfOk result (StandsBy plan.now.absolute points.now plan.now.penalty plan.now.least) }
+{
+    let penalty = plan.penalty as i128;
+    if plan.absolute {
+        segmentation_by_distances(alloc, points, penalty, plan.least)
+    } else {
+        segmentation(alloc, points, penalty, plan.least)
+    }
+}
+
+// Reads the lines, and prints the path of their points.
+fn path<I: Source, O: Sink>(alloc: Global, plan: &PathPlan, input: &mut I, out: &mut O) -> Status
+    requires { IsInRange (Path plan.now) }
+    ensures { EndsPath I.Source O.Sink plan.now input.old input.new out.old out.new result }
+{
+    let (low, high) = (plan.low as i128, plan.high as i128);
+    Status::from(path_points(alloc, low, high, input, out))
+}
+
 // Answers the script on the machines of a store, or on none where no store is named, and writes the replies.
 fn apply_on<I: Source, O: Sink, K: Keeper, L: Ledger>(
     alloc: Global,
-    store: &Option<StoreName<'_>>,
+    store: &Option<Word<'_>>,
     input: &mut I,
     out: &mut O,
     keeper: &mut K,
@@ -231,7 +251,7 @@ fn leave(session: Session) {
 // Answers the script on the machines of a store, writes the replies, and adds the new rows.
 fn apply_to<I: Source, O: Sink, K: Keeper, L: Ledger>(
     alloc: Global,
-    store: &StoreName<'_>,
+    store: &Word<'_>,
     input: &mut I,
     out: &mut O,
     keeper: &mut K,

@@ -1,7 +1,7 @@
 //! The program's words, those behind its name.
-ghost use Rattle.std.specs.Prelude.{◌≡◌, ◌↔◌, ◌⊎◌, codes, true, Err, IsUtf8, string_bytes, IfOk, IfErr, IsTrue};
-ghost use Rattle.command_words.specs.Commands.{texts};
-ghost use Rattle.tracker_top.specs.Statuses.{AsksPlay};
+ghost use Rattle.std.specs.Prelude.{◌≡◌, ◌↔◌, ◌⊎◌, true, Err, IsUtf8, string_bytes, IfOk, IfErr, IsTrue};
+ghost use Rattle.command_words.specs.Texts.{texts};
+ghost use Rattle.tracker_top.specs.Statuses.{Asks, AsksHunt, AsksPlay};
 ghost use Rattle.tracker_top.specs.declared.status.Status.{Status};
 
 use crate::status::Status;
@@ -32,17 +32,31 @@ pub fn words_of<E: Env>(env: &E, alloc: Global) -> Result<Vec<String>, Status>
 pub fn asks_play(words: &[String]) -> bool
     ensures { result ≡ true ↔ AsksPlay (texts words.now) }
 {
+    asks(words, "play")
+}
+
+/// Whether the first word is `hunt`.
+pub fn asks_hunt(words: &[String]) -> bool
+    ensures { result ≡ true ↔ AsksHunt (texts words.now) }
+{
+    asks(words, "hunt")
+}
+
+// Whether the first word is this name.
+fn asks(words: &[String], name: &str) -> bool
+    ensures { result ≡ true ↔ Asks name.now (texts words.now) }
+{
     match words.first() {
-        Some(word) => is_play(word.as_str()),
+        Some(word) => is_same(word.as_str(), name),
         None => false,
     }
 }
 
-// Whether it is that word.
-fn is_play(word: &str) -> bool
-    ensures { IsTrue result ↔ (word.now ≡ codes "play") }
+// Whether the texts are the same.
+fn is_same(word: &str, name: &str) -> bool
+    ensures { IsTrue result ↔ (word.now ≡ name.now) }
 {
-    word == "play"
+    word == name
 }
 
 // The bytes of a word, if it is there. The room for them is doubled until they fit.

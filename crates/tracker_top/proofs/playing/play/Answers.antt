@@ -1,8 +1,8 @@
 use Rattle.std.proofs.Common.{◌≡◌, ◌∙◌, List, length, sym, ap, subst, inr, IfNone, IfSome}
 use Rattle.command_words.specs.declared.command.Command.TheVariants.{Play}
-use Rattle.command_words.specs.Commands.{texts, AreNoCommand, IsSpelled}
+use Rattle.command_words.specs.Commands.{AreNoCommand, IsSpelled}
 use Rattle.command_words.specs.Plans.{Plan}
-use Rattle.command_words.specs.Texts.{shown}
+use Rattle.command_words.specs.Texts.{shown, texts}
 use Rattle.tracker_top.specs.Plays.{PlaysAsDue, run_status}
 use Rattle.tracker_top.specs.declared.status.Status.{Status}
 use Rattle.shared_run.specs.Crews.{AreNew, asked_by}
