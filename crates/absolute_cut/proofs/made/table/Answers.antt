@@ -1,4 +1,4 @@
-use Rattle.std.proofs.Common.{◌≡◌, List, ℤ, ℕ, ◌<◌, ◌∷◌, ◌++◌, ◌+◌, take, length, ap, ◌∙◌, refl, arith}
+use Rattle.std.proofs.Common.{◌≡◌, List, ℤ, ℕ, ◌<◌, [], ◌∷◌, ◌++◌, ◌+◌, take, length, ap, ◌∙◌, refl, arith}
 use Rattle.std.specs.Int.{w128}
 use Rattle.std.proofs.lemmas.Int.{to_z-of_z}
 use Rattle.segment_model.specs.Values.{values_by_position}

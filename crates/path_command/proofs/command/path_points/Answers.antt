@@ -1,7 +1,9 @@
 use Rattle.std.proofs.Common.{sym, subst, ◌∙◌}
+use Rattle.std.specs.Int.{w128}
+use Rattle.std.proofs.lemmas.Int.{to_z-of_z}
 use Rattle.track_outside.specs.Calls.{Took, FailedIn}
 use Rattle.path_command.specs.Endings.{EndsInput, EndsPath}
-use Rattle.path_command.proofs.Ends.{stop_cause, not_done, untouched, nothing_done}
+use Rattle.path_command.proofs.Ends.{stop_cause, not_done, untouched, nothing_done, low_fits, high_fits, path_between}
 use Rattle.path_command.proofs.command.path_points.Goals as goal
 
 pub returns-in-Err-clause-input : goal.returns-in-Err-clause-input
@@ -37,7 +39,13 @@ returns-in-Ok-put_all-clause-input g c = record { cause = tt; whole = λ is. c.i
 pub returns-in-Ok-put_all-clause-path : goal.returns-in-Ok-put_all-clause-path
 returns-in-Ok-put_all-clause-path g c = (
   c.in-Ok-path.stretches,
-  record { points = c.in-Ok.points; points_are = c.in-Ok.ensures.points; path = c.in-Ok-path.ensures.path },
+  record {
+    points = c.in-Ok.points;
+    points_are = c.in-Ok.ensures.points;
+    path = path_between c.in-Ok.points c.in-Ok-path.stretches _ c.args.low _ c.args.high
+        (to_z-of_z w128 c.args.low (low_fits c.args.low c.args.high c.requires))
+        (to_z-of_z w128 c.args.high (high_fits c.args.low c.args.high c.requires)) c.in-Ok-path.ensures.path;
+  },
   subst (Took g.O.Sink c.args.out.now c.put_all.new.sink) (c.deref.ensures.value ∙ c.in-Ok-text_of.ensures) c.in-Ok-put_all.ensures.ok,
 )
 
@@ -47,6 +55,12 @@ returns-clause-input g c = record { cause = tt; whole = λ is. c.in-Ok.ensures.w
 pub returns-clause-path : goal.returns-clause-path
 returns-clause-path g c = (
   c.in-Ok-path.stretches,
-  record { points = c.in-Ok.points; points_are = c.in-Ok.ensures.points; path = c.in-Ok-path.ensures.path },
+  record {
+    points = c.in-Ok.points;
+    points_are = c.in-Ok.ensures.points;
+    path = path_between c.in-Ok.points c.in-Ok-path.stretches _ c.args.low _ c.args.high
+        (to_z-of_z w128 c.args.low (low_fits c.args.low c.args.high c.requires))
+        (to_z-of_z w128 c.args.high (high_fits c.args.low c.args.high c.requires)) c.in-Ok-path.ensures.path;
+  },
   subst (FailedIn g.O.Sink c.args.out.now c.put_all.new.sink) (c.deref.ensures.value ∙ c.in-Ok-text_of.ensures) c.in-Err-put_all.ensures.err,
 )
