@@ -1,10 +1,11 @@
 -- How a command ends, and that what is due comes.
-use Rattle.std.proofs.Common.{◌≡◌, ◌≢◌, ℕ, ◌≤◌, ◌⊎◌, inl, inr, List, [], ◌∷◌, Option, None, Some, Result, Ok, Err, IfSome, map, pos, refl, sym, ap, subst, ◌∙◌, arith}
+use Rattle.std.proofs.Common.{◌≡◌, ◌≢◌, ℕ, ◌≤◌, ◌⊎◌, inl, inr, List, [], ◌∷◌, Option, None, Some, Result, Ok, Err, OnOk, OnErr, IfSome, map, pos, refl, sym, ap, subst, ◌∙◌, arith}
 use Rattle.track_outside.specs.Counts.{Rose}
 use Rattle.track_outside.specs.declared.source.Source as source
 use Rattle.track_outside.specs.declared.sink.Sink as sink
 use Rattle.track_outside.specs.declared.keeper.Keeper as keeper
-use Rattle.track_outside.specs.Calls.{Took}
+use Rattle.track_outside.specs.declared.source.Failed.{Failed}
+use Rattle.track_outside.specs.Calls.{Took, FailedIn}
 use Rattle.request_words.specs.Bodies.{Item}
 use Rattle.request_text.specs.Scripts.{Ending, end, cut_off, unfinished, IsScript}
 use Rattle.script_loop.specs.declared.stop.Stop.{Stop as ScriptStop}
@@ -26,10 +27,11 @@ use Rattle.tracker_top.specs.Paths.{path_status_of}
 use Rattle.command_words.specs.declared.command.Command.TheVariants.{Cut, Apply, Gen, Trial, Play, Path, Hunt}
 use Rattle.tracker_top.specs.declared.status.Status.{Status}
 use Rattle.tracker_top.specs.declared.status.Status.TheVariants.{Done, BadWords, ReadFault, WriteFault, StoreFault, BadStore, CutOff, NoMemory, InputTooLong, BadLine, Full, TooFew}
-use Rattle.command_words.specs.Commands.{IsSpelled, AreOneCommand}
+use Rattle.command_words.specs.Commands.{AreNoCommand, IsSpelled, AreOneCommand}
 use Rattle.script_session.specs.Counts.{RoseByRedone}
 use Rattle.tracker_top.specs.Statuses.{AsksHunt, AsksPlay, status_of, script_status_of, script_status, ended, CutShows, PathShows, ScriptShows, Shows, IsDue, OneStatusIsDue}
-use Rattle.tracker_top.specs.Endings.{HasCause, EndsOutput, AnswersScript, Begins, WasStarted, Keeps, Prints, AppendCause, LoadCause, EndsSo, EndsScript, EndsApply, IsOfOutput, HasAsked, IsAlone, Ends}
+use Rattle.tracker_top.specs.Text.{line_of}
+use Rattle.tracker_top.specs.Endings.{HasCause, EndsOutput, AnswersScript, Begins, WasStarted, Keeps, Prints, AppendCause, LoadCause, EndsSo, EndsScript, EndsApply, IsOfOutput, HasAsked, IsAlone, Ends, IsTold}
 use Rattle.tracker_top.specs.Answers.{IsCertificateText, state_of}
 use Rattle.track_outside.specs.Kept.{with_more}
 use Rattle.kept_machines.specs.Kept.{kept_of, AreKept}
@@ -50,7 +52,7 @@ if_some (Some bytes) all = all bytes
 -- cut lines that have points, or stop, show it
 points_show : (known : Option (List ℕ)) (points : List Position) → IfSome known (λ bytes. ArePointsWithin 1_024 bytes points) → IfSome known (λ bytes. PathShows bytes Done)
 points_show None points are = tt
-points_show (Some bytes) points are = inl (refl, points, are)
+points_show (Some bytes) points are = inl (refl, (points, are))
 
 stop_shows : (known : Option (List ℕ)) (stop : LinesStop) → IfSome known (λ bytes. BytesShowWithin 1_024 bytes stop) → IfSome known (λ bytes. PathShows bytes (status_of stop))
 stop_shows None stop show = tt
@@ -297,3 +299,18 @@ pub ends-alone : {I O K : Type 0} (g : source.Ghosts I) (h : sink.Ghosts O) (k :
     → status ≡ script_status why → AnswersScript g h (state_of []) now old new before after from to why → EndsScript g h k None old new before after first first from to status
 ends-alone g h k now old new before after first from to (Ok done) status is answers = ends_script g h k [] now old new before after first first from to None (Ok done) status refl answers is refl
 ends-alone g h k now old new before after first from to (Err stop) status is answers = ends_script g h k [] now old new before after first first from to None (Err stop) status refl answers is refl
+
+-- words that are no command: that is due
+pub bad-words-due : (known : Option (List ℕ)) (rows : Option (List (List ℕ))) (words : List (List ℕ)) (R : Type 0) → AreNoCommand words
+    → IfSome known (λ bytes. (due : Status) → IsDue words rows bytes due → (BadWords ≡ due) ⊎ R)
+bad-words-due known rows words R none = if_some known due_comes
+  where
+    due_comes : (bytes : List ℕ) (due : Status) → IsDue words rows bytes due → (BadWords ≡ due) ⊎ R
+    due_comes bytes due (inl (is, its)) = inl (sym is)
+    due_comes bytes due (inr (command, spelled, shown)) = absurd (none command spelled)
+
+-- a status whose line was written, or a first part of it
+pub is-told-by : {O : Type 0} (h : sink.Ghosts O) (old new : O) (status : Status) (r : Result (Unit {0}) Failed) → OnOk r (Took h old new (line_of status)) → OnErr r (FailedIn h old new (line_of status))
+    → IsTold h old new status
+is-told-by h old new status (Ok done) took failed = inl took
+is-told-by h old new status (Err why) took failed = inr failed

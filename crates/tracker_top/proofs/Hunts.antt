@@ -50,7 +50,7 @@ few : (names : List (List ℕ)) → length names < 2 → TooFew (length names) �
 few names less = rw (lt-ltb (length names) 2 less) refl
 
 enough : (names : List (List ℕ)) → 2 ≤ length names → Done ≡ counted_status (length names)
-enough names more = rw (le-ltb 2 (length names) more) refl
+enough names more = rw (le-ltb (length names) 2 more) refl
 
 names_show : (known : Option (List ℕ)) (names : List (List ℕ)) (status : Status) → AreNamesOfInput known names → status ≡ counted_status (length names)
     → IfSome known (λ bytes. HuntShows bytes status)
@@ -114,5 +114,5 @@ module _ {I O R : Type 0} (g : source.Ghosts I) (h : sink.Ghosts O) (n : runner.
   hunt-due (hunt.BadLine k) cause output = comes (BadLine k) (stop_shows (g.left old) (stop.Refused refusal.Bad k) cause)
   hunt-due (hunt.Full k) cause output = comes (Full k) (stop_shows (g.left old) (stop.Refused refusal.Full k) cause)
   hunt-due (hunt.TooFew count) cause output =
-      comes (TooFew count) (names_show (g.left old) cause.1 (TooFew count) cause.2
-      (ap TooFew (sym cause.3) ∙ few cause.1 (subst (λ (m : ℕ). m < 2) (sym cause.3) cause.0)))
+      comes (TooFew count) (names_show (g.left old) cause.1.0 (TooFew count) cause.1.1
+      (ap TooFew (sym cause.1.2) ∙ few cause.1.0 (subst (λ (m : ℕ). m < 2) (sym cause.1.2) cause.0)))

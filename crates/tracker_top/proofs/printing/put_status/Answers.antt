@@ -12,3 +12,9 @@ returns-in-InputTooLong-clause-ok g c = rw c.in-InputTooLong.is c.put_all-in-Inp
 
 pub returns-in-InputTooLong-clause-err : goal.returns-in-InputTooLong-clause-err
 returns-in-InputTooLong-clause-err g c = rw c.in-InputTooLong.is c.put_all-in-InputTooLong.ensures.err
+
+pub returns-in-TooFew-clause-ok : goal.returns-in-TooFew-clause-ok
+returns-in-TooFew-clause-ok g c = rw (c.in-TooFew.is, append-nil (decimal c.in-TooFew.count)) c.put_numbered-in-TooFew.ensures.ok
+
+pub returns-in-TooFew-clause-err : goal.returns-in-TooFew-clause-err
+returns-in-TooFew-clause-err g c = rw (c.in-TooFew.is, append-nil (decimal c.in-TooFew.count)) c.put_numbered-in-TooFew.ensures.err
