@@ -29,11 +29,11 @@ type Ask<'a> = (&'a str, Option<u8>);
 
 const WORDS: &[&str] = &["hunt", "3", "--test", "t"];
 
-const NINE: &str = "c0\nc1\nc2\nc3\nc4\nc5\nc6\nc7\nc8\n";
+const NINE: &[u8] = b"c0\nc1\nc2\nc3\nc4\nc5\nc6\nc7\nc8\n";
 
 const HUNT: Hunted = Hunted {
     words: WORDS,
-    input: NINE.as_bytes(),
+    input: NINE,
     answers: &[(2, 0), (4, 0), (6, 125), (5, 1), (7, 1)],
     reads: &[],
     writes: &[],
@@ -43,7 +43,7 @@ const HUNT: Hunted = Hunted {
 };
 
 // Inputs, statuses of commits, and the line that is printed.
-const LINES: [(&str, &[(u64, u8)], &str); 7] = [
+const LINES: [(&[u8], &[(u64, u8)], &str); 7] = [
     (
         NINE,
         &[(2, 0), (4, 0), (6, 125), (5, 1), (7, 1)],
@@ -60,14 +60,14 @@ const LINES: [(&str, &[(u64, u8)], &str); 7] = [
         "undecided c4 200 rounds 1\n",
     ),
     (NINE, &[(2, 0), (6, 125)], "faulted c4 rounds 1\n"),
-    ("c0\nc1", &[], "found c0 c1 skipped 0 rounds 0\n"),
+    (b"c0\nc1", &[], "found c0 c1 skipped 0 rounds 0\n"),
     (
-        "# a comment of words\n\n  %63%30  \nc1\nb%2Cd",
+        b"# a comment of words\n\n  %63%30  \nc1\nb%2Cd",
         &[(1, 1)],
         "found c0 c1 skipped 0 rounds 1\n",
     ),
     (
-        "c0\nc1\nb%2Cd\n",
+        b"c0\nc1\nb%2Cd\n",
         &[(1, 0)],
         "found c1 b%2Cd skipped 0 rounds 1\n",
     ),
@@ -77,7 +77,7 @@ const LINES: [(&str, &[(u64, u8)], &str); 7] = [
 fn hunts_come_to_a_line(rt: HostRuntime) {
     for (input, answers, out) in &LINES {
         let run = Hunted {
-            input: input.as_bytes(),
+            input,
             answers,
             out,
             ..HUNT
@@ -87,23 +87,23 @@ fn hunts_come_to_a_line(rt: HostRuntime) {
 }
 
 // Inputs that are refused, the status and its line.
-const REFUSED: [(&str, Status, &str); 9] = [
-    ("", Status::TooFew(0), "too few commits: 0\n"),
-    ("# c0\n\n", Status::TooFew(0), "too few commits: 0\n"),
-    ("c0", Status::TooFew(1), "too few commits: 1\n"),
-    ("c0\nc1 c2\n", Status::BadLine(2), "bad line: 2\n"),
-    ("c0\nc1\nc0\n", Status::BadLine(3), "bad line: 3\n"),
-    ("c0\nc1\n%63%30\n", Status::BadLine(3), "bad line: 3\n"),
-    ("c0\n%zz", Status::BadLine(2), "bad line: 2\n"),
-    (" # c0\nc1\n", Status::BadLine(1), "bad line: 1\n"),
-    ("c0\nc1\nx y", Status::BadLine(3), "bad line: 3\n"),
+const REFUSED: [(&[u8], Status, &str); 9] = [
+    (b"", Status::TooFew(0), "too few commits: 0\n"),
+    (b"# c0\n\n", Status::TooFew(0), "too few commits: 0\n"),
+    (b"c0", Status::TooFew(1), "too few commits: 1\n"),
+    (b"c0\nc1 c2\n", Status::BadLine(2), "bad line: 2\n"),
+    (b"c0\nc1\nc0\n", Status::BadLine(3), "bad line: 3\n"),
+    (b"c0\nc1\n%63%30\n", Status::BadLine(3), "bad line: 3\n"),
+    (b"c0\n%zz", Status::BadLine(2), "bad line: 2\n"),
+    (b" # c0\nc1\n", Status::BadLine(1), "bad line: 1\n"),
+    (b"c0\nc1\nx y", Status::BadLine(3), "bad line: 3\n"),
 ];
 
 #[test]
 fn hunts_stop(rt: HostRuntime) {
     for (input, status, err) in &REFUSED {
         let run = Hunted {
-            input: input.as_bytes(),
+            input,
             status: *status,
             out: "",
             err,
@@ -177,17 +177,15 @@ fn each_call_of_a_hunt_fails_once(rt: HostRuntime) {
 
 fn each_fails<R: Threads + Wait + Sync>(rt: &R, alloc: Global, is_read: bool) -> bool {
     for k in 1..=100u64 {
-        if ends(
-            rt,
-            alloc,
-            &failing(&[k], is_read, HUNT.status, HUNT.out, HUNT.err),
-        ) {
+        let calls = [k];
+        let whole = failing(&calls, is_read, HUNT.status, HUNT.out, HUNT.err);
+        if ends(rt, alloc, &whole) {
             return k > 1;
         }
         let stopped = if is_read {
-            failing(&[k], true, Status::ReadFault, "", "read fault\n")
+            failing(&calls, true, Status::ReadFault, "", "read fault\n")
         } else {
-            failing(&[k], false, Status::WriteFault, "", "write fault\n")
+            failing(&calls, false, Status::WriteFault, "", "write fault\n")
         };
         if !ends(rt, alloc, &stopped) {
             return false;
