@@ -9,7 +9,7 @@ use Rattle.segment_model.specs.Tables.{int_at, IsCandidate, IsFirstLeast}
 use Rattle.pelt_core.specs.declared.bounds.Bound.{Bound}
 use Rattle.pelt_core.specs.declared.bounds.Found.{Found}
 use Rattle.pelt_core.specs.Candidates.{total_from}
-use Rattle.pelt_core.specs.Bounds.{bound_at, IsBound, HaveBounds, HaveMore, IsFirst, IsBelowBlock, IsLowered, AreInRange}
+use Rattle.pelt_core.specs.Bounds.{bound_at, IsBound, HaveBounds, HaveMore, IsFirst, IsBelowBlock, IsLowered, IsMoved, AreInRange}
 
 abbrev pub no_bound : Bound
 no_bound = record { at = 0; total = pos 0 }
@@ -23,6 +23,19 @@ module _ (cost : ℕ → ℕ → ℤ) (least : List ℤ) (t : ℕ) (merges : Mer
       record {
         behind = omega (arith, is.behind, placed, h.at);
         at_most = rw h.at (omega (arith, ints, is.at_most, more, last, h.at_most));
+      }
+
+  -- a bound that moves to place t
+  pub bound-moved : (s : ℕ) (old new : Bound) → old.at ≤ t → IsMoved cost t old new → IsBound cost least s old → IsBound cost least s new
+  bound-moved s old new placed h is =
+      let more = merges s old.at t is.behind placed (omega arith) in
+      let last = (range old.at t placed (omega arith)).0 in
+      record {
+        behind = omega (arith, is.behind, placed, h.at);
+        at_most = rw h.at (elim (cases_lt old.at t) [
+          | inl before ↦ omega (arith, ints, is.at_most, more, h.at_most before)
+          | inr end ↦ omega (arith, ints, is.at_most, more, last, h.same end)
+        ]);
       }
 
   -- what a bound allows at place t
@@ -62,25 +75,41 @@ module _ (cost : ℕ → ℕ → ℤ) (least : List ℤ) (t : ℕ) (merges : Mer
         here_too : slice_index cs guess < t → IsBound cost least (slice_index cs guess) (bound_at bounds' k)
         here_too lt = record { behind = omega (arith, lt, lowered.at); at_most = rw lowered.at (omega (arith, ints, lowered.below, is)) }
 
+    -- a block has a new bound, which holds for its candidates
+    bound-set : (guess k : ℕ) (new : Bound) (bounds : List Bound) → HaveBounds cost t least cs guess bounds → k < length bounds
+        → new.at ≤ t → neg_ℤ (pos (10 ^ 36)) ≤ℤ new.total → new.total ≤ℤ pos (2 * 10 ^ 37)
+        → ((i : ℕ) → 256 * k ≤ i → i < 256 * k + 256 → i < length cs → i ≢ guess → IsBound cost least (slice_index cs i) new)
+        → HaveBounds cost t least cs guess (set bounds k new)
+    bound-set guess k new bounds h in' placed low high holds =
+        let size : length (set bounds k new) ≡ length bounds = length-set bounds k new in
+        let here : bound_at (set bounds k new) k ≡ new = get_or-set_same bounds k new no_bound in' in
+        let others : (j : ℕ) → j ≢ k → bound_at (set bounds k new) j ≡ bound_at bounds j = λ j away. get_or-set_other bounds k j new no_bound away in
+        record {
+          enough = omega (arith, size, h.enough);
+          placed = λ j lt. elim (cases_eq j k) [ inl at ↦ rw (at, here) placed | inr away ↦ rw (others j away) (h.placed j (omega (arith, lt, size))) ];
+          low = λ j lt. elim (cases_eq j k) [ inl at ↦ rw (at, here) low | inr away ↦ rw (others j away) (h.low j (omega (arith, lt, size))) ];
+          high = λ j lt. elim (cases_eq j k) [ inl at ↦ rw (at, here) high | inr away ↦ rw (others j away) (h.high j (omega (arith, lt, size))) ];
+          holds = λ j i lt from upto inside apart. elim (cases_eq j k) [
+            | inl at ↦ rw (at, here) (holds i (rw at at from) (rw at at upto) inside apart)
+            | inr away ↦ rw (others j away) (h.holds j i (omega (arith, lt, size)) from upto inside apart)
+          ];
+        }
+
     -- a block was looked at
     pub looked-at : (guess k : ℕ) (total : ℤ) (bounds : List Bound) → HaveBounds cost t least cs guess bounds → k < length bounds
         → neg_ℤ (pos (10 ^ 36)) ≤ℤ total → total ≤ℤ pos (2 * 10 ^ 37)
         → ((i : ℕ) → 256 * k ≤ i → i < 256 * k + 256 → i < length cs → i ≢ guess → total ≤ℤ total_from cost least t (slice_index cs i))
         → HaveBounds cost t least cs guess (set bounds k (record { at = t; total = total }))
     looked-at guess k total bounds h in' low high at_most =
-        let size : length (set bounds k (record { at = t; total = total })) ≡ length bounds = length-set bounds k (record { at = t; total = total }) in
-        let new : bound_at (set bounds k (record { at = t; total = total })) k ≡ record { at = t; total = total } = get_or-set_same bounds k (record { at = t; total = total }) no_bound in' in
-        let others : (j : ℕ) → j ≢ k → bound_at (set bounds k (record { at = t; total = total })) j ≡ bound_at bounds j = λ j away. get_or-set_other bounds k j (record { at = t; total = total }) no_bound away in
-        record {
-          enough = omega (arith, size, h.enough);
-          placed = λ j lt. elim (cases_eq j k) [ inl at ↦ rw (at, new) (omega arith) | inr away ↦ rw (others j away) (h.placed j (omega (arith, lt, size))) ];
-          low = λ j lt. elim (cases_eq j k) [ inl at ↦ rw (at, new) low | inr away ↦ rw (others j away) (h.low j (omega (arith, lt, size))) ];
-          high = λ j lt. elim (cases_eq j k) [ inl at ↦ rw (at, new) high | inr away ↦ rw (others j away) (h.high j (omega (arith, lt, size))) ];
-          holds = λ j i lt from upto inside' apart. elim (cases_eq j k) [
-            | inl at ↦ rw (at, new) (record { behind = omega (arith, below i inside'); at_most = at_most i (rw at at from) (rw at at upto) inside' apart })
-            | inr away ↦ rw (others j away) (h.holds j i (omega (arith, lt, size)) from upto inside' apart)
-          ];
-        }
+        bound-set guess k (record { at = t; total = total }) bounds h in' (omega arith) low high
+        (λ i from upto inside apart. record { behind = omega (arith, below i inside); at_most = at_most i from upto inside apart })
+
+    -- the bound of a block moved to place t
+    pub moved-on : (guess k : ℕ) (new : Bound) (bounds : List Bound) → HaveBounds cost t least cs guess bounds → k < length bounds → IsMoved cost t (bound_at bounds k) new
+        → HaveBounds cost t least cs guess (set bounds k new)
+    moved-on guess k new bounds h in' moved =
+        bound-set guess k new bounds h in' (omega (arith, moved.at)) moved.low moved.high
+        (λ i from upto inside apart. bound-moved (slice_index cs i) (bound_at bounds k) new (h.placed k in') moved (h.holds k i in' from upto inside apart))
 
     -- a block was passed over
     pub passed-over : (guess k : ℕ) (bounds : List Bound) (best : Found) → HaveBounds cost t least cs guess bounds → k < length bounds → IsFirst cost least t cs guess (256 * k) best

@@ -2,6 +2,7 @@
 use Rattle.std.specs.Prelude.{◌≡◌, ◌≢◌, ℕ, ℤ, ◌+◌, ◌*◌, ◌^◌, ◌<◌, ◌≤◌, List, length, slice_index, slice_index_or, ◌⊎◌, pos, neg_ℤ, ◌+ℤ◌, ◌≤ℤ◌, ◌<ℤ◌}
 use Rattle.pelt_core.specs.declared.bounds.Bound.{Bound}
 use Rattle.pelt_core.specs.declared.bounds.Found.{Found}
+use Rattle.pelt_core.specs.declared.bounds.Rise.{Rise}
 use Rattle.pelt_core.specs.Candidates.{total_from}
 
 -- the bound of block k
@@ -64,6 +65,19 @@ pub record IsLowered (old : Bound) (t : ℕ) (total : ℤ) (new : Bound) : Type 
   pub at_most : new.total ≤ℤ old.total
   pub below : new.total ≤ℤ total
   pub one : (new.total ≡ old.total) ⊎ (new.total ≡ total)
+
+-- the bound for place t that a bound becomes: from an earlier place it rises by the cost of the segment between, to 2 10^37 at most
+pub record IsMoved (cost : ℕ → ℕ → ℤ) (t : ℕ) (old new : Bound) : Type 0 where
+  pub at : new.at ≡ t
+  pub same : t ≤ old.at → new.total ≡ old.total
+  pub at_most : old.at < t → new.total ≤ℤ (old.total +ℤ cost old.at t)
+  pub risen : old.at < t → (new.total ≡ old.total +ℤ cost old.at t) ⊎ (new.total ≡ pos (2 * 10 ^ 37))
+  pub low : neg_ℤ (pos (10 ^ 36)) ≤ℤ new.total
+  pub high : new.total ≤ℤ pos (2 * 10 ^ 37)
+
+-- what the segment from a place to place t costs, where that place lies before t
+abbrev pub IsRise : (ℕ → ℕ → ℤ) → ℕ → Rise → Type 0
+IsRise cost t rise = rise.at < t → rise.cost ≡ cost rise.at t
 
 -- each segment up to place n costs from 0 to 10^37
 abbrev pub AreInRange : (ℕ → ℕ → ℤ) → ℕ → Type 0

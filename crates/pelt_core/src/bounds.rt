@@ -2,10 +2,14 @@
 //!
 //! It begins with the candidate that won last, and no bound need hold for that one. Where another one wins, the bound
 //! of the first one's block is lowered by what the first one made.
+//!
+//! A bound for an earlier place rises by the cost of the segment from there to the end, which is asked for once where
+//! neighbouring blocks have one place. So that they do, bounds move to the end together when a block becomes whole. They
+//! move seldom, since each move loses what two neighbours cost less than their union.
 ghost use Rattle.std.specs.Prelude.{◌≡◌, ◌≢◌, ℕ, ◌+◌, ◌*◌, ◌^◌, ◌<◌, ◌≤◌, length, pos, neg_ℤ, ◌≤ℤ◌, ◌<ℤ◌, ◌↔◌, ◌⊎◌, IsTrue, OnOk};
 ghost use Rattle.segment_model.specs.Values.{AreWithinLimits, cost_between};
 ghost use Rattle.pelt_core.specs.Candidates.{AreCandidates};
-ghost use Rattle.pelt_core.specs.Bounds.{bound_at, HaveBounds, IsFirst, AreLooked, IsBelowBlock, IsLowered, IsNoLater, HaveMore};
+ghost use Rattle.pelt_core.specs.Bounds.{bound_at, HaveBounds, IsFirst, AreLooked, IsBelowBlock, IsLowered, IsMoved, IsRise, IsNoLater, HaveMore};
 
 use crate::candidates::last_total;
 use segment_cost::{Cost, NoMemory};
@@ -25,6 +29,13 @@ const HIGHEST: i128 = 20_000_000_000_000_000_000_000_000_000_000_000_000;
 pub struct Bound {
     pub at: usize,
     pub total: i128,
+}
+
+// A place, and what the segment from there to the end costs; nothing is known where the place is the end.
+#[derive(Clone, Copy, Drop)]
+pub struct Rise {
+    pub at: usize,
+    pub cost: i128,
 }
 
 // The index of a candidate, and what a last segment from it makes.
@@ -66,9 +77,13 @@ pub fn first_least<C: Cost>(
         index: guess,
         total: last_total(cost, least, usize::from(candidates[guess])),
     };
+    let mut rise = Rise {
+        at: cost.len(),
+        cost: 0,
+    };
     let mut best = first;
     for k in 0..blocks_of(candidates.len()) {
-        best = look_at_block(cost, least, candidates, bounds, guess, k, best);
+        best = look_at_block(cost, least, candidates, bounds, guess, k, &mut rise, best);
     }
     release(bounds, block_of(guess), first, best.index, cost.len());
     best
@@ -105,6 +120,18 @@ pub fn block_of(index: usize) -> usize
     index / BLOCK
 }
 
+// Whether the bound of block k moves to the end, where its candidates aren't looked at. Bounds move only where all blocks
+// are whole: those of as many last blocks as the greatest power of two that divides the number of blocks.
+//
+// So where no candidate is dropped, a bound moves at most once for each power of two, and whole blocks have no more places
+// than powers of two make up their number, but for blocks that were looked at since they moved.
+fn moves(count: usize, k: usize) -> bool
+    ensures { IsTrue result → 256 * k + 256 ≤ count }
+{
+    let whole = count / BLOCK;
+    count % BLOCK == 0 && k < whole && k >= whole & (whole - 1)
+}
+
 // The better of `best` and the candidates of block k, which are looked at only where its bound doesn't tell.
 fn look_at_block<C: Cost>(
     cost: &C,
@@ -113,6 +140,7 @@ fn look_at_block<C: Cost>(
     bounds: &mut [Bound],
     guess: usize,
     k: usize,
+    rise: &mut Rise,
     best: Found,
 ) -> Found
     requires few { k < 65 }
@@ -120,15 +148,22 @@ fn look_at_block<C: Cost>(
     requires candidates { AreCandidates (C.positions cost.now) least.now candidates.now }
     requires bounds { HaveBounds (cost_between C.cost_of (C.positions cost.now))
         (length (C.positions cost.now)) least.now candidates.now guess bounds.old }
+    requires rise { IsRise (cost_between C.cost_of (C.positions cost.now))
+        (length (C.positions cost.now)) rise.old }
     requires found { IsFirst (cost_between C.cost_of (C.positions cost.now)) least.now
         (length (C.positions cost.now)) candidates.now guess (256 * k) best }
     ensures bounds { HaveBounds (cost_between C.cost_of (C.positions cost.now))
         (length (C.positions cost.now)) least.now candidates.now guess bounds.new }
+    ensures rise { IsRise (cost_between C.cost_of (C.positions cost.now))
+        (length (C.positions cost.now)) rise.new }
     ensures found { IsFirst (cost_between C.cost_of (C.positions cost.now)) least.now
         (length (C.positions cost.now)) candidates.now guess (256 * k + 256) result }
 {
     value_costs_law();
-    if is_behind(cost, bounds[k], k * BLOCK, best) {
+    if is_behind(cost, bounds[k], k * BLOCK, rise, best) {
+        if moves(candidates.len(), k) {
+            bounds[k] = moved(cost, bounds[k], rise);
+        }
         return best;
     }
     let looked = best_of_block(cost, least, candidates, guess, k, best);
@@ -141,23 +176,80 @@ fn look_at_block<C: Cost>(
 
 // Whether each total that a bound allows, at an index from `start` on, comes behind the best: it is more, or equal at no
 // earlier index.
-fn is_behind<C: Cost>(cost: &C, bound: Bound, start: usize, best: Found) -> bool
+fn is_behind<C: Cost>(cost: &C, bound: Bound, start: usize, rise: &mut Rise, best: Found) -> bool
     requires limits { AreWithinLimits (C.positions cost.now) }
     requires placed { bound.at ≤ length (C.positions cost.now) }
     requires low { neg_ℤ (pos (10 ^ 36)) ≤ℤ bound.total }
     requires high { bound.total ≤ℤ pos (2 * 10 ^ 37) }
-    ensures { IsTrue result
+    requires rise { IsRise (cost_between C.cost_of (C.positions cost.now))
+        (length (C.positions cost.now)) rise.old }
+    ensures rise { IsRise (cost_between C.cost_of (C.positions cost.now))
+        (length (C.positions cost.now)) rise.new }
+    ensures behind { IsTrue result
         → IsBelowBlock (cost_between C.cost_of (C.positions cost.now))
         (length (C.positions cost.now)) bound start best }
 {
-    value_costs_law();
     if comes_first(best, bound.total, start) {
         return true;
     }
     if bound.at >= cost.len() {
         return false;
     }
-    comes_first(best, bound.total + cost.cost(bound.at, cost.len()), start)
+    comes_first(best, bound.total + cost_from(cost, bound.at, rise), start)
+}
+
+// What the segment from a place to the end costs, which is asked for only where it isn't known.
+fn cost_from<C: Cost>(cost: &C, at: usize, rise: &mut Rise) -> i128
+    requires limits { AreWithinLimits (C.positions cost.now) }
+    requires before { at < length (C.positions cost.now) }
+    requires rise { IsRise (cost_between C.cost_of (C.positions cost.now))
+        (length (C.positions cost.now)) rise.old }
+    ensures rise { IsRise (cost_between C.cost_of (C.positions cost.now))
+        (length (C.positions cost.now)) rise.new }
+    ensures cost { result
+        ≡ cost_between C.cost_of (C.positions cost.now) at (length (C.positions cost.now)) }
+    ensures low { pos 0 ≤ℤ result }
+    ensures high { result ≤ℤ pos (10 ^ 37) }
+{
+    value_costs_law();
+    if rise.at != at {
+        *rise = Rise {
+            at,
+            cost: cost.cost(at, cost.len()),
+        };
+    }
+    rise.cost
+}
+
+// The bound, moved to the end.
+fn moved<C: Cost>(cost: &C, bound: Bound, rise: &mut Rise) -> Bound
+    requires limits { AreWithinLimits (C.positions cost.now) }
+    requires placed { bound.at ≤ length (C.positions cost.now) }
+    requires low { neg_ℤ (pos (10 ^ 36)) ≤ℤ bound.total }
+    requires high { bound.total ≤ℤ pos (2 * 10 ^ 37) }
+    requires rise { IsRise (cost_between C.cost_of (C.positions cost.now))
+        (length (C.positions cost.now)) rise.old }
+    ensures rise { IsRise (cost_between C.cost_of (C.positions cost.now))
+        (length (C.positions cost.now)) rise.new }
+    ensures moved { IsMoved (cost_between C.cost_of (C.positions cost.now))
+        (length (C.positions cost.now)) bound result }
+{
+    if bound.at >= cost.len() {
+        return bound;
+    }
+    Bound {
+        at: cost.len(),
+        total: at_most_highest(bound.total + cost_from(cost, bound.at, rise)),
+    }
+}
+
+// The total, or what each last segment makes at most, where that is less.
+fn at_most_highest(total: i128) -> i128
+    ensures at_most { result ≤ℤ total }
+    ensures high { result ≤ℤ pos (2 * 10 ^ 37) }
+    ensures one { (result ≡ total) ⊎ (result ≡ pos (2 * 10 ^ 37)) }
+{
+    if total < HIGHEST { total } else { HIGHEST }
 }
 
 // Whether the best is less than a total, or equal to it and at no later index.

@@ -1,5 +1,5 @@
 //! The places that may still be a last cut: which of them makes the least total, and which of them are dear.
-ghost use Rattle.std.specs.Prelude.{◌≡◌, ◌≢◌, ℕ, ◌+◌, ◌*◌, ◌^◌, ◌<◌, ◌≤◌, length, pos, neg_ℤ, ◌≤ℤ◌, ◌<ℤ◌, filter, ◌&&◌, ◌↔◌, IsTrue, slice_index, vec_capacity};
+ghost use Rattle.std.specs.Prelude.{◌≡◌, ◌≢◌, ℕ, ◌+◌, ◌*◌, ◌^◌, ◌<◌, ◌≤◌, length, pos, neg_ℤ, ◌≤ℤ◌, ◌<ℤ◌, filter, ◌&&◌, ◌↔◌, IsTrue, ◌||◌, slice_index, vec_capacity};
 ghost use Rattle.segment_model.specs.Tables.{int_at, MayBegin, IsMarkedAt, IsUnmarkedBehind};
 ghost use Rattle.segment_model.specs.Values.{cost_between};
 ghost use Rattle.pelt_core.specs.Candidates.{begins, stays, open_places, total_from, HaveTotals, AreCandidates, AreLookedAt, IsAmong};
@@ -56,7 +56,9 @@ fn mark<C: Cost>(cost: &C, least: &[i128], pruned: &mut [u16], s: usize) -> bool
 }
 
 // Whether one of two things is so.
-pub fn either(one: bool, other: bool) -> bool {
+pub fn either(one: bool, other: bool) -> bool
+    ensures { result ≡ (one || other) }
+{
     one || other
 }
 

@@ -13,7 +13,8 @@
 //! candidates makes by a last segment to that place. Neighbouring segments cost together at most what their union
 //! costs, so by a last segment to a later place each candidate makes at least that total and the cost of the segment
 //! between the two places. A block whose bound can't beat the best candidate so far is passed over; the candidates of
-//! any other block are looked at, and their least total is its new bound.
+//! any other block are looked at, and their least total is its new bound. Blocks share few places, so that few costs are
+//! asked for at each position.
 //!
 //! It stands on the definitions and laws of `segment_model`, on the points, costs and certificates of `segment_cost`
 //! and on the lists of `line_text`. `cost_tests` compares it with `part_core`.

@@ -27,7 +27,7 @@ returns-clause-bounds g c =
           bounds-by (cost_between g.C.Cost.cost_of (g.C.Cost.positions c.args.cost.now)) (length (g.C.Cost.positions c.args.cost.now)) c.args.least.now _ c.args.candidates.now _ c.args.guess _ c.loop-k.bounds _
           refl refl same (c.release.ensures.same same) c.loop-k.invariant.0
       | inr apart ↦
-          let lowered = rw c.len.ensures at (simp to_z-of_z at (c.release.ensures.lowered apart)) in
+          let lowered = rw c.len-2.ensures at (simp to_z-of_z at (c.release.ensures.lowered apart)) in
           apart-moves (cost_between g.C.Cost.cost_of (g.C.Cost.positions c.args.cost.now)) c.args.least.now (length (g.C.Cost.positions c.args.cost.now)) (merges g k) (range g k) c.args.candidates.now c.requires.candidates.below
           c.args.guess c.block_of.result c.last_total.result c.loop-k.bounds c.release.new.bounds c.loop-k.invariant.0 c.block_of.ensures.start c.block_of.ensures.end block_in made.low made.high (rw c.from.ensures at made.total)
           c.release.auto.bounds lowered c.release.ensures.others c.loop-k.best.index
