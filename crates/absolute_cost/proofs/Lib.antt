@@ -1,2 +1,4 @@
 mod Segments
 mod Numbers
+mod Sorted
+mod Counts

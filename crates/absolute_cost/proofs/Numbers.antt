@@ -88,3 +88,6 @@ least_whole values i a end all = subst (λ (xs : List ℤ). All (λ (x : ℤ). a
 
 pub greatest_whole : (values : List ℤ) (i : ℕ) (a : ℤ) → length values ≤ i → All (λ (x : ℤ). x ≤ℤ a) (take i values) → All (λ (x : ℤ). x ≤ℤ a) values
 greatest_whole values i a end all = subst (λ (xs : List ℤ). All (λ (x : ℤ). x ≤ℤ a) xs) (take_all i values end) all
+
+pub not_above : (a b c : ℤ) → a ≤ℤ b → b ≤ℤ c → a ≤ℤ c
+not_above a b c h k = omega (arith, ints, h, k)

@@ -1,10 +1,12 @@
 //! The cost by distances.
-ghost use Rattle.std.specs.Prelude.{◌≡◌, ℕ, ℤ, ◌+◌, ◌<◌, ◌≤◌, ◌++◌, List, length, take, All, vec_len, vec_capacity, slice_range};
+ghost use Rattle.std.specs.Prelude.{◌≡◌, ℕ, ℤ, ◌+◌, ◌<◌, ◌≤◌, ◌++◌, List, length, take, All};
 ghost use Rattle.segment_model.specs.Limits.{IsSmall};
 ghost use Rattle.segment_model.specs.Values.{AreWithinLimits, joined, values_between};
 
 use crate::NoMemory;
+use crate::blocks::{BLOCK, add_blocks, append};
 use crate::middle::{middle, sum_of_distances};
+use crate::pieces::{Pieces, cut};
 use prefix_sums::PrefixSums;
 use segment_cost::Cost;
 use segment_model::values_law;
@@ -13,20 +15,23 @@ use std::marker::Model;
 
 /// The least sum of distances from a whole number, and the smallest such number.
 ///
-/// Contracts see the positions, each as the list of its values, and the spare. A cost or a centre is found by some passes
-/// over the values of its segment: three, and as many as the distance of its least and greatest value has bits, of which
-/// there are 55 at most.
+/// Contracts see the positions, each as the list of its values, and the spare. A cost of n values takes O(n + b n / 32)
+/// time, and a centre O(b n / 32), where b is how many bits the distance of their least and greatest value has, of which
+/// there are 55 at most. A push is linear in its values: they are put in order 32 at a time.
 #[derive(Drop)]
 pub struct Absolute {
     // They count the values of the first positions.
     sums: PrefixSums,
     values: Vec<i64>,
+    // Their first blocks, each in order.
+    sorted: Vec<i64>,
 }
 
 impl Model for Absolute {
     ghost use Rattle.std.specs.Prelude.{◌≡◌, ◌-◌, min, vec_len, vec_capacity};
     ghost use Rattle.segment_model.specs.Values.{joined};
     ghost use Rattle.prefix_sums.specs.Prefixes.{Summed};
+    ghost use Rattle.absolute_cost.specs.Blocks.{AreBlocksOf};
 
     ghost Value = { Summed };
 
@@ -35,24 +40,29 @@ impl Model for Absolute {
       spare = min a.sums.spare (vec_capacity a.values - vec_len a.values);
     } };
 
-    ghost invariant = { λ a. a.values.items ≡ joined a.sums.positions };
+    ghost invariant = { λ a. (a.values.items ≡ joined a.sums.positions)
+        × AreBlocksOf a.values.items a.sorted.items };
 }
 
 impl Absolute {
+    ghost use Rattle.absolute_cost.specs.Blocks.{AreBlocks, HaveSameSums, all_of};
+
     // The values of the segment from place s to place t.
-    fn segment(&self, s: usize, t: usize) -> &[i64]
+    fn segment(&self, s: usize, t: usize) -> Pieces<'_>
         requires rising { s < t }
         requires placed { t ≤ length self.now.positions }
-        ensures values { result.now ≡ values_between self.now.positions s t }
-        ensures some { 0 < length result.now }
-        ensures few { length result.now ≤ 65_536 }
-        ensures small { All IsSmall result.now }
+        ensures values { HaveSameSums (values_between self.now.positions s t)
+            (all_of result.head.now result.whole.now result.tail.now) }
+        ensures blocks { AreBlocks result.whole.now }
+        ensures some { 0 < length (all_of result.head.now result.whole.now result.tail.now) }
+        ensures few { length (all_of result.head.now result.whole.now result.tail.now) ≤ 65_536 }
+        ensures small { All IsSmall (all_of result.head.now result.whole.now result.tail.now) }
     {
         values_law();
         self.sums.limits();
         let from = self.sums.part(0, s).count as usize;
         let to = self.sums.part(0, t).count as usize;
-        part_of(&self.values, from, to)
+        cut(&self.values, &self.sorted, from, to)
     }
 }
 
@@ -72,24 +82,29 @@ impl Cost for Absolute {
         Absolute {
             sums: PrefixSums::new(alloc),
             values: Vec::new(alloc),
+            sorted: Vec::new(alloc),
         }
     }
 
     fn reserve(&mut self, n: usize) -> Result<(), NoMemory> {
         self.sums.reserve(n)?;
         self.values.reserve(n)?;
+        let missing = (self.values.len() - self.sorted.len()).saturating_add(n);
+        self.sorted.reserve(missing)?;
         Ok(())
     }
 
     fn push(&mut self, values: &[i64]) {
         self.sums.push(values);
         append(&mut self.values, values);
+        add_blocks(&mut self.sorted, &self.values);
     }
 
     fn cut_back(&mut self, k: usize) {
         values_law();
-        let count = self.sums.part(0, k).count;
-        self.values.truncate(count as usize);
+        let count = self.sums.part(0, k).count as usize;
+        self.values.truncate(count);
+        self.sorted.truncate(count / BLOCK * BLOCK);
         self.sums.cut_back(k);
     }
 
@@ -109,24 +124,4 @@ impl Cost for Absolute {
     ghost merging = { distances-merge };
 
     ghost in_range = { distances-range };
-}
-
-// The values from one index to another.
-fn part_of(values: &[i64], from: usize, to: usize) -> &[i64]
-    requires rising { from ≤ to }
-    requires inside { to ≤ length values.now }
-    ensures { result.now ≡ slice_range values.now from to }
-{
-    &values[from..to]
-}
-
-// Adds values at the end, for which there is room.
-fn append(list: &mut Vec<i64>, values: &[i64])
-    requires { vec_len list.old + length values.now ≤ vec_capacity list.old }
-    ensures items { list.new.items ≡ list.old.items ++ values.now }
-    ensures capacity { vec_capacity list.old ≤ vec_capacity list.new }
-{
-    for x in values {
-        list.push_reserved(*x);
-    }
 }

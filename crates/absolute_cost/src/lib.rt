@@ -7,12 +7,18 @@
 //! neighbours cost together at most what their union costs, and within the limits a cost is from 0 to 10^37. So a pruned
 //! table over it finds the best segmentation by this cost.
 //!
+//! Beside the values it keeps each whole block of 32 of them in order, where there is room for it. So the values of a
+//! segment up to a number are counted by a search in each of its blocks, and a look at each value before and behind these.
+//!
 //! It stands on `segment_cost`, which says what a cost is, on the definitions of `distance_model`, and on the sums of
 //! `prefix_sums`.
 #![tactic(auto)]
 
 mod absolute;
+mod blocks;
+mod ends;
 mod middle;
+mod pieces;
 
 pub use absolute::Absolute;
 pub use segment_cost::NoMemory;

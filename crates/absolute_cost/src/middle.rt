@@ -3,42 +3,128 @@ ghost use Rattle.std.specs.Prelude.{◌≡◌, ℕ, ◌*◌, ◌^◌, ◌<◌, �
 ghost use Rattle.segment_model.specs.Limits.{IsSmall};
 ghost use Rattle.distance_model.specs.Distances.{distances_about, middle_of};
 ghost use Rattle.distance_model.specs.Middles.{at_most};
+ghost use Rattle.absolute_cost.specs.Blocks.{AreBlocks, all_of};
 
-// The middle of the values, by halving the numbers from the least value to the greatest: as many passes over the values
-// as the distance between these has bits.
-pub fn middle(values: &[i64]) -> i64
-    requires some { 0 < length values.now }
-    requires few { length values.now ≤ 65_536 }
-    requires small { All IsSmall values.now }
-    ensures middle { result ≡ middle_of values.now }
+use crate::blocks::{count_in_blocks, greatest_in_blocks, least_in_blocks};
+use crate::ends::{greatest_of, least_of};
+use crate::pieces::Pieces;
+
+// A span below this can be multiplied by a count.
+const WIDE: u64 = 1 << 40;
+
+// The middle of the values, which is looked for among the numbers from the least value to the greatest: at most two counts
+// for each bit of the distance between these.
+pub fn middle(pieces: Pieces<'_>) -> i64
+    requires blocks { AreBlocks pieces.whole.now }
+    requires some { 0 < length (all_of pieces.head.now pieces.whole.now pieces.tail.now) }
+    requires few { length (all_of pieces.head.now pieces.whole.now pieces.tail.now) ≤ 65_536 }
+    requires small { All IsSmall (all_of pieces.head.now pieces.whole.now pieces.tail.now) }
+    ensures middle { result ≡ middle_of
+        (all_of pieces.entry.head.now pieces.entry.whole.now pieces.entry.tail.now) }
     ensures small { IsSmall result }
 {
-    let least = least_of(values);
-    middle_from(values, least, greatest_of(values).abs_diff(least))
+    let start = some_value(pieces);
+    let least = least_value(pieces, start);
+    middle_from(pieces, least, greatest_value(pieces, start).abs_diff(least))
+}
+
+// A value, where there is one before or in the blocks.
+fn some_value(pieces: Pieces<'_>) -> i64
+    requires { All IsSmall (all_of pieces.head.now pieces.whole.now pieces.tail.now) }
+    ensures { IsSmall result }
+{
+    if pieces.head.len() > 0 {
+        return pieces.head[0];
+    }
+    if pieces.whole.len() > 0 {
+        return pieces.whole[0];
+    }
+    0
+}
+
+// The lesser of a number and the least value.
+fn least_value(pieces: Pieces<'_>, start: i64) -> i64
+    requires blocks { AreBlocks pieces.whole.now }
+    requires small { All IsSmall (all_of pieces.head.now pieces.whole.now pieces.tail.now) }
+    requires start { IsSmall start }
+    ensures small { IsSmall result }
+    ensures start { result ≤ℤ start }
+    ensures least { All (λ x. result ≤ℤ x)
+        (all_of pieces.entry.head.now pieces.entry.whole.now pieces.entry.tail.now) }
+{
+    least_of(
+        pieces.head,
+        least_in_blocks(pieces.whole, least_of(pieces.tail, start)),
+    )
+}
+
+// The greater of a number and the greatest value.
+fn greatest_value(pieces: Pieces<'_>, start: i64) -> i64
+    requires blocks { AreBlocks pieces.whole.now }
+    requires small { All IsSmall (all_of pieces.head.now pieces.whole.now pieces.tail.now) }
+    requires start { IsSmall start }
+    ensures small { IsSmall result }
+    ensures start { start ≤ℤ result }
+    ensures greatest { All (λ x. x ≤ℤ result)
+        (all_of pieces.entry.head.now pieces.entry.whole.now pieces.entry.tail.now) }
+{
+    greatest_of(
+        pieces.head,
+        greatest_in_blocks(pieces.whole, greatest_of(pieces.tail, start)),
+    )
 }
 
 // The middle, which is a number from `least` to `span` above it.
-fn middle_from(values: &[i64], least: i64, span: u64) -> i64
-    requires some { 0 < length values.now }
-    requires few { length values.now ≤ 65_536 }
+fn middle_from(pieces: Pieces<'_>, least: i64, span: u64) -> i64
+    requires blocks { AreBlocks pieces.whole.now }
+    requires some { 0 < length (all_of pieces.head.now pieces.whole.now pieces.tail.now) }
+    requires few { length (all_of pieces.head.now pieces.whole.now pieces.tail.now) ≤ 65_536 }
     requires small { IsSmall least }
     requires span { IsSmall (least +ℤ pos span) }
-    requires above { at_most (least -ℤ pos 1) values.now ≡ 0 }
-    requires below { at_most (least +ℤ pos span) values.now ≡ length values.now }
-    ensures middle { result ≡ middle_of values.now }
+    requires above { at_most (least -ℤ pos 1) (all_of pieces.head.now pieces.whole.now pieces.tail.now)
+        ≡ 0 }
+    requires below { at_most (least +ℤ pos span) (all_of pieces.head.now pieces.whole.now pieces.tail.now)
+        ≡ length (all_of pieces.head.now pieces.whole.now pieces.tail.now) }
+    ensures middle { result ≡ middle_of
+        (all_of pieces.entry.head.now pieces.entry.whole.now pieces.entry.tail.now) }
     ensures small { IsSmall result }
 {
+    let count = count_of(pieces);
     let mut low = 0;
     let mut high = span;
+    let mut below = 0;
+    let mut up_to = count;
+    let mut halves = false;
     while low < high {
-        let mid = low + (high - low) / 2;
-        if 2 * count_at_most(values, number_at(least, mid)) >= values.len() {
+        halves = !halves;
+        let wanted = (count / 2).saturating_sub(below);
+        let mid = low + step(high - low, wanted, up_to.saturating_sub(below), halves);
+        let here = count_at_most(pieces, number_at(least, mid));
+        if 2 * here >= count {
             high = mid;
+            up_to = here;
         } else {
             low = mid + 1;
+            below = here;
         }
     }
     number_at(least, low)
+}
+
+// How far above the lowest number the next one to try stands: halfway to the highest one, or where the middle would be if
+// the values between them lay evenly. Any number below the span is right.
+fn step(span: u64, wanted: usize, among: usize, halves: bool) -> u64
+    requires some { 0 < span }
+    requires few { wanted ≤ 65_536 }
+    ensures { result < span }
+{
+    if halves || among == 0 {
+        return span / 2;
+    }
+    if span >= WIDE {
+        return span / 2;
+    }
+    (span * wanted as u64 / among as u64).min(span - 1)
 }
 
 // The number that stands so far above another.
@@ -50,59 +136,43 @@ fn number_at(least: i64, above: u64) -> i64
     least + above as i64
 }
 
-// The least value.
-fn least_of(values: &[i64]) -> i64
-    requires some { 0 < length values.now }
-    requires small { All IsSmall values.now }
-    ensures small { IsSmall result }
-    ensures least { All (λ x. result ≤ℤ x) values.now }
+// How many values there are.
+fn count_of(pieces: Pieces<'_>) -> usize
+    requires { length (all_of pieces.head.now pieces.whole.now pieces.tail.now) ≤ 65_536 }
+    ensures { result ≡ length
+        (all_of pieces.entry.head.now pieces.entry.whole.now pieces.entry.tail.now) }
 {
-    let mut least = values[0];
-    for x in values {
-        least = lesser(least, *x);
-    }
-    least
+    pieces.head.len() + pieces.whole.len() + pieces.tail.len()
 }
 
-// The greatest value.
-fn greatest_of(values: &[i64]) -> i64
-    requires some { 0 < length values.now }
-    requires small { All IsSmall values.now }
-    ensures small { IsSmall result }
-    ensures greatest { All (λ x. x ≤ℤ result) values.now }
+// How many values are at most a number: a look at each value before and behind the blocks, and a search in each block.
+fn count_at_most(pieces: Pieces<'_>, c: i64) -> usize
+    requires blocks { AreBlocks pieces.whole.now }
+    requires few { length (all_of pieces.head.now pieces.whole.now pieces.tail.now) ≤ 65_536 }
+    ensures { result ≡ at_most c
+        (all_of pieces.entry.head.now pieces.entry.whole.now pieces.entry.tail.now) }
 {
-    let mut greatest = values[0];
-    for x in values {
-        greatest = greater(greatest, *x);
-    }
-    greatest
-}
-
-// The lesser of two numbers.
-fn lesser(a: i64, b: i64) -> i64
-    ensures least { (result ≤ℤ a) × (result ≤ℤ b) }
-    ensures one { IsSmall a → IsSmall b → IsSmall result }
-{
-    if b < a { b } else { a }
-}
-
-// The greater of two numbers.
-fn greater(a: i64, b: i64) -> i64
-    ensures greatest { (a ≤ℤ result) × (b ≤ℤ result) }
-    ensures one { IsSmall a → IsSmall b → IsSmall result }
-{
-    if a < b { b } else { a }
+    count_in(pieces.head, c) + count_in_blocks(pieces.whole, c) + count_in(pieces.tail, c)
 }
 
 // How many values are at most a number.
-fn count_at_most(values: &[i64], c: i64) -> usize
+fn count_in(values: &[i64], c: i64) -> usize
     ensures { result ≡ at_most c values.now }
 {
     values.iter().filter(|x| **x <= c).count()
 }
 
 // The sum of the distances of the values from a number.
-pub fn sum_of_distances(values: &[i64], c: i64) -> u128
+pub fn sum_of_distances(pieces: Pieces<'_>, c: i64) -> u128
+    requires { distances_about c (all_of pieces.head.now pieces.whole.now pieces.tail.now) < 2 ^ 128 }
+    ensures { result ≡ distances_about c
+        (all_of pieces.entry.head.now pieces.entry.whole.now pieces.entry.tail.now) }
+{
+    distances_in(pieces.head, c) + distances_in(pieces.whole, c) + distances_in(pieces.tail, c)
+}
+
+// The sum of the distances of some values from a number.
+fn distances_in(values: &[i64], c: i64) -> u128
     requires { distances_about c values.now < 2 ^ 128 }
     ensures { result ≡ distances_about c values.now }
 {
