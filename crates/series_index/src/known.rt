@@ -57,7 +57,7 @@ impl MetricIndex {
         ensures sorted { IsStrictlySortedBy (slice_cmp nat_cmp) (keys_of self.now) }
     {
         for (metric, tracked) in &self.entries {
-            if tracked.since.is_some() {
+            if tracked.get().since.is_some() {
                 names.push(SeriesName {
                     test: test.copy(alloc)?,
                     metric: metric.copy(alloc)?,

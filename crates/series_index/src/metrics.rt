@@ -4,6 +4,7 @@ ghost use Rattle.std.specs.Map.{lookup};
 ghost use Rattle.series_index.specs.Seen.{is_same, seen_of, with_sample, without, undone, HasRoom};
 
 use crate::NoMemory;
+use crate::apart::TrackedApart;
 use crate::tracked::Tracked;
 use line_text::Name;
 use point_list::FrozenPoints;
@@ -15,7 +16,7 @@ use std::marker::Model;
 #[derive(Drop)]
 pub struct MetricIndex {
     alloc: Global,
-    pub(crate) entries: BTreeMap<Name, Tracked>,
+    pub(crate) entries: BTreeMap<Name, TrackedApart>,
 }
 
 impl Model for MetricIndex {
@@ -41,7 +42,10 @@ impl MetricIndex {
     pub fn get(&self, metric: &Name) -> Option<&Tracked>
         ensures { option_copied result ≡ lookup (λ m. is_same metric.now m) self.now }
     {
-        self.entries.get(metric)
+        match self.entries.get(metric) {
+            Some(tracked) => Some(tracked.get()),
+            None => None,
+        }
     }
 
     // Puts a sample in; changes nothing where there is no memory.
@@ -66,7 +70,8 @@ impl MetricIndex {
         let mut tracked = Tracked::new(self.alloc);
         tracked.insert(commit, step, value)?;
         let key = metric.copy(self.alloc)?;
-        self.entries.insert(key, tracked)?;
+        let apart = TrackedApart::new(self.alloc, tracked)?;
+        self.entries.insert(key, apart)?;
         Ok(())
     }
 

@@ -1,4 +1,5 @@
 use Rattle.std.proofs.Common.{◌≡◌, ◌++◌, List, ℕ, ◌∷◌, [], Bool, sym, ap, ◌∙◌, append_assoc, append-nil}
+use Rattle.std.specs.Prelude.{is_some}
 use Rattle.history_model.specs.Runs.{Series}
 use Rattle.series_index.specs.declared.tracked.Tracked.{Tracked}
 use Rattle.series_index.specs.Listed.{put_if, known_of}
@@ -9,7 +10,7 @@ loop-metric-preserved c =
     let test = c.args.test.now in
     let x : Series = record { test = test; metric = c.in-Some.metric.now } in
     sym (ap (λ (es : List (List ℕ × Tracked)). c.loop-metric.names ++ known_of test es) c.in-Some.ensures.steps
-    ∙ ap (λ (b : Bool). c.loop-metric.names ++ put_if b x (known_of test c.next.new.self)) (sym c.is_some.ensures ∙ c.if-is_some.false))
+    ∙ ap (λ (b : Bool). c.loop-metric.names ++ put_if b x (known_of test c.next.new.self)) (ap (λ (t : Tracked). is_some t.since) (sym c.get.ensures) ∙ sym c.is_some.ensures ∙ c.if-is_some.false))
     ∙ c.loop-metric.invariant
 
 pub loop-metric-preserved-in_ok-push : goal.loop-metric-preserved-in_ok-push
@@ -25,7 +26,7 @@ loop-metric-preserved-in_ok-push c =
     ap (λ (ns : List Series). ns ++ rest) (c.in_ok-push.ensures.ok ∙ first ∙ second)
     ∙ append_assoc names (x ∷ []) rest
     ∙ sym (ap (λ (es : List (List ℕ × Tracked)). names ++ known_of test es) c.in-Some.ensures.steps
-    ∙ ap (λ (b : Bool). names ++ put_if b x rest) (sym c.is_some.ensures ∙ c.if-is_some.true))
+    ∙ ap (λ (b : Bool). names ++ put_if b x rest) (ap (λ (t : Tracked). is_some t.since) (sym c.get.ensures) ∙ sym c.is_some.ensures ∙ c.if-is_some.true))
     ∙ c.loop-metric.invariant
 
 pub returns-clause-put : goal.returns-clause-put
