@@ -389,10 +389,12 @@ def centre_of(values):
 
 
 class Segmentation:
-    """The best cut list of some positions, each a list of values, with its tables, by trying all last cuts."""
+    """The best cut list of some positions, each a list of values, with its tables, by trying all last cuts.
 
-    def __init__(self, points, penalty):
-        self.points, self.penalty = points, penalty
+    Where there is more than one segment, each has at least so many positions."""
+
+    def __init__(self, points, penalty, length=1):
+        self.points, self.penalty, self.length = points, penalty, length
         before = [(0, 0, 0)]
         for values in points:
             count, total, squares = before[-1]
@@ -405,12 +407,12 @@ class Segmentation:
                 costs[s, t] = squares - 2 * centre * total + count * centre * centre
         self.least, self.back = [-penalty], [0]
         for t in range(1, len(points) + 1):
-            totals = [self.least[s] + costs[s, t] + penalty for s in range(t)]
-            self.least.append(min(totals))
-            self.back.append(totals.index(min(totals)))
+            totals = {s: self.least[s] + costs[s, t] + penalty for s in range(t) if s == 0 or length <= s <= t - length}
+            self.least.append(min(totals.values()))
+            self.back.append(min(s for s in totals if totals[s] == self.least[t]))
         dear = lambda s, t: self.least[s] + costs[s, t] > self.least[t]
         ends = range(len(points) + 1)
-        self.pruned = [next((t for t in ends if s < t and dear(s, t)), 0) for s in ends]
+        self.pruned = [0 if 0 < s < length else next((t for t in ends if s < t and dear(s, t)), 0) for s in ends]
         self.cuts, at = [], self.back[-1]
         while at:
             self.cuts.insert(0, at)
@@ -424,8 +426,9 @@ class Segmentation:
 
     def lines(self):
         numbers = lambda word, items: b" ".join([word] + [b"%d" % item for item in items])
-        return [b"points %d" % len(self.points), b"penalty %d" % self.penalty, numbers(b"cuts", self.cuts), b"total %d" % self.total,
-                numbers(b"least", self.least), numbers(b"back", self.back), numbers(b"pruned", self.pruned)]
+        long = [b"length %d" % self.length] if self.length > 1 else []
+        return [b"points %d" % len(self.points), b"penalty %d" % self.penalty, *long, numbers(b"cuts", self.cuts),
+                b"total %d" % self.total, numbers(b"least", self.least), numbers(b"back", self.back), numbers(b"pruned", self.pruned)]
 
 
 def put_fixed(value, metric):
@@ -486,8 +489,8 @@ class Machine:
         self.step, self.samples, self.cuts = 0, 0, 0
         self.commits, self.names = {}, {}  # number: (name, step), name: number
         self.runs, self.series = {}, {}  # run: its facts, series: its live (step, value) by commit
-        # metric: penalty, series: (version, commits, segmentation), series: (version, penalty, commits, values)
-        self.penalties, self.published, self.tables = {}, {}, {}
+        # metric: penalty and least length, series: (version, commits, segmentation), series: (version, setting, commits, values)
+        self.settings, self.published, self.tables = {}, {}, {}
 
     def add(self, text=None):
         """Counts an entry; a publication has no text that is kept."""
@@ -550,11 +553,16 @@ class Machine:
             live[there["commit"]] = [sample for sample in live[there["commit"]] if sample[0] != there["step"]]
         return b"retracted " + spelled(run)
 
-    def tune(self, metric, penalty):
+    def setting(self, metric):
+        return self.settings.get(metric, (PENALTIES.get(metric, 2500000000), 1))
+
+    def tune(self, metric, penalty, length=None):
+        """Sets the penalty of a metric, and the least length of its segments, which stays where none is given."""
         self.expect_room(self.step < 1048576, b"steps")
-        self.add(b"tune %s %d" % (spelled(metric), penalty))
-        self.penalties[metric] = penalty
-        return b"tuned %s %d" % (spelled(metric), penalty)
+        length = length or self.setting(metric)[1]
+        self.add(b"tune %s %d %d" % (spelled(metric), penalty, length))
+        self.settings[metric] = penalty, length
+        return b"tuned %s %d" % (spelled(metric), penalty) + (b" %d" % length if length > 1 else b"")
 
     def positions(self, test, metric):
         """The commits and the values of a known series, by rising commit."""
@@ -572,10 +580,10 @@ class Machine:
         return self.tune(metric, factor * max(1, apart[(len(points) - 2) // 2] ** 2))
 
     # The version of the series' last publication, and how many first positions it has in common with these, where its table
-    # is at hand and of this penalty; the table is then taken, and comes back with the next publication alone.
-    def take_base(self, test, metric, penalty, commits, points):
+    # is at hand and of this setting; the table is then taken, and comes back with the next publication alone.
+    def take_base(self, test, metric, setting, commits, points):
         table = self.tables.get((test, metric))
-        if not table or table[1] != penalty:
+        if not table or table[1] != setting:
             return 0, 0
         del self.tables[test, metric]
         front = 0
@@ -587,15 +595,15 @@ class Machine:
 
     def segment(self, test, metric):
         commits, points = self.positions(test, metric)
-        penalty = self.penalties.get(metric, PENALTIES.get(metric, 2500000000))
-        base, front = self.take_base(test, metric, penalty, commits, points)
+        setting = self.setting(metric)
+        base, front = self.take_base(test, metric, setting, commits, points)
         self.expect_room(self.step < 1048576, b"steps")
-        found = Segmentation(points, penalty)
+        found = Segmentation(points, *setting)
         self.expect_room(self.cuts + len(found.cuts) <= 16777216, b"cuts")
         self.cuts += len(found.cuts)
         version = self.step
         self.published[test, metric] = version, commits, found
-        self.tables[test, metric] = version, penalty, commits, points
+        self.tables[test, metric] = version, setting, commits, points
         self.add()
         told = version, base, len(points), len(found.cuts), len(points) - front, found.total
         return b"segmented version %d base %d points %d cuts %d redone %d total %d" % told
@@ -618,7 +626,8 @@ class Machine:
 
     def verify(self, test, metric):
         version, _, found = self.last(test, metric)
-        return b"\n".join([b"verified version %d lines 7" % version] + found.lines())
+        lines = found.lines()
+        return b"\n".join([b"verified version %d lines %d" % (version, len(lines))] + lines)
 
     def list_runs(self):
         lines = [b"runs lines %d" % len(self.runs)]
@@ -736,9 +745,11 @@ class Machine:
         }
         return b"report lines 1\n" + json.dumps(pages, ensure_ascii=False, separators=(",", ":")).encode()
 
-    def replay(self, text):
-        """Adds a kept entry; False where the text is none, or it isn't allowed."""
+    def replay(self, text, version):
+        """Adds a kept entry; False where the text is none in that version, or it isn't allowed."""
         before = self.step
+        if version == 1 and text.startswith(b"tune "):
+            text += b" 1"
         try:
             words = text.split(b" ")
             numbers = [number_of(word) for word in words]
@@ -753,8 +764,8 @@ class Machine:
                 self.submit(self.name(numbers[2]), names[1], samples, 0)
             elif kind == b"retract" and count == 2:
                 self.retract(names[1])
-            elif kind == b"tune" and count == 3 and len(names[1]) <= 64 and 0 <= int(words[2]) <= 10**36:
-                self.tune(names[1], int(words[2]))
+            elif kind == b"tune" and count == 4 and len(names[1]) <= 64 and 0 <= int(words[2]) <= 10**36 and 1 <= int(words[3]) <= 64:
+                self.tune(names[1], int(words[2]), int(words[3]))
             elif kind == b"raise" and count == 5 and (names[1], names[2]) in self.series:
                 if not (numbers[3] in self.commits and numbers[4] in self.commits and numbers[3] < numbers[4]):
                     return False
@@ -801,7 +812,7 @@ FORMS = {
     (b"submit", b"go"): (6, [2, 3, 4], [(5, number_of)]),
     (b"submit", b"lnt"): (5, [2, 3], [(4, number_of)]),
     (b"retract",): (3, [1, 2], []),
-    (b"tune",): (4, [1, 2], [(3, amount_of)]),
+    (b"tune",): ((4, 5), [1, 2], [(3, amount_of), (4, number_of)]),
     (b"calibrate",): (5, [1, 2, 3], [(4, number_of)]),
     (b"segment",): (4, [1, 2, 3], []),
     (b"changes",): (4, [1, 2, 3], []),
@@ -821,8 +832,8 @@ WITH_METRIC = {b"tune", b"calibrate", b"segment", b"changes", b"verify", b"regre
 def form_of(words):
     """The first words, the names and the other words, read, of a request line, or None."""
     for first, (count, names, others) in FORMS.items():
-        if tuple(words[:len(first)]) == first and len(words) == count:
-            values = [read(words[i]) for i, read in others]
+        if tuple(words[:len(first)]) == first and (len(words) in count if first == (b"tune",) else len(words) == count):
+            values = [read(words[i]) for i, read in others if i < len(words)]
             if None not in values:
                 return first, [words[i] for i in names], values
     return None
@@ -839,6 +850,8 @@ def answer(machines, first, names, values, body):
             raise Refused(b"E02 BadName")
         if first == (b"tune",) and values[0] > 10**36 or first == (b"calibrate",) and not 1 <= values[0] <= 1000:
             raise Refused(b"E22 BadPenalty")
+        if first == (b"tune",) and not 1 <= (values + [1])[1] <= 64:
+            raise Refused(b"E30 BadLength")
         given = {(b"submit", b"go"): read_go, (b"submit", b"lnt"): read_lnt}.get(first, lambda _: ())(body)
         if first == (b"machine",):
             if names[0] not in machines:
@@ -855,7 +868,7 @@ def answer(machines, first, names, values, body):
             b"commit": lambda: machine.commit(values[0], names[1]),
             b"submit": lambda: machine.submit(names[1], names[2], *given) if first[1] == b"go" else machine.submit(given[1], names[1], *given[2:]),
             b"retract": lambda: machine.retract(names[1]),
-            b"tune": lambda: machine.tune(names[1], values[0]),
+            b"tune": lambda: machine.tune(names[1], *values),
             b"calibrate": lambda: machine.calibrate(names[1], names[2], values[0]),
             b"segment": lambda: machine.segment(*names[1:]),
             b"changes": lambda: machine.changes(*names[1:]),
@@ -878,19 +891,22 @@ def answer(machines, first, names, values, body):
 
 
 def load(rows):
-    """The machines that some rows make, and the number of the first row that makes nothing, or None."""
-    machines = {}
+    """The machines that some rows make, their version, and the number of the first row that makes nothing, or None."""
+    machines, version = {}, 1
     for number, row in enumerate(rows, 1):
+        if row == b"format 2" and version == 1:
+            version = 2
+            continue
         kind, _, rest = row.partition(b" ")
         word, space, text = rest.partition(b" ")
         name = name_of(word)
         if name is None or spelled(name) != word:
-            return machines, number
+            return machines, version, number
         if kind == b"machine" and not space and name not in machines and len(machines) < 16:
             machines[name] = Machine(kept=True)
-        elif not (kind == b"entry" and space and name in machines and machines[name].replay(text)):
-            return machines, number
-    return machines, None
+        elif not (kind == b"entry" and space and name in machines and machines[name].replay(text, version)):
+            return machines, version, number
+    return machines, version, None
 
 
 def new_rows(machines):
@@ -903,11 +919,12 @@ def new_rows(machines):
 
 def apply(script, rows=()):
     """The replies to a script, the status, and its line; and the rows that are new."""
-    machines, bad = load(rows)
+    machines, version, bad = load(rows)
     if bad is not None:
         return b"", 6, b"bad store: row %d\n" % bad, []
     told, status, line = run(script, machines)
-    return told, status, line, [] if status else list(new_rows(machines))
+    new = [] if status else list(new_rows(machines))
+    return told, status, line, [b"format 2"] * (version == 1 and new != []) + new
 
 
 def run(script, machines):

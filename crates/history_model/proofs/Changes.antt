@@ -14,6 +14,7 @@ use Rattle.history_model.specs.declared.entries.Entry.{Entry}
 use Rattle.history_model.specs.declared.publication.Publication.{Publication}
 use Rattle.history_model.specs.Allowed.{AllowedAfter, Legal}
 use Rattle.history_model.specs.Commits.{name_of}
+use Rattle.history_model.specs.Penalties.{length_of}
 use Rattle.history_model.specs.Positions.{Brought, rising, position_at, brought_by, brought, positions}
 use Rattle.history_model.specs.Publications.{Stands, spoken_of, published}
 use Rattle.history_model.specs.Runs.{Series, acceptances, retractions, takes_back, live_runs, is_of}
@@ -105,7 +106,7 @@ module _ (h : List Entry) (p : Publication) (legal : Legal h) (stands : Stands h
 
   pub between-declared : (k : ℕ) → k < length p.cuts → IsBetweenDeclared h (commits_of (positions version (published p))) (slice_index p.cuts k)
   between-declared k lt =
-      let range = rises-between 0 (length (positions version (published p))) p.cuts k (places-rise 1 (length (positions version (published p))) p.cuts stands.best.best.is_cut_list) lt in
+      let range = rises-between 0 (length (positions version (published p))) p.cuts k (places-rise (length_of p.metric version) (length (positions version (published p))) p.cuts stands.best.best.is_cut_list) lt in
       let as_many : length (rising (map commit_of items)) ≡ length (positions version (published p)) =
       sym (ap length commits) ∙ length-map (positions version (published p)) (λ (x : Position). x.commit) in
       rw commits (at (slice_index p.cuts k) range.0 (omega (arith, range.1, as_many)))

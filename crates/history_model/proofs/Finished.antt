@@ -163,7 +163,7 @@ asked-grown : (h : List Entry) (e : Entry) → Allowed h e → AllAsked h → Al
 asked-grown h (entry.Commit number name) allowed all = silent h (entry.Commit number name) allowed refl (λ n. refl) all
 asked-grown h (entry.Accept run) allowed all = silent h (entry.Accept run) allowed refl (λ n. refl) all
 asked-grown h (entry.Retract run) allowed all = silent h (entry.Retract run) allowed refl (λ n. refl) all
-asked-grown h (entry.Tune metric penalty) allowed all = silent h (entry.Tune metric penalty) allowed refl (λ n. refl) all
+asked-grown h (entry.Tune metric penalty len) allowed all = silent h (entry.Tune metric penalty len) allowed refl (λ n. refl) all
 asked-grown h (entry.Publish p) allowed all = silent h (entry.Publish p) allowed refl (λ n. refl) all
 asked-grown h (entry.Regression e) allowed all = silent h (entry.Regression e) allowed refl (λ n. refl) all
 asked-grown h (entry.Job (event.Begin lo hi)) allowed all = beginning h lo hi allowed all

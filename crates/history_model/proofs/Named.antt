@@ -43,7 +43,7 @@ grown : (h : List Entry) (e : Entry) → Allowed h e → Claim h → Claim (h ++
 unfolding Claim
 grown h (entry.Commit number name) allowed claim = skipped h (entry.Commit number name) refl claim
 grown h (entry.Retract run) allowed claim = skipped h (entry.Retract run) refl claim
-grown h (entry.Tune metric penalty) allowed claim = skipped h (entry.Tune metric penalty) refl claim
+grown h (entry.Tune metric penalty len) allowed claim = skipped h (entry.Tune metric penalty len) refl claim
 grown h (entry.Publish p) allowed claim = skipped h (entry.Publish p) refl claim
 grown h (entry.Regression event) allowed claim = skipped h (entry.Regression event) refl claim
 grown h (entry.Job event) allowed claim = skipped h (entry.Job event) refl claim

@@ -31,7 +31,7 @@ unfolding Claim
 grown h (entry.Commit number name) allowed claim = skipped h (entry.Commit number name) refl claim
 grown h (entry.Accept run) allowed claim = skipped h (entry.Accept run) refl claim
 grown h (entry.Retract run) allowed claim = skipped h (entry.Retract run) refl claim
-grown h (entry.Tune metric penalty) allowed claim = skipped h (entry.Tune metric penalty) refl claim
+grown h (entry.Tune metric penalty len) allowed claim = skipped h (entry.Tune metric penalty len) refl claim
 grown h (entry.Publish p) allowed claim = skipped h (entry.Publish p) refl claim
 grown h (entry.Job said) allowed claim = skipped h (entry.Job said) refl claim
 grown h (entry.Regression (event.Move number state)) allowed claim = skipped h (entry.Regression (event.Move number state)) refl claim

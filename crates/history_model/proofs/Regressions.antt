@@ -49,7 +49,7 @@ unmoved-grown : (h : List Entry) (e : Entry) → Allowed h e → Unmoved h → U
 unmoved-grown h (entry.Commit number name) allowed before = unmoved-on h (entry.Commit number name) (λ n above. refl) before
 unmoved-grown h (entry.Accept run) allowed before = unmoved-on h (entry.Accept run) (λ n above. refl) before
 unmoved-grown h (entry.Retract run) allowed before = unmoved-on h (entry.Retract run) (λ n above. refl) before
-unmoved-grown h (entry.Tune metric penalty) allowed before = unmoved-on h (entry.Tune metric penalty) (λ n above. refl) before
+unmoved-grown h (entry.Tune metric penalty len) allowed before = unmoved-on h (entry.Tune metric penalty len) (λ n above. refl) before
 unmoved-grown h (entry.Publish p) allowed before = unmoved-on h (entry.Publish p) (λ n above. refl) before
 unmoved-grown h (entry.Job e) allowed before = unmoved-on h (entry.Job e) (λ n above. refl) before
 unmoved-grown h (entry.Regression (event.Raise r)) allowed before = unmoved-on h (entry.Regression (event.Raise r)) (λ n above. refl) before

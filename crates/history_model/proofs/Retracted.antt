@@ -41,7 +41,7 @@ grown h e allowed claim run none =
     of_entry : (e : Entry) → Allowed h e → accepted run h ≡ None → find (takes_back run) (option_to_list (retraction (length h + 1) e)) ≡ None
     of_entry (entry.Commit number name) allowed unknown = refl
     of_entry (entry.Accept other) allowed unknown = refl
-    of_entry (entry.Tune metric penalty) allowed unknown = refl
+    of_entry (entry.Tune metric penalty len) allowed unknown = refl
     of_entry (entry.Publish p) allowed unknown = refl
     of_entry (entry.Regression event) allowed unknown = refl
     of_entry (entry.Job event) allowed unknown = refl

@@ -64,7 +64,7 @@ publications-stand h legal = legal-each AllStand (All-nil (Stands [])) grown h l
     grown h (entry.Commit number name) allowed all = skipped h (entry.Commit number name) refl all
     grown h (entry.Accept run) allowed all = skipped h (entry.Accept run) refl all
     grown h (entry.Retract run) allowed all = skipped h (entry.Retract run) refl all
-    grown h (entry.Tune metric penalty) allowed all = skipped h (entry.Tune metric penalty) refl all
+    grown h (entry.Tune metric penalty len) allowed all = skipped h (entry.Tune metric penalty len) refl all
     grown h (entry.Regression event) allowed all = skipped h (entry.Regression event) refl all
     grown h (entry.Job event) allowed all = skipped h (entry.Job event) refl all
     grown h (entry.Publish p) allowed all =
@@ -116,7 +116,7 @@ module _ (s : Series) where
       grown h (entry.Commit number name) allowed last = skips h (entry.Commit number name) refl last
       grown h (entry.Accept run) allowed last = skips h (entry.Accept run) refl last
       grown h (entry.Retract run) allowed last = skips h (entry.Retract run) refl last
-      grown h (entry.Tune metric penalty) allowed last = skips h (entry.Tune metric penalty) refl last
+      grown h (entry.Tune metric penalty len) allowed last = skips h (entry.Tune metric penalty len) refl last
       grown h (entry.Regression event) allowed last = skips h (entry.Regression event) refl last
       grown h (entry.Job event) allowed last = skips h (entry.Job event) refl last
       grown h (entry.Publish p) allowed last = publishes h p allowed.0.0 last

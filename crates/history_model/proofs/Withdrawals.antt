@@ -46,7 +46,7 @@ once-grown : (h : List Entry) (e : Entry) → Allowed h e → Once h → Once (h
 unfolding Once
 once-grown h (entry.Commit number name) allowed once = let P : List Acceptance → Type 0 = λ rs. NamedOnce rs in subst P (sym (chosen-skip acceptance h (entry.Commit number name) refl)) once
 once-grown h (entry.Retract name) allowed once = let P : List Acceptance → Type 0 = λ rs. NamedOnce rs in subst P (sym (chosen-skip acceptance h (entry.Retract name) refl)) once
-once-grown h (entry.Tune metric penalty) allowed once = let P : List Acceptance → Type 0 = λ rs. NamedOnce rs in subst P (sym (chosen-skip acceptance h (entry.Tune metric penalty) refl)) once
+once-grown h (entry.Tune metric penalty len) allowed once = let P : List Acceptance → Type 0 = λ rs. NamedOnce rs in subst P (sym (chosen-skip acceptance h (entry.Tune metric penalty len) refl)) once
 once-grown h (entry.Publish p) allowed once = let P : List Acceptance → Type 0 = λ rs. NamedOnce rs in subst P (sym (chosen-skip acceptance h (entry.Publish p) refl)) once
 once-grown h (entry.Regression event) allowed once = let P : List Acceptance → Type 0 = λ rs. NamedOnce rs in subst P (sym (chosen-skip acceptance h (entry.Regression event) refl)) once
 once-grown h (entry.Job event) allowed once = let P : List Acceptance → Type 0 = λ rs. NamedOnce rs in subst P (sym (chosen-skip acceptance h (entry.Job event) refl)) once
@@ -67,7 +67,7 @@ steps-of : (k : ℕ) (h : List Entry) → StepsFrom k (chosen_from k acceptance 
 steps-of k [] = tt
 steps-of k (entry.Commit number name ∷ h) = steps-lower (k + 1) k (chosen_from (k + 1) acceptance h) (omega arith) (steps-of (k + 1) h)
 steps-of k (entry.Retract name ∷ h) = steps-lower (k + 1) k (chosen_from (k + 1) acceptance h) (omega arith) (steps-of (k + 1) h)
-steps-of k (entry.Tune metric penalty ∷ h) = steps-lower (k + 1) k (chosen_from (k + 1) acceptance h) (omega arith) (steps-of (k + 1) h)
+steps-of k (entry.Tune metric penalty len ∷ h) = steps-lower (k + 1) k (chosen_from (k + 1) acceptance h) (omega arith) (steps-of (k + 1) h)
 steps-of k (entry.Publish p ∷ h) = steps-lower (k + 1) k (chosen_from (k + 1) acceptance h) (omega arith) (steps-of (k + 1) h)
 steps-of k (entry.Regression event ∷ h) = steps-lower (k + 1) k (chosen_from (k + 1) acceptance h) (omega arith) (steps-of (k + 1) h)
 steps-of k (entry.Job event ∷ h) = steps-lower (k + 1) k (chosen_from (k + 1) acceptance h) (omega arith) (steps-of (k + 1) h)

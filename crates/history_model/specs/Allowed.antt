@@ -3,6 +3,7 @@ use Rattle.std.specs.Prelude.{◌≡◌, ℕ, ◌≤◌, nat_lt, if◌then◌els
 use Rattle.metric_table.specs.Limits.{most}
 use Rattle.metric_table.specs.declared.limits.Limit.{Limit}
 use Rattle.metric_table.specs.declared.limits.Limit.TheVariants.{Commits, Runs, RunSamples, Samples, Series as KnownSeries, SeriesSamples, Positions, Steps, Cuts, Jobs}
+use Rattle.segment_model.specs.Limits.{IsLength}
 use Rattle.sample_model.specs.Samples.{AreSamples}
 use Rattle.history_model.specs.declared.entries.Acceptance.{Acceptance}
 use Rattle.history_model.specs.declared.entries.Entry.{Entry}
@@ -52,7 +53,7 @@ abbrev pub MayFollow : List Entry → Entry → Type 0
 MayFollow h (Commit number name) = (name_of number h ≡ None) × (number_of name h ≡ None)
 MayFollow h (Accept run) = (accepted run.run h ≡ None) × IsSome (name_of run.commit h) × AreSamples run.samples
 MayFollow h (Retract run) = IsSome (accepted run h) × (retracted run h ≡ None)
-MayFollow h (Tune metric penalty) = (length metric ≤ 64) × IsPenalty penalty
+MayFollow h (Tune metric penalty len) = (length metric ≤ 64) × IsPenalty penalty × IsLength len
 MayFollow h (Publish p) = MayPublish h p
 MayFollow h (Regression event) = MayBecome h event
 MayFollow h (Job event) = MayHappen h event

@@ -103,10 +103,10 @@ abbrev pub LimitsAfterRetract : Type 0
 LimitsAfterRetract =
     (h : List Entry) (run : List ℕ) → KeepsLimits h → length h < most limit.Steps → KeepsLimits (h ++ entry.Retract run ∷ [])
 
--- so does a penalty
+-- so does a setting
 abbrev pub LimitsAfterTune : Type 0
 LimitsAfterTune =
-    (h : List Entry) (metric : List ℕ) (penalty : ℤ) → KeepsLimits h → length h < most limit.Steps → KeepsLimits (h ++ entry.Tune metric penalty ∷ [])
+    (h : List Entry) (metric : List ℕ) (penalty : ℤ) (len : ℕ) → KeepsLimits h → length h < most limit.Steps → KeepsLimits (h ++ entry.Tune metric penalty len ∷ [])
 
 -- and a publication, where there is room for a step and its cuts
 abbrev pub LimitsAfterPublish : Type 0

@@ -7,7 +7,7 @@ use Rattle.history_model.specs.declared.entries.Entry.{Entry}
 use Rattle.history_model.specs.declared.entries.Entry.TheVariants.{Publish}
 use Rattle.history_model.specs.declared.publication.Publication.{Publication}
 use Rattle.history_model.specs.Entries.{chosen}
-use Rattle.history_model.specs.Penalties.{penalty_of}
+use Rattle.history_model.specs.Penalties.{setting_of, penalty_of, length_of}
 use Rattle.history_model.specs.Positions.{positions}
 use Rattle.history_model.specs.Runs.{Series, is_known}
 
@@ -47,29 +47,30 @@ abbrev pub IsUpTo : ℕ → Option Publication → Type 0
 IsUpTo version None = Unit {0}
 IsUpTo version (Some p) = p.version ≤ version
 
--- the cuts are the best cut list of the points at a penalty, with no least length of segments but 1, and the total is theirs
-pub record AreBest (points : List Position) (penalty : ℤ) (cuts : List ℕ) (sum : ℤ) : Type 0 where
+-- the cuts are the best cut list of the points at a penalty and a least length of segments, and the total is theirs
+pub record AreBest (points : List Position) (penalty : ℤ) (len : ℕ) (cuts : List ℕ) (sum : ℤ) : Type 0 where
   pub cost : ℕ → ℕ → ℤ
   pub is_cost : IsCost points cost
-  pub best : IsBest cost penalty 1 (length points) cuts
+  pub best : IsBest cost penalty len (length points) cuts
   pub totalled : sum ≡ total cost penalty (length points) cuts
 
--- the cuts are the best cut list of the positions that a version of the history gives the series, at its penalty
+-- the cuts are the best cut list of the positions that a version of the history gives the series, at its penalty and its
+-- least length
 abbrev pub IsBestAt : List Entry → Publication → Type 0
-IsBestAt version p = AreBest (positions version (published p)) (penalty_of p.metric version) p.cuts p.total
+IsBestAt version p = AreBest (positions version (published p)) (penalty_of p.metric version) (length_of p.metric version) p.cuts p.total
 
--- the base is none, or the version of an earlier publication of the series, at which the penalty was the same
+-- the base is none, or the version of an earlier publication of the series, at which the metric's setting was the same
 abbrev pub IsBaseAt : List Entry → Publication → Type 0
 IsBaseAt version p =
     (p.base ≡ 0)
-    ⊎ (Any (λ (q : Publication). q.version ≡ p.base) (publications_of (published p) version) × (penalty_of p.metric (take p.base version) ≡ penalty_of p.metric version))
+    ⊎ (Any (λ (q : Publication). q.version ≡ p.base) (publications_of (published p) version) × (setting_of p.metric (take p.base version) ≡ setting_of p.metric version))
 
 -- the version of the history of which a publication speaks
 abbrev pub spoken_of : List Entry → Publication → List Entry
 spoken_of h p = take p.version h
 
 -- a publication stands in a history: it speaks of a version of it at which the series was known, its cuts and total are the
--- best of exactly that version's positions at its penalty, and it has a base there
+-- best of exactly that version's positions at its penalty and its least length, and it has a base there
 pub record Stands (h : List Entry) (p : Publication) : Type 0 where
   pub past : p.version ≤ length h
   pub known : is_known (published p) (spoken_of h p) ≡ true

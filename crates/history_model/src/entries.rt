@@ -25,19 +25,36 @@ pub enum Author {
 #[derive(Debug, Drop)]
 pub enum Entry {
     /// A commit was declared, with its number in the order of commits.
-    Commit { number: u64, name: Name },
+    Commit {
+        number: u64,
+        name: Name,
+    },
     /// A run was accepted.
-    Accept { run: Run },
+    Accept {
+        run: Run,
+    },
     /// The run of that name was taken back.
-    Retract { run: Name },
-    /// The penalty of a metric was set, in squared units of its last decimal.
-    Tune { metric: Name, penalty: Boxed<i128> },
+    Retract {
+        run: Name,
+    },
+    /// The penalty of a metric was set, in squared units of its last decimal, and the least length of its segments.
+    Tune {
+        metric: Name,
+        penalty: Boxed<i128>,
+        length: u8,
+    },
     /// A segmentation of a series was published.
-    Publish { publication: Boxed<Publication> },
+    Publish {
+        publication: Boxed<Publication>,
+    },
     /// A regression was raised, or moved to another state.
-    Regression { event: RegressionEvent },
+    Regression {
+        event: RegressionEvent,
+    },
     /// A bisection was begun, answered or given up.
-    Job { event: JobEvent },
+    Job {
+        event: JobEvent,
+    },
 }
 
 impl Entry {
@@ -59,10 +76,19 @@ impl Entry {
                 let run = run.copy(alloc)?;
                 Ok(Entry::Retract { run })
             }
-            Entry::Tune { metric, penalty } => {
+            Entry::Tune {
+                metric,
+                penalty,
+                length,
+            } => {
                 let metric = metric.copy(alloc)?;
                 let penalty = Boxed::new(alloc, *penalty.get())?;
-                Ok(Entry::Tune { metric, penalty })
+                let length = *length;
+                Ok(Entry::Tune {
+                    metric,
+                    penalty,
+                    length,
+                })
             }
             Entry::Publish { publication } => {
                 let publication = Boxed::new(alloc, publication.get().copy(alloc)?)?;

@@ -35,7 +35,7 @@ ghost use Rattle.history_model.specs.Laws.{
   VersionsStay,
   KnownStays,
 };
-ghost use Rattle.history_model.specs.Penalties.{PenaltyIsSet, PenaltyStays};
+ghost use Rattle.history_model.specs.Penalties.{SettingIsSet, SettingStays};
 ghost use Rattle.history_model.specs.Followed.{
   RegressionsGrow,
   StateIsMoved,
@@ -85,7 +85,7 @@ pub fn retraction_law()
     ensures { OnlyAcceptedAreRetracted }
 {}
 
-/// A commit, a retraction, a penalty and a publication keep the limits where there is room; and what the limits say of each series.
+/// A commit, a retraction, a setting and a publication keep the limits where there is room; and what the limits say of each series.
 pub fn limits_law()
     ensures commit { LimitsAfterCommit }
     ensures retract { LimitsAfterRetract }
@@ -119,10 +119,10 @@ pub fn runs_law()
     ensures { RunsHaveCommits }
 {}
 
-/// A metric has the penalty that was set last.
-pub fn penalty_law()
-    ensures set { PenaltyIsSet }
-    ensures stays { PenaltyStays }
+/// A metric has the setting that was set last.
+pub fn setting_law()
+    ensures set { SettingIsSet }
+    ensures stays { SettingStays }
 {}
 
 /// What is published of a series, and that each publication of a legal history stands: the version that it speaks of stays.

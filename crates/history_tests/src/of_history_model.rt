@@ -10,7 +10,11 @@ fn tuning(alloc: Global) -> Option<Placed> {
     let penalty = Boxed::new(alloc, 50).ok()?;
     Some(Placed {
         author: Author::Script(1),
-        entry: Entry::Tune { metric, penalty },
+        entry: Entry::Tune {
+            metric,
+            penalty,
+            length: 2,
+        },
     })
 }
 
@@ -24,7 +28,7 @@ fn is_placed(alloc: Global) -> bool {
     match placed(alloc) {
         Some(made) => {
             made.author == Author::Script(1)
-                && matches!(&made.entry, Entry::Tune { penalty, .. } if *penalty.get() == 50)
+                && matches!(&made.entry, Entry::Tune { penalty, length: 2, .. } if *penalty.get() == 50)
         }
         None => false,
     }

@@ -78,8 +78,8 @@ entry_are names (Accept run) is = (
   ),
 )
 entry_are names (Retract run) is = (lacks_over 10 (codes "retract") refl, (name_lacks 10 (omega arith) names run is, tt))
-entry_are names (Tune metric penalty) is =
-    (lacks_over 10 (codes "tune") refl, (name_lacks 10 (omega arith) names metric is.0, (value_lacks penalty (fits_size penalty is.2), tt)))
+entry_are names (Tune metric penalty len) is =
+    (lacks_over 10 (codes "tune") refl, (name_lacks 10 (omega arith) names metric is.0, (value_lacks penalty (fits_size penalty is.2), (lacks_decimal 10 len (omega arith) (omega (arith, is.3)), tt))))
 entry_are names (Publish p) is = (
   lacks_over 10 (codes "publish") refl,
   (

@@ -1,7 +1,7 @@
 -- What was kept comes back.
 use Rattle.std.specs.FinSet as set
 use Rattle.history_model.specs.SeriesOrder.{series_cmp}
-use Rattle.std.proofs.Common.{◌≡◌, ℕ, ◌+◌, ◌<◌, ◌≤◌, inl, inr, Bool, true, false, cond, List, [], ◌∷◌, ◌++◌, length, map, Some, None, refl, sym, ap, ap₂, subst, ◌∙◌, arith, append_assoc, append-nil, length-append}
+use Rattle.std.proofs.Common.{◌≡◌, ◌⊎◌, ℕ, ◌+◌, ◌<◌, ◌≤◌, inl, inr, Bool, true, false, cond, List, [], ◌∷◌, ◌++◌, length, map, Some, None, refl, sym, ap, ap₂, subst, ◌∙◌, arith, append_assoc, append-nil, length-append}
 use Rattle.std.specs.Prelude.{find, bytes_eq, filter}
 use Rattle.std.specs.List.{AllByRecursion}
 use Rattle.std.proofs.lemmas.Bool.{cases_Bool}
@@ -24,8 +24,8 @@ use Rattle.kept_machines.specs.Machines.{IsOther, AreDifferent, names_of}
 use Rattle.kept_machines.specs.Growth.{AreOfSession, GoOn, GoesOn, IsNewTrack, MayBeKept}
 use Rattle.kept_machines.specs.Kept.{is_kept, kept, kept_of, AreKept, kept_entries}
 use Rattle.kept_machines.specs.Laws.{KeptComesBack, LoadedAreKept}
-use Rattle.kept_machines.specs.Loading.{stored_track, AddsRow}
-use Rattle.kept_machines.specs.Rows.{is_new, row_of, track_rows, new_rows}
+use Rattle.kept_machines.specs.Loading.{Stored, nothing_stored, stored_track, AddsRow, Makes}
+use Rattle.kept_machines.specs.Rows.{is_new, row_of, track_rows, session_rows, placed, new_rows, version_after}
 use Rattle.kept_machines.proofs.Machines.{machine_more, entry_more}
 
 -- ---- rows one after another
@@ -33,13 +33,17 @@ leads_join : {S : Type 0} (does : S → List ℕ → S → Type 0) (a b c : S) (
 leads_join {S = S} does a b c [] ys one two = subst (λ (s : S). LeadsTo does s ys c) one two
 leads_join does a b c (x ∷ xs) ys one two = (one.0, one.1, leads_join does one.0 b c xs ys one.2 two)
 
-row_keeps : (before : List Track) (bytes : List ℕ) (after : List Track) → AddsRow before bytes after → AreKept before → AreKept after
-row_keeps before bytes after (machine_row machine, is, adds) are = subst AreKept (sym adds.last) (machine_more machine before adds.fresh adds.room are)
-row_keeps before bytes after (entry_row machine text, is, adds) are = subst AreKept (sym adds.behind) (entry_more machine adds.entry adds.is_kept before are)
+row_keeps : (version : ℕ) (before : List Track) (bytes : List ℕ) (after : List Track) → AddsRow version before bytes after → AreKept before → AreKept after
+row_keeps version before bytes after (machine_row machine, is, adds) are = subst AreKept (sym adds.last) (machine_more machine before adds.fresh adds.room are)
+row_keeps version before bytes after (entry_row machine text, is, adds) are = subst AreKept (sym adds.behind) (entry_more machine adds.entry adds.is_kept before are)
 
-rows_keep : (before : List Track) (rows : List (List ℕ)) (after : List Track) → LeadsTo AddsRow before rows after → AreKept before → AreKept after
-rows_keep before [] after led are = subst AreKept (sym led) are
-rows_keep before (row ∷ rows) after led are = rows_keep led.0 rows after led.2 (row_keeps before row led.0 led.1 are)
+made_keeps : (before : Stored) (bytes : List ℕ) (after : Stored) → Makes before bytes after → AreKept before.machines → AreKept after.machines
+made_keeps before bytes after (inl format) are = subst (λ (s : Stored). AreKept s.machines) (sym format.2) are
+made_keeps before bytes after (inr adds) are = row_keeps before.version before.machines bytes after.machines adds.0 are
+
+rows_keep : (before : Stored) (rows : List (List ℕ)) (after : Stored) → LeadsTo Makes before rows after → AreKept before.machines → AreKept after.machines
+rows_keep before [] after led are = subst (λ (s : Stored). AreKept s.machines) (sym led) are
+rows_keep before (row ∷ rows) after led are = rows_keep led.0 rows after led.2 (made_keeps before row led.0 led.1 are)
 
 none_kept : AreKept []
 none_kept = record { kept = tt; different = tt; few = omega arith }
@@ -75,7 +79,7 @@ same_name name = nat_list_eq_equiv.refl name
 module _ (machine : List ℕ) (name : IsName machine) (front back : List Track) (none : find (is_track machine) front ≡ None) where
   entries_lead : (t : Track) (ps : List Placed) → t.machine ≡ machine → AllByRecursion IsEntry (entries_of ps) → AllByRecursion (λ (e : Entry). is_kept e ≡ true) (entries_of ps)
       → AllowedAfter (entries_of t.history) (entries_of ps)
-      → LeadsTo AddsRow (front ++ t ∷ back) (map (row_of machine) ps) (front ++ with_kept t (entries_of ps) ∷ back)
+      → LeadsTo (AddsRow 2) (front ++ t ∷ back) (map (row_of machine) ps) (front ++ with_kept t (entries_of ps) ∷ back)
   entries_lead t [] is spelled are allowed = ap (λ (h : List Placed). front ++ (the_track t h) ∷ back) (append-nil t.history)
     where
       the_track : Track → List Placed → Track
@@ -84,7 +88,7 @@ module _ (machine : List ℕ) (name : IsName machine) (front back : List Track) 
       let here : is_track machine t ≡ true = rw is (same_name machine) in
       let next : Track = with_entry author.Kept t p.entry in
       let more : entries_of (t.history ++ kept p.entry ∷ []) ≡ entries_of t.history ++ p.entry ∷ [] = map-append (λ (q : Placed). q.entry) t.history (kept p.entry ∷ []) in
-      let rest : LeadsTo AddsRow (front ++ next ∷ back) (map (row_of machine) ps) (front ++ with_kept next (entries_of ps) ∷ back) =
+      let rest : LeadsTo (AddsRow 2) (front ++ next ∷ back) (map (row_of machine) ps) (front ++ with_kept next (entries_of ps) ∷ back) =
       entries_lead next ps is spelled.1 are.1 (rw more allowed.1) in (
         front ++ next ∷ back,
         (
@@ -162,7 +166,7 @@ module _ (s u : Track) (added : List Placed) (stored : s ≡ kept_of s) (history
 
   -- its new rows make of the machine before what a store keeps of it
   track_leads : (front back : List Track) → u.machine ≡ s.machine → MayBeKept u → find (is_track u.machine) front ≡ None
-      → LeadsTo AddsRow (front ++ s ∷ back) (map (row_of u.machine) (filter is_new u.history)) (front ++ kept_of u ∷ back)
+      → LeadsTo (AddsRow 2) (front ++ s ∷ back) (map (row_of u.machine) (filter is_new u.history)) (front ++ kept_of u ∷ back)
   track_leads front back same may none =
       let es : List Entry = entries_of (filter is_new added) in
       let spelled : AllByRecursion IsEntry es = all_behind IsEntry (entries_of s.history) es (subst (AllByRecursion IsEntry) all_are may.spelled) in
@@ -170,7 +174,7 @@ module _ (s u : Track) (added : List Placed) (stored : s ≡ kept_of s) (history
       subst (AllByRecursion (λ (e : Entry). is_kept e ≡ true)) (sym (new_are_kept added made)) (kept_are_kept (entries_of added)) in
       let allowed : AllowedAfter (entries_of s.history) es = allowed_behind [] (entries_of s.history) es (subst Legal all_are may.legal) in
       let is : with_kept s es ≡ kept_of u = after es in
-      rw fresh (subst (λ (t : Track). LeadsTo AddsRow (front ++ s ∷ back) (map (row_of u.machine) (filter is_new added)) (front ++ t ∷ back)) is
+      rw fresh (subst (λ (t : Track). LeadsTo (AddsRow 2) (front ++ s ∷ back) (map (row_of u.machine) (filter is_new added)) (front ++ t ∷ back)) is
       (entries_lead u.machine may.named front back none s (filter is_new added) (sym same) spelled plain allowed))
     where
       the_track : List ℕ → Bool → List Placed → set.FinSet series_cmp → Track
@@ -201,10 +205,10 @@ names_more (x ∷ front) t names = ap (λ ns. x.machine ∷ ns) (names_more fron
 module _ (front : List Track) where
   -- a machine that the store had not
   new_leads : (u : Track) → IsNewTrack u → MayBeKept u → find (is_track u.machine) front ≡ None → length front < most Machines
-      → LeadsTo AddsRow front (track_rows u) (front ++ kept_of u ∷ [])
+      → LeadsTo (AddsRow 2) front (track_rows u) (front ++ kept_of u ∷ [])
   new_leads u is may none room =
       let s : Track = stored_track u.machine in
-      let entries : LeadsTo AddsRow (front ++ s ∷ []) (map (row_of u.machine) (filter is_new u.history)) (front ++ kept_of u ∷ []) =
+      let entries : LeadsTo (AddsRow 2) (front ++ s ∷ []) (map (row_of u.machine) (filter is_new u.history)) (front ++ kept_of u ∷ []) =
       track_leads s u u.history refl refl is.1 front [] refl may none in
       rw is.0 (
         front ++ s ∷ [],
@@ -214,36 +218,76 @@ module _ (front : List Track) where
 
   -- one that it had
   old_leads : (s u : Track) (back : List Track) → s ≡ kept_of s → GoesOn s u → MayBeKept u → find (is_track u.machine) front ≡ None
-      → LeadsTo AddsRow (front ++ s ∷ back) (track_rows u) (front ++ kept_of u ∷ back)
+      → LeadsTo (AddsRow 2) (front ++ s ∷ back) (track_rows u) (front ++ kept_of u ∷ back)
   old_leads s u back stored on may none = rw on.kept (track_leads s u on.added stored on.history on.made front back on.machine may none)
 
 tracks_lead : (front old new : List Track) → GoOn old new → AllByRecursion (λ (t : Track). t ≡ kept_of t) old → AllByRecursion MayBeKept new
-    → AreDifferent (names_of front ++ names_of new) → length front + length new ≤ most Machines → LeadsTo AddsRow (front ++ old) (new_rows new) (front ++ map kept_of new)
+    → AreDifferent (names_of front ++ names_of new) → length front + length new ≤ most Machines → LeadsTo (AddsRow 2) (front ++ old) (session_rows new) (front ++ map kept_of new)
 tracks_lead front [] [] on are may different few = refl
 tracks_lead front [] (u ∷ new) on are may different few =
     let none : find (is_track u.machine) front ≡ None = none_before u.machine front (names_of new) different in
     let next : List Track = front ++ kept_of u ∷ [] in
-    let rest : LeadsTo AddsRow (next ++ []) (new_rows new) (next ++ map kept_of new) =
+    let rest : LeadsTo (AddsRow 2) (next ++ []) (session_rows new) (next ++ map kept_of new) =
     tracks_lead next [] new on.1 tt may.1 (rw (names_more front (kept_of u) (names_of new)) different) (omega (arith, few, length-append front (kept_of u ∷ []))) in
-    rw (append-nil front) (leads_join AddsRow front next (front ++ kept_of u ∷ map kept_of new) (track_rows u) (new_rows new)
+    rw (append-nil front) (leads_join (AddsRow 2) front next (front ++ kept_of u ∷ map kept_of new) (track_rows u) (session_rows new)
     (new_leads front u on.0 may.0 none (omega (arith, few)))
-    (subst (λ (b : List Track). LeadsTo AddsRow b (new_rows new) (front ++ kept_of u ∷ map kept_of new)) (append-nil next)
-    (subst (λ (a : List Track). LeadsTo AddsRow (next ++ []) (new_rows new) a) (append_assoc front (kept_of u ∷ []) (map kept_of new)) rest)))
+    (subst (λ (b : List Track). LeadsTo (AddsRow 2) b (session_rows new) (front ++ kept_of u ∷ map kept_of new)) (append-nil next)
+    (subst (λ (a : List Track). LeadsTo (AddsRow 2) (next ++ []) (session_rows new) a) (append_assoc front (kept_of u ∷ []) (map kept_of new)) rest)))
 tracks_lead front (t ∷ old) [] on are may different few = absurd on
 tracks_lead front (t ∷ old) (u ∷ new) on are may different few =
     let none : find (is_track u.machine) front ≡ None = none_before u.machine front (names_of new) different in
     let next : List Track = front ++ kept_of u ∷ [] in
-    let rest : LeadsTo AddsRow (next ++ old) (new_rows new) (next ++ map kept_of new) =
+    let rest : LeadsTo (AddsRow 2) (next ++ old) (session_rows new) (next ++ map kept_of new) =
     tracks_lead next old new on.1 are.1 may.1 (rw (names_more front (kept_of u) (names_of new)) different) (omega (arith, few, length-append front (kept_of u ∷ []))) in
-    leads_join AddsRow (front ++ t ∷ old) (front ++ kept_of u ∷ old) (front ++ kept_of u ∷ map kept_of new) (track_rows u) (new_rows new)
+    leads_join (AddsRow 2) (front ++ t ∷ old) (front ++ kept_of u ∷ old) (front ++ kept_of u ∷ map kept_of new) (track_rows u) (session_rows new)
     (old_leads front t u old are.0 on.0 may.0 none)
-    (subst (λ (b : List Track). LeadsTo AddsRow b (new_rows new) (front ++ kept_of u ∷ map kept_of new)) (append_assoc front (kept_of u ∷ []) old)
-    (subst (λ (a : List Track). LeadsTo AddsRow (next ++ old) (new_rows new) a) (append_assoc front (kept_of u ∷ []) (map kept_of new)) rest))
+    (subst (λ (b : List Track). LeadsTo (AddsRow 2) b (session_rows new) (front ++ kept_of u ∷ map kept_of new)) (append_assoc front (kept_of u ∷ []) old)
+    (subst (λ (a : List Track). LeadsTo (AddsRow 2) (next ++ old) (session_rows new) a) (append_assoc front (kept_of u ∷ []) (map kept_of new)) rest))
+
+-- ---- from one version to the other
+-- rows of version 2 behind the row that says so
+behind : (a : List Track) (rows : List (List ℕ)) (b : List Track) → LeadsTo (AddsRow 2) a rows b
+    → LeadsTo Makes (record { machines = a; version = 2 }) rows (record { machines = b; version = 2 })
+behind a [] b led = ap in_two led
+  where
+    in_two : List Track → Stored
+    in_two tracks = record { machines = tracks; version = 2 }
+behind a (row ∷ rows) b led = (record { machines = led.0; version = 2 }, inr (led.1, refl), behind led.0 rows b led.2)
+
+IsVersion : ℕ → Type 0
+IsVersion version = (version ≡ 1) ⊎ (version ≡ 2)
+
+made_version : (before : Stored) (bytes : List ℕ) (after : Stored) → Makes before bytes after → IsVersion before.version → IsVersion after.version
+unfolding IsVersion
+made_version before bytes after (inl format) is = inr (ap (λ (s : Stored). s.version) format.2)
+made_version before bytes after (inr adds) is = subst IsVersion (sym adds.1) is
+
+led_version : (before : Stored) (rows : List (List ℕ)) (after : Stored) → LeadsTo Makes before rows after → IsVersion before.version → IsVersion after.version
+led_version before [] after led is = subst (λ (s : Stored). IsVersion s.version) (sym led) is
+led_version before (row ∷ rows) after led is = led_version led.0 rows after led.2 (made_version before row led.0 led.1 is)
+
+session_leads : (old : List Track) (version : ℕ) (rows : List (List ℕ)) (new : List Track) → IsVersion version → LeadsTo (AddsRow 2) old rows new
+    → LeadsTo Makes (record { machines = old; version = version }) (placed version rows) (record { machines = new; version = version_after version rows })
+unfolding IsVersion
+session_leads old version [] new is led = ap at_version led
+  where
+    at_version : List Track → Stored
+    at_version tracks = record { machines = tracks; version = version }
+session_leads old version (row ∷ rows) new (inl one) led =
+    subst (λ (v : ℕ). LeadsTo Makes (record { machines = old; version = v }) (placed v (row ∷ rows)) (record { machines = new; version = 2 })) (sym one)
+    (record { machines = old; version = 2 }, inl (refl, refl, refl), behind old (row ∷ rows) new led)
+session_leads old version (row ∷ rows) new (inr two) led =
+    subst (λ (v : ℕ). LeadsTo Makes (record { machines = old; version = v }) (placed v (row ∷ rows)) (record { machines = new; version = 2 })) (sym two)
+    (behind old (row ∷ rows) new led)
 
 pub comes_back : KeptComesBack
+unfolding IsVersion
 comes_back rows old new led went =
-    let are : AreKept old = rows_keep [] rows old led none_kept in
-    leads_join AddsRow [] old (map kept_of new) rows (new_rows new) led (tracks_lead [] old new went.go_on are.kept went.may went.different (omega (arith, went.few)))
+    let are : AreKept old.machines = rows_keep nothing_stored rows old led none_kept in
+    let session : LeadsTo (AddsRow 2) old.machines (session_rows new) (map kept_of new) =
+    tracks_lead [] old.machines new went.go_on are.kept went.may went.different (omega (arith, went.few)) in
+    leads_join Makes nothing_stored old (record { machines = map kept_of new; version = version_after old.version (session_rows new) }) rows (new_rows old.version new) led
+    (session_leads old.machines old.version (session_rows new) (map kept_of new) (led_version nothing_stored rows old led (inl refl)) session)
 
 pub loaded_kept : LoadedAreKept
-loaded_kept rows tracks led = rows_keep [] rows tracks led none_kept
+loaded_kept rows stored led = rows_keep nothing_stored rows stored led none_kept

@@ -22,14 +22,14 @@ session : Track
 session = record {
   machine = m;
   kept = false;
-  history = by (author.Script 1) (entry.Commit 10 (codes "a")) ∷ by (author.Script 1) (entry.Tune (codes "B/op") (pos 50)) ∷ [];
+  history = by (author.Script 1) (entry.Commit 10 (codes "a")) ∷ by (author.Script 1) (entry.Tune (codes "B/op") (pos 50) 1) ∷ [];
   home = set.empty;
 }
 
-rows_are_added : new_rows (session ∷ []) ≡ codes "machine m1" ∷ codes "entry m1 commit 10 a" ∷ codes "entry m1 tune B/op 50" ∷ []
+rows_are_added : new_rows 1 (session ∷ []) ≡ codes "format 2" ∷ codes "machine m1" ∷ codes "entry m1 commit 10 a" ∷ codes "entry m1 tune B/op 50 1" ∷ []
 unfolding session m by digits
 rows_are_added = refl
 
-rows_stay : new_rows (kept_of session ∷ []) ≡ []
+rows_stay : new_rows 1 (kept_of session ∷ []) ≡ []
 unfolding session m by
 rows_stay = refl

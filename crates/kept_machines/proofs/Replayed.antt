@@ -1,5 +1,5 @@
 -- What a row does with machines, as the code of a load sees it.
-use Rattle.std.proofs.Common.{◌≡◌, ℕ, zero, suc, Bool, true, false, List, [], ◌∷◌, Option, None, Some, Result, Ok, Err, IfOk, OnErr, get_or, refl, sym, ap, subst, ◌∙◌}
+use Rattle.std.proofs.Common.{◌≡◌, ◌≢◌, inl, inr, ℕ, zero, suc, Bool, true, false, List, [], ◌∷◌, Option, None, Some, Result, Ok, Err, IfOk, OnErr, get_or, refl, sym, ap, subst, ◌∙◌}
 use Rattle.std.specs.Prelude.{find, slice_get, set, is_some, IfNone}
 use Rattle.history_model.specs.declared.entries.Author.TheVariants as author
 use Rattle.history_model.specs.declared.entries.Entry.{Entry}
@@ -8,15 +8,16 @@ use Rattle.history_model.specs.Allowed.{Allowed}
 use Rattle.history_model.specs.Entries.{entries_of}
 use Rattle.keep_rows.specs.Laws.{RowsAreUnique}
 use Rattle.keep_rows.specs.Rows.{Row, IsRowOf}
-use Rattle.track_entry.specs.Texts.{SpellsEntry, IsOneEntry}
 use Rattle.track_model.specs.Tracks.{Track, with_entry}
 use Rattle.track_state.specs.Made.{IsPlain}
 use Rattle.track_replay.specs.Replays.{IsReplayed}
 use Rattle.kept_machines.specs.Kept.{is_kept, AreKept}
-use Rattle.kept_machines.specs.Loading.{AddsEntry, Adds, AddsRow}
+use Rattle.kept_machines.specs.Loading.{Stored, SpellsIn, AddsEntry, Adds, Makes}
+use Rattle.kept_machines.specs.Rows.{format_row}
 use Rattle.kept_machines.specs.Machines.{is_track}
 use Rattle.kept_machines.specs.Places.{IsFirstAt}
 use Rattle.kept_machines.proofs.Machines.{entry_more}
+use Rattle.kept_machines.proofs.Once.{no_format}
 
 pub none_of : {A P : Type 0} (o : Option A) → IfNone o P → is_some o ≡ false → P
 none_of None p is = p
@@ -51,9 +52,9 @@ module _ {E : Type 0} (machine : List ℕ) (tracks : List Track) (i : ℕ) (t ne
   replayed_kept (Ok false) replayed same are = subst AreKept (sym (ap (set tracks i) replayed.track ∙ set_again tracks i t first.place)) are
   replayed_kept (Err x) replayed same are = subst AreKept (sym (ap (set tracks i) same ∙ set_again tracks i t first.place)) are
 
-  module _ (before : List Track) (seen : before ≡ tracks) (text : List ℕ) (spells : SpellsEntry text e) where
-    pub replayed_adds : (r : Result Bool E) → IfOk r (λ added. IsReplayed t e added new) → IfOk r (λ done. done ≡ true → AddsEntry before machine text (set tracks i new))
-    replayed_adds (Ok true) replayed = λ done. subst (λ (ts : List Track). AddsEntry ts machine text (set tracks i new)) (sym seen) (record {
+  module _ (version : ℕ) (before : List Track) (seen : before ≡ tracks) (text : List ℕ) (spells : SpellsIn version text e) where
+    pub replayed_adds : (r : Result Bool E) → IfOk r (λ added. IsReplayed t e added new) → IfOk r (λ done. done ≡ true → AddsEntry version before machine text (set tracks i new))
+    replayed_adds (Ok true) replayed = λ done. subst (λ (ts : List Track). AddsEntry version ts machine text (set tracks i new)) (sym seen) (record {
       track = t;
       entry = e;
       found = first.found;
@@ -65,11 +66,11 @@ module _ {E : Type 0} (machine : List ℕ) (tracks : List Track) (i : ℕ) (t ne
     replayed_adds (Ok false) replayed = λ done. absurd cc
     replayed_adds (Err x) replayed = tt
 
-    pub replayed_refuses : IsOneEntry → (r : Result Bool E) → IfOk r (λ added. IsReplayed t e added new)
-        → IfOk r (λ done. done ≡ false → (after : List Track) → ¬ AddsEntry before machine text after)
+    pub replayed_refuses : ((x y : Entry) → SpellsIn version text x → SpellsIn version text y → x ≡ y) → (r : Result Bool E) → IfOk r (λ added. IsReplayed t e added new)
+        → IfOk r (λ done. done ≡ false → (after : List Track) → ¬ AddsEntry version before machine text after)
     replayed_refuses law (Ok true) replayed = λ done after adds. absurd cc
     replayed_refuses law (Ok false) replayed = λ done after adds.
-        let same_entry : adds.entry ≡ e = law text adds.entry e adds.spelled spells in
+        let same_entry : adds.entry ≡ e = law adds.entry e adds.spelled spells in
         let found : Some adds.track ≡ Some t = sym adds.found ∙ ap (find (is_track machine)) seen ∙ first.found in
         let same_track : adds.track ≡ t = cc in
         let allowed : Allowed (entries_of t.history) e =
@@ -78,9 +79,38 @@ module _ {E : Type 0} (machine : List ℕ) (tracks : List Track) (i : ℕ) (t ne
         absurd cc
     replayed_refuses law (Err x) replayed = tt
 
--- bytes that are a row which does nothing do nothing
-pub refused_row : {E : Type 0} → RowsAreUnique → (before : List Track) (bytes : List ℕ) (row : Row) → IsRowOf bytes row → (r : Result Bool E)
-    → IfOk r (λ done. done ≡ false → (after : List Track) → ¬ Adds before row after)
-    → IfOk r (λ done. done ≡ false → (after : List Track) → ¬ AddsRow before bytes after)
-refused_row law before bytes row is (Ok done) none = λ same after adds. none same after (subst (λ (x : Row). Adds before x after) (law bytes adds.0 row adds.1 is) adds.2)
-refused_row law before bytes row is (Err x) none = tt
+-- bytes that are a row which does nothing make nothing
+pub refused_made : {E : Type 0} → RowsAreUnique → (before : Stored) (bytes : List ℕ) (row : Row) → IsRowOf bytes row → bytes ≢ format_row → (r : Result Bool E)
+    → IfOk r (λ done. done ≡ false → (after : List Track) → ¬ Adds before.version before.machines row after)
+    → IfOk r (λ done. done ≡ false → (after : Stored) → ¬ Makes before bytes after)
+refused_made law before bytes row is other (Ok done) none = λ same after makes. elim makes [
+  | inl format ↦ other format.0
+  | inr adds ↦ none same after.machines (subst (λ (x : Row). Adds before.version before.machines x after.machines) (law bytes adds.0.0 row adds.0.1 is) adds.0.2)
+]
+refused_made law before bytes row is other (Err x) none = tt
+
+-- and those of a row that does something make it
+pub taken_made : {E : Type 0} → (before after : Stored) (bytes : List ℕ) (row : Row) → IsRowOf bytes row → after.version ≡ before.version → (r : Result Bool E)
+    → IfOk r (λ done. done ≡ true → Adds before.version before.machines row after.machines)
+    → IfOk r (λ done. done ≡ true → Makes before bytes after)
+taken_made before after bytes row is same (Ok done) adds = λ yes. inr ((row, is, adds yes), same)
+taken_made before after bytes row is same (Err x) adds = tt
+
+-- the row of the version makes it new, or stands already and makes nothing
+pub format_made : (before after : Stored) (bytes : List ℕ) (r : Bool) → bytes ≡ format_row
+    → (r ≡ true → (before.version ≡ 1) × (after ≡ record { machines = before.machines; version = 2 })) → r ≡ true → Makes before bytes after
+format_made before after bytes r is set_new done = inl (is, (set_new done).0, (set_new done).1)
+
+pub format_refused : (before : Stored) (bytes : List ℕ) (r : Bool) → bytes ≡ format_row → (r ≡ false → before.version ≢ 1) → r ≡ false
+    → (after : Stored) → ¬ Makes before bytes after
+format_refused before bytes r is stands done after makes = elim makes [
+  | inl format ↦ stands done format.1
+  | inr adds ↦ no_format adds.0.0 (subst (λ (bs : List ℕ). IsRowOf bs adds.0.0) is adds.0.1)
+]
+
+-- bytes that are no row, and not that of the version, make nothing
+pub none_made : (before : Stored) (bytes : List ℕ) → bytes ≢ format_row → ((row : Row) → ¬ IsRowOf bytes row) → (after : Stored) → ¬ Makes before bytes after
+none_made before bytes other none after makes = elim makes [
+  | inl format ↦ other format.0
+  | inr adds ↦ none adds.0.0 adds.0.1
+]

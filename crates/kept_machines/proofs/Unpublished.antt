@@ -110,7 +110,7 @@ may_follow h (entry.Retract run) is may = (
   some_before run_of (accepted run (filter is_kept h)) (accepted run h) (accepted_so h run) may.0,
   none_before name_taken (retracted run (filter is_kept h)) (retracted run h) (retracted_so h run) may.1,
 )
-may_follow h (entry.Tune metric penalty) is may = may
+may_follow h (entry.Tune metric penalty len) is may = may
 may_follow h (entry.Publish p) is may = absurd cc
 may_follow h (entry.Regression (regression.Raise r)) is may = (
   known_so (record { test = r.test; metric = r.metric }) h ∙ may.0,

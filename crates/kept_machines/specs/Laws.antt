@@ -5,18 +5,19 @@ use Rattle.history_model.specs.Allowed.{Legal}
 use Rattle.track_model.specs.Tracks.{Track}
 use Rattle.kept_machines.specs.Growth.{WentOn}
 use Rattle.kept_machines.specs.Kept.{is_kept, kept_of, AreKept}
-use Rattle.kept_machines.specs.Loading.{LeadTo}
-use Rattle.kept_machines.specs.Rows.{new_rows}
+use Rattle.kept_machines.specs.Loading.{Stored, LeadTo}
+use Rattle.kept_machines.specs.Rows.{new_rows, session_rows, version_after}
 
 -- what was kept comes back: rows that led to some machines, and the new rows of machines that went on from those, lead to
 -- each of the latter as it is kept
 abbrev pub KeptComesBack : Type 0
 KeptComesBack =
-    (rows : List (List ℕ)) (old new : List Track) → LeadTo rows old → WentOn old new → LeadTo (rows ++ new_rows new) (map kept_of new)
+    (rows : List (List ℕ)) (old : Stored) (new : List Track) → LeadTo rows old → WentOn old.machines new
+    → LeadTo (rows ++ new_rows old.version new) (record { machines = map kept_of new; version = version_after old.version (session_rows new) })
 
 -- what rows lead to is as a store keeps it
 abbrev pub LoadedAreKept : Type 0
-LoadedAreKept = (rows : List (List ℕ)) (tracks : List Track) → LeadTo rows tracks → AreKept tracks
+LoadedAreKept = (rows : List (List ℕ)) (stored : Stored) → LeadTo rows stored → AreKept stored.machines
 
 -- a history without its publications is legal where the history is
 abbrev pub KeptIsLegal : Type 0

@@ -1,5 +1,5 @@
 -- What the rows of a store lead to: machines with their histories.
-use Rattle.std.specs.Prelude.{◌≡◌, ℕ, ◌<◌, true, List, [], ◌∷◌, ◌++◌, length, find, Some, None}
+use Rattle.std.specs.Prelude.{◌≡◌, ◌⊎◌, ℕ, suc, ◌<◌, true, List, [], ◌∷◌, ◌++◌, length, find, Some, None}
 use Rattle.metric_table.specs.Limits.{most}
 use Rattle.metric_table.specs.declared.limits.Limit.TheVariants.{Machines}
 use Rattle.history_model.specs.declared.entries.Author.TheVariants as author
@@ -7,11 +7,27 @@ use Rattle.history_model.specs.declared.entries.Entry.{Entry}
 use Rattle.history_model.specs.Allowed.{Allowed}
 use Rattle.history_model.specs.Entries.{entries_of}
 use Rattle.track_entry.specs.Texts.{SpellsEntry}
+use Rattle.track_entry.specs.Versions.{SpellsV1}
 use Rattle.track_model.specs.Tracks.{Track, new_track, with_entry}
 use Rattle.keep_rows.specs.Rows.{Row, machine_row, entry_row, IsRowOf}
 use Rattle.keep_rows.specs.Loading.{LeadsTo, IsBad}
 use Rattle.kept_machines.specs.Machines.{is_track, changed}
 use Rattle.kept_machines.specs.Kept.{is_kept}
+use Rattle.kept_machines.specs.Rows.{format_row}
+
+-- what rows lead to: machines with their histories, and the version of the rows behind them
+pub record Stored : Type 0 where
+  pub machines : List Track
+  pub version : ℕ
+
+-- a store of no rows; its rows are of version 1 up to one that says otherwise
+abbrev pub nothing_stored : Stored
+nothing_stored = record { machines = []; version = 1 }
+
+-- what a text spells in a version
+abbrev pub SpellsIn : ℕ → List ℕ → Entry → Type 0
+SpellsIn (suc (suc n)) text e = SpellsEntry text e
+SpellsIn version text e = SpellsV1 text e
 
 -- a kept machine of no entries
 abbrev pub stored_track : List ℕ → Track
@@ -23,30 +39,36 @@ pub record AddsMachine (before : List Track) (machine : List ℕ) (after : List 
   pub room : length before < most Machines
   pub last : after ≡ before ++ stored_track machine ∷ []
 
--- an entry's row: its machine has a row before, its text is that of an entry that is kept, which is allowed after the
--- machine's entries before it and comes behind them
-pub record AddsEntry (before : List Track) (machine text : List ℕ) (after : List Track) : Type 0 where
+-- an entry's row: its machine has a row before, its text is that of an entry that is kept, in the version of its place, which
+-- is allowed after the machine's entries before it and comes behind them
+pub record AddsEntry (version : ℕ) (before : List Track) (machine text : List ℕ) (after : List Track) : Type 0 where
   pub track : Track
   pub entry : Entry
   pub found : find (is_track machine) before ≡ Some track
-  pub spelled : SpellsEntry text entry
+  pub spelled : SpellsIn version text entry
   pub is_kept : is_kept entry ≡ true
   pub allowed : Allowed (entries_of track.history) entry
   pub behind : after ≡ changed machine (λ t. with_entry author.Kept t entry) before
 
 -- a row adds what it says
-abbrev pub Adds : List Track → Row → List Track → Type 0
-Adds before (machine_row machine) after = AddsMachine before machine after
-Adds before (entry_row machine text) after = AddsEntry before machine text after
+abbrev pub Adds : ℕ → List Track → Row → List Track → Type 0
+Adds version before (machine_row machine) after = AddsMachine before machine after
+Adds version before (entry_row machine text) after = AddsEntry version before machine text after
 
 -- and so do the bytes of one
-abbrev pub AddsRow : List Track → List ℕ → List Track → Type 0
-AddsRow before bytes after = (row : Row) × IsRowOf bytes row × Adds before row after
+abbrev pub AddsRow : ℕ → List Track → List ℕ → List Track → Type 0
+AddsRow version before bytes after = (row : Row) × IsRowOf bytes row × Adds version before row after
 
--- the rows lead to these machines, in order
-abbrev pub LeadTo : List (List ℕ) → List Track → Type 0
-LeadTo rows tracks = LeadsTo AddsRow [] rows tracks
+-- `format 2` stands once at most; any other row adds what it says in the version of its place
+abbrev pub Makes : Stored → List ℕ → Stored → Type 0
+Makes before bytes after =
+    ((bytes ≡ format_row) × (before.version ≡ 1) × (after ≡ record { machines = before.machines; version = 2 }))
+    ⊎ (AddsRow before.version before.machines bytes after.machines × (after.version ≡ before.version))
+
+-- the rows lead to these machines, in order, and to this version
+abbrev pub LeadTo : List (List ℕ) → Stored → Type 0
+LeadTo rows stored = LeadsTo Makes nothing_stored rows stored
 
 -- row k, from 1, is the first that is none, or isn't allowed after those before it
 abbrev pub IsFirstBad : List (List ℕ) → ℕ → Type 0
-IsFirstBad rows k = IsBad AddsRow [] rows k
+IsFirstBad rows k = IsBad Makes nothing_stored rows k

@@ -1,5 +1,5 @@
--- The rows that a session adds to a store: machine by machine, in order of declaration.
-use Rattle.std.specs.Prelude.{ℕ, Bool, true, false, ◌&&◌, if◌then◌else◌, List, [], ◌∷◌, ◌++◌, map, filter}
+-- The rows that a session adds to a store: the version where it is new, then machine by machine, in order of declaration.
+use Rattle.std.specs.Prelude.{ℕ, Bool, true, false, ◌&&◌, if◌then◌else◌, List, [], ◌∷◌, ◌++◌, map, filter, codes, ◌==◌}
 use Rattle.std.specs.List.{flat_map}
 use Rattle.history_model.specs.declared.entries.Author.{Author}
 use Rattle.history_model.specs.declared.entries.Author.TheVariants as author
@@ -30,5 +30,23 @@ head_rows t = if t.kept then [] else row_text (machine_row t.machine) ∷ []
 abbrev pub track_rows : Track → List (List ℕ)
 track_rows t = head_rows t ++ map (row_of t.machine) (filter is_new t.history)
 
-abbrev pub new_rows : List Track → List (List ℕ)
-new_rows tracks = flat_map track_rows tracks
+-- the rows of a session, machine by machine
+abbrev pub session_rows : List Track → List (List ℕ)
+session_rows tracks = flat_map track_rows tracks
+
+-- the row behind which all rows are of version 2
+abbrev pub format_row : List ℕ
+format_row = codes "format 2"
+
+-- new rows are of version 2; where the store's are of version 1 and there are new ones, `format 2` comes before them
+abbrev pub placed : ℕ → List (List ℕ) → List (List ℕ)
+placed version [] = []
+placed version (row ∷ rows) = if version == 1 then format_row ∷ row ∷ rows else row ∷ rows
+
+abbrev pub new_rows : ℕ → List Track → List (List ℕ)
+new_rows version tracks = placed version (session_rows tracks)
+
+-- the version of a store behind them
+abbrev pub version_after : ℕ → List (List ℕ) → ℕ
+version_after version [] = version
+version_after version (row ∷ rows) = 2

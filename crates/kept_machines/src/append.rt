@@ -3,7 +3,7 @@ ghost use Rattle.std.specs.Prelude.{◌≡◌, ◌≤◌, [], ◌∷◌, ◌++�
 ghost use Rattle.track_outside.specs.Counts.{Rose};
 ghost use Rattle.track_outside.specs.Kept.{bytes_of, with_more};
 ghost use Rattle.keep_rows.specs.declared.append.AppendFault.TheVariants as fault;
-ghost use Rattle.kept_machines.specs.Rows.{is_new, is_of_session, row_of, head_rows, track_rows, new_rows};
+ghost use Rattle.kept_machines.specs.Rows.{is_new, is_of_session, row_of, head_rows, track_rows, session_rows, placed, new_rows};
 
 use crate::NoMemory;
 use crate::states::is_kept;
@@ -16,56 +16,81 @@ use track_entry::put_entry;
 use track_outside::Keeper;
 use track_state::TrackState;
 
-/// Adds the new rows of the machines by one call of the keeper, also where there are none; or adds none.
+/// Adds the new rows of the machines to a store of this version by one call of the keeper, also where there are none; or
+/// adds none.
 ///
 /// Linear in the entries of the machines, and in the bytes of the rows.
 pub fn append_all<K: Keeper>(
     alloc: Global,
     keeper: &mut K,
     machines: &[TrackState],
+    version: u8,
 ) -> Result<(), AppendFault>
     ensures all { OnOk result
-        (K.kept keeper.new ≡ with_more (K.kept keeper.old) (new_rows machines.now)) }
+        (K.kept keeper.new ≡ with_more (K.kept keeper.old) (new_rows version machines.now)) }
     ensures none { OnErr result (K.kept keeper.new ≡ K.kept keeper.old) }
     ensures named { K.started keeper.new ≡ K.started keeper.old }
     ensures counts { K.faults keeper.old ≤ K.faults keeper.new }
     ensures rose { result ≡ Err fault.KeepFault → Rose (K.faults keeper.old) (K.faults keeper.new) }
 {
-    append_each(alloc, keeper, &[Machines { machines }])
+    append_each(alloc, keeper, &[Machines { machines, version }])
 }
 
 // The machines whose new rows are added together.
 #[derive(Drop)]
 struct Machines<'a> {
     machines: &'a [TrackState],
+    version: u8,
 }
 
 impl<'a> Model for Machines<'a> {
-    ghost use Rattle.std.specs.Prelude.{List};
     ghost use Rattle.std.specs.Coded.{codes};
-    ghost use Rattle.track_model.specs.Tracks.{Track, coded_home};
+    ghost use Rattle.track_model.specs.Tracks.{coded_home};
+    ghost use Rattle.kept_machines.specs.Loading.{Stored};
 
-    ghost Value = { List Track };
+    ghost Value = { Stored };
 
     ghost coded = { Prim.hlevel (codes, coded_home) };
 
-    ghost view = { λ m. m.machines.now };
+    ghost view = { λ m. record { machines = m.machines.now; version = m.version } };
 }
 
 impl<'a> Recorded for Machines<'a> {
     ghost use Rattle.kept_machines.specs.Rows.{new_rows};
 
-    ghost new_rows = { new_rows };
+    ghost new_rows = { λ m. new_rows m.version m.machines };
 
     fn put_rows(&self, alloc: Global, out: &mut Vec<Vec<u8>>) -> Result<(), NoMemory> {
-        put_each(alloc, out, self.machines)
+        let mut rows = Vec::new(alloc);
+        put_each(alloc, &mut rows, self.machines)?;
+        put_placed_rows(alloc, out, self.version, rows)
     }
+}
+
+// Rows behind others, and before them the row of the version where that is new.
+fn put_placed_rows(
+    alloc: Global,
+    out: &mut Vec<Vec<u8>>,
+    version: u8,
+    mut rows: Vec<Vec<u8>>,
+) -> Result<(), NoMemory>
+    ensures { OnOk result (bytes_of out.new.items
+        ≡ bytes_of out.old.items ++ placed version (bytes_of rows.items)) }
+{
+    if rows.is_empty() {
+        return Ok(());
+    }
+    if version == 1 {
+        out.push(Vec::from_slice(alloc, b"format 2")?)?;
+    }
+    out.append(&mut rows)?;
+    Ok(())
 }
 
 // The new rows of each machine, in order.
 fn put_each(alloc: Global, out: &mut Vec<Vec<u8>>, machines: &[TrackState]) -> Result<(), NoMemory>
     ensures { OnOk result
-        (bytes_of out.new.items ≡ bytes_of out.old.items ++ new_rows machines.now) }
+        (bytes_of out.new.items ≡ bytes_of out.old.items ++ session_rows machines.now) }
 {
     for machine in machines {
         put_machine(alloc, out, machine)?;

@@ -1,17 +1,18 @@
 //! Laws of the definitions, as public functions that do nothing: their contracts are what they are for.
 ghost use Rattle.keep_rows.specs.Laws.{HasOneOutcome};
 ghost use Rattle.kept_machines.specs.Laws.{KeptComesBack, LoadedAreKept, KeptIsLegal};
-ghost use Rattle.kept_machines.specs.Loading.{AddsRow};
+ghost use Rattle.kept_machines.specs.Loading.{Makes};
 
 use crate::states::States;
 use keep_rows::loading_law;
-use track_entry::entries_law;
+use track_entry::{entries_law, entries_v1_law};
 
-/// Rows lead to one list of machines at most, or one of them is the first bad one.
+/// Rows lead to one list of machines and one version at most, or one of them is the first bad one.
 pub fn rows_law()
-    ensures { HasOneOutcome AddsRow }
+    ensures { HasOneOutcome Makes }
 {
     entries_law();
+    entries_v1_law();
     keep_rows::rows_law();
     loading_law::<States>();
 }

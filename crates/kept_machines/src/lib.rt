@@ -17,6 +17,7 @@
 
 mod append;
 mod laws;
+mod loaded;
 mod loading;
 mod place;
 mod spelled;
@@ -25,6 +26,7 @@ mod states;
 pub use append::append_all;
 pub use keep_rows::{AppendFault, LoadFault};
 pub use laws::{comes_back_law, kept_law, rows_law};
+pub use loaded::Loaded;
 pub use loading::load;
 pub use place::place_of;
 pub use spelled::may_be_kept_law;

@@ -7,23 +7,20 @@ ghost use Rattle.keep_rows.specs.declared.load.LoadFault.TheVariants as fault;
 ghost use Rattle.kept_machines.specs.Kept.{AreKept};
 ghost use Rattle.kept_machines.specs.Loading.{LeadTo, IsFirstBad};
 
+use crate::loaded::Loaded;
 use crate::states::States;
 use keep_rows::{LoadFault, load_into};
 use std::alloc::Global;
 use track_outside::Keeper;
-use track_state::TrackState;
 
-/// Starts the keeper under a name, and gives the machines that its rows lead to, each row read once. The rows stay.
+/// Starts the keeper under a name, and gives the machines and the version that its rows lead to, each row read once. The
+/// rows stay.
 ///
 /// Linear in the bytes of the rows, beside what adding the entries to their states takes.
-pub fn load<K: Keeper>(
-    alloc: Global,
-    keeper: &mut K,
-    name: &str,
-) -> Result<Vec<TrackState>, LoadFault>
-    ensures loaded { IfOk result (λ machines. IfSome (K.kept keeper.old) (λ rows.
-        LeadTo rows machines.items)) }
-    ensures kept { IfOk result (λ machines. AreKept machines.items) }
+pub fn load<K: Keeper>(alloc: Global, keeper: &mut K, name: &str) -> Result<Loaded, LoadFault>
+    ensures loaded { IfOk result (λ loaded. IfSome (K.kept keeper.old) (λ rows.
+        LeadTo rows loaded)) }
+    ensures kept { IfOk result (λ loaded. AreKept loaded.machines) }
     ensures bad { (k : ℕ) → result ≡ Err (fault.BadRow k) →
         IfSome (K.kept keeper.old) (λ rows. IsFirstBad rows k) }
     ensures rows { K.kept keeper.new ≡ K.kept keeper.old }
@@ -35,5 +32,5 @@ pub fn load<K: Keeper>(
 {
     let mut states = States::new(alloc);
     load_into(alloc, keeper, name, &mut states)?;
-    Ok(states.into_machines())
+    Ok(states.into_loaded())
 }

@@ -2,7 +2,6 @@
 use Rattle.std.proofs.Common.{◌≡◌, ℕ, ℤ, pos, ◌*◌, Bool, true, false, List, [], ◌∷◌, length, Option, None, Some, refl, sym, ap, subst, ◌∙◌}
 use Rattle.std.specs.Prelude.{max, nat_lt, unwrap_or}
 use Rattle.std.specs.List.{last_or}
-use Rattle.metric_table.specs.Table.{row_of}
 use Rattle.metric_table.specs.declared.limits.Limit.{Limit}
 use Rattle.metric_table.specs.declared.limits.Limit.TheVariants.{Cuts, Steps}
 use Rattle.segment_cost.specs.Certificate.{StandsFor, OneCertificate}
@@ -12,7 +11,8 @@ use Rattle.series_noise.specs.Noise.{IsNoise}
 use Rattle.history_model.specs.declared.entries.Entry.{Entry}
 use Rattle.history_model.specs.declared.entries.Entry.TheVariants as entry
 use Rattle.history_model.specs.Allowed.{first_passed}
-use Rattle.history_model.specs.Penalties.{penalty_of, set_for}
+use Rattle.history_model.specs.Penalties.{default_setting, setting_of, penalty_of, length_of, set_for}
+use Rattle.history_model.specs.declared.setting.Setting.{Setting}
 use Rattle.history_model.specs.Positions.{positions}
 use Rattle.history_model.specs.Runs.{Series, is_known}
 use Rattle.track_model.specs.Forms.{tune}
@@ -31,7 +31,7 @@ use Rattle.kept_replies.proofs.Values.{same_noise, same_stands}
 pub along : (P : Outcome → Type 0) (o x : Outcome) → o ≡ x → (HasRoom x → P x) → HasRoom o → P o
 along P o x same holds = subst (λ (y : Outcome). HasRoom y → P y) (sym same) holds
 
--- ---- the penalty of a metric
+-- ---- the setting of a metric
 set_same : (metric : List ℕ) (s t : ℕ) (e : Entry) → set_for metric s e ≡ set_for metric t e
 set_same metric s t e = refl
 
@@ -39,8 +39,8 @@ set_none : (metric : List ℕ) (s : ℕ) (e : Entry) → is_kept e ≡ false →
 set_none metric s (entry.Publish p) past = refl
 set_none metric s e past = absurd cc
 
-penalty_so : (metric : List ℕ) (h : List Entry) → penalty_of metric (kept_entries h) ≡ penalty_of metric h
-penalty_so metric h = ap (λ ps. unwrap_or (last_or None ps) (row_of metric).default_penalty) (same_plain (set_for metric) (set_same metric) (set_none metric) h)
+pub setting_so : (metric : List ℕ) (h : List Entry) → setting_of metric (kept_entries h) ≡ setting_of metric h
+setting_so metric h = ap (λ xs. unwrap_or (last_or None xs) (default_setting metric)) (same_plain (set_for metric) (set_same metric) (set_none metric) h)
 
 module _ (by_values : ValuesOfPoints) (h : List Entry) (s : Series) where
   same_points : values_by_position (positions h s) ≡ values_by_position (positions (kept_entries h) s)
@@ -62,8 +62,11 @@ module _ (by_values : ValuesOfPoints) (h : List Entry) (s : Series) where
       let noise : IsNoise (positions (kept_entries h) s) comes.0 =
       same_noise by_values (positions h s) (positions (kept_entries h) s) same_points comes.0 comes.1 in
       let penalty : ℤ = pos (factor * max 1 (comes.0 * comes.0)) in
-      along (λ (x : Outcome). IsCalibrated (kept_entries h) s factor (kept_outcome h x) × IsKept x) o (tune h s.metric penalty) comes.2
-      (λ free. ((comes.0, noise, tune_so h s.metric penalty free), tune_kept h s.metric penalty)) room
+      let len : ℕ = length_of s.metric h in
+      let long : tune (kept_entries h) s.metric penalty len ≡ tune (kept_entries h) s.metric penalty (length_of s.metric (kept_entries h)) =
+      ap (λ (x : Setting). tune (kept_entries h) s.metric penalty x.length) (sym (setting_so s.metric h)) in
+      along (λ (x : Outcome). IsCalibrated (kept_entries h) s factor (kept_outcome h x) × IsKept x) o (tune h s.metric penalty len) comes.2
+      (λ free. ((comes.0, noise, tune_so h s.metric penalty len free ∙ long), tune_kept h s.metric penalty len)) room
 
   of_known : (factor : ℕ) (known : Bool) (o : Outcome) → IfKnown h factor known o → HasRoom o
       → IfKnown (kept_entries h) factor known (kept_outcome h o) × IsKept o
@@ -121,10 +124,10 @@ module _ (by_values : ValuesOfPoints) (h : List Entry) (s : Series) where
       let k : List Entry = kept_entries h in
       let one : IsPublished h base s o = found_in h base (is_known s h) o comes told in
       let other : IsPublished k kept_base s kept = found_in k kept_base (is_known s k) kept kept_comes kept_told in
-      let stands : StandsFor (positions k s) (penalty_of s.metric k) 1 one.0 =
-      subst (λ (b : ℤ). StandsFor (positions k s) b 1 one.0) (sym (penalty_so s.metric h))
-      (same_stands by_values (positions h s) (positions k s) same_points (penalty_of s.metric h) 1 one.0 one.1) in
-      let same : other.0 ≡ one.0 = unique (positions k s) (penalty_of s.metric k) 1 other.0 one.0 other.1 stands in
+      let stands : StandsFor (positions k s) (penalty_of s.metric k) (length_of s.metric k) one.0 =
+      subst (λ (x : Setting). StandsFor (positions k s) x.penalty x.length one.0) (sym (setting_so s.metric h))
+      (same_stands by_values (positions h s) (positions k s) same_points (penalty_of s.metric h) (length_of s.metric h) one.0 one.1) in
+      let same : other.0 ≡ one.0 = unique (positions k s) (penalty_of s.metric k) (length_of s.metric k) other.0 one.0 other.1 stands in
       let redone : ℕ = redone_since k kept_base s in
       let told_again : kept ≡ publish k (publication s (length k) kept_base one.0) (segmented (length k) kept_base redone one.0) =
       other.2 ∙ ap (λ (c : Cert). publish k (publication s (length k) kept_base c) (segmented (length k) kept_base redone c)) same in

@@ -1,5 +1,8 @@
 -- Each request on the kept history.
 use Rattle.std.proofs.Common.{◌≡◌, ℕ, List, refl, sym, ap, ◌∙◌}
+use Rattle.std.specs.Prelude.{unwrap_or}
+use Rattle.history_model.specs.declared.setting.Setting.{Setting}
+use Rattle.history_model.specs.Penalties.{length_of}
 use Rattle.segment_model.specs.Values.{ValuesOfPoints}
 use Rattle.history_model.specs.declared.entries.Entry.{Entry}
 use Rattle.request_model.specs.declared.requests.Request.{Request}
@@ -16,7 +19,7 @@ use Rattle.kept_replies.specs.Replies.{kept_outcome, behind, HasRoom, IsOfKept, 
 use Rattle.kept_replies.proofs.Commits.{commit_so, commit_kept}
 use Rattle.kept_replies.proofs.Following.{state_so, state_kept, bisect_so, bisect_kept, answer_so, answer_kept, resume_so, resume_kept, told_job_so}
 use Rattle.kept_replies.proofs.Outcomes.{IsKept, reply_so, behind_so}
-use Rattle.kept_replies.proofs.Publishing.{along, calibrate_so}
+use Rattle.kept_replies.proofs.Publishing.{along, calibrate_so, setting_so}
 use Rattle.kept_replies.proofs.Runs.{submit_so, submit_kept, retract_so, retract_kept, tune_so, tune_kept, runs_so}
 
 -- a request comes to the same, and what it adds is kept
@@ -36,9 +39,12 @@ module _ (by_values : ValuesOfPoints) where
       (λ free. (submit_so h machine commit run samples ignored stated free, submit_kept h machine commit run samples ignored stated)) room
   alike h base kept_base (request.Retract machine run) o is comes room =
       along (Alike h kept_base (request.Retract machine run)) o (forms.retract h run) comes (λ free. (retract_so h run free, retract_kept h run)) room
-  alike h base kept_base (request.Tune machine metric penalty) o is comes room =
-      along (Alike h kept_base (request.Tune machine metric penalty)) o (forms.tune h metric penalty) comes
-      (λ free. (tune_so h metric penalty free, tune_kept h metric penalty)) room
+  alike h base kept_base (request.Tune machine metric penalty given) o is comes room =
+      let len : ℕ = unwrap_or given (length_of metric h) in
+      let long : forms.tune (kept_entries h) metric penalty len ≡ forms.tune_to (kept_entries h) metric penalty given =
+      ap (λ (x : Setting). forms.tune (kept_entries h) metric penalty (unwrap_or given x.length)) (sym (setting_so metric h)) in
+      along (Alike h kept_base (request.Tune machine metric penalty given)) o (forms.tune h metric penalty len) comes
+      (λ free. (tune_so h metric penalty len free ∙ long, tune_kept h metric penalty len)) room
   alike h base kept_base (request.Calibrate machine test metric factor) o is comes room =
       calibrate_so by_values h (record { test = test; metric = metric }) factor o comes room
   alike h base kept_base (request.SetState machine number state) o is comes room =

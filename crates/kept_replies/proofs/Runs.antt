@@ -15,7 +15,7 @@ use Rattle.request_model.specs.declared.replies.Answer.{Answer}
 use Rattle.request_model.specs.declared.replies.Answer.TheVariants as answer
 use Rattle.request_model.specs.declared.replies.Refusal.TheVariants as refusal
 use Rattle.request_model.specs.declared.runs.RunLine.{RunLine}
-use Rattle.track_model.specs.Forms.{told_again, states_another, submitted, submit_refusal, submit, retract_refusal, retract, is_penalty, tune_refusal, tune, run_line, runs}
+use Rattle.track_model.specs.Forms.{told_again, states_another, submitted, submit_refusal, submit, retract_refusal, retract, is_penalty, is_length, tune_refusal, tune, run_line, runs}
 use Rattle.track_model.specs.Outcomes.{Outcome, tells, refusal_if, first, unless, adds_within}
 use Rattle.kept_machines.specs.Kept.{kept_entries}
 use Rattle.kept_replies.specs.Replies.{kept_step, kept_answer, kept_outcome, HasRoom}
@@ -107,17 +107,17 @@ module _ (h : List Entry) where
     retract_kept = form_kept h (Steps ∷ []) (retract_refusal h run) (entry.Retract run) (answer.Retracted run) refl (λ g. refl)
 
   -- ---- tune
-  module _ (metric : List ℕ) (penalty : ℤ) where
+  module _ (metric : List ℕ) (penalty : ℤ) (len : ℕ) where
     abbrev tune_row : List (Option Answer)
-    tune_row = refusal_if (nat_lt 64 (length metric)) refusal.BadName ∷ refusal_if (not (is_penalty penalty)) refusal.BadPenalty ∷ []
+    tune_row = refusal_if (nat_lt 64 (length metric)) refusal.BadName ∷ refusal_if (not (is_penalty penalty)) refusal.BadPenalty ∷ refusal_if (not (is_length len)) refusal.BadLength ∷ []
 
-    pub tune_so : HasRoom (tune h metric penalty) → kept_outcome h (tune h metric penalty) ≡ tune (kept_entries h) metric penalty
+    pub tune_so : HasRoom (tune h metric penalty len) → kept_outcome h (tune h metric penalty len) ≡ tune (kept_entries h) metric penalty len
     tune_so room =
-        form_so h (Steps ∷ []) (entry.Tune metric penalty) (answer.Tuned metric penalty) tune_row tune_row (answer.Tuned metric penalty) tt refl
-        (next (plain h (nat_lt 64 (length metric)) refusal.BadName refl) (next (plain h (not (is_penalty penalty)) refusal.BadPenalty refl) refl)) refl room
+        form_so h (Steps ∷ []) (entry.Tune metric penalty len) (answer.Tuned metric penalty len) tune_row tune_row (answer.Tuned metric penalty len) tt refl
+        (next (plain h (nat_lt 64 (length metric)) refusal.BadName refl) (next (plain h (not (is_penalty penalty)) refusal.BadPenalty refl) (next (plain h (not (is_length len)) refusal.BadLength refl) refl))) refl room
 
-    pub tune_kept : IsKept (tune h metric penalty)
-    tune_kept = form_kept h (Steps ∷ []) (tune_refusal metric penalty) (entry.Tune metric penalty) (answer.Tuned metric penalty) refl (λ g. refl)
+    pub tune_kept : IsKept (tune h metric penalty len)
+    tune_kept = form_kept h (Steps ∷ []) (tune_refusal metric penalty len) (entry.Tune metric penalty len) (answer.Tuned metric penalty len) refl (λ g. refl)
 
   -- ---- runs
   line_so : (a : Acceptance) → run_line (kept_entries h) (accepted_at (kept_step h) a) ≡ run_line h a

@@ -27,7 +27,7 @@ pub const WORKED_REPLIES: &str =
     "@1 commit 10 a\n@2 commit 20 b\n@3 commit 30 c\n@4 commit 40 d\n@5 tuned B/op 50\n@6 accepted r1 samples 1 ignored 0\n@7 accepted r2 samples 1 ignored 0\n@8 accepted r4 samples 1 ignored 0\n@9 segmented version 8 base 0 points 3 cuts 1 redone 3 total 50\n@10 accepted r3 samples 1 ignored 0\n@11 segmented version 10 base 8 points 4 cuts 1 redone 2 total 50\n@11 changes version 10 lines 1\nb c 0 10 regression\n";
 
 pub const WORKED_JOURNAL: &str =
-    "machine m1 steps 11\n1 s1 commit 10 a\n2 s1 commit 20 b\n3 s1 commit 30 c\n4 s1 commit 40 d\n5 s1 tune B/op 50\n6 s1 accept r1 10 1 X B/op 0\n7 s1 accept r2 20 1 X B/op 0\n8 s1 accept r4 40 1 X B/op 10\n9 s1 publish X B/op 8 0 50 1 2\n10 s1 accept r3 30 1 X B/op 10\n11 s1 publish X B/op 10 8 50 1 2\n";
+    "machine m1 steps 11\n1 s1 commit 10 a\n2 s1 commit 20 b\n3 s1 commit 30 c\n4 s1 commit 40 d\n5 s1 tune B/op 50 1\n6 s1 accept r1 10 1 X B/op 0\n7 s1 accept r2 20 1 X B/op 0\n8 s1 accept r4 40 1 X B/op 10\n9 s1 publish X B/op 8 0 50 1 2\n10 s1 accept r3 30 1 X B/op 10\n11 s1 publish X B/op 10 8 50 1 2\n";
 
 const RUNS: [Played<'static>; 7] = [
     Played {

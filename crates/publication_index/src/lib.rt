@@ -1,20 +1,21 @@
-//! What a machine published last of each series, and the penalties by which it segments.
+//! What a machine published last of each series, and the settings by which it segments.
 //!
 //! `PublicationIndex` keeps the last finished segmentation of each series, by test and metric: contracts see what is kept of
 //! any series, by [`kept`](specs/Kept.antt), and of which series the pruned table is home, by [`homes`](specs/Homes.antt): a
-//! table may be taken, and comes home with the series' next segmentation. `PenaltyIndex` gives each metric its penalty, by [`given`](specs/Given.antt).
-//! Look-ups are logarithmic, and take no memory.
+//! table may be taken, and comes home with the series' next segmentation. `SettingIndex` gives each metric its setting, by
+//! [`given`](specs/Given.antt). Look-ups are logarithmic, and take no memory.
 //!
-//! Stands on `segment_cost` for finished segmentations, on `pelt_core` for their tables, on `history_model` for series and on `metric_table` for the
+//! Stands on `segment_cost` for finished segmentations, on `pelt_core` for their tables, on `history_model` for series and settings, and on `metric_table` for the
 //! penalties of metrics for which none was set.
 #![tactic(auto)]
 
+mod apart;
 mod held;
 mod metrics;
-mod penalties;
 mod published;
+mod settings;
 
 pub use held::Held;
-pub use penalties::PenaltyIndex;
 pub use published::PublicationIndex;
+pub use settings::SettingIndex;
 pub use std::alloc::AllocError as NoMemory;

@@ -4,6 +4,7 @@ ghost use Rattle.publication_index.specs.Kept.{done_at_home, done_in, held_of, t
 ghost use Rattle.publication_index.specs.Standing.{IsKeptTable, table_for};
 
 use crate::NoMemory;
+use crate::apart::HeldApart;
 use crate::held::Held;
 use line_text::Name;
 use pelt_core::Table;
@@ -16,7 +17,7 @@ use std::marker::Model;
 #[derive(Drop)]
 pub struct MetricIndex {
     alloc: Global,
-    entries: BTreeMap<Name, Held>,
+    entries: BTreeMap<Name, HeldApart>,
 }
 
 impl Model for MetricIndex {
@@ -43,7 +44,7 @@ impl MetricIndex {
         ensures { option_copied result ≡ done_in (held_of metric.now self.now) }
     {
         match self.entries.get(metric) {
-            Some(held) => Some(&held.done),
+            Some(held) => Some(held.done()),
             None => None,
         }
     }
@@ -69,7 +70,8 @@ impl MetricIndex {
     {
         let key = done.metric.copy(self.alloc)?;
         let table = Some(table);
-        self.entries.insert(key, Held { done, table })?;
+        let held = HeldApart::new(self.alloc, Held { done, table })?;
+        self.entries.insert(key, held)?;
         Ok(())
     }
 

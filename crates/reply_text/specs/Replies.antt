@@ -1,5 +1,5 @@
 -- The text of a reply: lines of words.
-use Rattle.std.specs.Prelude.{ℕ, ◌+◌, List, [], ◌∷◌, ◌++◌, length, map, decimal, codes, if◌then◌else◌}
+use Rattle.std.specs.Prelude.{nat_lt, ℕ, ◌+◌, List, [], ◌∷◌, ◌++◌, length, map, decimal, codes, if◌then◌else◌}
 use Rattle.std.specs.Fmt.{signed_decimal}
 use Rattle.std.specs.List.{flat_map}
 use Rattle.line_text.specs.Names.{spelling}
@@ -62,6 +62,7 @@ refusal_words refusal.BodyTooLong = codes "E26" ∷ codes "BodyTooLong" ∷ []
 refusal_words refusal.OnlyAlone = codes "E27" ∷ codes "OnlyAlone" ∷ []
 refusal_words (refusal.TooDeep offset) = codes "E28" ∷ codes "TooDeep" ∷ decimal offset ∷ []
 refusal_words (refusal.JobOpen commit) = codes "E29" ∷ codes "JobOpen" ∷ spelling commit ∷ []
+refusal_words refusal.BadLength = codes "E30" ∷ codes "BadLength" ∷ []
 
 -- a run, as it is listed
 abbrev pub run_words : RunLine → List (List ℕ)
@@ -89,6 +90,10 @@ lines_in pages = if pages.json then 1 else length pages.series + length pages.re
 abbrev pub report_text : Pages → List ℕ
 report_text pages = if pages.json then pages_json pages else pages_text pages
 
+-- a least length is told where it is above 1
+abbrev pub length_words : ℕ → List (List ℕ)
+length_words len = if nat_lt 1 len then decimal len ∷ [] else []
+
 -- the words of an answer on the reply's first line; where a bisection stands is told in words of its own
 abbrev pub answer_words : Answer → List (List ℕ)
 answer_words (answer.Machine machine) = codes "machine" ∷ spelling machine ∷ []
@@ -96,12 +101,12 @@ answer_words (answer.Commit number name) = codes "commit" ∷ decimal number ∷
 answer_words (answer.Duplicate step) = codes "duplicate" ∷ at step ∷ []
 answer_words (answer.Accepted name samples ignored) = codes "accepted" ∷ spelling name ∷ codes "samples" ∷ decimal samples ∷ codes "ignored" ∷ decimal ignored ∷ []
 answer_words (answer.Retracted name) = codes "retracted" ∷ spelling name ∷ []
-answer_words (answer.Tuned metric penalty) = codes "tuned" ∷ spelling metric ∷ signed_decimal penalty ∷ []
+answer_words (answer.Tuned metric penalty len) = codes "tuned" ∷ spelling metric ∷ signed_decimal penalty ∷ length_words len
 answer_words (answer.Segmented version base points cuts redone total) =
     version_words (codes "segmented") version
     ++ codes "base" ∷ decimal base ∷ codes "points" ∷ decimal points ∷ codes "cuts" ∷ decimal cuts ∷ codes "redone" ∷ decimal redone ∷ codes "total" ∷ signed_decimal total ∷ []
 answer_words (answer.Changes version metric items) = listed_words (codes "changes") version (length items)
-answer_words (answer.Verified version cert) = listed_words (codes "verified") version 7
+answer_words (answer.Verified version cert) = listed_words (codes "verified") version (if nat_lt 1 cert.length then 8 else 7)
 answer_words (answer.Raised regression) = codes "regression" ∷ decimal regression ∷ codes "detected" ∷ []
 answer_words (answer.Moved regression before after) = codes "regression" ∷ decimal regression ∷ state.word before ∷ state.word after ∷ []
 answer_words (answer.Job job range questions outcome) =

@@ -1,9 +1,9 @@
 //! The words of an answer, and the lines of a list.
-ghost use Rattle.std.specs.Prelude.{◌≡◌, ◌+◌, ◌<◌, ◌^◌, ◌∷◌, [], length, codes, decimal};
+ghost use Rattle.std.specs.Prelude.{◌≡◌, ◌+◌, ◌<◌, ◌^◌, ◌∷◌, [], length, nat_lt, if◌then◌else◌, codes, decimal};
 ghost use Rattle.std.specs.Fmt.{signed_decimal};
 ghost use Rattle.line_text.specs.Names.{spelling};
 ghost use Rattle.request_model.specs.Lines.{spaced, line_of};
-ghost use Rattle.reply_text.specs.Replies.{answer_words, change_words, lines_in, listed_words, run_words, version_words};
+ghost use Rattle.reply_text.specs.Replies.{answer_words, change_words, length_words, lines_in, listed_words, run_words, version_words};
 ghost use Rattle.request_model.specs.declared.replies.Answer.TheVariants as answer;
 ghost use Rattle.reply_text.specs.Puts.{Puts};
 
@@ -38,9 +38,14 @@ pub(crate) fn put_answer(alloc: Global, out: &mut Vec<u8>, answer: &Answer) -> R
             ignored,
         } => put_accepted(alloc, out, run, *samples, *ignored),
         Answer::Retracted { run } => put_named(alloc, out, "retracted", run),
-        Answer::Tuned { metric, penalty } => {
+        Answer::Tuned {
+            metric,
+            penalty,
+            length,
+        } => {
             put_named(alloc, out, "tuned", metric)?;
-            put_amount(alloc, out, *penalty)
+            put_amount(alloc, out, *penalty)?;
+            put_length(alloc, out, *length)
         }
         Answer::Segmented {
             version,
@@ -57,7 +62,10 @@ pub(crate) fn put_answer(alloc: Global, out: &mut Vec<u8>, answer: &Answer) -> R
         Answer::Changes { version, items, .. } => {
             put_listed(alloc, out, "changes", *version, items.len() as u64)
         }
-        Answer::Verified { version, .. } => put_listed(alloc, out, "verified", *version, 7),
+        Answer::Verified { version, cert } => {
+            let lines = certificate_lines(cert.get().length);
+            put_listed(alloc, out, "verified", *version, lines)
+        }
         Answer::Raised { regression } => {
             put_counted(alloc, out, "regression", *regression)?;
             put_word(out, "detected")
@@ -89,6 +97,23 @@ pub(crate) fn put_answer(alloc: Global, out: &mut Vec<u8>, answer: &Answer) -> R
         }
         Answer::Refused(refusal) => put_refusal(alloc, out, refusal),
     }
+}
+
+// Appends a least length, where it is above 1.
+fn put_length(alloc: Global, out: &mut Vec<u8>, least: u8) -> Result<(), NoMemory>
+    ensures { Puts result out.old.items out.new.items (spaced (length_words least)) }
+{
+    if least <= 1 {
+        return Ok(());
+    }
+    put_number(alloc, out, u64::from(least))
+}
+
+// How many lines a certificate of this least length has.
+fn certificate_lines(least: u8) -> u64
+    ensures { result ≡ (if nat_lt 1 least then 8 else 7) }
+{
+    if least > 1 { 8 } else { 7 }
 }
 
 // Appends a word and a name.

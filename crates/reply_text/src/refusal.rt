@@ -69,6 +69,7 @@ pub(crate) fn put_refusal(
         Refusal::OnlyAlone => put_kind(out, "E27", "OnlyAlone"),
         Refusal::TooDeep(offset) => put_numbered(alloc, out, "E28", "TooDeep", *offset),
         Refusal::JobOpen(commit) => put_of_commit(alloc, out, "E29", "JobOpen", commit),
+        Refusal::BadLength => put_kind(out, "E30", "BadLength"),
     }
 }
 

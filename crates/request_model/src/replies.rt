@@ -97,6 +97,8 @@ pub enum Refusal {
     TooDeep(u64),
     /// The job is open, and asks this commit.
     JobOpen(Name),
+    /// The least length of a segment isn't from 1 to 64.
+    BadLength,
 }
 
 /// What a request is answered.
@@ -133,12 +135,14 @@ pub enum Answer {
         /// The run.
         run: Name,
     },
-    /// The penalty was set.
+    /// The penalty and the least length were set.
     Tuned {
         /// The metric.
         metric: Name,
         /// The penalty, in squared units of the metric's last decimal.
         penalty: i128,
+        /// The least length of a segment.
+        length: u8,
     },
     /// The series was segmented, and what was found was published.
     Segmented {

@@ -42,7 +42,7 @@ pub enum Request {
         /// The run.
         run: Name,
     },
-    /// Sets the penalty of a metric.
+    /// Sets the penalty of a metric, and the least length of its segments.
     Tune {
         /// The machine.
         machine: Name,
@@ -50,6 +50,8 @@ pub enum Request {
         metric: Name,
         /// The penalty, in squared units of the metric's last decimal.
         penalty: i128,
+        /// The least length of a segment, where it isn't to stay as it is.
+        length: Option<u8>,
     },
     /// Sets the penalty of a series' metric from the noise of the series.
     Calibrate {

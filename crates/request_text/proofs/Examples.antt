@@ -13,7 +13,7 @@ use Rattle.std.proofs.Math.Seq.{take-append_seam}
 use Rattle.percent_encoding.specs.Percent.{percent_decode}
 use Rattle.line_text.specs.Names.{HasWholeEscapes}
 use Rattle.request_model.specs.declared.requests.Request.TheVariants as request
-use Rattle.request_words.specs.Forms.{Form, machine, commit, submit_go, body_length, IsOfForm, IsNamed, SpellsName, IsInRange}
+use Rattle.request_words.specs.Forms.{Form, machine, commit, submit_go, body_length, IsOfForm, IsNamed, SpellsName, IsInRange, HasLength}
 use Rattle.request_words.specs.Bodies.{Item, AsksNamed}
 use Rattle.request_words.specs.Items.{IsSkipped, formed, named}
 use Rattle.request_text.specs.Scripts.{line_limit, input_limit, IsLine, Piece, IsPiece, ArePieces, IsInside, cut_off, unfinished, inside, more, IsScript}
@@ -100,22 +100,22 @@ is_line bytes test short =
 
 -- a line of a form that counts no bytes is a piece, where its words are names
 whole_piece : (line : List ℕ) (form : Form) (item : Item) → IsLine line → IsOfForm line form → body_length form ≡ 0 → IsNamed form → IsInRange form
-    → AsksNamed form [] item → ArePieces (line ++ 10 ∷ []) (item ∷ [])
-whole_piece line form item is of_form none names range asks =
+    → HasLength form → AsksNamed form [] item → ArePieces (line ++ 10 ∷ []) (item ∷ [])
+whole_piece line form item is of_form none names range long asks =
     one_piece line [] (line ++ 10 ∷ []) item refl is (λ skipped. skipped_formless line skipped form of_form) (inl (form, of_form, sym none))
-    (formed form of_form (named (omega (arith, none)) names range asks))
+    (formed form of_form (named (omega (arith, none)) names range long asks))
 
 -- its first line is a piece
 machine_piece : ArePieces (machine_line ++ 10 ∷ []) (machine_item ∷ [])
 unfolding machine_line percent_decode
 machine_piece = whole_piece machine_line (machine (codes "m1")) machine_item (is_line machine_line refl (omega arith)) machine_form refl
-    (record { names = (m1_word, tt); metric = tt }) tt refl
+    (record { names = (m1_word, tt); metric = tt }) tt tt refl
 
 -- its second line is a piece
 commit_piece : ArePieces (commit_line ++ 10 ∷ []) (commit_item ∷ [])
 unfolding commit_line percent_decode
 commit_piece = whole_piece commit_line (commit (codes "m1") 10 (codes "a")) commit_item (is_line commit_line refl (omega arith)) commit_form refl
-    (record { names = (m1_word, (a_word, tt)); metric = tt }) tt refl
+    (record { names = (m1_word, (a_word, tt)); metric = tt }) tt tt refl
 
 -- its third line has too few bytes behind it
 submit_inside : IsInside (submit_line ++ 10 ∷ codes "Bench")

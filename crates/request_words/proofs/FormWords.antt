@@ -1,6 +1,6 @@
 -- A form is what its words say: the words of a line tell the one form that it can have.
 use Rattle.std.proofs.Common.{◌≡◌, ℕ, ◌+◌, ◌*◌, ◌<◌, ◌^◌, eqb, List, [], ◌∷◌, refl, sym, ap, ◌∙◌, subst, arith}
-use Rattle.std.specs.Prelude.{if◌then◌else◌, Bool, true, false, codes, decimal}
+use Rattle.std.specs.Prelude.{if◌then◌else◌, Bool, true, false, codes, decimal, Option, Some, None}
 use Rattle.std.specs.List.{AllByRecursion}
 use Rattle.std.specs.Str.Parse.{digits_value}
 use Rattle.std.proofs.lemmas.Fmt.{decimal_is_IsNumeral_wide}
@@ -59,6 +59,11 @@ state_of w =
     else if begins w (codes "active") then state.Active else if begins w (codes "not_to_be_fixed") then state.NotToBeFixed
     else if begins w (codes "ignored") then state.Ignored else if begins w (codes "verify") then state.Verify else state.Fixed
 
+-- a number, if there is a word for it
+abbrev pub given_in : List (List ℕ) → Option ℕ
+given_in [] = None
+given_in (w ∷ words) = Some (value w)
+
 -- a submission, by the words behind the first
 abbrev pub submission_of : Bool → List (List ℕ) → Form
 submission_of go more =
@@ -72,7 +77,7 @@ form_by w more =
     else if begins w (codes "commit") then commit (first more) (value (second more)) (third more)
     else if begins w (codes "submit") then submission_of (begins (first more) (codes "go")) more
     else if begins w (codes "retract") then retract (first more) (second more)
-    else if begins w (codes "tune") then tune (first more) (second more) (third more)
+    else if begins w (codes "tune") then tune (first more) (second more) (third more) (given_in (rest (rest (rest more))))
     else if begins w (codes "calibrate") then calibrate (first more) (second more) (third more) (value (fourth more))
     else if begins w (codes "segment") then of_series Segment (first more) (second more) (third more)
     else if begins w (codes "changes") then of_series Changes (first more) (second more) (third more)
@@ -108,7 +113,8 @@ form_back (commit m number name) small = ap (λ n. commit m n name) (number_back
 form_back (submit_go m c r len) small = ap (submit_go m c r) (number_back len small.0)
 form_back (submit_lnt m r len) small = ap (submit_lnt m r) (number_back len small.0)
 form_back (retract m r) small = refl
-form_back (tune m metric penalty) small = refl
+form_back (tune m metric penalty None) small = refl
+form_back (tune m metric penalty (Some len)) small = ap (λ n. tune m metric penalty (Some n)) (number_back len small.0)
 form_back (calibrate m test metric factor) small = ap (calibrate m test metric) (number_back factor small.0)
 form_back (of_series Segment m test metric) small = refl
 form_back (of_series Changes m test metric) small = refl

@@ -1,11 +1,11 @@
 -- What a line of a form asks before its body is read.
 use Rattle.std.proofs.Common.{◌≡◌, ◌≢◌, ℕ, ◌<◌, ◌≤◌, Bool, true, false, inl, inr, List, [], ◌∷◌, length, refl, sym, ap, ◌∙◌, arith, codes}
 use Rattle.std.specs.List.{AllByRecursion}
-use Rattle.request_words.specs.declared.head.LineFault.TheVariants.{BadRequest, BadName, BadPenalty, BodyTooLong}
+use Rattle.request_words.specs.declared.head.LineFault.TheVariants.{BadRequest, BadName, BadPenalty, BadLength, BodyTooLong}
 use Rattle.request_words.specs.declared.head.Head.TheVariants.{Refused}
-use Rattle.request_words.specs.Forms.{Form, machine, commit, submit_go, submit_lnt, retract, tune, calibrate, of_series, regress, set_state, bisect, answer, of_job, runs, report, series_word, job_word, IsOfForm, HasNoForm, names_in, body_length, SpellsName, HasShortMetric, IsNamed, IsInRange}
+use Rattle.request_words.specs.Forms.{Form, machine, commit, submit_go, submit_lnt, retract, tune, calibrate, of_series, regress, set_state, bisect, answer, of_job, runs, report, series_word, job_word, IsOfForm, HasNoForm, names_in, body_length, SpellsName, HasShortMetric, IsNamed, IsInRange, HasLength}
 use Rattle.request_words.specs.Bodies.{Item, AsksNamed}
-use Rattle.request_words.specs.Items.{long, unnamed, wide, named, formless, formed, Counts, body_limit}
+use Rattle.request_words.specs.Items.{long, unnamed, wide, off, named, formless, formed, Counts, body_limit}
 use Rattle.line_text.specs.Lines.{words_of}
 use Rattle.request_words.specs.Verbs.{word_of}
 use Rattle.request_words.specs.declared.verb.Verb.{Verb}
@@ -33,11 +33,11 @@ pub unnamed_head : (line : List ℕ) (form : Form) (count : ℕ) → IsOfForm li
 unnamed_head line form count is counted within bad =
     record { counted = counts_form line form count is counted; asks = λ body item told. formed form is (unnamed (omega (arith, within, counted)) (λ are. bad are.names) told) }
 
-pub named_head : (line : List ℕ) (form : Form) (count : ℕ) (OfBody : List ℕ → Item → Type 0) → IsOfForm line form → HasShortMetric form → IsInRange form → count ≡ body_length form
+pub named_head : (line : List ℕ) (form : Form) (count : ℕ) (OfBody : List ℕ → Item → Type 0) → IsOfForm line form → HasShortMetric form → IsInRange form → HasLength form → count ≡ body_length form
     → count ≤ body_limit → AllByRecursion SpellsName (names_in form) → ((body : List ℕ) (item : Item) → OfBody body item → AsksNamed form body item)
     → IsHeadOf line count OfBody
-named_head line form count OfBody is metric range counted within names asks =
-    record { counted = counts_form line form count is counted; asks = λ body item told. formed form is (named (omega (arith, within, counted)) (record { names = names; metric = metric }) range (asks body item told)) }
+named_head line form count OfBody is metric range fits counted within names asks =
+    record { counted = counts_form line form count is counted; asks = λ body item told. formed form is (named (omega (arith, within, counted)) (record { names = names; metric = metric }) range fits (asks body item told)) }
 
 pub long_metric : (line : List ℕ) (form : Form) (count : ℕ) → IsOfForm line form → count ≡ body_length form
     → count ≤ body_limit → (¬ IsNamed form) → IsHead line (Refused BadName count)
@@ -48,6 +48,11 @@ pub wide_head : (line : List ℕ) (form : Form) (count : ℕ) → IsOfForm line 
     → count ≤ body_limit → IsNamed form → (¬ IsInRange form) → IsHead line (Refused BadPenalty count)
 wide_head line form count is counted within are out =
     record { counted = counts_form line form count is counted; asks = λ body item told. formed form is (wide (omega (arith, within, counted)) are out told) }
+
+pub off_head : (line : List ℕ) (form : Form) (count : ℕ) → IsOfForm line form → count ≡ body_length form
+    → count ≤ body_limit → IsNamed form → IsInRange form → (¬ HasLength form) → IsHead line (Refused BadLength count)
+off_head line form count is counted within are range out =
+    record { counted = counts_form line form count is counted; asks = λ body item told. formed form is (off (omega (arith, within, counted)) are range out told) }
 
 -- a line has no form where it hasn't that of its words
 pub formless_behind : {line : List ℕ} {words : List (List ℕ)} → words_of line ≡ words → (¬ IsOfForm line (form_in words)) → IsHead line (Refused BadRequest 0)
@@ -85,7 +90,7 @@ no_verb line word words is none (commit m number name) of_form = none verb.Commi
 no_verb line word words is none (submit_go m c r len) of_form = none verb.Submit (first_of (sym is ∙ of_form.words))
 no_verb line word words is none (submit_lnt m r len) of_form = none verb.Submit (first_of (sym is ∙ of_form.words))
 no_verb line word words is none (retract m r) of_form = none verb.Retract (first_of (sym is ∙ of_form.words))
-no_verb line word words is none (tune m metric penalty) of_form = none verb.Tune (first_of (sym is ∙ of_form.words))
+no_verb line word words is none (tune m metric penalty given) of_form = none verb.Tune (first_of (sym is ∙ of_form.words))
 no_verb line word words is none (calibrate m test metric factor) of_form = none verb.Calibrate (first_of (sym is ∙ of_form.words))
 no_verb line word words is none (of_series asked m test metric) of_form = none (verb.Series asked) (first_of (sym is ∙ of_form.words))
 no_verb line word words is none (regress m test metric change) of_form = none verb.Regress (first_of (sym is ∙ of_form.words))

@@ -4,3 +4,4 @@ mod TooGreat
 pub mod Skipped
 pub mod OneForm
 mod OneItem
+mod Given

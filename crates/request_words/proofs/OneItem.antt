@@ -17,7 +17,7 @@ use Rattle.request_model.specs.declared.replies.Refusal.{Refusal}
 use Rattle.request_model.specs.declared.replies.Refusal.TheVariants as refusal
 use Rattle.request_words.specs.Forms.{Form, machine, commit, submit_go, submit_lnt, retract, tune, calibrate, of_series, regress, set_state, bisect, answer, of_job, runs, report}
 use Rattle.request_words.specs.Bodies.{Item, GivesGo, RefusesGo, AsksGo, fault_of, AsksLnt, AsksNamed}
-use Rattle.request_words.specs.Items.{AsksForm, long, unnamed, wide, named, formless, formed, OneItem}
+use Rattle.request_words.specs.Items.{off, AsksForm, long, unnamed, wide, named, formless, formed, OneItem}
 use Rattle.request_words.proofs.OneForm.{one_form}
 
 -- ---- Go benchmark text
@@ -55,6 +55,7 @@ told_by body (refusal.Stale version) told = absurd told
 told_by body (refusal.JobClosed outcome) told = absurd told
 told_by body (refusal.JobOpen asked) told = absurd told
 told_by body refusal.BadPenalty told = absurd told
+told_by body refusal.BadLength told = absurd told
 told_by body (refusal.TooFewPoints points) told = absurd told
 told_by body refusal.BodyTooLong told = absurd told
 told_by body refusal.OnlyAlone told = absurd told
@@ -150,6 +151,7 @@ tells_fault body refusal.BadRange due = absurd due.2
 tells_fault body (refusal.JobClosed outcome) due = absurd due.2
 tells_fault body (refusal.JobOpen asked) due = absurd due.2
 tells_fault body refusal.BadPenalty due = absurd due.2
+tells_fault body refusal.BadLength due = absurd due.2
 tells_fault body (refusal.TooFewPoints points) due = absurd due.2
 tells_fault body refusal.BodyTooLong due = absurd due.2
 
@@ -184,7 +186,7 @@ one_named go lnt (commit m number name) body item other a b = a ∙ sym b
 one_named go lnt (submit_go m c r len) body item other a b = one_go go body _ item other a b
 one_named go lnt (submit_lnt m r len) body item other a b = one_lnt lnt body _ item other a b
 one_named go lnt (retract m r) body item other a b = a ∙ sym b
-one_named go lnt (tune m metric penalty) body item other a b = a ∙ sym b
+one_named go lnt (tune m metric penalty given) body item other a b = a ∙ sym b
 one_named go lnt (calibrate m test metric factor) body item other a b = a ∙ sym b
 one_named go lnt (of_series asked m test metric) body item other a b = a ∙ sym b
 one_named go lnt (regress m test metric change) body item other a b = a ∙ sym b
@@ -196,22 +198,31 @@ one_named go lnt (runs m) body item other a b = a ∙ sym b
 one_named go lnt (report m json) body item other a b = a ∙ sym b
 
 one_asked : OneReading → OneAnswer → (form : Form) (body : List ℕ) (item other : Item) → AsksForm form body item → AsksForm form body other → item ≡ other
-one_asked go lnt form body item other (long a b) (long d e) = b ∙ sym e
-one_asked go lnt form body item other (long a b) (unnamed d e f) = absurd (omega (arith, a, d))
-one_asked go lnt form body item other (long a b) (wide d e f k) = absurd (omega (arith, a, d))
-one_asked go lnt form body item other (long a b) (named d e f k) = absurd (omega (arith, a, d))
+one_asked go lnt form body item other (long a b) (long e f) = b ∙ sym f
+one_asked go lnt form body item other (long a b) (unnamed e f k) = absurd (omega (arith, a, e))
+one_asked go lnt form body item other (long a b) (wide e f k l) = absurd (omega (arith, a, e))
+one_asked go lnt form body item other (long a b) (off e f k l m) = absurd (omega (arith, a, e))
+one_asked go lnt form body item other (long a b) (named e f k l m) = absurd (omega (arith, a, e))
 one_asked go lnt form body item other (unnamed a b d) (long e f) = absurd (omega (arith, a, e))
 one_asked go lnt form body item other (unnamed a b d) (unnamed e f k) = d ∙ sym k
 one_asked go lnt form body item other (unnamed a b d) (wide e f k l) = absurd (b f)
-one_asked go lnt form body item other (unnamed a b d) (named e f k l) = absurd (b f)
+one_asked go lnt form body item other (unnamed a b d) (off e f k l m) = absurd (b f)
+one_asked go lnt form body item other (unnamed a b d) (named e f k l m) = absurd (b f)
 one_asked go lnt form body item other (wide a b d i) (long e f) = absurd (omega (arith, a, e))
 one_asked go lnt form body item other (wide a b d i) (unnamed e f k) = absurd (f b)
 one_asked go lnt form body item other (wide a b d i) (wide e f k l) = i ∙ sym l
-one_asked go lnt form body item other (wide a b d i) (named e f k l) = absurd (d k)
-one_asked go lnt form body item other (named a b d i) (long e f) = absurd (omega (arith, a, e))
-one_asked go lnt form body item other (named a b d i) (unnamed e f k) = absurd (f b)
-one_asked go lnt form body item other (named a b d i) (wide e f k l) = absurd (k d)
-one_asked go lnt form body item other (named a b d i) (named e f k l) = one_named go lnt form body item other i l
+one_asked go lnt form body item other (wide a b d i) (off e f k l m) = absurd (d k)
+one_asked go lnt form body item other (wide a b d i) (named e f k l m) = absurd (d k)
+one_asked go lnt form body item other (off a b d i j) (long e f) = absurd (omega (arith, a, e))
+one_asked go lnt form body item other (off a b d i j) (unnamed e f k) = absurd (f b)
+one_asked go lnt form body item other (off a b d i j) (wide e f k l) = absurd (k d)
+one_asked go lnt form body item other (off a b d i j) (off e f k l m) = j ∙ sym m
+one_asked go lnt form body item other (off a b d i j) (named e f k l m) = absurd (i l)
+one_asked go lnt form body item other (named a b d i j) (long e f) = absurd (omega (arith, a, e))
+one_asked go lnt form body item other (named a b d i j) (unnamed e f k) = absurd (f b)
+one_asked go lnt form body item other (named a b d i j) (wide e f k l) = absurd (k d)
+one_asked go lnt form body item other (named a b d i j) (off e f k l m) = absurd (l i)
+one_asked go lnt form body item other (named a b d i j) (named e f k l m) = one_named go lnt form body item other j m
 
 pub one_item : OneReading → OneAnswer → OneItem
 one_item go lnt line body item other (formless a b) (formless d e) = b ∙ sym e

@@ -92,7 +92,7 @@ AsksNamed (submit_go m c r len) body item =
 AsksNamed (submit_lnt m r len) body item =
     AsksLnt body (of_lnt (name_of m) (name_of r)) item
 AsksNamed (retract m r) body item = item ≡ Ok (request.Retract (name_of m) (name_of r))
-AsksNamed (tune m metric penalty) body item = item ≡ Ok (request.Tune (name_of m) (name_of metric) (pos (digits_value 10 penalty)))
+AsksNamed (tune m metric penalty given) body item = item ≡ Ok (request.Tune (name_of m) (name_of metric) (pos (digits_value 10 penalty)) given)
 AsksNamed (calibrate m test metric factor) body item = item ≡ Ok (request.Calibrate (name_of m) (name_of test) (name_of metric) factor)
 AsksNamed (of_series asked m test metric) body item = item ≡ Ok (series_request asked (name_of m) (name_of test) (name_of metric))
 AsksNamed (regress m test metric change) body item = item ≡ Ok (request.Regress (name_of m) (name_of test) (name_of metric) change)

@@ -1,5 +1,5 @@
 -- The forms of a request line, and the words of each.
-use Rattle.std.specs.Prelude.{◌≡◌, ℕ, ◌^◌, ◌<◌, ◌≤◌, Bool, true, false, List, [], ◌∷◌, length, decimal, codes}
+use Rattle.std.specs.Prelude.{◌≡◌, ℕ, ◌^◌, ◌<◌, ◌≤◌, Bool, true, false, List, [], ◌∷◌, length, map, option_to_list, decimal, codes, Option, IfSome}
 use Rattle.std.specs.List.{AllByRecursion}
 use Rattle.std.specs.Str.Parse.{digits_value}
 use Rattle.percent_encoding.specs.Percent.{percent_decode}
@@ -8,6 +8,7 @@ use Rattle.line_text.specs.Names.{Spells}
 use Rattle.line_text.specs.Numbers.{IsNumber}
 use Rattle.regression_state.specs.declared.states.State.{State}
 use Rattle.regression_state.specs.Moves.{word}
+use Rattle.segment_model.specs.Limits.{IsLength}
 use Rattle.request_model.specs.Factors.{IsFactor}
 use Rattle.request_words.specs.declared.verb.JobVerb.{JobVerb}
 use Rattle.request_words.specs.declared.verb.JobVerb.TheVariants.{Resume, Job}
@@ -21,7 +22,7 @@ pub data Form : Type 0 where
   submit_go : (m c r : List ℕ) (len : ℕ) → Form
   submit_lnt : (m r : List ℕ) (len : ℕ) → Form
   retract : (m r : List ℕ) → Form
-  tune : (m metric penalty : List ℕ) → Form
+  tune : (m metric penalty : List ℕ) (given : Option ℕ) → Form
   calibrate : (m test metric : List ℕ) (factor : ℕ) → Form
   of_series : (asked : SeriesVerb) (m test metric : List ℕ) → Form
   regress : (m test metric : List ℕ) (change : ℕ) → Form
@@ -55,7 +56,7 @@ words_in (commit m number name) = codes "commit" ∷ m ∷ decimal number ∷ na
 words_in (submit_go m c r len) = codes "submit" ∷ codes "go" ∷ m ∷ c ∷ r ∷ decimal len ∷ []
 words_in (submit_lnt m r len) = codes "submit" ∷ codes "lnt" ∷ m ∷ r ∷ decimal len ∷ []
 words_in (retract m r) = codes "retract" ∷ m ∷ r ∷ []
-words_in (tune m metric penalty) = codes "tune" ∷ m ∷ metric ∷ penalty ∷ []
+words_in (tune m metric penalty given) = codes "tune" ∷ m ∷ metric ∷ penalty ∷ map decimal (option_to_list given)
 words_in (calibrate m test metric factor) = codes "calibrate" ∷ m ∷ test ∷ metric ∷ decimal factor ∷ []
 words_in (of_series asked m test metric) = series_word asked ∷ m ∷ test ∷ metric ∷ []
 words_in (regress m test metric change) = codes "regress" ∷ m ∷ test ∷ metric ∷ decimal change ∷ []
@@ -73,7 +74,7 @@ names_in (commit m number name) = m ∷ name ∷ []
 names_in (submit_go m c r len) = m ∷ c ∷ r ∷ []
 names_in (submit_lnt m r len) = m ∷ r ∷ []
 names_in (retract m r) = m ∷ r ∷ []
-names_in (tune m metric penalty) = m ∷ metric ∷ []
+names_in (tune m metric penalty given) = m ∷ metric ∷ []
 names_in (calibrate m test metric factor) = m ∷ test ∷ metric ∷ []
 names_in (of_series asked m test metric) = m ∷ test ∷ metric ∷ []
 names_in (regress m test metric change) = m ∷ test ∷ metric ∷ []
@@ -89,6 +90,7 @@ abbrev pub numbers_in : Form → List ℕ
 numbers_in (commit m number name) = number ∷ []
 numbers_in (submit_go m c r len) = len ∷ []
 numbers_in (submit_lnt m r len) = len ∷ []
+numbers_in (tune m metric penalty given) = option_to_list given
 numbers_in (calibrate m test metric factor) = factor ∷ []
 numbers_in (regress m test metric change) = change ∷ []
 numbers_in (set_state m regression state) = regression ∷ []
@@ -103,7 +105,7 @@ HasStatus form = Unit {0}
 
 -- the words that must be numbers, of any size
 abbrev pub amounts_in : Form → List (List ℕ)
-amounts_in (tune m metric penalty) = penalty ∷ []
+amounts_in (tune m metric penalty given) = penalty ∷ []
 amounts_in form = []
 
 -- how many bytes behind the line belong to it
@@ -133,7 +135,7 @@ SpellsName word = Spells word (name_of word)
 
 -- a metric's name has at most 64 bytes
 abbrev pub HasShortMetric : Form → Type 0
-HasShortMetric (tune m metric penalty) = length (name_of metric) ≤ 64
+HasShortMetric (tune m metric penalty given) = length (name_of metric) ≤ 64
 HasShortMetric (calibrate m test metric factor) = length (name_of metric) ≤ 64
 HasShortMetric (of_series asked m test metric) = length (name_of metric) ≤ 64
 HasShortMetric (regress m test metric change) = length (name_of metric) ≤ 64
@@ -146,6 +148,11 @@ pub record IsNamed (form : Form) : Type 0 where
 
 -- a penalty is at most 10^36, and a factor that it is made by from 1 to 1,000
 abbrev pub IsInRange : Form → Type 0
-IsInRange (tune m metric penalty) = digits_value 10 penalty ≤ 10 ^ 36
+IsInRange (tune m metric penalty given) = digits_value 10 penalty ≤ 10 ^ 36
 IsInRange (calibrate m test metric factor) = IsFactor factor
 IsInRange form = Unit {0}
+
+-- a least length, where one is given, is from 1 to 64
+abbrev pub HasLength : Form → Type 0
+HasLength (tune m metric penalty given) = IfSome given IsLength
+HasLength form = Unit {0}

@@ -4,7 +4,7 @@ use Rattle.line_text.specs.Lines.{words_of}
 use Rattle.request_words.specs.declared.head.Head.{Head}
 use Rattle.request_words.specs.declared.head.Head.TheVariants.{Refused, Asked, Go, Lnt}
 use Rattle.request_words.specs.declared.head.LineFault.{LineFault}
-use Rattle.request_words.specs.declared.head.LineFault.TheVariants.{BadRequest, BadName, BadPenalty, BodyTooLong}
+use Rattle.request_words.specs.declared.head.LineFault.TheVariants.{BadRequest, BadName, BadPenalty, BadLength, BodyTooLong}
 use Rattle.request_model.specs.declared.replies.Refusal.{Refusal}
 use Rattle.request_model.specs.declared.replies.Refusal.TheVariants as refusal
 use Rattle.request_words.specs.Forms.{SpellsName, name_of}
@@ -21,6 +21,7 @@ abbrev pub line_refusal : LineFault → Refusal
 line_refusal BadRequest = refusal.BadRequest
 line_refusal BadName = refusal.BadName
 line_refusal BadPenalty = refusal.BadPenalty
+line_refusal BadLength = refusal.BadLength
 line_refusal BodyTooLong = refusal.BodyTooLong
 
 -- what the line asks as soon as its body is there

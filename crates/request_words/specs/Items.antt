@@ -1,8 +1,8 @@
 -- What a request line asks with the bytes of its body: a request, or the first refusal that it meets.
 use Rattle.std.specs.Prelude.{◌≡◌, ℕ, ◌<◌, ◌≤◌, ◌⊎◌, List, [], ◌∷◌, Err}
 use Rattle.line_text.specs.Lines.{words_of}
-use Rattle.request_model.specs.declared.replies.Refusal.TheVariants.{BadRequest, BadName, BadPenalty, BodyTooLong}
-use Rattle.request_words.specs.Forms.{Form, IsOfForm, HasNoForm, body_length, IsNamed, IsInRange}
+use Rattle.request_model.specs.declared.replies.Refusal.TheVariants.{BadRequest, BadName, BadPenalty, BadLength, BodyTooLong}
+use Rattle.request_words.specs.Forms.{Form, IsOfForm, HasNoForm, body_length, IsNamed, IsInRange, HasLength}
 use Rattle.request_words.specs.Bodies.{Item, AsksNamed}
 
 -- the most bytes of a body
@@ -14,7 +14,8 @@ pub data AsksForm (form : Form) (body : List ℕ) (item : Item) : Type 0 where
   long : body_limit < body_length form → item ≡ Err BodyTooLong → AsksForm form body item
   unnamed : body_length form ≤ body_limit → (¬ IsNamed form) → item ≡ Err BadName → AsksForm form body item
   wide : body_length form ≤ body_limit → IsNamed form → (¬ IsInRange form) → item ≡ Err BadPenalty → AsksForm form body item
-  named : body_length form ≤ body_limit → IsNamed form → IsInRange form → AsksNamed form body item → AsksForm form body item
+  off : body_length form ≤ body_limit → IsNamed form → IsInRange form → (¬ HasLength form) → item ≡ Err BadLength → AsksForm form body item
+  named : body_length form ≤ body_limit → IsNamed form → IsInRange form → HasLength form → AsksNamed form body item → AsksForm form body item
 
 -- what a request line asks
 pub data Asks (line body : List ℕ) (item : Item) : Type 0 where

@@ -1,5 +1,5 @@
 //! The head of a request: what its line asks before its body is read.
-ghost use Rattle.std.specs.Prelude.{◌≡◌, ◌≢◌, ℕ, ◌^◌, ◌<◌, List, [], ◌∷◌, decimal, codes, IfOk, IfSome, IfNone};
+ghost use Rattle.std.specs.Prelude.{◌≡◌, ◌≢◌, ℕ, ◌^◌, ◌<◌, List, [], ◌∷◌, map, option_to_list, Option, decimal, codes, IfOk, IfSome, IfNone};
 ghost use Rattle.line_text.specs.Numbers.{IsNumber};
 ghost use Rattle.request_words.specs.Forms.{series_word};
 ghost use Rattle.request_words.specs.Bodies.{series_request};
@@ -7,7 +7,7 @@ ghost use Rattle.request_words.specs.Heads.{IsHead, IsHeadBehind, line_refusal};
 ghost use Rattle.request_words.specs.Items.{Asks, Counts};
 
 use crate::NoMemory;
-use crate::amounts::{is_factor, penalty_of};
+use crate::amounts::{is_factor, length_of, penalty_of};
 use crate::body::{go_asked, lnt_asked};
 use crate::found_head::{
     answer_head, bisect_head, job_head, regress_head, report_head, state_head,
@@ -31,6 +31,8 @@ pub enum LineFault {
     BadName,
     /// A penalty or its factor is out of range.
     BadPenalty,
+    /// A least length is out of range.
+    BadLength,
     /// More bytes belong to it than a body may have.
     BodyTooLong,
 }
@@ -106,6 +108,7 @@ fn line_refusal(fault: LineFault) -> Refusal
         LineFault::BadRequest => Refusal::BadRequest,
         LineFault::BadName => Refusal::BadName,
         LineFault::BadPenalty => Refusal::BadPenalty,
+        LineFault::BadLength => Refusal::BadLength,
         LineFault::BodyTooLong => Refusal::BodyTooLong,
     }
 }
@@ -175,11 +178,11 @@ fn retract_head(alloc: Global, names: &mut Names, mut words: Words) -> Result<He
     Ok(Head::Asked(Request::Retract { machine, run }))
 }
 
-// `tune M METRIC PENALTY`.
+// `tune M METRIC PENALTY` and `tune M METRIC PENALTY LENGTH`.
 fn tune_head(alloc: Global, names: &mut Names, words: Words) -> Result<Head, NoMemory>
     ensures { IfOk result (λ head. IsHeadBehind (codes "tune") words.entry head) }
 {
-    let Some((m, x, p)) = tune_words(words) else {
+    let Some((m, x, p, given)) = tune_words(words) else {
         return Ok(formless());
     };
     let Some((machine, metric)) = metric_named(alloc, names, m, x)? else {
@@ -188,25 +191,37 @@ fn tune_head(alloc: Global, names: &mut Names, words: Words) -> Result<Head, NoM
     let Some(penalty) = penalty_of(p) else {
         return Ok(Head::Refused(LineFault::BadPenalty, 0));
     };
+    let Some(length) = length_of(given) else {
+        return Ok(Head::Refused(LineFault::BadLength, 0));
+    };
     Ok(Head::Asked(Request::Tune {
         machine,
         metric,
         penalty,
+        length,
     }))
 }
 
-// The words of a penalty.
-fn tune_words<'a>(mut words: Words<'a>) -> Option<(&'a [u8], &'a [u8], &'a [u8])>
-    ensures some { IfSome result
-        (λ parts. (words.entry ≡ parts.0.now ∷ parts.1.now ∷ parts.2.now ∷ [])
-        × IsNumber parts.2.now) }
-    ensures none { IfNone result ((m x p : List ℕ)
-        → IsNumber p → words.entry ≢ m ∷ x ∷ p ∷ []) }
+// The words of a penalty, and the least length, if one is given.
+fn tune_words<'a>(mut words: Words<'a>) -> Option<(&'a [u8], &'a [u8], &'a [u8], Option<u64>)>
+    ensures some { IfSome result (λ parts. (words.entry ≡ parts.0.now ∷ parts.1.now
+        ∷ parts.2.now ∷ map decimal (option_to_list parts.3)) × IsNumber parts.2.now) }
+    ensures fits { IfSome result (λ parts. IfSome parts.3 (λ n. n < 2 ^ 64)) }
+    ensures none { IfNone result ((m x p : List ℕ) (given : Option ℕ)
+        → IsNumber p → IfSome given (λ n. n < 2 ^ 64)
+        → words.entry ≢ m ∷ x ∷ p ∷ map decimal (option_to_list given)) }
 {
     let m = words.next()?;
     let x = words.next()?;
-    let p = words.one()?;
-    if is_number(p) { Some((m, x, p)) } else { None }
+    let p = words.next()?;
+    if !is_number(p) {
+        return None;
+    }
+    if words.are_over() {
+        return Some((m, x, p, None));
+    }
+    let given = words.number()?;
+    Some((m, x, p, Some(given)))
 }
 
 // `calibrate M TEST METRIC FACTOR`.

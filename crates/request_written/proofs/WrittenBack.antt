@@ -1,6 +1,6 @@
 -- What is written of a request is read as the request.
-use Rattle.std.proofs.Common.{◌≡◌, ℕ, ◌^◌, ◌<◌, ◌≤◌, inl, List, [], ◌∷◌, ◌++◌, length, refl, sym, ap, ◌∙◌, subst, arith, append_assoc, Some, None, Ok}
-use Rattle.std.specs.Prelude.{decimal, codes, pos, negsuc, ℤ}
+use Rattle.std.proofs.Common.{◌≡◌, ℕ, ◌^◌, ◌<◌, ◌≤◌, inl, List, [], ◌∷◌, ◌++◌, length, refl, sym, ap, ◌∙◌, subst, arith, append_assoc, map, Option, Some, None, Ok}
+use Rattle.std.specs.Prelude.{decimal, codes, pos, negsuc, ℤ, IfSome, option_to_list}
 use Rattle.std.specs.Fmt.{signed_decimal}
 use Rattle.std.specs.Str.Parse.{digits_value}
 use Rattle.std.proofs.lemmas.Int.{ints}
@@ -12,7 +12,7 @@ use Rattle.line_text.specs.Names.{IsName, Spells, spelling, NamesAreSpelledBack}
 use Rattle.request_model.specs.declared.requests.Request.{Request}
 use Rattle.request_model.specs.declared.requests.Request.TheVariants as request
 use Rattle.regression_state.specs.Moves.{word}
-use Rattle.request_words.specs.Forms.{Form, machine, commit, submit_go, submit_lnt, retract, tune, calibrate, of_series, regress, set_state, bisect, answer, of_job, runs, report, series_word, job_word, report_word, words_in, names_in, numbers_in, body_length, amounts_in, HasStatus, IsOfForm, name_of, SpellsName, HasShortMetric, IsInRange}
+use Rattle.request_words.specs.Forms.{Form, machine, commit, submit_go, submit_lnt, retract, tune, calibrate, of_series, regress, set_state, bisect, answer, of_job, runs, report, series_word, job_word, report_word, words_in, names_in, numbers_in, body_length, amounts_in, HasStatus, IsOfForm, name_of, SpellsName, HasShortMetric, IsInRange, HasLength}
 use Rattle.request_words.specs.Bodies.{Item, AsksNamed, series_request, job_request}
 use Rattle.request_words.specs.Items.{formed, named, body_limit}
 use Rattle.request_text.specs.Scripts.{ArePieces}
@@ -41,6 +41,7 @@ pub record IsWritable (form : Form) (first : List ℕ) (words : List (List ℕ))
   pub names : AllByRecursion SpellsName (names_in form)
   pub metric : HasShortMetric form
   pub range : IsInRange form
+  pub long : HasLength form
   pub asks : AsksNamed form body item
 
 line_and_body : (first body : List ℕ) (words : List (List ℕ)) → line_of (first ∷ words) ++ body ≡ (first ++ spaced words) ++ 10 ∷ body
@@ -55,7 +56,7 @@ written_piece go_on one form first words body item can =
     let of_form : IsOfForm line form = record { words = words_back go_on one first words can.first_word can.words_short ∙ sym can.is; numbers = can.numbers; amounts = can.amounts; status = can.status } in
     let used : line_of (words_in form) ++ body ≡ line ++ 10 ∷ body = ap (λ ws. line_of ws ++ body) can.is ∙ line_and_body first body words in
     one_piece line body (line_of (words_in form) ++ body) item used (line_back first words can.first_word can.few can.words_short can.five)
-    (λ skipped. skipped_formless line skipped form of_form) (inl (form, of_form, sym can.counted)) (formed form of_form (named can.within (record { names = can.names; metric = can.metric }) can.range can.asks))
+    (λ skipped. skipped_formless line skipped form of_form) (inl (form, of_form, sym can.counted)) (formed form of_form (named can.within (record { names = can.names; metric = can.metric }) can.range can.long can.asks))
 
 -- ---- names
 
@@ -64,6 +65,20 @@ back_is law name is = (law name is).0.decoded
 
 spells : NamesAreSpelledBack → (name : List ℕ) → IsName name → SpellsName (spelling name)
 spells law name is = subst (Spells (spelling name)) (sym (back_is law name is)) (law name is).0
+
+-- ---- a number that may be given
+
+given_words : (given : Option ℕ) → IfSome given (λ n. n < 2 ^ 64) → AllByRecursion IsShortWord (map decimal (option_to_list given))
+given_words None fits = tt
+given_words (Some n) fits = (number_word n fits, tt)
+
+given_fits : (given : Option ℕ) → IfSome given (λ n. n < 2 ^ 64) → AllByRecursion (λ n. n < 2 ^ 64) (option_to_list given)
+given_fits None fits = tt
+given_fits (Some n) fits = (fits, tt)
+
+given_few : (a b c : List ℕ) (given : Option ℕ) → length (a ∷ b ∷ c ∷ map decimal (option_to_list given)) ≤ 5
+given_few a b c None = omega arith
+given_few a b c (Some n) = omega arith
 
 -- ---- requests
 
@@ -111,6 +126,7 @@ series_back law go_on one asked m test metric body sound is short =
       names = (spells law m sound.0, (spells law test sound.1, (spells law metric sound.2, tt)));
       metric = subst (λ (name : List ℕ). length name ≤ 64) (sym (back_is law metric sound.2)) short;
       range = tt;
+      long = tt;
       asks = asks;
     })
 
@@ -133,6 +149,7 @@ job_back law go_on one asked m job body first_word few sound is =
       names = (spells law m sound.0, tt);
       metric = tt;
       range = tt;
+      long = tt;
       asks = asks;
     })
 
@@ -155,6 +172,7 @@ written_back law numbers go_on one (request.Machine m) body sound is back none f
       names = (spells law m sound, tt);
       metric = tt;
       range = tt;
+      long = tt;
       asks = asked;
     })
 written_back law numbers go_on one (request.Commit m number name) body sound is back none few =
@@ -175,6 +193,7 @@ written_back law numbers go_on one (request.Commit m number name) body sound is 
       names = (spells law m sound.0, (spells law name sound.2, tt));
       metric = tt;
       range = tt;
+      long = tt;
       asks = asked;
     })
 written_back law numbers go_on one (request.Submit m c run samples ignored None) body sound is back none few =
@@ -195,6 +214,7 @@ written_back law numbers go_on one (request.Submit m c run samples ignored None)
       names = (spells law m sound.0, (spells law c sound.1, (spells law run sound.2, tt)));
       metric = tt;
       range = tt;
+      long = tt;
       asks = (samples, 0, record { read = back; few = sound.3 }, asked);
     })
 written_back law numbers go_on one (request.Submit m c run samples ignored (Some stated)) body sound is back none few =
@@ -215,6 +235,7 @@ written_back law numbers go_on one (request.Submit m c run samples ignored (Some
       names = (spells law m sound.0, (spells law run sound.2, tt));
       metric = tt;
       range = tt;
+      long = tt;
       asks = (record { machine = stated; commit = c; samples = samples; ignored = 0 }, back, asked);
     })
 written_back law numbers go_on one (request.Retract m run) body sound is back none few =
@@ -234,19 +255,20 @@ written_back law numbers go_on one (request.Retract m run) body sound is back no
       names = (spells law m sound.0, (spells law run sound.1, tt));
       metric = tt;
       range = tt;
+      long = tt;
       asks = asked;
     })
-written_back law numbers go_on one (request.Tune m metric penalty) body sound is back may few =
+written_back law numbers go_on one (request.Tune m metric penalty given) body sound is back may few =
     let told = written_penalty numbers penalty may.1 in
-    let asked : Ok (request.Tune m metric penalty) ≡ Ok (request.Tune (name_of (spelling m)) (name_of (spelling metric)) (pos (digits_value 10 (signed_decimal penalty)))) =
+    let asked : Ok (request.Tune m metric penalty given) ≡ Ok (request.Tune (name_of (spelling m)) (name_of (spelling metric)) (pos (digits_value 10 (signed_decimal penalty))) given) =
     ap Ok (rw (back_is law m sound.0, back_is law metric sound.1, told.value) refl) in
-    written_piece go_on one (tune (spelling m) (spelling metric) (signed_decimal penalty)) (codes "tune") (spelling m ∷ spelling metric ∷ signed_decimal penalty ∷ []) body (Ok (request.Tune m metric penalty)) (record {
+    written_piece go_on one (tune (spelling m) (spelling metric) (signed_decimal penalty) given) (codes "tune") (spelling m ∷ spelling metric ∷ signed_decimal penalty ∷ map decimal (option_to_list given)) body (Ok (request.Tune m metric penalty given)) (record {
       is = refl;
       first_word = tune_word;
       few = omega arith;
-      words_short = (name_word law m sound.0, (name_word law metric sound.1, (told.word, tt)));
-      five = omega arith;
-      numbers = tt;
+      words_short = (name_word law m sound.0, (name_word law metric sound.1, (told.word, given_words given sound.2)));
+      five = given_few (spelling m) (spelling metric) (signed_decimal penalty) given;
+      numbers = given_fits given sound.2;
       amounts = (told.number, tt);
       status = tt;
       counted = sym (ap length is);
@@ -254,6 +276,7 @@ written_back law numbers go_on one (request.Tune m metric penalty) body sound is
       names = (spells law m sound.0, (spells law metric sound.1, tt));
       metric = subst (λ (name : List ℕ). length name ≤ 64) (sym (back_is law metric sound.1)) may.0;
       range = told.range;
+      long = may.2;
       asks = asked;
     })
 written_back law numbers go_on one (request.Calibrate m test metric factor) body sound is back may few =
@@ -274,6 +297,7 @@ written_back law numbers go_on one (request.Calibrate m test metric factor) body
       names = (spells law m sound.0, (spells law test sound.1, (spells law metric sound.2, tt)));
       metric = subst (λ (name : List ℕ). length name ≤ 64) (sym (back_is law metric sound.2)) may.0;
       range = may.1;
+      long = tt;
       asks = asked;
     })
 written_back law numbers go_on one (request.Segment m test metric) body sound is back may few = series_back law go_on one Segment m test metric body sound is may
@@ -295,6 +319,7 @@ written_back law numbers go_on one (request.Runs m) body sound is back none few 
       names = (spells law m sound, tt);
       metric = tt;
       range = tt;
+      long = tt;
       asks = asked;
     })
 written_back law numbers go_on one (request.Regress m test metric change) body sound is back may few =
@@ -314,6 +339,7 @@ written_back law numbers go_on one (request.Regress m test metric change) body s
       names = (spells law m sound.0, (spells law test sound.1, (spells law metric sound.2, tt)));
       metric = subst (λ (name : List ℕ). length name ≤ 64) (sym (back_is law metric sound.2)) may;
       range = tt;
+      long = tt;
       asks = asked;
     })
 written_back law numbers go_on one (request.SetState m regression state) body sound is back may few =
@@ -333,6 +359,7 @@ written_back law numbers go_on one (request.SetState m regression state) body so
       names = (spells law m sound.0, tt);
       metric = tt;
       range = tt;
+      long = tt;
       asks = asked;
     })
 written_back law numbers go_on one (request.Bisect m lo hi) body sound is back may few =
@@ -352,6 +379,7 @@ written_back law numbers go_on one (request.Bisect m lo hi) body sound is back m
       names = (spells law m sound.0, (spells law lo sound.1, (spells law hi sound.2, tt)));
       metric = tt;
       range = tt;
+      long = tt;
       asks = asked;
     })
 written_back law numbers go_on one (request.Answer m job c status) body sound is back may few =
@@ -372,6 +400,7 @@ written_back law numbers go_on one (request.Answer m job c status) body sound is
       names = (spells law m sound.0, (spells law c sound.2, tt));
       metric = tt;
       range = tt;
+      long = tt;
       asks = asked;
     })
 written_back law numbers go_on one (request.Resume m job) body sound is back may few = job_back law go_on one Resume m job body resume_word (omega arith) sound is
@@ -392,5 +421,6 @@ written_back law numbers go_on one (request.Report m json) body sound is back ma
       names = (spells law m sound, tt);
       metric = tt;
       range = tt;
+      long = tt;
       asks = asked;
     })

@@ -1,5 +1,5 @@
 -- The one spelling of a request.
-use Rattle.std.specs.Prelude.{◌≡◌, ℕ, ◌^◌, ◌<◌, ◌≤◌, List, [], ◌∷◌, ◌++◌, length, slice_index_or, codes, Option, Some, None, Ok}
+use Rattle.std.specs.Prelude.{◌≡◌, ℕ, ◌^◌, ◌<◌, ◌≤◌, List, [], ◌∷◌, ◌++◌, length, slice_index_or, codes, Option, Some, None, IfSome, Ok}
 use Rattle.std.specs.Fmt.{signed_decimal}
 use Rattle.line_text.specs.Names.{IsName, spelling}
 use Rattle.metric_table.specs.Limits.{most}
@@ -11,6 +11,7 @@ use Rattle.go_bench_text.specs.Spellings.{AreSpelled, IsFirstUnspelled}
 use Rattle.lnt_report.specs.Runs.{IsGiven}
 use Rattle.lnt_report.specs.Outcomes.{IsDue}
 use Rattle.lnt_report.specs.Written.{compact, run_tree}
+use Rattle.segment_model.specs.Limits.{IsLength}
 use Rattle.request_model.specs.Factors.{IsFactor}
 use Rattle.request_model.specs.Lines.{line_of}
 use Rattle.request_model.specs.declared.requests.Request.{Request}
@@ -32,7 +33,7 @@ form_of (request.Machine m) len = machine (spelling m)
 form_of (request.Commit m number name) len = commit (spelling m) number (spelling name)
 form_of (request.Submit m c run samples ignored stated) len = submission m c run stated len
 form_of (request.Retract m run) len = retract (spelling m) (spelling run)
-form_of (request.Tune m metric penalty) len = tune (spelling m) (spelling metric) (signed_decimal penalty)
+form_of (request.Tune m metric penalty given) len = tune (spelling m) (spelling metric) (signed_decimal penalty) given
 form_of (request.Calibrate m test metric factor) len = calibrate (spelling m) (spelling test) (spelling metric) factor
 form_of (request.Segment m test metric) len = of_series Segment (spelling m) (spelling test) (spelling metric)
 form_of (request.Changes m test metric) len = of_series Changes (spelling m) (spelling test) (spelling metric)
@@ -82,10 +83,11 @@ abbrev pub HasNoText : Request → ℕ → Type 0
 HasNoText (request.Submit m c run samples ignored stated) place = IsFirstUnwritten samples stated place
 HasNoText q place = ⊥
 
--- some text without ignored lines may ask it: nothing was ignored, a metric is short, a penalty or a factor in range
+-- some text without ignored lines may ask it: nothing was ignored, a metric is short, a penalty with its least
+-- length, or a factor, in range
 abbrev pub MayBeRead : Request → Type 0
 MayBeRead (request.Submit m c run samples ignored stated) = ignored ≡ 0
-MayBeRead (request.Tune m metric penalty) = (length metric ≤ 64) × IsPenalty penalty
+MayBeRead (request.Tune m metric penalty given) = (length metric ≤ 64) × IsPenalty penalty × IfSome given IsLength
 MayBeRead (request.Calibrate m test metric factor) = (length metric ≤ 64) × IsFactor factor
 MayBeRead (request.Segment m test metric) = length metric ≤ 64
 MayBeRead (request.Changes m test metric) = length metric ≤ 64
@@ -105,7 +107,7 @@ IsSound (request.Commit m number name) = IsName m × (number < 2 ^ 64) × IsName
 IsSound (request.Submit m c run samples ignored stated) =
     IsName m × IsName c × IsName run × (length samples ≤ most RunSamples)
 IsSound (request.Retract m run) = IsName m × IsName run
-IsSound (request.Tune m metric penalty) = IsName m × IsName metric
+IsSound (request.Tune m metric penalty given) = IsName m × IsName metric × IfSome given (λ n. n < 2 ^ 64)
 IsSound (request.Calibrate m test metric factor) = IsName m × IsName test × IsName metric × (factor < 2 ^ 64)
 IsSound (request.Segment m test metric) = IsName m × IsName test × IsName metric
 IsSound (request.Changes m test metric) = IsName m × IsName test × IsName metric

@@ -1,5 +1,5 @@
 //! What a request keeps.
-ghost use Rattle.std.specs.Prelude.{◌<◌, ◌≤◌, ◌^◌, length};
+ghost use Rattle.std.specs.Prelude.{◌<◌, ◌≤◌, ◌^◌, length, IfSome};
 ghost use Rattle.line_text.specs.Names.{IsName};
 ghost use Rattle.metric_table.specs.Limits.{most};
 ghost use Rattle.metric_table.specs.declared.limits.Limit.TheVariants.{RunSamples};
@@ -31,8 +31,9 @@ pub(crate) fn sound(request: &Request)
         Request::Tune {
             machine,
             metric,
+            length,
             ..
-        } => two_names(machine, metric),
+        } => sound_setting(machine, metric, *length),
         Request::Calibrate {
             machine,
             test,
@@ -93,6 +94,21 @@ fn two_names(first: &Name, second: &Name)
     first.bytes_law();
     second.bytes_law();
 }
+
+// The same of a setting.
+fn sound_setting(machine: &Name, metric: &Name, length: Option<u8>)
+    ensures { IsName machine.now × IsName metric.now × IfSome length (λ n. n < 2 ^ 64) }
+{
+    two_names(machine, metric);
+    if let Some(least) = length {
+        fits(least);
+    }
+}
+
+// The same of a number of 8 bits.
+fn fits(number: u8)
+    ensures { number < 2 ^ 64 }
+{}
 
 // The same of three names.
 fn three_names(first: &Name, second: &Name, third: &Name)

@@ -44,7 +44,8 @@ pub(crate) fn put_line(
             machine,
             metric,
             penalty,
-        } => put_tune(alloc, out, machine, metric, *penalty),
+            length,
+        } => put_tune(alloc, out, machine, metric, *penalty, *length),
         Request::Calibrate {
             machine,
             test,
@@ -184,15 +185,20 @@ fn put_tune(
     machine: &Name,
     metric: &Name,
     penalty: i128,
+    given: Option<u8>,
 ) -> Result<(), NoMemory>
-    ensures { OnOk result (out.new.items ≡ out.old.items ++ line_of (words_in
-        (form.tune (spelling machine.now) (spelling metric.now) (signed_decimal penalty)))) }
+    ensures { OnOk result (out.new.items ≡ out.old.items ++ line_of (words_in (form.tune
+        (spelling machine.now) (spelling metric.now) (signed_decimal penalty) given))) }
 {
     out.extend_from_slice(b"tune")?;
     put_spelled(alloc, out, machine)?;
     put_spelled(alloc, out, metric)?;
     out.push(b' ')?;
     put_i128(alloc, out, penalty)?;
+    if let Some(least) = given {
+        out.push(b' ')?;
+        put_u64(alloc, out, u64::from(least))?;
+    }
     out.push(b'\n')?;
     Ok(())
 }

@@ -7,6 +7,7 @@ use Rattle.track_model.specs.Tracks.{Track}
 use Rattle.kept_machines.specs.Growth.{AreOfSession, GoOn, IsNewTrack, MayBeKept}
 use Rattle.kept_machines.specs.Kept.{kept_of, AreKept}
 use Rattle.kept_machines.specs.Laws.{KeptComesBack, LoadedAreKept}
+use Rattle.kept_machines.specs.Loading.{Stored}
 use Rattle.kept_machines.specs.Rows.{is_of_session}
 use Rattle.script_desk.specs.Growth.{AreBy, ComesBack, IsNew, Grows, SessionsGoOn, Stays}
 use Rattle.script_desk.specs.Sessions.{State}
@@ -38,10 +39,11 @@ pub sessions_go_on : SessionsGoOn
 sessions_go_on author old new is are grows = go_on author is old new are.kept grows
 
 pub kept_come_back : (after : State) → KeptComesBack → LoadedAreKept → AllByRecursion MayBeKept after.tracks → ComesBack after
-kept_come_back after back loaded may rows before items replies is led answers =
-    let are : AreKept before.tracks = loaded rows before.tracks led in
+kept_come_back after back loaded may rows version before items replies is led answers =
+    let stored : Stored = record { machines = before.tracks; version = version } in
+    let are : AreKept before.tracks = loaded rows stored led in
     let stays : Stays before.author before.tracks after.tracks = sessions_stay before after items replies answers in
-    back rows before.tracks after.tracks led (record {
+    back rows stored after.tracks led (record {
       go_on = go_on before.author is before.tracks after.tracks are.kept stays.grows;
       may = may;
       different = stays.different are.different;

@@ -80,7 +80,7 @@ module _ (author : Author) where
   answered_continues (request.Commit machine number name) o t = added_continues t o.adds
   answered_continues (request.Submit machine commit run samples ignored stated) o t = added_continues t o.adds
   answered_continues (request.Retract machine run) o t = added_continues t o.adds
-  answered_continues (request.Tune machine metric penalty) o t = added_continues t o.adds
+  answered_continues (request.Tune machine metric penalty given) o t = added_continues t o.adds
   answered_continues (request.Calibrate machine test metric factor) o t = added_continues t o.adds
   answered_continues (request.Segment machine test metric) o t = segmented_continues t (record { test = test; metric = metric }) o.answer o.adds
   answered_continues (request.Changes machine test metric) o t = added_continues t o.adds
@@ -169,7 +169,7 @@ module _ (author : Author) where
   unknown_stays tracks (request.Commit machine number name) none = stays_same tracks
   unknown_stays tracks (request.Submit machine commit run samples ignored stated) none = stays_same tracks
   unknown_stays tracks (request.Retract machine run) none = stays_same tracks
-  unknown_stays tracks (request.Tune machine metric penalty) none = stays_same tracks
+  unknown_stays tracks (request.Tune machine metric penalty given) none = stays_same tracks
   unknown_stays tracks (request.Calibrate machine test metric factor) none = stays_same tracks
   unknown_stays tracks (request.Segment machine test metric) none = stays_same tracks
   unknown_stays tracks (request.Changes machine test metric) none = stays_same tracks

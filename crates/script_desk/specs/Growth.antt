@@ -10,8 +10,8 @@ use Rattle.history_model.specs.declared.entries.Placed.{Placed}
 use Rattle.track_model.specs.Tracks.{Track}
 use Rattle.kept_machines.specs.Growth.{GoOn}
 use Rattle.kept_machines.specs.Kept.{kept_of, AreKept}
-use Rattle.kept_machines.specs.Loading.{LeadTo}
-use Rattle.kept_machines.specs.Rows.{is_of_session, new_rows}
+use Rattle.kept_machines.specs.Loading.{Stored, LeadTo}
+use Rattle.kept_machines.specs.Rows.{is_of_session, new_rows, session_rows, version_after}
 pub use Rattle.kept_machines.specs.Machines.{IsOther, AreDifferent, names_of}
 use Rattle.script_desk.specs.Sessions.{State, AnswersFor}
 use Rattle.script_loop.specs.Folds.{AreAnswers}
@@ -56,12 +56,18 @@ SessionsGoOn =
     (author : Author) (old new : List Track) → is_of_session author ≡ true → AreKept old
     → Grows author old new → GoOn old new
 
+-- what a store has of these machines as they are kept, once their new rows stand behind others of a version
+abbrev pub stored_after : ℕ → List Track → Stored
+stored_after version tracks =
+    record { machines = map kept_of tracks; version = version_after version (session_rows tracks) }
+
 -- what a session leaves comes back: rows that led to the machines that it began with, and the new
 -- rows of those that it left, lead to each of the latter as it is kept, where its entries are of
 -- one of this session
 abbrev pub ComesBack : State → Type 0
 ComesBack after =
-    (rows : List (List ℕ)) (before : State) (items : List Item) (replies : List Reply)
-    → is_of_session before.author ≡ true → LeadTo rows before.tracks
+    (rows : List (List ℕ)) (version : ℕ) (before : State) (items : List Item) (replies : List Reply)
+    → is_of_session before.author ≡ true
+    → LeadTo rows (record { machines = before.tracks; version = version })
     → AreAnswers AnswersFor before items replies after
-    → LeadTo (rows ++ new_rows after.tracks) (map kept_of after.tracks)
+    → LeadTo (rows ++ new_rows version after.tracks) (stored_after version after.tracks)

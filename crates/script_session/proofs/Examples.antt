@@ -41,7 +41,7 @@ script =
     ∷ Ok (request.Retract m (codes "r1"))
     ∷ Ok (request.Retract m (codes "r1"))
     ∷ Ok (request.Submit m (codes "a") (codes "r1") (value 0) 0 None)
-    ∷ Ok (request.Tune m (codes "B/op") (pos 50))
+    ∷ Ok (request.Tune m (codes "B/op") (pos 50) None)
     ∷ Ok (request.Runs m)
     ∷ []
 
@@ -66,7 +66,7 @@ wanted =
     ∷ said 5 (answer.Retracted (codes "r1"))
     ∷ said 5 (answer.Refused (refusal.AlreadyRetracted 5))
     ∷ said 5 (answer.Duplicate 3)
-    ∷ said 6 (answer.Tuned (codes "B/op") (pos 50))
+    ∷ said 6 (answer.Tuned (codes "B/op") (pos 50) 1)
     ∷ said 6 (answer.Runs (run_line (codes "r1") (codes "a") false ∷ run_line (codes "r2") (codes "b") true ∷ []))
     ∷ []
 

@@ -16,6 +16,7 @@ use Rattle.play_crew.specs.Rooms.{IsPassOf}
 use Rattle.play_crew.specs.Sights.{Home, IsFirstOf, Sight}
 use Rattle.play_crew.specs.Gathered.{AreKept}
 use Rattle.play_crew.specs.Seats as seats
+use Rattle.kept_machines.specs.Loading.{Stored}
 use Rattle.shared_run.specs.Beginnings.{AreStored, Begins, MayBeStarted, WasStarted}
 use Rattle.shared_run.specs.Lists.{listed_track, with_listed, with_machine}
 
@@ -72,21 +73,21 @@ listed-kept (m ∷ list) tracks all = listed-kept list (with_machine tracks m) (
 
 -- ---- the first machines
 module _ {K : Type 0} (k : keeper.Ghosts K) where
-  stored-different : (store : Option (List ℕ)) (before : K) (stored : List Track) → AreStored k store before stored → AreDifferent (names_of stored)
-  stored-different None before stored is = subst (λ (ts : List Track). AreDifferent (names_of ts)) (sym is) tt
+  stored-different : (store : Option (List ℕ)) (before : K) (stored : Stored) → AreStored k store before stored → AreDifferent (names_of stored.machines)
+  stored-different None before stored is = subst (λ (s : Stored). AreDifferent (names_of s.machines)) (sym is) tt
   stored-different (Some name) before stored is = is.0.different
 
-  stored-kept : (store : Option (List ℕ)) (before : K) (stored : List Track) → AreStored k store before stored → AllByRecursion AreKept stored
-  stored-kept None before stored is = subst (AllByRecursion AreKept) (sym is) tt
-  stored-kept (Some name) before stored is = all-kept stored is.0.kept
+  stored-kept : (store : Option (List ℕ)) (before : K) (stored : Stored) → AreStored k store before stored → AllByRecursion AreKept stored.machines
+  stored-kept None before stored is = subst (λ (s : Stored). AllByRecursion AreKept s.machines) (sym is) tt
+  stored-kept (Some name) before stored is = all-kept stored.machines is.0.kept
 
-  pub first-different : (plan : Plan) (before : K) (tracks : List Track) → Begins k plan before tracks → AreDifferent (names_of tracks)
-  first-different plan before tracks b =
-      subst (λ (ts : List Track). AreDifferent (names_of ts)) (sym b.listed) (listed-different plan.machines b.stored (stored-different plan.store before b.stored b.from_store))
+  pub first-different : (plan : Plan) (before : K) (began : Stored) → Begins k plan before began → AreDifferent (names_of began.machines)
+  first-different plan before began b =
+      subst (λ (ts : List Track). AreDifferent (names_of ts)) (sym b.listed) (listed-different plan.machines b.stored.machines (stored-different plan.store before b.stored b.from_store))
 
-  pub first-kept : (plan : Plan) (before : K) (tracks : List Track) → Begins k plan before tracks → AllByRecursion AreKept tracks
-  first-kept plan before tracks b =
-      subst (AllByRecursion AreKept) (sym b.listed) (listed-kept plan.machines b.stored (stored-kept plan.store before b.stored b.from_store))
+  pub first-kept : (plan : Plan) (before : K) (began : Stored) → Begins k plan before began → AllByRecursion AreKept began.machines
+  first-kept plan before began b =
+      subst (AllByRecursion AreKept) (sym b.listed) (listed-kept plan.machines b.stored.machines (stored-kept plan.store before b.stored b.from_store))
 
   pub once-started : (store : Option (List ℕ)) (before after : K) → WasStarted k store before after → MayBeStarted k store before after
   once-started None before after was = was

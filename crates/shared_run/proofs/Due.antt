@@ -5,7 +5,7 @@ use Rattle.std.proofs.lemmas.Bool.{cases_lt}
 use Rattle.std.proofs.lemmas.Option.{slice_get_within}
 use Rattle.command_words.specs.Plans.{Plan}
 use Rattle.keep_rows.specs.Laws.{HasOneOutcome}
-use Rattle.kept_machines.specs.Loading.{AddsRow, IsFirstBad, LeadTo}
+use Rattle.kept_machines.specs.Loading.{Stored, nothing_stored, Makes, IsFirstBad, LeadTo}
 use Rattle.kept_machines.specs.Machines.{is_track}
 use Rattle.metric_table.specs.Limits.{most}
 use Rattle.metric_table.specs.declared.limits.Limit.TheVariants.{Machines}
@@ -105,39 +105,39 @@ none-full stored tracks list p is few full =
     omega (arith, long, same, few)
 
 -- ---- the store
-from-stored : {K : Type 0} (k : keeper.Ghosts K) (store : Option (List ℕ)) (before : K) (one : List Track) → AreStored k store before one
-    → (store ≡ None → one ≡ []) × (IsSome store → IfSome (k.kept before) (λ rows. LeadTo rows one))
+from-stored : {K : Type 0} (k : keeper.Ghosts K) (store : Option (List ℕ)) (before : K) (one : Stored) → AreStored k store before one
+    → (store ≡ None → one ≡ nothing_stored) × (IsSome store → IfSome (k.kept before) (λ rows. LeadTo rows one))
 from-stored k None before one is = (λ none. is, λ some. absurd (none-named (List ℕ) some))
 from-stored k (Some name) before one is = (λ none. absurd (none-there (sym none)), λ some. is.1)
 
-module _ (outcome : HasOneOutcome AddsRow) where
-  stored-once : (store : Option (List ℕ)) (known : Option (List (List ℕ))) (one other : List Track) → (store ≡ None → one ≡ []) × (IsSome store → IfSome known (λ rows. LeadTo rows one))
+module _ (outcome : HasOneOutcome Makes) where
+  stored-once : (store : Option (List ℕ)) (known : Option (List (List ℕ))) (one other : Stored) → (store ≡ None → one ≡ nothing_stored) × (IsSome store → IfSome known (λ rows. LeadTo rows one))
       → StoreGives store known other → one ≡ other
   stored-once None known one other is its = is.0 refl ∙ sym its
   stored-once (Some name) None one other is its = absurd its
-  stored-once (Some name) (Some told) one other is its = outcome.value [] told one other (is.1 refl) its
+  stored-once (Some name) (Some told) one other is its = outcome.value nothing_stored told one other (is.1 refl) its
 
-  stored-bad : (store : Option (List ℕ)) (known : Option (List (List ℕ))) (one : List Track) (row : ℕ) → (store ≡ None → one ≡ []) × (IsSome store → IfSome known (λ rows. LeadTo rows one))
+  stored-bad : (store : Option (List ℕ)) (known : Option (List (List ℕ))) (one : Stored) (row : ℕ) → (store ≡ None → one ≡ nothing_stored) × (IsSome store → IfSome known (λ rows. LeadTo rows one))
       → IsBadStore store known row → ⊥
   stored-bad None known one row is bad = bad
   stored-bad (Some name) None one row is bad = bad
-  stored-bad (Some name) (Some told) one row is bad = outcome.either [] one told row (is.1 refl) bad
+  stored-bad (Some name) (Some told) one row is bad = outcome.either nothing_stored one told row (is.1 refl) bad
 
   bad-once : (store : Option (List ℕ)) (known : Option (List (List ℕ))) (row other : ℕ) → IfSome known (λ rows. IsFirstBad rows row) → IsBadStore store known other → row ≡ other
   bad-once None known row other is bad = absurd bad
   bad-once (Some name) None row other is bad = absurd bad
-  bad-once (Some name) (Some told) row other is bad = outcome.bad [] told row other is bad
+  bad-once (Some name) (Some told) row other is bad = outcome.bad nothing_stored told row other is bad
 
-  bad-gives : (store : Option (List ℕ)) (known : Option (List (List ℕ))) (row : ℕ) (one : List Track) → IsSome store → IfSome known (λ rows. IsFirstBad rows row) → StoreGives store known one → ⊥
+  bad-gives : (store : Option (List ℕ)) (known : Option (List (List ℕ))) (row : ℕ) (one : Stored) → IsSome store → IfSome known (λ rows. IsFirstBad rows row) → StoreGives store known one → ⊥
   bad-gives None known row one some is gives = none-named (List ℕ) some
   bad-gives (Some name) None row one some is gives = gives
-  bad-gives (Some name) (Some told) row one some is gives = outcome.either [] one told row gives is
+  bad-gives (Some name) (Some told) row one some is gives = outcome.either nothing_stored one told row gives is
 
 -- ---- the run
 abbrev stopped : RunStop → Result (Unit {0}) RunStop
 stopped why = Err why
 
-module _ {F I O K : Type 0} (t : Told F I O K) (plan : Plan) (before after : Objects F O K) (reading : OneReading) (outcome : HasOneOutcome AddsRow) where
+module _ {F I O K : Type 0} (t : Told F I O K) (plan : Plan) (before after : Objects F O K) (reading : OneReading) (outcome : HasOneOutcome Makes) where
   abbrev rows : Option (List (List ℕ))
   rows = t.keeper.kept before.keeper
 
@@ -211,7 +211,7 @@ module _ {F I O K : Type 0} (t : Told F I O K) (plan : Plan) (before after : Obj
       absurd (stored-bad outcome plan.store rows l.begins.stored row (from-stored t.keeper plan.store before.keeper l.begins.stored l.begins.from_store) bad)
   by-late asked result l due (inr (stored, gives, inl (place, full, is))) =
       let same : l.begins.stored ≡ stored = stored-once outcome plan.store rows l.begins.stored stored (from-stored t.keeper plan.store before.keeper l.begins.stored l.begins.from_store) gives in
-      absurd (none-full l.begins.stored l.tracks plan.machines place l.begins.listed l.few (subst (λ (ts : List Track). IsFullAt ts plan.machines place) (sym same) full))
+      absurd (none-full l.begins.stored.machines l.tracks plan.machines place l.begins.listed l.few (subst (λ (s : Stored). IsFullAt s.machines plan.machines place) (sym same) full))
   by-late asked result l due (inr (stored, gives, inr (none, shows))) = late-comes l.fulls result l.cause l.first due shows
 
   none-comes : (why : RunStop) → NoneCause t.keeper plan before.keeper after.keeper why → (due : Result (Unit {0}) RunStop) → Due due → Comes (Err why) due
@@ -219,10 +219,10 @@ module _ {F I O K : Type 0} (t : Told F I O K) (plan : Plan) (before after : Obj
       absurd (stored-bad outcome plan.store rows c.stored row (from-stored t.keeper plan.store before.keeper c.stored c.from_store) bad)
   none-comes (run.Full place) c due (inr (stored, gives, inl (other, full, is))) =
       let same : c.stored ≡ stored = stored-once outcome plan.store rows c.stored stored (from-stored t.keeper plan.store before.keeper c.stored c.from_store) gives in
-      inl (ap (λ (p : ℕ). stopped (run.Full p)) (full-once stored plan.machines place other (subst (λ (ts : List Track). IsFullAt ts plan.machines place) same c.full) full) ∙ sym is)
+      inl (ap (λ (p : ℕ). stopped (run.Full p)) (full-once stored.machines plan.machines place other (subst (λ (s : Stored). IsFullAt s.machines plan.machines place) same c.full) full) ∙ sym is)
   none-comes (run.Full place) c due (inr (stored, gives, inr (none, shows))) =
       let same : c.stored ≡ stored = stored-once outcome plan.store rows c.stored stored (from-stored t.keeper plan.store before.keeper c.stored c.from_store) gives in
-      absurd (none place (subst (λ (ts : List Track). IsFullAt ts plan.machines place) same c.full))
+      absurd (none place (subst (λ (s : Stored). IsFullAt s.machines plan.machines place) same c.full))
   none-comes run.NoMemory c due is = inr (inl refl)
   none-comes run.StoreFault c due is = inr (inr (inr (inr (inr c.1))))
   none-comes (run.BadStore row) c due (inl (other, bad, is)) = inl (ap (λ (r : ℕ). stopped (run.BadStore r)) (bad-once outcome plan.store rows row other c.1 bad) ∙ sym is)

@@ -95,7 +95,8 @@ both-rose reads reads' reads'' writes writes' writes'' inputs outputs n one two 
 -- ---- the end
 pub record Facts {F I O K A : Type 0} (t : Told F I O K) (r : runner.Ghosts A) (plan : Plan) (began at_last : List A) (before after : Objects F O K) (ends : List (Result (Unit {0}) Stop)) (later result : Result (Unit {0}) RunStop) : Type 0 where
   pub tracks : List Track
-  pub begins : Begins t.keeper plan before.keeper tracks
+  pub version : ℕ
+  pub begins : Begins t.keeper plan before.keeper (record { machines = tracks; version = version })
   pub few : length tracks ≤ most Machines
   pub loaded : K
   pub was : WasStarted t.keeper plan.store before.keeper loaded
@@ -106,7 +107,7 @@ pub record Facts {F I O K A : Type 0} (t : Told F I O K) (r : runner.Ghosts A) (
   pub ran : RanIn t.files t.input t.out r plan tracks before.files after.files began at_last ends journals full
   pub wanting : full ≡ false → later ≡ Err run.NoMemory
   pub wrote : WritesText t.out before.out after.out (journals_text journals) later
-  pub added : OnOk later (NoneStopped ends → IsSome plan.store → t.keeper.kept after.keeper ≡ with_more (t.keeper.kept loaded) (new_rows journals))
+  pub added : OnOk later (NoneStopped ends → IsSome plan.store → t.keeper.kept after.keeper ≡ with_more (t.keeper.kept loaded) (new_rows version journals))
   pub same_rows : (later ≡ Ok tt → NoneStopped ends → ⊥) → t.keeper.kept after.keeper ≡ t.keeper.kept loaded
   pub unnamed : plan.store ≡ None → after.keeper ≡ loaded
   pub started : t.keeper.started after.keeper ≡ t.keeper.started loaded
@@ -222,10 +223,10 @@ module _ {F I O K A : Type 0} (t : Told F I O K) (r : runner.Ghosts A) (plan : P
 
   -- ---- what is so however it is decided
   different : AreDifferent x.ran.room
-  different = room-different x.tracks x.ran.room x.ran.first x.ran.of_room x.ran.starts (first-different t.keeper plan before.keeper x.tracks x.begins)
+  different = room-different x.tracks x.ran.room x.ran.first x.ran.of_room x.ran.starts (first-different t.keeper plan before.keeper (record { machines = x.tracks; version = x.version }) x.begins)
 
   kept : AllByRecursion AreKept x.tracks
-  kept = first-kept t.keeper plan before.keeper x.tracks x.begins
+  kept = first-kept t.keeper plan before.keeper (record { machines = x.tracks; version = x.version }) x.begins
 
   fits : Fits (endings.run_of t plan x.tracks short asked before.files after.files) x.journals
   fits = run-fits t i r plan began at_last before.files after.files x.tracks ends x.journals x.full x.ran laws scripts enough new different kept
@@ -274,6 +275,7 @@ module _ {F I O K A : Type 0} (t : Told F I O K) (r : runner.Ghosts A) (plan : P
   by-memory : MemoryDecides ends later result → EndsLate t plan asked before after (Err run.NoMemory)
   by-memory m = record {
     tracks = x.tracks;
+    version = x.version;
     begins = x.begins;
     few = x.few;
     calls = calls;
@@ -295,6 +297,7 @@ module _ {F I O K A : Type 0} (t : Told F I O K) (r : runner.Ghosts A) (plan : P
   by-first : (f : FirstDecides ends later result) → EndsLate t plan asked before after (Err (run.Script (f.first.before + 1) f.first.stop))
   by-first f = record {
     tracks = x.tracks;
+    version = x.version;
     begins = x.begins;
     few = x.few;
     calls = calls;
@@ -326,6 +329,7 @@ module _ {F I O K A : Type 0} (t : Told F I O K) (r : runner.Ghosts A) (plan : P
   by-later : (l : LaterDecides ends later result) (now : Result (Unit {0}) RunStop) → later ≡ now → EndsLate t plan asked before after now
   by-later l (Ok done) is = record {
     tracks = x.tracks;
+    version = x.version;
     begins = x.begins;
     few = x.few;
     calls = calls;
@@ -341,12 +345,13 @@ module _ {F I O K A : Type 0} (t : Told F I O K) (r : runner.Ghosts A) (plan : P
     cause = λ place less. (all-well l.none place less).0;
     first = all-well l.none;
     started = started;
-    keeps = λ named. subst (λ (w : Result (Unit {0}) RunStop). OnOk w (NoneStopped ends → IsSome plan.store → t.keeper.kept after.keeper ≡ with_more (t.keeper.kept x.loaded) (new_rows x.journals))) is x.added l.none named
-        ∙ ap (λ (r : Option (List (List ℕ))). with_more r (new_rows x.journals)) x.rows;
+    keeps = λ named. subst (λ (w : Result (Unit {0}) RunStop). OnOk w (NoneStopped ends → IsSome plan.store → t.keeper.kept after.keeper ≡ with_more (t.keeper.kept x.loaded) (new_rows x.version x.journals))) is x.added l.none named
+        ∙ ap (λ (r : Option (List (List ℕ))). with_more r (new_rows x.version x.journals)) x.rows;
   }
   by-later l (Err run.NoMemory) is = absurd (l.quiet (inl is))
   by-later l (Err run.StoreFault) is = record {
     tracks = x.tracks;
+    version = x.version;
     begins = x.begins;
     few = x.few;
     calls = calls;
@@ -366,6 +371,7 @@ module _ {F I O K A : Type 0} (t : Told F I O K) (r : runner.Ghosts A) (plan : P
   }
   by-later l (Err run.WriteFault) is = record {
     tracks = x.tracks;
+    version = x.version;
     begins = x.begins;
     few = x.few;
     calls = calls;

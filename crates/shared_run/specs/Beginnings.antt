@@ -7,23 +7,24 @@ use Rattle.command_words.specs.Plans.{Plan}
 use Rattle.track_model.specs.Tracks.{Track}
 use Rattle.keep_rows.specs.Faults.{MayHaveName}
 use Rattle.kept_machines.specs.Kept.{AreKept}
-use Rattle.kept_machines.specs.Loading.{LeadTo, IsFirstBad}
+use Rattle.kept_machines.specs.Loading.{Stored, nothing_stored, LeadTo, IsFirstBad}
 use Rattle.kept_machines.specs.Rows.{new_rows}
 use Rattle.shared_run.specs.declared.stop.RunStop.{RunStop}
 use Rattle.shared_run.specs.declared.stop.RunStop.TheVariants.{NoMemory, StoreFault, BadStore, Full}
 use Rattle.shared_run.specs.Lists.{with_listed, IsFullAt}
 
--- the machines of a store: none where none is named, else those that its rows lead to, where they are told
-abbrev pub AreStored : {K : Type 0} → keeper.Ghosts K → (store : Option (List ℕ)) → K → List Track → Type 0
-AreStored k None before stored = stored ≡ []
-AreStored k (Some name) before stored = AreKept stored × IfSome (k.kept before) (λ rows. LeadTo rows stored)
+-- what a store has: nothing where none is named, else the machines and the version that its rows lead to, where they are told
+abbrev pub AreStored : {K : Type 0} → keeper.Ghosts K → (store : Option (List ℕ)) → K → Stored → Type 0
+AreStored k None before stored = stored ≡ nothing_stored
+AreStored k (Some name) before stored = AreKept stored.machines × IfSome (k.kept before) (λ rows. LeadTo rows stored)
 
--- the machines that a run begins with: those of the store, and then those of the list that it hasn't
-pub record Begins {K : Type 0} (k : keeper.Ghosts K) (plan : Plan) (before : K) (tracks : List Track)
+-- what a run begins with: the machines of the store, then those of the list that it hasn't, and the version of the store
+pub record Begins {K : Type 0} (k : keeper.Ghosts K) (plan : Plan) (before : K) (began : Stored)
     : Type 0 where
-  pub stored : List Track
+  pub stored : Stored
   pub from_store : AreStored k plan.store before stored
-  pub listed : tracks ≡ with_listed stored plan.machines
+  pub listed : began.machines ≡ with_listed stored.machines plan.machines
+  pub version : began.version ≡ stored.version
 
 -- the keeper was started once by the store's name, or had no call where none is named
 abbrev pub WasStarted : {K : Type 0} → keeper.Ghosts K → (store : Option (List ℕ)) → K → K → Type 0
@@ -43,9 +44,9 @@ StartsAtMost k store before after why =
 -- the machine at this place of the list is one too many
 pub record IsOneTooMany {K : Type 0} (k : keeper.Ghosts K) (plan : Plan) (before : K) (place : ℕ)
     : Type 0 where
-  pub stored : List Track
+  pub stored : Stored
   pub from_store : AreStored k plan.store before stored
-  pub full : IsFullAt stored plan.machines place
+  pub full : IsFullAt stored.machines plan.machines place
 
 -- why a store gives no machines
 abbrev pub StoreCause : {K : Type 0} → keeper.Ghosts K → (store : Option (List ℕ)) → K → K → RunStop → Type 0
@@ -60,9 +61,10 @@ abbrev pub NoneCause : {K : Type 0} → keeper.Ghosts K → Plan → K → K →
 NoneCause k plan before after (Full place) = IsOneTooMany k plan before place
 NoneCause k plan before after why = StoreCause k plan.store before after why
 
--- behind the run it has the new rows behind its own where all is done, if a store is named; else it has its own
-abbrev pub Keeps : {K : Type 0} → keeper.Ghosts K → Plan → List Track → K → K → Result (Unit {0}) RunStop
+-- behind the run it has the new rows of the store's version behind its own where all is done, if a store is named; else it
+-- has its own
+abbrev pub Keeps : {K : Type 0} → keeper.Ghosts K → Plan → ℕ → List Track → K → K → Result (Unit {0}) RunStop
     → Type 0
-Keeps k plan journals before after (Ok done) =
-    IsSome plan.store → k.kept after ≡ with_more (k.kept before) (new_rows journals)
-Keeps k plan journals before after (Err why) = k.kept after ≡ k.kept before
+Keeps k plan version journals before after (Ok done) =
+    IsSome plan.store → k.kept after ≡ with_more (k.kept before) (new_rows version journals)
+Keeps k plan version journals before after (Err why) = k.kept after ≡ k.kept before

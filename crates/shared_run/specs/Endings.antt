@@ -12,7 +12,7 @@ use Rattle.command_words.specs.Plans.{Plan, transcript_of}
 use Rattle.metric_table.specs.Limits.{most}
 use Rattle.metric_table.specs.declared.limits.Limit.TheVariants.{Machines}
 use Rattle.track_model.specs.Tracks.{Track}
-use Rattle.kept_machines.specs.Loading.{LeadTo, IsFirstBad}
+use Rattle.kept_machines.specs.Loading.{Stored, nothing_stored, LeadTo, IsFirstBad}
 use Rattle.journal_text.specs.Journals.{journals_text}
 use Rattle.request_words.specs.Bodies.{Item}
 use Rattle.request_text.specs.Scripts.{Ending, end, cut_off, unfinished, IsScript}
@@ -50,10 +50,10 @@ IsBadStore None rows row = ⊥
 IsBadStore (Some name) None row = ⊥
 IsBadStore (Some name) (Some told) row = IsFirstBad told row
 
--- the machines of a store: none where none is named, else those that its rows lead to, where they
--- are told
-abbrev pub StoreGives : (store : Option (List ℕ)) → Option (List (List ℕ)) → List Track → Type 0
-StoreGives None rows stored = stored ≡ []
+-- what a store has: nothing where none is named, else the machines and the version that its rows lead
+-- to, where they are told
+abbrev pub StoreGives : (store : Option (List ℕ)) → Option (List (List ℕ)) → Stored → Type 0
+StoreGives None rows stored = stored ≡ nothing_stored
 StoreGives (Some name) None stored = ⊥
 StoreGives (Some name) (Some told) stored = LeadTo told stored
 
@@ -201,7 +201,8 @@ module _ {F I O K : Type 0} (t : Told F I O K) (plan : Plan) where
   pub record EndsLate (asked : List Asked) (before after : Objects F O K)
       (result : Result (Unit {0}) RunStop) : Type 0 where
     pub tracks : List Track
-    pub begins : Begins t.keeper plan before.keeper tracks
+    pub version : ℕ
+    pub begins : Begins t.keeper plan before.keeper (record { machines = tracks; version = version })
     pub few : length tracks ≤ most Machines
     pub calls : Made before.files after.files (calls_for plan.scripts)
     pub closed : AreClosed before.files after.files
@@ -216,7 +217,7 @@ module _ {F I O K : Type 0} (t : Told F I O K) (plan : Plan) where
     pub cause : LateCause before after result
     pub first : IsFirstStopped before.files fulls result
     pub started : WasStarted t.keeper plan.store before.keeper after.keeper
-    pub keeps : Keeps t.keeper plan journals before.keeper after.keeper result
+    pub keeps : Keeps t.keeper plan version journals before.keeper after.keeper result
 
   -- a shared run, of which the runners tell this
   abbrev pub EndsRun : List Asked → Objects F O K → Objects F O K → Result (Unit {0}) RunStop
@@ -262,7 +263,7 @@ module _ {F I O K : Type 0} (t : Told F I O K) (plan : Plan) where
   abbrev pub IsDue : Option (List (List ℕ)) → F → Result (Unit {0}) RunStop → Type 0
   IsDue rows f result =
       ((row : ℕ) × IsBadStore plan.store rows row × (result ≡ Err (BadStore row)))
-      ⊎ ((stored : List Track) × StoreGives plan.store rows stored × MachinesShow f stored result)
+      ⊎ ((stored : Stored) × StoreGives plan.store rows stored × MachinesShow f stored.machines result)
 
 -- one of the objects failed meanwhile
 abbrev pub HasFailed : {F I O K : Type 0} → Told F I O K → Objects F O K → Objects F O K → Type 0

@@ -19,11 +19,12 @@ use std::alloc::Global;
 use track_outside::{Keeper, OutError, Sink};
 use track_state::TrackState;
 
-// Writes the journals, and adds their new rows where a store is named, no script stopped, and there was memory for all that
+// Writes the journals, and adds their new rows where a store of this version is named, no script stopped, and there was memory for all that
 // workers do.
 pub(crate) fn leave_journals<O: Sink, K: Keeper>(
     alloc: Global,
     store: Option<&str>,
+    version: u8,
     full: bool,
     ended: &[Result<(), Stop>],
     journals: &[TrackState],
@@ -32,7 +33,7 @@ pub(crate) fn leave_journals<O: Sink, K: Keeper>(
 ) -> Result<(), RunStop>
     ensures wrote { WritesText O.Sink out.old out.new (journals_text journals.now) result }
     ensures added { OnOk result (NoneStopped ended.now → IsSome (shown_if store.entry)
-        → K.kept keeper.new ≡ with_more (K.kept keeper.old) (new_rows journals.now)) }
+        → K.kept keeper.new ≡ with_more (K.kept keeper.old) (new_rows version journals.now)) }
     ensures kept { (result ≡ Ok tt → NoneStopped ended.now → ⊥)
         → K.kept keeper.new ≡ K.kept keeper.old }
     ensures unnamed { shown_if store.entry ≡ None → keeper.new ≡ keeper.old }
@@ -57,7 +58,7 @@ pub(crate) fn leave_journals<O: Sink, K: Keeper>(
     if first_stop(ended).is_some() {
         return Ok(());
     }
-    match append_all(alloc, keeper, journals) {
+    match append_all(alloc, keeper, journals, version) {
         Ok(()) => Ok(()),
         Err(fault) => Err(RunStop::from(fault)),
     }

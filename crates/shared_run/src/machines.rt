@@ -11,7 +11,7 @@ ghost use Rattle.metric_table.specs.declared.limits.Limit.TheVariants.{Machines}
 use crate::stop::RunStop;
 use command_words::PlayPlan;
 use keep_rows::LoadFault;
-use kept_machines::{load, place_of};
+use kept_machines::{Loaded, load, place_of};
 use line_text::Name;
 use metric_table::Limit;
 use std::alloc::{AllocError, Global};
@@ -84,16 +84,15 @@ fn add_machine(
     Ok(true)
 }
 
-/// The machines of the plan's store, if one is named, and those of its list. The keeper is started once by the store's name,
-/// and its rows stay.
+/// The machines of the plan's store, if one is named, and those of its list, and the version of the store's rows. The keeper is
+/// started once by the store's name, and its rows stay.
 pub fn first_machines<K: Keeper>(
     alloc: Global,
     plan: &PlayPlan<'_>,
     keeper: &mut K,
-) -> Result<Vec<TrackState>, RunStop>
-    ensures begins { IfOk result (λ machines.
-        Begins K.Keeper plan.now keeper.old machines.items) }
-    ensures few { IfOk result (λ machines. length machines.items ≤ most Machines) }
+) -> Result<Loaded, RunStop>
+    ensures begins { IfOk result (λ loaded. Begins K.Keeper plan.now keeper.old loaded) }
+    ensures few { IfOk result (λ loaded. length loaded.machines ≤ most Machines) }
     ensures cause { IfErr result (NoneCause K.Keeper plan.now keeper.old keeper.new) }
     ensures started { result ≢ Err stop.NoMemory
         → WasStarted K.Keeper plan.now.store keeper.old keeper.new }
@@ -101,23 +100,26 @@ pub fn first_machines<K: Keeper>(
     ensures counts { K.faults keeper.old ≤ K.faults keeper.new }
     ensures rows { K.kept keeper.new ≡ K.kept keeper.old }
 {
-    let mut machines = stored_machines(alloc, plan.store(), keeper)?;
-    match add_listed(alloc, &mut machines, plan.machines()) {
-        Ok(()) => Ok(machines),
+    let Loaded {
+        mut states,
+        version,
+    } = stored_machines(alloc, plan.store(), keeper)?;
+    match add_listed(alloc, &mut states, plan.machines()) {
+        Ok(()) => Ok(Loaded { states, version }),
         Err(ListFault::Full(place)) => Err(RunStop::Full(place)),
         Err(ListFault::NoMemory) => Err(RunStop::NoMemory),
     }
 }
 
-// The machines of a store, if one is named.
+// The machines of a store and the version of its rows, if one is named.
 fn stored_machines<K: Keeper>(
     alloc: Global,
     store: Option<&str>,
     keeper: &mut K,
-) -> Result<Vec<TrackState>, RunStop>
-    ensures stored { IfOk result (λ machines.
-        AreStored K.Keeper (shown_if store.entry) keeper.old machines.items) }
-    ensures few { IfOk result (λ machines. length machines.items ≤ most Machines) }
+) -> Result<Loaded, RunStop>
+    ensures stored { IfOk result (λ loaded.
+        AreStored K.Keeper (shown_if store.entry) keeper.old loaded) }
+    ensures few { IfOk result (λ loaded. length loaded.machines ≤ most Machines) }
     ensures cause { IfErr result (StoreCause K.Keeper (shown_if store.entry) keeper.old keeper.new) }
     ensures started { result ≢ Err stop.NoMemory
         → WasStarted K.Keeper (shown_if store.entry) keeper.old keeper.new }
@@ -126,10 +128,13 @@ fn stored_machines<K: Keeper>(
     ensures rows { K.kept keeper.new ≡ K.kept keeper.old }
 {
     let Some(name) = store else {
-        return Ok(Vec::new(alloc));
+        return Ok(Loaded {
+            states: Vec::new(alloc),
+            version: 1,
+        });
     };
     match load(alloc, keeper, name) {
-        Ok(machines) => Ok(machines),
+        Ok(loaded) => Ok(loaded),
         Err(LoadFault::KeepFault) => Err(RunStop::StoreFault),
         Err(LoadFault::BadRow(row)) => Err(RunStop::BadStore(row)),
         Err(LoadFault::NoMemory) => Err(RunStop::NoMemory),

@@ -15,7 +15,7 @@ use crate::machines::first_machines;
 use crate::run::run_players;
 use crate::stop::{RunStop, deciding_stop};
 use command_words::PlayPlan;
-use kept_machines::rows_law;
+use kept_machines::{Loaded, rows_law};
 use play_crew::{Ended, Room, joining_law};
 use request_text::reading_law;
 use script_loop::Stop;
@@ -83,12 +83,12 @@ fn run_plan<R: Threads + Wait + Sync, F: Files, K: Keeper, N: Runner + Send, G: 
         (record { files = files.old; out = out.old; keeper = keeper.old })
         (record { files = files.new; out = out.new; keeper = keeper.new }) result }
 {
-    let machines = match first_machines(alloc, plan, keeper) {
-        Ok(machines) => machines,
+    let Loaded { states, version } = match first_machines(alloc, plan, keeper) {
+        Ok(loaded) => loaded,
         Err(why) => return Err(why),
     };
     let (ended, journals, full) = match run_machines(
-        rt, alloc, plan, machines, files, runners, gate,
+        rt, alloc, plan, states, files, runners, gate,
     ) {
         Ok(left) => left,
         Err(why) => return Err(why),
@@ -96,7 +96,16 @@ fn run_plan<R: Threads + Wait + Sync, F: Files, K: Keeper, N: Runner + Send, G: 
     joining_law();
     crew_law::<N>();
     run_law();
-    let later = leave_journals(alloc, plan.store(), full, &ended, &journals, out, keeper);
+    let later = leave_journals(
+        alloc,
+        plan.store(),
+        version,
+        full,
+        &ended,
+        &journals,
+        out,
+        keeper,
+    );
     deciding_stop(&ended, later)
 }
 

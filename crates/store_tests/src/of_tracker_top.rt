@@ -6,7 +6,7 @@ use pelt_core::Steps;
 use std::alloc::{AllocError, Global};
 use std::marker::Brand;
 use std::sync::ledger::{Blank, Ledger};
-use track_outside::{MemFiles, MemSink, MemSource};
+use track_outside::{Keeper, MemFiles, MemSink, MemSource};
 use tracker_top::{Status, alone, asks_hunt, asks_play};
 
 // A script, and what it is answered.
@@ -40,6 +40,49 @@ const STORED: [(&str, &[Run]); 2] = [
         ],
     ),
 ];
+
+// Rows of version 1, and runs over them.
+const OLD_FILE: &str = "version1.db";
+
+const OLD_ROWS: [&str; 2] = ["machine m1", "entry m1 tune B/op 50"];
+
+const OLD_RUNS: [Run; 2] = [
+    (
+        "tune m1 B/op 40\ntune m1 B/op 40 2\n",
+        "@2 tuned B/op 40\n@3 tuned B/op 40 2\n",
+    ),
+    (
+        "tune m1 B/op 30\ntune m1 B/op 30 0\ntune m1 B/op 30 1\n",
+        "@4 tuned B/op 30 2\n@0 E30 BadLength\n@5 tuned B/op 30\n",
+    ),
+];
+
+#[test]
+fn rows_of_version_1_go_on(rt: HostRuntime) {
+    assert!(rt; has_put(&rt, rt.alloc(), OLD_FILE, &OLD_ROWS), "put");
+    for run in &OLD_RUNS {
+        assert!(rt; is_answered(&rt, OLD_FILE, run), "{}", run.1);
+    }
+}
+
+// Whether the rows were put into a file of that name.
+fn has_put(rt: &HostRuntime, alloc: Global, name: &str, rows: &[&str]) -> bool {
+    let mut keeper = SqliteKeeper::new(rt, alloc);
+    if keeper.start(alloc, name).is_err() {
+        return false;
+    }
+    for row in rows {
+        match Vec::from_slice(alloc, row.as_bytes()) {
+            Ok(bytes) => {
+                if keeper.append(alloc, &[bytes]).is_err() {
+                    return false;
+                }
+            }
+            Err(_) => return false,
+        }
+    }
+    true
+}
 
 #[test]
 fn runs_go_on_from_a_file(rt: HostRuntime) {

@@ -6,7 +6,7 @@ use std::alloc::Global;
 use track_outside::MemSource;
 
 // Scripts, and how their first request is written.
-const WRITTEN: [(&[u8], &str); 13] = [
+const WRITTEN: [(&[u8], &str); 14] = [
     (
         b"submit  go m%31 a,%2cb r1 20\nBenchmarkX 1 0 B/op\n",
         "submit go m1 a%2C%2Cb r1 25\npkg:\nBenchmarkX 1 0 B/op\n",
@@ -18,6 +18,7 @@ const WRITTEN: [(&[u8], &str); 13] = [
         b"tune  m B%2fop 1000000000000000000000000000000000000",
         "tune m B/op 1000000000000000000000000000000000000\n",
     ),
+    (b"tune m B/op  5 64", "tune m B/op 5 64\n"),
     (b"regress m T%31 ns/op 2", "regress m T1 ns/op 2\n"),
     (b"state m 1  not_to_be_fixed", "state m 1 not_to_be_fixed\n"),
     (b"bisect m c0 c,10", "bisect m c0 c%2C10\n"),

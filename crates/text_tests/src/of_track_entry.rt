@@ -1,7 +1,7 @@
 //! Texts that are entries, and texts that are none.
 use line_text::Names;
 use std::alloc::Global;
-use track_entry::{EntryFault, put_entry, read_entry};
+use track_entry::{Entry, EntryFault, put_entry, read_entry, read_entry_v1};
 
 // Whether the text spells an entry, whose copy's spelling is the text.
 fn is_spelling(alloc: Global, text: &[u8]) -> bool {
@@ -26,9 +26,9 @@ const ENTRIES: [&str; 20] = [
     "accept r2 0 2 BenchmarkX ns/op -10000000000000000 X B/op 10000000000000000",
     "accept r 7 0",
     "retract r1",
-    "tune B/op 50",
-    "tune %25 -170141183460469231731687303715884105728",
-    "tune x 170141183460469231731687303715884105727",
+    "tune B/op 50 1",
+    "tune %25 -170141183460469231731687303715884105728 0",
+    "tune x 170141183460469231731687303715884105727 255",
     "publish X B/op 8 0 0 0",
     "publish a%20b x 12 5 340282 3 1 2 3",
     "publish BenchmarkX ns/op 18446744073709551615 18446744073709551615 -170141183460469231731687303715884105728 2 0 18446744073709551615",
@@ -43,7 +43,7 @@ const ENTRIES: [&str; 20] = [
 ];
 
 // Texts that spell none.
-const NO_ENTRIES: [&str; 51] = [
+const NO_ENTRIES: [&str; 54] = [
     "",
     "commit",
     "commit 02 c",
@@ -64,12 +64,15 @@ const NO_ENTRIES: [&str; 51] = [
     "retract a,b",
     "machine m",
     "tune B/op",
-    "tune B/op x",
-    "tune B/op 050",
-    "tune B/op -0",
-    "tune B/op 50 1",
-    "tune B/op 170141183460469231731687303715884105728",
-    "tune aaaaaaaaaaaaaaaaaaaaaaaaaaaaaaaaaaaaaaaaaaaaaaaaaaaaaaaaaaaaaaaaa 1",
+    "tune B/op 50",
+    "tune B/op x 1",
+    "tune B/op 050 1",
+    "tune B/op -0 1",
+    "tune B/op 50 01",
+    "tune B/op 50 256",
+    "tune B/op 50 1 1",
+    "tune B/op 170141183460469231731687303715884105728 1",
+    "tune aaaaaaaaaaaaaaaaaaaaaaaaaaaaaaaaaaaaaaaaaaaaaaaaaaaaaaaaaaaaaaaaa 1 1",
     "publish X B/op 8 0 0",
     "publish X B/op 8 0 0 1",
     "publish X B/op 8 0 0 0 1",
@@ -103,6 +106,43 @@ fn is_none(alloc: Global, text: &[u8]) -> bool {
         read_entry(alloc, &mut Names::new(alloc, 8), text),
         Err(EntryFault::NotEntry)
     )
+}
+
+// Texts of version 1, and those of version 2 that they come to; none where they spell no entry in version 1.
+const FIRST: [(&str, Option<&str>); 8] = [
+    ("tune B/op 50", Some("tune B/op 50 1")),
+    ("tune %25 -1", Some("tune %25 -1 1")),
+    ("commit 10 a", Some("commit 10 a")),
+    ("answer 1 3 255", Some("answer 1 3 255")),
+    ("tune B/op 50 1", None),
+    ("tune B/op 50 ", None),
+    ("tune", None),
+    ("t", None),
+];
+
+// Whether the text is read so in version 1.
+fn is_first(alloc: Global, text: &[u8], told: Option<&str>) -> bool {
+    match read_entry_v1(alloc, &mut Names::new(alloc, 8), text) {
+        Ok(entry) => match told {
+            Some(wanted) => is_spelt(alloc, &entry, wanted.as_bytes()),
+            None => false,
+        },
+        Err(EntryFault::NotEntry) => told.is_none(),
+        Err(EntryFault::NoMemory) => false,
+    }
+}
+
+// Whether the entry is spelt so.
+fn is_spelt(alloc: Global, entry: &Entry, wanted: &[u8]) -> bool {
+    let mut spelt = Vec::new(alloc);
+    put_entry(alloc, &mut spelt, entry).is_ok() && spelt.as_slice() == wanted
+}
+
+#[test]
+fn version_1_is_read_too(rt: HostRuntime) {
+    for (text, told) in &FIRST {
+        assert!(rt; is_first(rt.alloc(), text.as_bytes(), *told), "{text}");
+    }
 }
 
 #[test]

@@ -40,7 +40,7 @@ module _ (last : PublicationIsLast) (stays : PublicationStays) where
   latest-stays h (entry.Commit number name) s step allowed past = skipped h (entry.Commit number name) s step refl past
   latest-stays h (entry.Accept run) s step allowed past = skipped h (entry.Accept run) s step refl past
   latest-stays h (entry.Retract run) s step allowed past = skipped h (entry.Retract run) s step refl past
-  latest-stays h (entry.Tune metric penalty) s step allowed past = skipped h (entry.Tune metric penalty) s step refl past
+  latest-stays h (entry.Tune metric penalty len) s step allowed past = skipped h (entry.Tune metric penalty len) s step refl past
   latest-stays h (entry.Regression event) s step allowed past = skipped h (entry.Regression event) s step refl past
   latest-stays h (entry.Job event) s step allowed past = skipped h (entry.Job event) s step refl past
   latest-stays h (entry.Publish p) s step allowed past = elim (cases_Bool (bytes_eq p.test s.test && bytes_eq p.metric s.metric)) [

@@ -16,7 +16,7 @@ has_sample s (Some a) = list_any (is_of s) a.run.samples
 abbrev pub touches : List Entry → Series → Entry → Bool
 touches before s (Accept run) = list_any (is_of s) run.samples
 touches before s (Retract run) = has_sample s (accepted run before)
-touches before s (Tune metric penalty) = bytes_eq metric s.metric
+touches before s (Tune metric penalty len) = bytes_eq metric s.metric
 touches before s e = false
 
 -- the step of the last entry that touches the series, among those behind others; else the step given

@@ -63,7 +63,7 @@ has_samples h (Accept run) may = may.2
 has_samples h e may = tt
 
 short : (h : List Entry) (e : Entry) → AllByRecursion HasSamples h → MayFollow h e → HasShortMetric e
-short h (Tune metric penalty) are may = may.0
+short h (Tune metric penalty len) are may = may.0
 short h (Publish p) are may = known_short (record { test = p.test; metric = p.metric }) 1 (take p.version h) (all_take HasSamples p.version h are) may.0.known
 short h (Regression (Raise r)) are may = known_short (record { test = r.test; metric = r.metric }) 1 h are may.0
 short h (Regression (Move number state)) are may = tt

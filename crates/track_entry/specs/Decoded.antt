@@ -43,7 +43,7 @@ retract_of (run ∷ []) = Some (Retract (percent_decode run))
 retract_of words = None
 
 abbrev pub tune_of : List (List ℕ) → Option Entry
-tune_of (metric ∷ penalty ∷ []) = Some (Tune (percent_decode metric) (value_of penalty))
+tune_of (metric ∷ penalty ∷ len ∷ []) = Some (Tune (percent_decode metric) (value_of penalty) (digits_value 10 len))
 tune_of words = None
 
 abbrev pub publish_of : List (List ℕ) → Option Entry

@@ -25,7 +25,7 @@ abbrev pub kind_of : Entry → Kind
 kind_of (entry.Commit number name) = Commit
 kind_of (entry.Accept run) = Accept
 kind_of (entry.Retract run) = Retract
-kind_of (entry.Tune metric penalty) = Tune
+kind_of (entry.Tune metric penalty len) = Tune
 kind_of (entry.Publish p) = Publish
 kind_of (entry.Regression (regression.Raise raised)) = Raise
 kind_of (entry.Regression (regression.Move number state)) = Move

@@ -6,7 +6,7 @@ ghost use Rattle.track_entry.specs.Texts.{entry_words, IsEntry};
 ghost use Rattle.track_entry.specs.Decoded.{Reads, raise_of, move_of, begin_of, answer_of, give_up_of};
 
 use crate::fault::EntryFault;
-use crate::words::{end_at, number_at, series_at, state_at, status_at};
+use crate::words::{byte_at, end_at, number_at, series_at, state_at};
 use history_model::{Entry, JobEvent, Raised, RegressionEvent};
 use line_text::Names;
 use std::alloc::Global;
@@ -70,7 +70,7 @@ pub fn read_answer(text: &[u8], at: usize) -> Result<Entry, EntryFault>
 {
     let (job, behind_job) = number_at(text, at)?;
     let (place, behind_place) = number_at(text, behind_job)?;
-    let (status, end) = status_at(text, behind_place)?;
+    let (status, end) = byte_at(text, behind_place)?;
     end_at(text, end)?;
     let event = JobEvent::Answer { job, place, status };
     Ok(Entry::Job { event })

@@ -22,8 +22,13 @@ pub fn entry_law(entry: &Entry)
             run.samples.limits();
         }
         Entry::Retract { run } => run.bytes_law(),
-        Entry::Tune { metric, penalty } => {
+        Entry::Tune {
+            metric,
+            penalty,
+            length,
+        } => {
             let _penalty = *penalty.get();
+            let _length = *length;
             metric.bytes_law();
         }
         Entry::Publish { publication } => publication_fits(publication.get()),

@@ -40,10 +40,15 @@ pub fn put_whole(alloc: Global, out: &mut Vec<u8>, entry: &Entry) -> Result<(), 
             out.extend_from_slice(b"retract")?;
             put_word(alloc, out, run)
         }
-        Entry::Tune { metric, penalty } => {
+        Entry::Tune {
+            metric,
+            penalty,
+            length,
+        } => {
             out.extend_from_slice(b"tune")?;
             put_word(alloc, out, metric)?;
-            put_signed(alloc, out, *penalty.get())
+            put_signed(alloc, out, *penalty.get())?;
+            put_number(alloc, out, u64::from(*length))
         }
         Entry::Publish { publication } => {
             out.extend_from_slice(b"publish")?;

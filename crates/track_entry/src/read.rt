@@ -12,7 +12,9 @@ use crate::fault::EntryFault;
 use crate::fits::entry_law;
 use crate::kind::{Kind, read_kind};
 use crate::put::put_whole;
-use crate::words::{METRIC_LIMIT, end_at, name_at, number_at, sample_at, series_at, signed_at};
+use crate::words::{
+    METRIC_LIMIT, byte_at, end_at, name_at, number_at, sample_at, series_at, signed_at,
+};
 use history_model::{Entry, Publication, RegressionEvent, Run};
 use line_text::{Boxed, Names, Numbers, names_law, next_word, words_law};
 use metric_table::Limit;
@@ -130,10 +132,15 @@ fn read_tune(alloc: Global, names: &mut Names, text: &[u8], at: usize) -> Result
         → Reads result (λ read. read ≡ e) }
 {
     let (metric, behind_metric) = name_at(alloc, names, text, at)?;
-    let (penalty, end) = signed_at(text, behind_metric)?;
+    let (penalty, behind_penalty) = signed_at(text, behind_metric)?;
+    let (least, end) = byte_at(text, behind_penalty)?;
     end_at(text, end)?;
     let penalty = Boxed::new(alloc, penalty)?;
-    Ok(Entry::Tune { metric, penalty })
+    Ok(Entry::Tune {
+        metric,
+        penalty,
+        length: least,
+    })
 }
 
 fn read_publish(

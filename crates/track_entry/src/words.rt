@@ -19,8 +19,8 @@ use std::alloc::Global;
 // The greatest magnitude of a value.
 const VALUE_LIMIT: u64 = 10_000_000_000_000_000;
 
-// The greatest status of a test.
-const STATUS_LIMIT: u64 = 255;
+// The greatest number of 8 bits.
+const BYTE_LIMIT: u64 = 255;
 
 // The most bytes of a metric's name.
 pub const METRIC_LIMIT: usize = 64;
@@ -63,16 +63,16 @@ pub fn number_at(text: &[u8], at: usize) -> Result<(u64, usize), EntryFault>
     Ok((number, to))
 }
 
-// The status of the next word, and where the word ends.
-pub fn status_at(text: &[u8], at: usize) -> Result<(u8, usize), EntryFault>
+// The number of 8 bits of the next word, and where the word ends.
+pub fn byte_at(text: &[u8], at: usize) -> Result<(u8, usize), EntryFault>
     requires { at ≤ length text.now }
     ensures placed { IfOk result (λ read. (at < read.1) × (read.1 ≤ length text.now)) }
-    ensures reads { (status : ℕ) (more : List (List ℕ)) → status < 2 ^ 8
-        → words_of (drop at text.now) ≡ decimal status ∷ more
-        → Reads result (λ read. (read.0 ≡ status) × (words_of (drop read.1 text.now) ≡ more)) }
+    ensures reads { (number : ℕ) (more : List (List ℕ)) → number < 2 ^ 8
+        → words_of (drop at text.now) ≡ decimal number ∷ more
+        → Reads result (λ read. (read.0 ≡ number) × (words_of (drop read.1 text.now) ≡ more)) }
 {
     let (number, to) = number_at(text, at)?;
-    if number > STATUS_LIMIT {
+    if number > BYTE_LIMIT {
         return Err(EntryFault::NotEntry);
     }
     Ok((number as u8, to))

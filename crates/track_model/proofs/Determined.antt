@@ -12,7 +12,7 @@ use Rattle.change_list.specs.declared.change.Change.{Change}
 use Rattle.series_noise.specs.Noise.{OneNoise}
 use Rattle.history_model.specs.declared.entries.Entry.{Entry}
 use Rattle.history_model.specs.declared.publication.Publication.{Publication}
-use Rattle.history_model.specs.Penalties.{penalty_of}
+use Rattle.history_model.specs.Penalties.{penalty_of, length_of}
 use Rattle.history_model.specs.Positions.{positions}
 use Rattle.history_model.specs.Publications.{last_publication, spoken_of}
 use Rattle.history_model.specs.Runs.{Series, is_known}
@@ -83,7 +83,7 @@ one-list unique points metric cuts xs ys p q =
 module _ (unique : CentreIsUnique) (certificate : OneCertificate) (noise : OneNoise) (h : List Entry) where
   one-segment : (base : ℕ) (s : Series) → IsOne (IsPublished h base s)
   one-segment base s one other p q =
-      let same = certificate (positions h s) (penalty_of s.metric h) 1 p.0 q.0 p.1 q.1 in
+      let same = certificate (positions h s) (penalty_of s.metric h) (length_of s.metric h) p.0 q.0 p.1 q.1 in
       p.2 ∙ ap (λ (cert : Cert). publish h (publication s (length h) base cert) (segmented (length h) base (redone_since h base s) cert)) same ∙ sym q.2
 
   one-changes : (s : Series) (x : Publication) → IsOne (TellsChanges h s x)
@@ -93,20 +93,20 @@ module _ (unique : CentreIsUnique) (certificate : OneCertificate) (noise : OneNo
 
   one-verified : (s : Series) (x : Publication) → IsOne (TellsCertificate h s x)
   one-verified s x one other p q =
-      let same = certificate (positions (spoken_of h x) s) (penalty_of s.metric (spoken_of h x)) 1 p.0 q.0 p.1 q.1 in
+      let same = certificate (positions (spoken_of h x) s) (penalty_of s.metric (spoken_of h x)) (length_of s.metric (spoken_of h x)) p.0 q.0 p.1 q.1 in
       p.2 ∙ ap (λ (cert : Cert). tells (answer.Verified x.version cert)) same ∙ sym q.2
 
   one-calibrated : (s : Series) (factor : ℕ) → IsOne (IsCalibrated h s factor)
   one-calibrated s factor one other p q =
       let same = noise (positions h s) p.0 q.0 p.1 q.1 in
-      p.2 ∙ ap (λ (n : ℕ). forms.tune h s.metric (pos (factor * max 1 (n * n)))) same ∙ sym q.2
+      p.2 ∙ ap (λ (n : ℕ). forms.tune h s.metric (pos (factor * max 1 (n * n))) (length_of s.metric h)) same ∙ sym q.2
 
   pub one-outcome : (base : ℕ) (q : Request) → IsOne (ComesTo h base q)
   one-outcome base (request.Machine machine) one other p q = p ∙ sym q
   one-outcome base (request.Commit machine number name) one other p q = p ∙ sym q
   one-outcome base (request.Submit machine commit run samples ignored stated) one other p q = p ∙ sym q
   one-outcome base (request.Retract machine run) one other p q = p ∙ sym q
-  one-outcome base (request.Tune machine metric penalty) one other p q = p ∙ sym q
+  one-outcome base (request.Tune machine metric penalty given) one other p q = p ∙ sym q
   one-outcome base (request.Calibrate machine test metric factor) one other p q =
       let s : Series = record { test = test; metric = metric } in
       let few : Bool = nat_lt (length (positions h s)) 3 in

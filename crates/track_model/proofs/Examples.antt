@@ -28,7 +28,7 @@ abbrev outcome : List Entry → Request → Outcome
 outcome h (request.Commit machine number name) = forms.commit h number name
 outcome h (request.Submit machine commit run samples ignored stated) = forms.submit h machine commit run samples ignored stated
 outcome h (request.Retract machine run) = forms.retract h run
-outcome h (request.Tune machine metric penalty) = forms.tune h metric penalty
+outcome h (request.Tune machine metric penalty given) = forms.tune_to h metric penalty given
 outcome h q = forms.runs h
 
 abbrev replies : List Entry → List Request → List Reply
@@ -166,3 +166,24 @@ told_again =
 identities_count_once : replies [] (commits ++ again) ≡ told_again
 unfolding commits again told_again after said line m value
 identities_count_once = refl
+
+-- ---- settings of a metric: where no least length is given, the present one stays
+tunings : List Request
+tunings =
+    request.Tune m (codes "B/op") (pos 40) None
+    ∷ request.Tune m (codes "B/op") (pos 40) (Some 2)
+    ∷ request.Tune m (codes "B/op") (pos 30) None
+    ∷ request.Tune m (codes "B/op") (pos 30) (Some 1)
+    ∷ []
+
+told_lengths : List Reply
+told_lengths =
+    said 2 (answer.Tuned (codes "B/op") (pos 40) 1)
+    ∷ said 3 (answer.Tuned (codes "B/op") (pos 40) 2)
+    ∷ said 4 (answer.Tuned (codes "B/op") (pos 30) 2)
+    ∷ said 5 (answer.Tuned (codes "B/op") (pos 30) 1)
+    ∷ []
+
+the_length_stays : replies (entry.Tune (codes "B/op") (pos 50) 1 ∷ []) tunings ≡ told_lengths
+unfolding tunings told_lengths after said m
+the_length_stays = refl

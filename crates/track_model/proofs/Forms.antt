@@ -73,9 +73,9 @@ module _ (passed : FirstPassed) (kept : FirstKept) where
     retract-added room = rw free (step-added passed kept h (entry.Retract run) (answer.Retracted run) room)
 
   -- ---- tune
-  module _ (h : List Entry) (metric : List ℕ) (penalty : ℤ) (free : forms.tune_refusal metric penalty ≡ None) where
-    pub tune-steps-full : most limit.Steps ≤ length h → forms.tune h metric penalty ≡ refuses (refusal.Full limit.Steps)
-    tune-steps-full full = rw free (steps-full passed kept h (entry.Tune metric penalty) (answer.Tuned metric penalty) full)
+  module _ (h : List Entry) (metric : List ℕ) (penalty : ℤ) (len : ℕ) (free : forms.tune_refusal metric penalty len ≡ None) where
+    pub tune-steps-full : most limit.Steps ≤ length h → forms.tune h metric penalty len ≡ refuses (refusal.Full limit.Steps)
+    tune-steps-full full = rw free (steps-full passed kept h (entry.Tune metric penalty len) (answer.Tuned metric penalty len) full)
 
-    pub tune-added : length h < most limit.Steps → forms.tune h metric penalty ≡ record { answer = answer.Tuned metric penalty; adds = Some (entry.Tune metric penalty) }
-    tune-added room = rw free (step-added passed kept h (entry.Tune metric penalty) (answer.Tuned metric penalty) room)
+    pub tune-added : length h < most limit.Steps → forms.tune h metric penalty len ≡ record { answer = answer.Tuned metric penalty len; adds = Some (entry.Tune metric penalty len) }
+    tune-added room = rw free (step-added passed kept h (entry.Tune metric penalty len) (answer.Tuned metric penalty len) room)

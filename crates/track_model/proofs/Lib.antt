@@ -7,3 +7,4 @@ mod Examples
 mod Orders
 mod Reports
 mod Determined
+pub mod Settings

@@ -1,5 +1,5 @@
 -- What each form of request comes to on the history of its machine: its refusals in their order, then its effect.
-use Rattle.std.specs.Prelude.{ℕ, ℤ, pos, negsuc, ◌^◌, Bool, not, nat_le, nat_lt, if◌then◌else◌, List, [], ◌∷◌, map, length, find, option_map, is_none, unwrap_or, bytes_eq, codes, Option, Some, None, false}
+use Rattle.std.specs.Prelude.{ℕ, ℤ, pos, negsuc, ◌^◌, Bool, not, ◌&&◌, nat_le, nat_lt, if◌then◌else◌, List, [], ◌∷◌, map, length, find, option_map, is_none, unwrap_or, bytes_eq, codes, Option, Some, None, false}
 use Rattle.metric_table.specs.declared.limits.Limit.TheVariants.{Commits, Steps}
 use Rattle.history_model.specs.declared.entries.Acceptance.{Acceptance}
 use Rattle.history_model.specs.declared.entries.Declaration.{Declaration}
@@ -12,6 +12,7 @@ use Rattle.request_model.specs.declared.runs.RunLine.{RunLine}
 use Rattle.history_model.specs.declared.run.Run.{Run}
 use Rattle.sample_model.specs.Samples.{Measurement}
 use Rattle.history_model.specs.Commits.{declarations, has_number, has_name, number_of, name_of}
+use Rattle.history_model.specs.Penalties.{length_of}
 use Rattle.history_model.specs.Runs.{Retraction, acceptances, accepted, retracted, same_run}
 use Rattle.history_model.specs.Allowed.{run_limits}
 use Rattle.track_model.specs.Outcomes.{Outcome, tells, refusal_if, first, unless, adds_within}
@@ -78,24 +79,33 @@ retract h run =
     unless (retract_refusal h run)
     (adds_within (Steps ∷ []) h (entry.Retract run) (answer.Retracted run))
 
--- ---- tune M METRIC PENALTY
+-- ---- tune M METRIC PENALTY LENGTH
 
 -- from 0 to 10^36
 abbrev pub is_penalty : ℤ → Bool
 is_penalty (pos n) = nat_le n (10 ^ 36)
 is_penalty (negsuc n) = false
 
--- what no request has that was read: a metric that is too long, a penalty out of range
-abbrev pub tune_refusal : List ℕ → ℤ → Option Answer
-tune_refusal metric penalty = first
+-- from 1 to 64
+abbrev pub is_length : ℕ → Bool
+is_length len = nat_le 1 len && nat_le len 64
+
+-- what no request has that was read: a metric that is too long, a penalty or a least length out of range
+abbrev pub tune_refusal : List ℕ → ℤ → ℕ → Option Answer
+tune_refusal metric penalty len = first
     (refusal_if (nat_lt 64 (length metric)) refusal.BadName
     ∷ refusal_if (not (is_penalty penalty)) refusal.BadPenalty
+    ∷ refusal_if (not (is_length len)) refusal.BadLength
     ∷ [])
 
-abbrev pub tune : List Entry → List ℕ → ℤ → Outcome
-tune h metric penalty =
-    unless (tune_refusal metric penalty)
-    (adds_within (Steps ∷ []) h (entry.Tune metric penalty) (answer.Tuned metric penalty))
+abbrev pub tune : List Entry → List ℕ → ℤ → ℕ → Outcome
+tune h metric penalty len =
+    unless (tune_refusal metric penalty len)
+    (adds_within (Steps ∷ []) h (entry.Tune metric penalty len) (answer.Tuned metric penalty len))
+
+-- where no least length is given, the present one stays
+abbrev pub tune_to : List Entry → List ℕ → ℤ → Option ℕ → Outcome
+tune_to h metric penalty given = tune h metric penalty (unwrap_or given (length_of metric h))
 
 -- ---- runs M
 

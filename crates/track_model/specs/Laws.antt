@@ -74,21 +74,21 @@ RetractIsAllowed =
 
 -- ---- tune
 
--- a penalty in range is refused where there are as many steps as there may be
+-- a setting in range is refused where there are as many steps as there may be
 abbrev pub TuneStepsAreFull : Type 0
 TuneStepsAreFull =
-    (h : List Entry) (metric : List ℕ) (penalty : ℤ) → forms.tune_refusal metric penalty ≡ None → most limit.Steps ≤ length h
-    → forms.tune h metric penalty ≡ refuses (refusal.Full limit.Steps)
+    (h : List Entry) (metric : List ℕ) (penalty : ℤ) (len : ℕ) → forms.tune_refusal metric penalty len ≡ None → most limit.Steps ≤ length h
+    → forms.tune h metric penalty len ≡ refuses (refusal.Full limit.Steps)
 
 -- else it is set
 abbrev pub TuneIsAdded : Type 0
 TuneIsAdded =
-    (h : List Entry) (metric : List ℕ) (penalty : ℤ) → forms.tune_refusal metric penalty ≡ None → length h < most limit.Steps
-    → forms.tune h metric penalty ≡ record { answer = answer.Tuned metric penalty; adds = Some (entry.Tune metric penalty) }
+    (h : List Entry) (metric : List ℕ) (penalty : ℤ) (len : ℕ) → forms.tune_refusal metric penalty len ≡ None → length h < most limit.Steps
+    → forms.tune h metric penalty len ≡ record { answer = answer.Tuned metric penalty len; adds = Some (entry.Tune metric penalty len) }
 
 -- nothing is refused of it exactly where it may follow
 abbrev pub TuneMayFollow : Type 0
-TuneMayFollow = (h : List Entry) (metric : List ℕ) (penalty : ℤ) → (forms.tune_refusal metric penalty ≡ None) ↔ MayFollow h (entry.Tune metric penalty)
+TuneMayFollow = (h : List Entry) (metric : List ℕ) (penalty : ℤ) (len : ℕ) → (forms.tune_refusal metric penalty len ≡ None) ↔ MayFollow h (entry.Tune metric penalty len)
 
 -- ---- publications
 

@@ -12,7 +12,7 @@ use Rattle.history_model.specs.declared.entries.Entry.{Entry}
 use Rattle.history_model.specs.declared.entries.Entry.TheVariants as entry
 use Rattle.history_model.specs.declared.publication.Publication.{Publication}
 use Rattle.history_model.specs.Commits.{name_of}
-use Rattle.history_model.specs.Penalties.{penalty_of}
+use Rattle.history_model.specs.Penalties.{penalty_of, length_of}
 use Rattle.history_model.specs.Positions.{positions}
 use Rattle.history_model.specs.Publications.{IsBaseAt, last_publication, spoken_of}
 use Rattle.history_model.specs.Runs.{Series, is_known}
@@ -52,11 +52,11 @@ redone_since version base s = length (positions version s) - common (positions (
 abbrev pub segmented : (version base redone : ℕ) → Cert → Answer
 segmented version base redone cert = answer.Segmented version base cert.points (length cert.cuts) redone cert.total
 
--- the certificate that stands for all that a version of the history has of the series, at its metric's penalty there, is
+-- the certificate that stands for all that a version of the history has of the series, at its metric's setting there, is
 -- published, where it began with the table of a base
 abbrev pub IsPublishedOf : List Entry → ℕ → List Entry → Series → Outcome → Type 0
 IsPublishedOf version base h s o =
-    (cert : Cert) × StandsFor (positions version s) (penalty_of s.metric version) 1 cert
+    (cert : Cert) × StandsFor (positions version s) (penalty_of s.metric version) (length_of s.metric version) cert
     × (o ≡ publish h (publication s (length version) base cert) (segmented (length version) base (redone_since version base s) cert))
 
 -- on one thread the version is the whole history
@@ -79,7 +79,7 @@ OfLatest (Some version) Comes o = o ≡ refuses (refusal.Stale version)
 -- a version is published on a longer history, from a base that the version allows
 abbrev pub IsPublishedFrom : List Entry → ℕ → List Entry → Series → Outcome → Type 0
 IsPublishedFrom version base h s o =
-    (cert : Cert) × StandsFor (positions version s) (penalty_of s.metric version) 1 cert
+    (cert : Cert) × StandsFor (positions version s) (penalty_of s.metric version) (length_of s.metric version) cert
     × IsBaseAt version (publication s (length version) base cert)
     × (o ≡ publish h (publication s (length version) base cert) (segmented (length version) base (redone_since version base s) cert))
 
@@ -107,10 +107,10 @@ ChangesComeTo h s o = OfKnown (is_known s h) (OfPublished (last_publication s h)
 
 -- ---- verify M TEST METRIC
 
--- the certificate of a publication stands for the positions of the version that it speaks of, at that version's penalty
+-- the certificate of a publication stands for the positions of the version that it speaks of, at that version's setting
 abbrev pub TellsCertificate : List Entry → Series → Publication → Outcome → Type 0
 TellsCertificate h s p o =
-    (cert : Cert) × StandsFor (positions (spoken_of h p) s) (penalty_of s.metric (spoken_of h p)) 1 cert
+    (cert : Cert) × StandsFor (positions (spoken_of h p) s) (penalty_of s.metric (spoken_of h p)) (length_of s.metric (spoken_of h p)) cert
     × (o ≡ tells (answer.Verified p.version cert))
 
 abbrev pub VerifyComesTo : List Entry → Series → Outcome → Type 0
@@ -132,10 +132,10 @@ abbrev pub OfMany : Bool → ℕ → (Outcome → Type 0) → Outcome → Type 0
 OfMany true n Comes o = o ≡ refuses (refusal.TooFewPoints n)
 OfMany false n Comes o = Comes o
 
--- the metric is given so many squares of the series' noise as its penalty; a square of 1 at least
+-- the metric is given so many squares of the series' noise as its penalty, a square of 1 at least; its least length stays
 abbrev pub IsCalibrated : List Entry → Series → ℕ → Outcome → Type 0
 IsCalibrated h s factor o =
-    (noise : ℕ) × IsNoise (positions h s) noise × (o ≡ forms.tune h s.metric (pos (factor * max 1 (noise * noise))))
+    (noise : ℕ) × IsNoise (positions h s) noise × (o ≡ forms.tune h s.metric (pos (factor * max 1 (noise * noise))) (length_of s.metric h))
 
 abbrev pub CalibrateComesTo : List Entry → Series → ℕ → Outcome → Type 0
 CalibrateComesTo h s factor o =

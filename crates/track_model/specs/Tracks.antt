@@ -1,5 +1,5 @@
 -- A machine with its history, and what a request makes of it.
-use Rattle.std.specs.Prelude.{◌≡◌, ◌≢◌, ℕ, ◌==◌, Bool, true, if◌then◌else◌, List, [], ◌∷◌, ◌++◌, Option, Some, None}
+use Rattle.std.specs.Prelude.{◌≡◌, ◌≢◌, ℕ, ◌==◌, Bool, true, ◌&&◌, if◌then◌else◌, List, [], ◌∷◌, ◌++◌, Option, Some, None}
 use Rattle.std.specs.Coded.{Coded, code_by, coded×, coded_list, coded_ℕ}
 use Rattle.std.specs.FinSet as set
 use mathlib.Core.Path.{refl}
@@ -18,10 +18,11 @@ use Rattle.track_model.specs.Reports.{ReportComesTo}
 use Rattle.request_model.specs.declared.requests.Request.{Request}
 use Rattle.request_model.specs.declared.requests.Request.TheVariants as request
 use Rattle.request_model.specs.declared.replies.Answer.TheVariants as answer
+use Rattle.history_model.specs.declared.setting.Setting.{Setting}
 use Rattle.history_model.specs.Runs.{Series}
 use Rattle.history_model.specs.declared.entries.Entry.TheVariants as entry
 use Rattle.history_model.specs.declared.publication.Publication.{Publication}
-use Rattle.history_model.specs.Penalties.{penalty_of}
+use Rattle.history_model.specs.Penalties.{setting_of}
 use Rattle.history_model.specs.Publications.{last_publication, published, spoken_of}
 use Rattle.track_model.specs.Replies.{reply_of}
 
@@ -72,10 +73,14 @@ pub record IsTold (old : Track) (o : Outcome) (reply : Reply) : Type 0 where
 abbrev pub with_home : set.FinSet series_cmp → Track → Track
 with_home home t = record { machine = t.machine; kept = t.kept; history = t.history; home = home }
 
--- the version of a publication, where its penalty is the present one; else 0
+-- two settings are one
+abbrev pub is_setting : Setting → Setting → Bool
+is_setting a b = int_eq a.penalty b.penalty && (a.length == b.length)
+
+-- the version of a publication, where its metric's setting there is the present one; else 0
 abbrev pub version_at : List Entry → Option Publication → ℕ
 version_at h None = 0
-version_at h (Some p) = if int_eq (penalty_of p.metric (spoken_of h p)) (penalty_of p.metric h) then p.version else 0
+version_at h (Some p) = if is_setting (setting_of p.metric (spoken_of h p)) (setting_of p.metric h) then p.version else 0
 
 -- the base of a series' next segmentation: that of its last publication, where the table of that is home
 abbrev pub base_of : Track → Series → ℕ
@@ -134,7 +139,7 @@ ComesTo h base (request.Machine machine) o = o ≡ tells (answer.Machine machine
 ComesTo h base (request.Commit machine number name) o = o ≡ forms.commit h number name
 ComesTo h base (request.Submit machine commit run samples ignored stated) o = o ≡ forms.submit h machine commit run samples ignored stated
 ComesTo h base (request.Retract machine run) o = o ≡ forms.retract h run
-ComesTo h base (request.Tune machine metric penalty) o = o ≡ forms.tune h metric penalty
+ComesTo h base (request.Tune machine metric penalty given) o = o ≡ forms.tune_to h metric penalty given
 ComesTo h base (request.Calibrate machine test metric factor) o = CalibrateComesTo h (series test metric) factor o
 ComesTo h base (request.Segment machine test metric) o = SegmentComesTo h base (series test metric) o
 ComesTo h base (request.Changes machine test metric) o = ChangesComeTo h (series test metric) o

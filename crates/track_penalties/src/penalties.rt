@@ -16,23 +16,43 @@ use track_model::tune_law;
 use track_replay::tune_refusal;
 use track_state::TrackState;
 
-/// `tune M METRIC PENALTY`: the metric has this penalty from here on. Constant time.
+/// `tune M METRIC PENALTY LENGTH`: the metric has this penalty from here on, and this least length, or the one that it has.
+/// Logarithmic time.
 ///
-/// Where the metric is too long or the penalty out of range it is refused as reading a request refuses it.
+/// Where the metric is too long, or the penalty or the least length out of range, it is refused as reading a request refuses
+/// it.
 pub fn tune(
     track: &mut TrackState,
     author: Author,
     metric: &Name,
     penalty: i128,
+    given: Option<u8>,
 ) -> Result<Reply, NoMemory>
     ensures step { IfOk result (λ reply. IsStep track.old author
-        (forms.tune (entries_of track.old.history) metric.now penalty) track.new reply) }
+        (forms.tune_to (entries_of track.old.history) metric.now penalty given)
+        track.new reply) }
+    ensures same { OnErr result (track.new ≡ track.old) }
+{
+    let least = given.unwrap_or(track.setting(metric).length);
+    set(track, author, metric, penalty, least)
+}
+
+// The metric has this setting from here on.
+fn set(
+    track: &mut TrackState,
+    author: Author,
+    metric: &Name,
+    penalty: i128,
+    least: u8,
+) -> Result<Reply, NoMemory>
+    ensures step { IfOk result (λ reply. IsStep track.old author
+        (forms.tune (entries_of track.old.history) metric.now penalty least) track.new reply) }
     ensures same { OnErr result (track.new ≡ track.old) }
 {
     limits_law();
     tune_law();
     track.history_law();
-    if let Some(answer) = tune_refusal(metric, penalty) {
+    if let Some(answer) = tune_refusal(metric, penalty, least) {
         return Ok(track.told(answer));
     }
     if track.len() >= Limit::Steps.most() {
@@ -41,10 +61,16 @@ pub fn tune(
     let answer = Answer::Tuned {
         metric: metric.copy(track.alloc())?,
         penalty,
+        length: least,
     };
     let metric = metric.copy(track.alloc())?;
     let penalty = Boxed::new(track.alloc(), penalty)?;
-    let step = track.add(author, Entry::Tune { metric, penalty }, 0)?;
+    let entry = Entry::Tune {
+        metric,
+        penalty,
+        length: least,
+    };
+    let step = track.add(author, entry, 0)?;
     Ok(Reply { step, answer })
 }
 
@@ -70,7 +96,7 @@ fn penalty_by(factor: u64, noise: u64) -> i128
 }
 
 /// `calibrate M TEST METRIC FACTOR`: the metric has the factor times the square of the series' noise as its penalty
-/// from here on. O(n log n + v) time for n positions with v values.
+/// from here on; its least length stays. O(n log n + v) time for n positions with v values.
 pub fn calibrate(
     track: &mut TrackState,
     author: Author,
@@ -95,5 +121,6 @@ pub fn calibrate(
         return Ok(track.told(Answer::Refused(Refusal::TooFewPoints(n as u64))));
     }
     let noise = noise(track.alloc(), &points)?;
-    tune(track, author, metric, penalty_by(factor, noise))
+    let least = track.setting(metric).length;
+    set(track, author, metric, penalty_by(factor, noise), least)
 }

@@ -97,18 +97,18 @@ module _ (h : List Entry) (keeps : KeepsLimits h) where
       (lt-ltb _ _ (let size = length-append h (entry.Retract run ∷ []) in omega (arith, steps, size))) in
       let never : true ≡ false = sym all ∙ fits in cc
 
-  pub tuning-fits : LimitsAfterTune → TuneMayFollow → (metric : List ℕ) (penalty : ℤ) → tuning_fits h metric penalty ≡ true → IsAllowance h (entry.Tune metric penalty) (Some 0)
-  tuning-fits limits follows metric penalty fits =
-      let one = both (is_none (forms.tune_refusal metric penalty)) (nat_lt (length h) (most limit.Steps)) fits in
+  pub tuning-fits : LimitsAfterTune → TuneMayFollow → (metric : List ℕ) (penalty : ℤ) (len : ℕ) → tuning_fits h metric penalty len ≡ true → IsAllowance h (entry.Tune metric penalty len) (Some 0)
+  tuning-fits limits follows metric penalty len fits =
+      let one = both (is_none (forms.tune_refusal metric penalty len)) (nat_lt (length h) (most limit.Steps)) fits in
       let room = ltb-true _ _ one.1 in
-      (((follows h metric penalty).0 (none-of (forms.tune_refusal metric penalty) one.0), limits h metric penalty keeps (omega (arith, room))), no-more h (entry.Tune metric penalty) refl)
+      (((follows h metric penalty len).0 (none-of (forms.tune_refusal metric penalty len) one.0), limits h metric penalty len keeps (omega (arith, room))), no-more h (entry.Tune metric penalty len) refl)
 
-  pub tuning-refused : TuneMayFollow → (metric : List ℕ) (penalty : ℤ) → tuning_fits h metric penalty ≡ false → IsAllowance h (entry.Tune metric penalty) None
-  tuning-refused follows metric penalty fits allowed =
-      let steps : length (h ++ entry.Tune metric penalty ∷ []) ≤ most limit.Steps = allowed.1 limit.Steps in
-      let free : forms.tune_refusal metric penalty ≡ None = (follows h metric penalty).1 allowed.0 in
-      let all = and (is_none (forms.tune_refusal metric penalty)) (nat_lt (length h) (most limit.Steps)) (of-none (forms.tune_refusal metric penalty) free)
-      (lt-ltb _ _ (let size = length-append h (entry.Tune metric penalty ∷ []) in omega (arith, steps, size))) in
+  pub tuning-refused : TuneMayFollow → (metric : List ℕ) (penalty : ℤ) (len : ℕ) → tuning_fits h metric penalty len ≡ false → IsAllowance h (entry.Tune metric penalty len) None
+  tuning-refused follows metric penalty len fits allowed =
+      let steps : length (h ++ entry.Tune metric penalty len ∷ []) ≤ most limit.Steps = allowed.1 limit.Steps in
+      let free : forms.tune_refusal metric penalty len ≡ None = (follows h metric penalty len).1 allowed.0 in
+      let all = and (is_none (forms.tune_refusal metric penalty len)) (nat_lt (length h) (most limit.Steps)) (of-none (forms.tune_refusal metric penalty len) free)
+      (lt-ltb _ _ (let size = length-append h (entry.Tune metric penalty len ∷ []) in omega (arith, steps, size))) in
       let never : true ≡ false = sym all ∙ fits in cc
 
 -- what is told of as passed is passed

@@ -30,6 +30,6 @@ commit_fits h number name =
 abbrev pub retraction_fits : List Entry → List ℕ → Bool
 retraction_fits h run = is_none (forms.retract_refusal h run) && nat_lt (length h) (most limit.Steps)
 
--- a penalty in range, within the limits
-abbrev pub tuning_fits : List Entry → List ℕ → ℤ → Bool
-tuning_fits h metric penalty = is_none (forms.tune_refusal metric penalty) && nat_lt (length h) (most limit.Steps)
+-- a setting in range, within the limits
+abbrev pub tuning_fits : List Entry → List ℕ → ℤ → ℕ → Bool
+tuning_fits h metric penalty len = is_none (forms.tune_refusal metric penalty len) && nat_lt (length h) (most limit.Steps)

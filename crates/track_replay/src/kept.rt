@@ -31,10 +31,10 @@ fn retraction_fits(track: &TrackState, run: &Name) -> bool
     retract_refusal(track, run).is_none() && track.len() < Limit::Steps.most()
 }
 
-fn tuning_fits(track: &TrackState, metric: &Name, penalty: &i128) -> bool
-    ensures { result ≡ tuning_fits (entries_of track.now.history) metric.now penalty.now }
+fn tuning_fits(track: &TrackState, metric: &Name, penalty: &i128, least: u8) -> bool
+    ensures { result ≡ tuning_fits (entries_of track.now.history) metric.now penalty.now least }
 {
-    tune_refusal(metric, *penalty).is_none() && track.len() < Limit::Steps.most()
+    tune_refusal(metric, *penalty, least).is_none() && track.len() < Limit::Steps.most()
 }
 
 fn run_allowance(track: &TrackState, run: &Run) -> Result<Option<u64>, NoMemory>
@@ -81,8 +81,12 @@ fn allowance(track: &TrackState, entry: &Entry) -> Result<Option<u64>, NoMemory>
             }
             Ok(None)
         }
-        Entry::Tune { metric, penalty } => {
-            if tuning_fits(track, metric, penalty.get()) {
+        Entry::Tune {
+            metric,
+            penalty,
+            length,
+        } => {
+            if tuning_fits(track, metric, penalty.get(), *length) {
                 return Ok(Some(0));
             }
             Ok(None)

@@ -96,7 +96,7 @@ all-have-names runs h done items legal made are i d lt =
     subst (λ (ps : List Position). All (λ (p : Position). Q p.commit) ps) (sym made.points) (commits-declared runs h (series_of done) done.version legal) in
     let inside : i < length done.cert.cuts = omega (arith, lt, are.counted) in
     let cut = slice_index done.cert.cuts i in
-    let place = within 0 (length done.points) done.cert.cuts (places-rise 1 (length done.points) done.cert.cuts made.stands.best.is_cut_list) i inside in
+    let place = within 0 (length done.points) done.cert.cuts (places-rise done.cert.length (length done.points) done.cert.cuts made.stands.best.is_cut_list) i inside in
     let low = place.0 in
     let high = place.1 in
     let change = are.each i inside d in (

@@ -3,11 +3,9 @@ use Rattle.std.proofs.Common.{◌≡◌, ℕ, zero, suc, ℤ, Bool, true, false,
 use Rattle.std.specs.Prelude.{nat_lt, unwrap_or}
 use Rattle.std.specs.FinSet as set
 use Rattle.std.specs.List.{Any, last_or}
-use Rattle.std.specs.Ordering.{int_eq}
 use Rattle.std.proofs.Math.Logic.{∥∥₁_elim}
 use denote.Struct.Props.{props}
 use Rattle.std.proofs.lemmas.Bool.{cases_Bool, ltb-false}
-use Rattle.std.proofs.lemmas.Bool.Decides.{Decides-int_eq}
 use Rattle.segment_model.specs.Segments.{Position}
 use Rattle.segment_model.specs.Values.{values_by_position}
 use Rattle.segment_cost.specs.declared.done.Done.{Done}
@@ -18,25 +16,26 @@ use Rattle.history_model.specs.declared.publication.Publication.{Publication}
 use Rattle.history_model.specs.Allowed.{Legal}
 use Rattle.history_model.specs.Entries.{entries_of}
 use Rattle.history_model.specs.Laws.{LastStands, KnownStays}
-use Rattle.history_model.specs.Penalties.{penalty_of}
+use Rattle.history_model.specs.Penalties.{setting_of}
 use Rattle.history_model.specs.Publications.{last_publication, publications_of, published, IsBaseAt, IsUpTo}
 use Rattle.history_model.specs.Runs.{Series, is_known}
-use Rattle.track_model.specs.Tracks.{Track, base_of, version_at}
+use Rattle.track_model.specs.Tracks.{Track, is_setting, base_of, version_at}
+use Rattle.track_model.proofs.Settings.{setting-is}
 use Rattle.track_state.specs.State.{IsKept}
 use Rattle.track_series.specs.Begun.{Begins}
 use Rattle.track_series.specs.Publications.{later}
 
 -- ---- what a type says of its table
-pub begins-some : (base : ℕ) (old : List Position) (z : ℤ) (t : Tabled) → ∥ Begins base old z (Some t) ∥₁ → t ≡ table_of (values_by_position old) z 1
-begins-some base old z t s =
-    same-table t (values_by_position old) z 1
+pub begins-some : (base : ℕ) (old : List Position) (z : ℤ) (len : ℕ) (t : Tabled) → ∥ Begins base old z len (Some t) ∥₁ → t ≡ table_of (values_by_position old) z len
+begins-some base old z len t s =
+    same-table t (values_by_position old) z len
     (∥∥₁_elim s (search props) (λ x. ap (λ (u : Tabled). u.positions) x))
     (∥∥₁_elim s (search props) (λ x. ap (λ (u : Tabled). u.penalty) x))
     (∥∥₁_elim s (search props) (λ x. ap (λ (u : Tabled). u.length) x))
 
 -- the values of no positions are none
-pub begins-none : (base : ℕ) (old : List Position) (z : ℤ) → ∥ Begins base old z None ∥₁ → [] ≡ values_by_position old
-begins-none base old z s = ∥∥₁_elim s (search props) (λ x. ap values_by_position (sym x.1))
+pub begins-none : (base : ℕ) (old : List Position) (z : ℤ) (len : ℕ) → ∥ Begins base old z len None ∥₁ → [] ≡ values_by_position old
+begins-none base old z len s = ∥∥₁_elim s (search props) (λ x. ap values_by_position (sym x.1))
 
 -- ---- no later version
 pub not-later : (version : ℕ) (o : Option Publication) → later version o ≡ None → IsUpTo version o
@@ -61,17 +60,17 @@ last-any P (x ∷ []) q is holds =
 last-any P (x ∷ y ∷ xs) q is holds = let rest = last-any P (y ∷ xs) q is holds in (suc rest.0, rest.1, omega (arith, rest.2), rest.3, rest.4)
 
 base-at : LastStands → (h : List Entry) (s : Series) → Legal h → (o : Option Publication) → last_publication s h ≡ o
-    → (version_at h o ≡ 0) ⊎ (Any (λ (q : Publication). q.version ≡ version_at h o) (publications_of s h) × (penalty_of s.metric (take (version_at h o) h) ≡ penalty_of s.metric h))
+    → (version_at h o ≡ 0) ⊎ (Any (λ (q : Publication). q.version ≡ version_at h o) (publications_of s h) × (setting_of s.metric (take (version_at h o) h) ≡ setting_of s.metric h))
 base-at last h s legal None is = inl refl
-base-at last h s legal (Some p) is = elim (cases_Bool (int_eq (penalty_of p.metric (take p.version h)) (penalty_of p.metric h))) [
+base-at last h s legal (Some p) is = elim (cases_Bool (is_setting (setting_of p.metric (take p.version h)) (setting_of p.metric h))) [
   | inl hit ↦
       let series-is : published p ≡ s = (last h s p legal is).0 in
       let version : version_at h (Some p) ≡ p.version = ap (λ b. cond b p.version 0) hit in
-      let same = (Decides-int_eq (penalty_of p.metric (take p.version h)) (penalty_of p.metric h)).0 hit in
-      let same-of-s : penalty_of s.metric (take p.version h) ≡ penalty_of s.metric h = subst (λ (u : Series). penalty_of u.metric (take p.version h) ≡ penalty_of u.metric h) series-is same in
+      let same = setting-is (setting_of p.metric (take p.version h)) (setting_of p.metric h) hit in
+      let same-of-s : setting_of s.metric (take p.version h) ≡ setting_of s.metric h = subst (λ (u : Series). setting_of u.metric (take p.version h) ≡ setting_of u.metric h) series-is same in
       inr (
         last-any (λ (q : Publication). q.version ≡ version_at h (Some p)) (publications_of s h) p is (sym version),
-        ap (λ (v : ℕ). penalty_of s.metric (take v h)) version ∙ same-of-s,
+        ap (λ (v : ℕ). setting_of s.metric (take v h)) version ∙ same-of-s,
       )
   | inr miss ↦ inl (ap (λ b. cond b p.version 0) miss)
 ]
@@ -86,7 +85,7 @@ base-lawful last t s legal p series-is base = elim (cases_Bool (set.contains t.h
         | inl none ↦ inl (version ∙ none)
         | inr both ↦ inr (
           subst (λ (u : Series). Any (λ (q : Publication). q.version ≡ p.base) (publications_of u h)) (sym series-is) (subst (λ (v : ℕ). Any (λ (q : Publication). q.version ≡ v) (publications_of s h)) (sym version) both.0),
-          subst (λ (u : Series). penalty_of u.metric (take p.base h) ≡ penalty_of u.metric h) (sym series-is) (subst (λ (v : ℕ). penalty_of s.metric (take v h) ≡ penalty_of s.metric h) (sym version) both.1),
+          subst (λ (u : Series). setting_of u.metric (take p.base h) ≡ setting_of u.metric h) (sym series-is) (subst (λ (v : ℕ). setting_of s.metric (take v h) ≡ setting_of s.metric h) (sym version) both.1),
         )
       ]
   | inr miss ↦ inl (base ∙ ap (λ b. cond b (version_at (entries_of t.history) (last_publication s (entries_of t.history))) 0) miss)

@@ -11,7 +11,8 @@ use Rattle.history_model.specs.declared.entries.Entry.{Entry}
 use Rattle.history_model.specs.declared.publication.Publication.{Publication}
 use Rattle.history_model.specs.Entries.{entries_of}
 use Rattle.history_model.specs.Laws.{KnownStays}
-use Rattle.history_model.specs.Penalties.{penalty_of}
+use Rattle.history_model.specs.Penalties.{penalty_of, length_of}
+use Rattle.history_model.specs.declared.setting.Setting.{Setting}
 use Rattle.history_model.specs.Positions.{positions}
 use Rattle.history_model.specs.Publications.{IsBaseAt, last_publication}
 use Rattle.history_model.specs.Runs.{Series, is_known}
@@ -59,8 +60,8 @@ module _ (stays : KnownStays) (old : Track) (author : Author) (done : Done) (mad
   -- what it comes to, where no later version was published
   published-of : IsPublishedFrom (take done.version (entries_of old.history)) done.base (entries_of old.history) (series_of done) (publish (entries_of old.history) (publication_from done) told)
   published-of =
-      let stands : StandsFor (positions v s) (penalty_of done.metric v) 1 done.cert =
-      subst (λ (z : ℤ). StandsFor (positions v s) z 1 done.cert) made.penalty (subst (λ (ps : List Position). StandsFor ps done.cert.penalty 1 done.cert) made.points made.stands) in
+      let stands : StandsFor (positions v s) (penalty_of done.metric v) (length_of done.metric v) done.cert =
+      subst (λ (x : Setting). StandsFor (positions v s) x.penalty x.length done.cert) made.setting (subst (λ (ps : List Position). StandsFor ps done.cert.penalty done.cert.length done.cert) made.points made.stands) in
       let is : publication_from done ≡ publication s (length v) done.base done.cert = ap (λ (n : ℕ). publication s n done.base done.cert) (sym version-is) in
       let says : told ≡ segmented (length v) done.base (redone_since v done.base s) done.cert =
       told_is ∙ ap (λ (n : ℕ). segmented n done.base done.redone done.cert) (sym version-is) ∙ ap (λ (n : ℕ). segmented (length v) done.base n done.cert) made.redone in (

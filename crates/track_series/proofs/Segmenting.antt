@@ -17,7 +17,7 @@ use Rattle.history_model.specs.declared.publication.Publication.{Publication}
 use Rattle.history_model.specs.Allowed.{Legal}
 use Rattle.history_model.specs.Entries.{entries_of}
 use Rattle.history_model.specs.Laws.{LastStands}
-use Rattle.history_model.specs.Penalties.{penalty_of}
+use Rattle.history_model.specs.Penalties.{setting_of, penalty_of, length_of}
 use Rattle.history_model.specs.Positions.{positions}
 use Rattle.history_model.specs.Publications.{last_publication, IsBaseAt, IsUpTo}
 use Rattle.history_model.specs.Runs.{Series, is_known}
@@ -32,7 +32,9 @@ use Rattle.track_model.specs.Outcomes.{tells, added_unless}
 use Rattle.track_model.specs.Publishing.{SegmentComesTo, IsPublished, publication, publish, redone_since, segmented}
 use Rattle.track_model.specs.Replies.{reply_of}
 use Rattle.track_model.specs.Tracks.{Track, IsSameButTables, IsSegmentStep, base_of, with_entry, with_home, with_publication, with_taken}
-use Rattle.track_state.specs.Made.{publication_from, entry_of, IsMadeFrom}
+use Rattle.track_state.specs.Made.{publication_from, entry_of, setting_in, IsMadeFrom}
+use Rattle.history_model.specs.declared.setting.Setting.{Setting}
+use Rattle.track_model.proofs.Settings.{same-setting}
 use Rattle.track_series.specs.Publications.{IsAdded}
 use Rattle.track_series.specs.Snapshots.{IsTakenAt, IsRedone}
 use Rattle.track_series.specs.declared.publishing.Published.{Published}
@@ -141,26 +143,40 @@ module _ (t : Track) (s : Series) (x : Snapshot) (made : Redone) (taken : IsTake
   redone-is : made.done.redone ≡ redone_since h x.base s
   redone-is = is.redone ∙ ap₂ (λ (old new : List Position). length new - common old new) taken.old taken.points
 
-  stands : StandsFor (positions h s) (penalty_of s.metric h) 1 made.done.cert
+  -- the setting of the snapshot
+  asked : Setting
+  asked = record { penalty = x.penalty; length = x.length }
+
+  setting-taken : asked ≡ setting_of s.metric h
+  unfolding asked
+  setting-taken = same-setting asked (setting_of s.metric h) taken.penalty taken.long
+
+  setting-made : setting_in made.done ≡ asked
+  unfolding asked
+  setting-made = same-setting (setting_in made.done) asked is.stands.same_penalty is.stands.same_length
+
+  stands : StandsFor (positions h s) (penalty_of s.metric h) (length_of s.metric h) made.done.cert
+  unfolding asked
   stands =
-      subst (λ (z : ℤ). StandsFor (positions h s) z 1 made.done.cert) taken.penalty
-      (subst (λ (ps : List Position). StandsFor ps x.penalty 1 made.done.cert) taken.points is.stands)
+      subst (λ (x' : Setting). StandsFor (positions h s) x'.penalty x'.length made.done.cert) setting-taken
+      (subst (λ (ps : List Position). StandsFor ps x.penalty x.length made.done.cert) taken.points is.stands)
 
   pub made-from : LastStands → Legal h → IsMadeFrom h made.done
+  unfolding asked
   made-from last legal =
       let lawful : IsBaseAt h (publication_from made.done) = base-lawful last t s legal (publication_from made.done) series-is base-is in
       record {
         past = omega (arith, version-is);
         known = ap (is_known (series_of made.done)) front ∙ ap (λ (u : Series). is_known u h) series-is ∙ taken.known;
         points = is.points ∙ taken.points ∙ sym (ap (λ (g : List Entry). positions g (series_of made.done)) front ∙ ap (positions h) series-is);
-        penalty = is.stands.same_penalty ∙ taken.penalty ∙ sym (ap (penalty_of made.done.metric) front ∙ ap (λ (u : Series). penalty_of u.metric h) series-is);
+        setting = setting-made ∙ setting-taken ∙ sym (ap (setting_of made.done.metric) front ∙ ap (λ (u : Series). setting_of u.metric h) series-is);
         based = subst (λ (g : List Entry). IsBaseAt g (publication_from made.done)) (sym front) lawful;
         redone = redone-is ∙ sym (
             ap (λ (g : List Entry). redone_since g made.done.base (series_of made.done)) front
             ∙ ap (λ (u : Series). redone_since h made.done.base u) series-is
             ∙ ap (λ (b : ℕ). redone_since h b s) is.base);
-        stands = subst (λ (z : ℤ). StandsFor made.done.points z 1 made.done.cert) (sym is.stands.same_penalty)
-            (subst (λ (ps : List Position). StandsFor ps x.penalty 1 made.done.cert) (sym is.points) is.stands);
+        stands = subst (λ (x' : Setting). StandsFor made.done.points x'.penalty x'.length made.done.cert) (sym setting-made)
+            (subst (λ (ps : List Position). StandsFor ps x.penalty x.length made.done.cert) (sym is.points) is.stands);
       }
 
   publication-is : publication_from made.done ≡ publication s (length h) (base_of t s) made.done.cert

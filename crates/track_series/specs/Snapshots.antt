@@ -3,7 +3,7 @@ use Rattle.std.specs.Prelude.{◌≡◌, ◌-◌, true, false, length, take, Opt
 use Rattle.segment_cost.specs.Certificate.{StandsFor}
 use Rattle.point_list.specs.Places.{common}
 use Rattle.history_model.specs.Entries.{entries_of}
-use Rattle.history_model.specs.Penalties.{penalty_of}
+use Rattle.history_model.specs.Penalties.{penalty_of, length_of}
 use Rattle.history_model.specs.Positions.{positions}
 use Rattle.history_model.specs.Runs.{Series, is_known}
 use Rattle.publication_index.specs.Standing.{table_for}
@@ -11,13 +11,14 @@ use Rattle.track_model.specs.Tracks.{Track, base_of}
 use Rattle.track_series.specs.declared.redone.Redone.{Redone}
 use Rattle.track_series.specs.declared.snapshot.Snapshot.{Snapshot}
 
--- the series with its positions and the penalty of its metric, at the history's length; and the positions of its base
+-- the series with its positions and the setting of its metric, at the history's length; and the positions of its base
 pub record IsTakenAt (t : Track) (s : Series) (x : Snapshot) : Type 0 where
   pub known : is_known s (entries_of t.history) ≡ true
   pub test : x.test ≡ s.test
   pub metric : x.metric ≡ s.metric
   pub version : x.version ≡ length (entries_of t.history)
   pub penalty : x.penalty ≡ penalty_of s.metric (entries_of t.history)
+  pub long : x.length ≡ length_of s.metric (entries_of t.history)
   pub points : x.points ≡ positions (entries_of t.history) s
   pub base : x.base ≡ base_of t s
   pub old : x.old ≡ positions (take x.base (entries_of t.history)) s
@@ -35,5 +36,5 @@ pub record IsRedone (x : Snapshot) (made : Redone) : Type 0 where
   pub base : made.done.base ≡ x.base
   pub redone : made.done.redone ≡ length x.points - common x.old x.points
   pub points : made.done.points ≡ x.points
-  pub stands : StandsFor x.points x.penalty 1 made.done.cert
+  pub stands : StandsFor x.points x.penalty x.length made.done.cert
   pub tabled : made.table ≡ table_for made.done

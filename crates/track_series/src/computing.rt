@@ -1,5 +1,6 @@
 //! The best segmentation of a snapshot, from the table that it begins with.
 ghost use Rattle.std.specs.Prelude.{◌≡◌, ◌+◌, ◌<◌, ◌≤ℤ◌, ◌^◌, IfOk, pos};
+ghost use Rattle.segment_model.specs.Limits.{IsLength};
 ghost use Rattle.segment_model.specs.Values.{values_by_position};
 ghost use Rattle.pelt_core.specs.Seen.{table_of};
 ghost use Rattle.track_series.specs.Begun.{Begins};
@@ -33,13 +34,14 @@ pub fn compute<L: Ledger>(
         metric,
         version,
         penalty,
+        length,
         base,
         points,
         old,
         table,
         ..
     } = snapshot;
-    let mut table = begun(alloc, &old, penalty, base, table)?;
+    let mut table = begun(alloc, &old, penalty, length, base, table)?;
     let front = common_prefix(&old, &points);
     redo_from(&mut table, front, &points, steps)?;
     let redone = (points.len() - front) as u64;
@@ -79,16 +81,18 @@ fn begun(
     alloc: Global,
     old: &FrozenPoints,
     penalty: i128,
+    least: u8,
     base: u64,
     table: Option<Table<Square>>,
 ) -> Result<Table<Square>, NoMemory>
     requires low { pos 0 ≤ℤ penalty }
     requires high { penalty ≤ℤ pos (10 ^ 36) }
-    requires begins { ∥ Begins base old.now penalty table ∥₁ }
-    ensures { IfOk result (λ made. made ≡ table_of (values_by_position old.now) penalty 1) }
+    requires least { IsLength least }
+    requires begins { ∥ Begins base old.now penalty least table ∥₁ }
+    ensures { IfOk result (λ made. made ≡ table_of (values_by_position old.now) penalty least) }
 {
     match table {
         Some(table) => Ok(table),
-        None => Table::start(alloc, penalty, 1),
+        None => Table::start(alloc, penalty, least),
     }
 }

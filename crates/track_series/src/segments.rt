@@ -21,7 +21,7 @@ use std::sync::ledger::Ledger;
 use track_state::TrackState;
 
 /// What the history has of a series; none exactly where the series is unknown. The table of its last publication goes with
-/// it, where that is home and has the present penalty. Where there is no memory, nothing changes. One step for 128
+/// it, where that is home and has the present setting. Where there is no memory, nothing changes. One step for 128
 /// positions, but for look-ups and for samples that came since it was last read.
 pub fn take_snapshot(
     track: &mut TrackState,
@@ -41,7 +41,7 @@ pub fn take_snapshot(
         return Ok(None);
     };
     let version = track.len();
-    let penalty = track.penalty(metric);
+    let setting = track.setting(metric);
     let test_name = test.copy(alloc)?;
     let metric_name = metric.copy(alloc)?;
     let none = FrozenPoints::none(alloc)?;
@@ -50,7 +50,8 @@ pub fn take_snapshot(
             test: test_name,
             metric: metric_name,
             version,
-            penalty,
+            penalty: setting.penalty,
+            length: setting.length,
             base: base.version,
             points,
             old: base.points,
@@ -60,7 +61,8 @@ pub fn take_snapshot(
             test: test_name,
             metric: metric_name,
             version,
-            penalty,
+            penalty: setting.penalty,
+            length: setting.length,
             base: 0,
             points,
             old: none,

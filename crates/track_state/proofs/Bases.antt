@@ -2,9 +2,7 @@
 use Rattle.std.proofs.Common.{◌≡◌, ℕ, zero, suc, ℤ, ◌<◌, Bool, true, false, cond, List, take, refl, sym, ap, ap₂, subst, ◌∙◌, Option, Some, None, inl, inr, true≢false, arith}
 use Rattle.std.specs.Prelude.{is_some, nat_eq}
 use Rattle.std.specs.FinSet as set
-use Rattle.std.specs.Ordering.{int_eq}
 use Rattle.std.proofs.lemmas.Bool.{cases_Bool, ne_eqb}
-use Rattle.std.proofs.lemmas.Bool.Decides.{Decides-int_eq}
 use Rattle.segment_model.specs.Segments.{Position}
 use Rattle.segment_model.specs.Values.{values_by_position}
 use Rattle.pelt_core.specs.Seen.{table_of}
@@ -16,15 +14,17 @@ use Rattle.track_state.specs.declared.base.Base.{Base}
 use Rattle.segment_cost.specs.declared.done.Done.{Done}
 use Rattle.history_model.specs.declared.entries.Entry.{Entry}
 use Rattle.history_model.specs.declared.publication.Publication.{Publication}
+use Rattle.history_model.specs.declared.setting.Setting.{Setting}
 use Rattle.history_model.specs.Entries.{entries_of}
-use Rattle.history_model.specs.Penalties.{penalty_of}
+use Rattle.history_model.specs.Penalties.{setting_of}
 use Rattle.history_model.specs.Publications.{last_publication}
 use Rattle.history_model.specs.Runs.{Series, is_known}
 use Rattle.publication_index.specs.Homes.{homes}
 use Rattle.publication_index.specs.Kept.{home, kept, kept_at_home, series_of}
 use Rattle.publication_index.proofs.Homes.{contains-homes}
-use Rattle.track_model.specs.Tracks.{Track, base_of, version_at, with_home, with_taken}
-use Rattle.track_state.specs.Made.{Segmentations, publication_from, IsMadeFrom}
+use Rattle.track_model.specs.Tracks.{Track, is_setting, base_of, version_at, with_home, with_taken}
+use Rattle.track_state.specs.Made.{Segmentations, publication_from, setting_in, IsMadeFrom}
+use Rattle.track_model.proofs.Settings.{setting-is}
 use Rattle.track_state.specs.State.{BeginsWith, IsKept}
 use Rattle.track_state.proofs.Published.{nothing, something, of-series}
 
@@ -67,32 +67,32 @@ module _ (t : Track) (s : Series) (tests : Segmentations) (are : homes tests ≡
         something (entries_of t.history) (last_publication s (entries_of t.history)) done
         (subst (λ (d : Option Done). IsKept (entries_of t.history) (last_publication s (entries_of t.history)) d) kept-some is)
 
-    pub base-by : base_of t s ≡ cond (int_eq done.cert.penalty (penalty_of done.metric (entries_of t.history))) done.version 0
+    pub base-by : base_of t s ≡ cond (is_setting (setting_in done) (setting_of done.metric (entries_of t.history))) done.version 0
     base-by =
         ap₂ (λ b (o : Option Publication). cond b (version_at (entries_of t.history) o) 0) (there ∙ home-some) last-some.0
-        ∙ ap (λ (z : ℤ). cond (int_eq z (penalty_of done.metric (entries_of t.history))) done.version 0) (sym last-some.1.penalty)
+        ∙ ap (λ (x : Setting). cond (is_setting x (setting_of done.metric (entries_of t.history))) done.version 0) (sym last-some.1.setting)
 
     series-is : LastStands → Legal (entries_of t.history) → series_of done ≡ s
     series-is last legal = of-series last (entries_of t.history) s done legal last-some.0
 
-    pub base-other : LastStands → Legal (entries_of t.history) → (z : ℤ) → penalty_of s.metric (entries_of t.history) ≡ z → int_eq done.cert.penalty z ≡ false → base_of t s ≡ 0
+    pub base-other : LastStands → Legal (entries_of t.history) → (z : Setting) → setting_of s.metric (entries_of t.history) ≡ z → is_setting (setting_in done) z ≡ false → base_of t s ≡ 0
     base-other last legal z is differs =
-        let z_is = ap (λ (u : Series). penalty_of u.metric (entries_of t.history)) (series-is last legal) ∙ is in
-        base-by ∙ ap (λ (y : ℤ). cond (int_eq done.cert.penalty y) done.version 0) z_is ∙ ap (λ b. cond b done.version 0) differs
+        let z_is = ap (λ (u : Series). setting_of u.metric (entries_of t.history)) (series-is last legal) ∙ is in
+        base-by ∙ ap (λ (y : Setting). cond (is_setting (setting_in done) y) done.version 0) z_is ∙ ap (λ b. cond b done.version 0) differs
 
-    pub begins : LastStands → Legal (entries_of t.history) → (z : ℤ) → penalty_of s.metric (entries_of t.history) ≡ z → int_eq done.cert.penalty z ≡ true
+    pub begins : LastStands → Legal (entries_of t.history) → (z : Setting) → setting_of s.metric (entries_of t.history) ≡ z → is_setting (setting_in done) z ≡ true
         → (b : Base) → b.version ≡ done.version → b.points ≡ done.points → IsKeptTable b.table (kept s tests) → BeginsWith t s b
     begins last legal z is same b version points stands =
         let h : List Entry = entries_of t.history in
-        let z_is = ap (λ (u : Series). penalty_of u.metric h) (series-is last legal) ∙ is in
-        let base-is : base_of t s ≡ done.version = base-by ∙ ap (λ (y : ℤ). cond (int_eq done.cert.penalty y) done.version 0) z_is ∙ ap (λ b. cond b done.version 0) same in
+        let z_is = ap (λ (u : Series). setting_of u.metric h) (series-is last legal) ∙ is in
+        let base-is : base_of t s ≡ done.version = base-by ∙ ap (λ (y : Setting). cond (is_setting (setting_in done) y) done.version 0) z_is ∙ ap (λ b. cond b done.version 0) same in
         let tabled : b.table ≡ table_for done = subst (λ (d : Option Done). IsKeptTable b.table d) kept-some stands in
-        let penalty : done.cert.penalty ≡ penalty_of s.metric h = (Decides-int_eq done.cert.penalty z).0 same ∙ sym is in
+        let setting : setting_in done ≡ setting_of s.metric h = setting-is (setting_in done) z same ∙ sym is in
         record {
           some = subst (λ (v : ℕ). 0 < v) (sym version) (some-version h done last-some.1);
           version = version ∙ sym base-is;
           points = points ∙ last-some.1.points ∙ ap (positions (take done.version h)) (series-is last legal) ∙ ap (λ (v : ℕ). positions (take v h) s) (sym version);
-          table = tabled ∙ ap₂ (λ (ps : List Position) (y : ℤ). table_of (values_by_position ps) y done.cert.length) (sym points) penalty ∙ ap (table_of (values_by_position b.points) (penalty_of s.metric h)) last-some.1.stands.same_length;
+          table = tabled ∙ ap₂ (λ (ps : List Position) (x : Setting). table_of (values_by_position ps) x.penalty x.length) (sym points) setting;
         }
 
 -- where there is no base, nothing is taken

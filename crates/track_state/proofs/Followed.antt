@@ -107,7 +107,7 @@ module _ (grow : RegressionsGrow) (moves : StateIsMoved) (stays : StateStays) (n
     followed-after h (entry.Commit number name) f f' legal are is = quiet grow stays stay h (entry.Commit number name) f f' refl (λ n. refl) tt are is
     followed-after h (entry.Accept run) f f' legal are is = quiet grow stays stay h (entry.Accept run) f f' refl (λ n. refl) tt are is
     followed-after h (entry.Retract run) f f' legal are is = quiet grow stays stay h (entry.Retract run) f f' refl (λ n. refl) tt are is
-    followed-after h (entry.Tune metric penalty) f f' legal are is = quiet grow stays stay h (entry.Tune metric penalty) f f' refl (λ n. refl) tt are is
+    followed-after h (entry.Tune metric penalty len) f f' legal are is = quiet grow stays stay h (entry.Tune metric penalty len) f f' refl (λ n. refl) tt are is
     followed-after h (entry.Publish p) f f' legal are is = quiet grow stays stay h (entry.Publish p) f f' refl (λ n. refl) tt are is
     followed-after h (entry.Regression (Raise r)) f f' legal are is = record {
       regressions_are = is.0 ∙ ap (λ (fs : List Followed). fs ++ made r Detected ∷ []) are.regressions_are ∙ sym (after-raise h r legal);
@@ -144,7 +144,7 @@ pub followable : NumbersAreTwo → (h : List Entry) (f : Following) (e : Entry) 
 followable two h f (entry.Commit number name) are allowed = tt
 followable two h f (entry.Accept run) are allowed = tt
 followable two h f (entry.Retract run) are allowed = tt
-followable two h f (entry.Tune metric penalty) are allowed = tt
+followable two h f (entry.Tune metric penalty len) are allowed = tt
 followable two h f (entry.Publish p) are allowed = tt
 followable two h f (entry.Regression (Raise r)) are allowed = tt
 followable two h f (entry.Regression (Move number state)) are allowed =

@@ -1,15 +1,15 @@
--- The penalties and the publications of a state after an entry.
+-- The settings and the publications of a state after an entry.
 use Rattle.std.proofs.Common.{◌≡◌, ℕ, ℤ, ◌+◌, Bool, true, false, cond, List, [], ◌∷◌, ◌++◌, length, take, refl, sym, ap, subst, ◌∙◌, Option, Some, None, inl, inr, arith}
 use Rattle.std.specs.Prelude.{bytes_eq}
 use Rattle.std.proofs.lemmas.Bool.{cases_Bool}
 use Rattle.std.proofs.lemmas.List.{length-append}
-use Rattle.metric_table.specs.Table.{IsPenalty}
 use Rattle.history_model.specs.declared.entries.Entry.{Entry}
 use Rattle.history_model.specs.declared.entries.Entry.TheVariants as entry
 use Rattle.history_model.specs.declared.publication.Publication.{Publication}
+use Rattle.history_model.specs.declared.setting.Setting.{Setting}
 use Rattle.history_model.specs.Allowed.{MayFollow}
 use Rattle.history_model.specs.Laws.{PublicationIsLast, PublicationStays, CutsGrow, VersionsStay}
-use Rattle.history_model.specs.Penalties.{penalty_of, PenaltyIsSet, PenaltyStays}
+use Rattle.history_model.specs.Penalties.{setting_of, penalty_of, length_of, IsSetting, SettingIsSet, SettingStays}
 use Rattle.history_model.specs.Positions.{positions}
 use Rattle.segment_model.specs.Segments.{Position}
 use Rattle.segment_cost.specs.Certificate.{StandsFor}
@@ -23,34 +23,36 @@ use Rattle.track_state.specs.Indexes.{given_after}
 use Rattle.track_state.specs.Made.{Segmentations, publication_from, IsMadeFrom, IsPlain}
 use Rattle.track_state.specs.State.{IsKept}
 
--- ---- penalties
-pub penalty-after : PenaltyIsSet → PenaltyStays → (h : List Entry) (e : Entry) (metric : List ℕ) → penalty_of metric (h ++ e ∷ []) ≡ given_after e metric (penalty_of metric h)
-penalty-after set stay h (entry.Commit number name) metric = stay h (entry.Commit number name) metric refl
-penalty-after set stay h (entry.Accept run) metric = stay h (entry.Accept run) metric refl
-penalty-after set stay h (entry.Retract run) metric = stay h (entry.Retract run) metric refl
-penalty-after set stay h (entry.Publish p) metric = stay h (entry.Publish p) metric refl
-penalty-after set stay h (entry.Regression event) metric = stay h (entry.Regression event) metric refl
-penalty-after set stay h (entry.Job event) metric = stay h (entry.Job event) metric refl
-penalty-after set stay h (entry.Tune other penalty) metric = elim (cases_Bool (bytes_eq other metric)) [
-  | inl hit ↦
-      set h (entry.Tune other penalty) metric penalty (ap (λ b. cond b (Some penalty) None) hit)
-      ∙ ap (λ b. cond b penalty (penalty_of metric h)) (sym hit)
-  | inr miss ↦
-      stay h (entry.Tune other penalty) metric (ap (λ b. cond b (Some penalty) None) miss)
-      ∙ ap (λ b. cond b penalty (penalty_of metric h)) (sym miss)
-]
+-- ---- settings
+pub setting-after : SettingIsSet → SettingStays → (h : List Entry) (e : Entry) (metric : List ℕ) → setting_of metric (h ++ e ∷ []) ≡ given_after e metric (setting_of metric h)
+setting-after set stay h (entry.Commit number name) metric = stay h (entry.Commit number name) metric refl
+setting-after set stay h (entry.Accept run) metric = stay h (entry.Accept run) metric refl
+setting-after set stay h (entry.Retract run) metric = stay h (entry.Retract run) metric refl
+setting-after set stay h (entry.Publish p) metric = stay h (entry.Publish p) metric refl
+setting-after set stay h (entry.Regression event) metric = stay h (entry.Regression event) metric refl
+setting-after set stay h (entry.Job event) metric = stay h (entry.Job event) metric refl
+setting-after set stay h (entry.Tune other penalty len) metric =
+    let setting : Setting = record { penalty = penalty; length = len } in
+    elim (cases_Bool (bytes_eq other metric)) [
+      | inl hit ↦
+          set h (entry.Tune other penalty len) metric setting (ap (λ b. cond b (Some setting) None) hit)
+          ∙ ap (λ b. cond b setting (setting_of metric h)) (sym hit)
+      | inr miss ↦
+          stay h (entry.Tune other penalty len) metric (ap (λ b. cond b (Some setting) None) miss)
+          ∙ ap (λ b. cond b setting (setting_of metric h)) (sym miss)
+    ]
 
-pub fits-after : (h : List Entry) (e : Entry) (metric : List ℕ) → MayFollow h e → IsPenalty (penalty_of metric h) → IsPenalty (given_after e metric (penalty_of metric h))
+pub fits-after : (h : List Entry) (e : Entry) (metric : List ℕ) → MayFollow h e → IsSetting (setting_of metric h) → IsSetting (given_after e metric (setting_of metric h))
 fits-after h (entry.Commit number name) metric may fits = fits
 fits-after h (entry.Accept run) metric may fits = fits
 fits-after h (entry.Retract run) metric may fits = fits
 fits-after h (entry.Publish p) metric may fits = fits
 fits-after h (entry.Regression event) metric may fits = fits
 fits-after h (entry.Job event) metric may fits = fits
-fits-after h (entry.Tune other penalty) metric may fits = by (bytes_eq other metric)
+fits-after h (entry.Tune other penalty len) metric may fits = by (bytes_eq other metric)
   where
-    by : (b : Bool) → IsPenalty (cond b penalty (penalty_of metric h))
-    by true = may.1
+    by : (b : Bool) → IsSetting (cond b (record { penalty = penalty; length = len }) (setting_of metric h))
+    by true = (may.1, may.2)
     by false = fits
 
 -- ---- what was made from a history was made from what it grows to
@@ -62,7 +64,7 @@ made-later stay h more done made =
       past = omega (arith, made.past, size);
       known = ap (is_known (series_of done)) same ∙ made.known;
       points = made.points ∙ sym (ap (λ v. positions v (series_of done)) same);
-      penalty = made.penalty ∙ sym (ap (penalty_of done.metric) same);
+      setting = made.setting ∙ sym (ap (setting_of done.metric) same);
       based = subst (λ (v : List Entry). IsBaseAt v (publication_from done)) (sym same) made.based;
       redone = made.redone ∙ sym (ap (λ (v : List Entry). redone_since v done.base (series_of done)) same);
       stands = made.stands;
@@ -79,7 +81,7 @@ plain-none : (s : Series) (step : ℕ) (e : Entry) → IsPlain e → publication
 plain-none s step (entry.Commit number name) plain = refl
 plain-none s step (entry.Accept run) plain = refl
 plain-none s step (entry.Retract run) plain = refl
-plain-none s step (entry.Tune other penalty) plain = refl
+plain-none s step (entry.Tune other penalty len) plain = refl
 plain-none s step (entry.Publish p) plain = absurd plain
 plain-none s step (entry.Regression event) plain = refl
 plain-none s step (entry.Job event) plain = refl
@@ -88,7 +90,7 @@ plain-cuts : (e : Entry) → IsPlain e → cuts_in e ≡ 0
 plain-cuts (entry.Commit number name) plain = refl
 plain-cuts (entry.Accept run) plain = refl
 plain-cuts (entry.Retract run) plain = refl
-plain-cuts (entry.Tune other penalty) plain = refl
+plain-cuts (entry.Tune other penalty len) plain = refl
 plain-cuts (entry.Publish p) plain = absurd plain
 plain-cuts (entry.Regression event) plain = refl
 plain-cuts (entry.Job event) plain = refl
@@ -125,10 +127,10 @@ just-kept last stays stay h done published published' made are written s =
 
 -- what was made from a history stands there, and may follow it where no later version was published
 pub made-stands : (h : List Entry) (done : Done) → IsMadeFrom h done
-    → StandsFor (positions (take done.version h) (series_of done)) (penalty_of done.metric (take done.version h)) 1 done.cert
+    → StandsFor (positions (take done.version h) (series_of done)) (penalty_of done.metric (take done.version h)) (length_of done.metric (take done.version h)) done.cert
 made-stands h done made =
-    subst (λ (z : ℤ). StandsFor (positions (take done.version h) (series_of done)) z 1 done.cert) made.penalty
-    (subst (λ (ps : List Position). StandsFor ps done.cert.penalty 1 done.cert) made.points made.stands)
+    subst (λ (x : Setting). StandsFor (positions (take done.version h) (series_of done)) x.penalty x.length done.cert) made.setting
+    (subst (λ (ps : List Position). StandsFor ps done.cert.penalty done.cert.length done.cert) made.points made.stands)
 
 pub may-publish : (h : List Entry) (done : Done) → IsMadeFrom h done → IsUpTo done.version (last_publication (series_of done) h) → MayPublish h (publication_from done)
 may-publish h done made latest =

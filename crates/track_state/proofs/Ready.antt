@@ -74,7 +74,7 @@ ready two h f (entry.Accept new) are allowed =
     (look-up h new.run ∙ ap (option_map (stored (retractions h))) allowed.0.0)
     (omega (arith, runs_few, sizes, length-append (acceptances h) (a ∷ []), length-map (acceptances h) (stored (retractions h))))
     (omega (arith, samples_few, counts, samples-stored (retractions h) (acceptances h), sum_by_push (λ (b : Acceptance). length b.run.samples) (acceptances h) a))
-ready two h f (entry.Tune metric penalty) are allowed = tt
+ready two h f (entry.Tune metric penalty len) are allowed = tt
 ready two h f (entry.Publish p) are allowed = tt
 ready two h f (entry.Regression event) are allowed = followable two h f (entry.Regression event) are allowed
 ready two h f (entry.Job event) are allowed = followable two h f (entry.Job event) are allowed

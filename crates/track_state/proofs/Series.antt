@@ -67,7 +67,7 @@ module _ (fresh : PositionsAreFresh) (past : StepsArePast) (room : SeriesHaveRoo
   pub takes-in : (h : List Entry) (e : Entry) (series : Kept) → Legal h → Allowed h e → ((s : Series) → IsTracked h s (seen s series)) → TakesIn series (length h + 1) e
   takes-in h (entry.Commit number name) series legal allowed are = tt
   takes-in h (entry.Retract name) series legal allowed are = tt
-  takes-in h (entry.Tune metric penalty) series legal allowed are = tt
+  takes-in h (entry.Tune metric penalty len) series legal allowed are = tt
   takes-in h (entry.Publish p) series legal allowed are = tt
   takes-in h (entry.Regression event) series legal allowed are = tt
   takes-in h (entry.Job event) series legal allowed are = tt
@@ -103,10 +103,10 @@ module _ (accept : PositionsAfterAccept) (retract : PositionsAfterRetract) (unto
     since = rw length-append (later (length h) t.since is.since);
     known = rw (chosen-skip acceptance h (entry.Commit number name) refl) is.known;
   }
-  tracked-after h (entry.Tune metric penalty) s t legal allowed is = record {
-    points = rw (chosen-skip acceptance h (entry.Tune metric penalty) refl, chosen-skip retraction h (entry.Tune metric penalty) refl) is.points;
+  tracked-after h (entry.Tune metric penalty len) s t legal allowed is = record {
+    points = rw (chosen-skip acceptance h (entry.Tune metric penalty len) refl, chosen-skip retraction h (entry.Tune metric penalty len) refl) is.points;
     since = rw length-append (later (length h) t.since is.since);
-    known = rw (chosen-skip acceptance h (entry.Tune metric penalty) refl) is.known;
+    known = rw (chosen-skip acceptance h (entry.Tune metric penalty len) refl) is.known;
   }
   tracked-after h (entry.Publish p) s t legal allowed is = record {
     points = rw (chosen-skip acceptance h (entry.Publish p) refl, chosen-skip retraction h (entry.Publish p) refl) is.points;

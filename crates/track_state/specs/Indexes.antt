@@ -1,11 +1,12 @@
 -- The indexes of a state, as they follow from its history.
-use Rattle.std.specs.Prelude.{◌≡◌, ℕ, ℤ, bytes_eq, if◌then◌else◌, List, [], ◌∷◌, ◌++◌, All, length, map, option_map, find, Option, Some, None}
+use Rattle.std.specs.Prelude.{◌≡◌, ℕ, bytes_eq, if◌then◌else◌, List, [], ◌∷◌, ◌++◌, All, length, map, option_map, find, Option, Some, None}
 use Rattle.std.specs.List.{list_any}
 use Rattle.segment_model.specs.Limits.{IsSmall}
 use Rattle.history_model.specs.declared.entries.Acceptance.{Acceptance}
 use Rattle.history_model.specs.declared.entries.Declaration.{Declaration}
 use Rattle.history_model.specs.declared.entries.Entry.{Entry}
 use Rattle.history_model.specs.declared.entries.Entry.TheVariants as entry
+use Rattle.history_model.specs.declared.setting.Setting.{Setting}
 use Rattle.sample_model.specs.Samples.{Measurement}
 use Rattle.history_model.specs.Runs.{Retraction, Series, acceptances, retractions, takes_back, is_of}
 use Rattle.order_index.specs.Judged as pair
@@ -34,7 +35,7 @@ abbrev pub runs_after : ℕ → Entry → List Stored → List Stored
 runs_after step (entry.Commit number name) runs = runs
 runs_after step (entry.Accept run) runs = runs ++ record { step = step; run = run; retracted = None } ∷ []
 runs_after step (entry.Retract run) runs = map (marked step run) runs
-runs_after step (entry.Tune metric penalty) runs = runs
+runs_after step (entry.Tune metric penalty len) runs = runs
 runs_after step (entry.Publish p) runs = runs
 runs_after step (entry.Regression event) runs = runs
 runs_after step (entry.Job event) runs = runs
@@ -44,7 +45,7 @@ abbrev pub IsReady : List Declaration → List Stored → Following → Entry �
 IsReady commits runs f (entry.Commit number name) = pair.judged commits number name ≡ declared.New
 IsReady commits runs f (entry.Accept new) = run.judged runs new ≡ accepted.New
 IsReady commits runs f (entry.Retract name) = run.retraction runs name ≡ retracted.Done
-IsReady commits runs f (entry.Tune metric penalty) = Unit {0}
+IsReady commits runs f (entry.Tune metric penalty len) = Unit {0}
 IsReady commits runs f (entry.Publish p) = Unit {0}
 IsReady commits runs f (entry.Regression event) = IsFollowable commits f (entry.Regression event)
 IsReady commits runs f (entry.Job event) = IsFollowable commits f (entry.Job event)
@@ -69,7 +70,7 @@ abbrev pub seen_after : ℕ → Entry → List Stored → Series → Tracked →
 seen_after step (entry.Commit number name) runs s t = t
 seen_after step (entry.Accept run) runs s t = with_samples run.commit step (of_series s run.samples) t
 seen_after step (entry.Retract run) runs s t = given_back (found_run run runs) s t
-seen_after step (entry.Tune metric penalty) runs s t = t
+seen_after step (entry.Tune metric penalty len) runs s t = t
 seen_after step (entry.Publish p) runs s t = t
 seen_after step (entry.Regression event) runs s t = t
 seen_after step (entry.Job event) runs s t = t
@@ -84,27 +85,27 @@ abbrev pub TakesIn : Kept → ℕ → Entry → Type 0
 TakesIn series step (entry.Commit number name) = Unit {0}
 TakesIn series step (entry.Accept run) = HasRoomForAll series run.commit step run.samples
 TakesIn series step (entry.Retract run) = Unit {0}
-TakesIn series step (entry.Tune metric penalty) = Unit {0}
+TakesIn series step (entry.Tune metric penalty len) = Unit {0}
 TakesIn series step (entry.Publish p) = Unit {0}
 TakesIn series step (entry.Regression event) = Unit {0}
 TakesIn series step (entry.Job event) = Unit {0}
 
--- ---- penalties
+-- ---- settings
 
--- the penalties as an index keeps them
-abbrev pub Penalties : Type 0
-Penalties = List (List ℕ × ℤ)
+-- the settings as an index keeps them
+abbrev pub Settings : Type 0
+Settings = List (List ℕ × Setting)
 
--- a metric's penalty after an entry
-abbrev pub given_after : Entry → List ℕ → ℤ → ℤ
-given_after (entry.Tune other penalty) metric z = if bytes_eq other metric then penalty else z
+-- a metric's setting after an entry
+abbrev pub given_after : Entry → List ℕ → Setting → Setting
+given_after (entry.Tune other penalty len) metric z = if bytes_eq other metric then record { penalty = penalty; length = len } else z
 given_after e metric z = z
 
 -- ---- what is seen of the indexes is the same
 
-pub record AreSame (commits commits' : List Declaration) (runs runs' : List Stored) (series series' : Kept) (penalties penalties' : Penalties) (f f' : Following) : Type 0 where
+pub record AreSame (commits commits' : List Declaration) (runs runs' : List Stored) (series series' : Kept) (settings settings' : Settings) (f f' : Following) : Type 0 where
   pub same_commits : commits' ≡ commits
   pub same_runs : runs' ≡ runs
   pub same_series : (s : Series) → seen s series' ≡ seen s series
-  pub same_penalties : (metric : List ℕ) → given metric penalties' ≡ given metric penalties
+  pub same_settings : (metric : List ℕ) → given metric settings' ≡ given metric settings
   pub same_followed : f' ≡ f

@@ -5,7 +5,8 @@ use Rattle.segment_cost.specs.declared.done.Done.{Done}
 use Rattle.history_model.specs.declared.entries.Entry.{Entry}
 use Rattle.history_model.specs.declared.entries.Entry.TheVariants.{Publish}
 use Rattle.history_model.specs.declared.publication.Publication.{Publication}
-use Rattle.history_model.specs.Penalties.{penalty_of}
+use Rattle.history_model.specs.Penalties.{setting_of}
+use Rattle.history_model.specs.declared.setting.Setting.{Setting}
 use Rattle.history_model.specs.Positions.{positions}
 use Rattle.history_model.specs.Publications.{IsBaseAt}
 use Rattle.history_model.specs.Runs.{is_known}
@@ -26,16 +27,20 @@ publication_from done =
 abbrev pub entry_of : Done → Entry
 entry_of done = Publish (publication_from done)
 
--- it was made from a version of the history at which its series was known: from the positions and the penalty that the
+-- the setting at which it was made
+abbrev pub setting_in : Done → Setting
+setting_in done = record { penalty = done.cert.penalty; length = done.cert.length }
+
+-- it was made from a version of the history at which its series was known: from the positions and the setting that the
 -- version gives it, and from the table of a base there
 pub record IsMadeFrom (h : List Entry) (done : Done) : Type 0 where
   pub past : done.version ≤ length h
   pub known : is_known (series_of done) (take done.version h) ≡ true
   pub points : done.points ≡ positions (take done.version h) (series_of done)
-  pub penalty : done.cert.penalty ≡ penalty_of done.metric (take done.version h)
+  pub setting : setting_in done ≡ setting_of done.metric (take done.version h)
   pub based : IsBaseAt (take done.version h) (publication_from done)
   pub redone : done.redone ≡ redone_since (take done.version h) done.base (series_of done)
-  pub stands : StandsFor done.points done.cert.penalty 1 done.cert
+  pub stands : StandsFor done.points done.cert.penalty done.cert.length done.cert
 
 -- an entry that publishes nothing
 abbrev pub IsPlain : Entry → Type 0

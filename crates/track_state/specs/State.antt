@@ -11,9 +11,8 @@ use Rattle.sample_store.specs.declared.store.Stored.{Stored}
 use Rattle.series_index.specs.Seen.{seen}
 use Rattle.series_index.specs.declared.tracked.Tracked.{Tracked}
 use Rattle.history_model.specs.declared.publication.Publication.{Publication}
-use Rattle.history_model.specs.Penalties.{penalty_of}
+use Rattle.history_model.specs.Penalties.{setting_of, penalty_of, length_of, IsSetting}
 use Rattle.history_model.specs.Publications.{last_publication, cut_count}
-use Rattle.metric_table.specs.Table.{IsPenalty}
 use Rattle.segment_cost.specs.declared.done.Done.{Done}
 use Rattle.publication_index.specs.Given.{given}
 use Rattle.publication_index.specs.Kept.{kept, series_of}
@@ -27,7 +26,7 @@ use Rattle.track_model.specs.Tracks.{Track, base_of}
 use Rattle.track_state.specs.declared.base.Base.{Base}
 use Rattle.track_state.specs.declared.following.Following.{Following}
 use Rattle.track_state.specs.Following.{AreFollowed}
-use Rattle.track_state.specs.Indexes.{Kept, Penalties, stored_runs}
+use Rattle.track_state.specs.Indexes.{Kept, Settings, stored_runs}
 use Rattle.track_state.specs.Made.{Segmentations, publication_from, IsMadeFrom}
 
 -- a step that came, if it is one
@@ -54,13 +53,13 @@ IsKept h None (Some done) = ⊥
 IsKept h (Some p) None = ⊥
 
 -- what the next segmentation of a series begins with: nothing where its base is 0, else the base, the positions there, and
--- their table at the present penalty
+-- their table at the present setting
 pub record BeginsWith (t : Track) (s : Series) (b : Base) : Type 0 where
   pub some : 0 < b.version
   pub version : b.version ≡ base_of t s
   pub points : b.points ≡ positions (take b.version (entries_of t.history)) s
-  pub table : b.table
-      ≡ table_of (values_by_position b.points) (penalty_of s.metric (entries_of t.history)) 1
+  pub table : b.table ≡ table_of (values_by_position b.points)
+      (penalty_of s.metric (entries_of t.history)) (length_of s.metric (entries_of t.history))
 
 abbrev pub IsBegun : Track → Series → Option Base → Type 0
 IsBegun t s None = base_of t s ≡ 0
@@ -79,15 +78,15 @@ HasNone h s why = OfKnown (is_known s h) (OfPublished (last_publication s h) (λ
     (refuses why)
 
 -- the history is legal, and each index is what follows from it
-pub record StandsFor (h : List Entry) (commits : List Declaration) (runs : List Stored) (series : Kept) (known : ℕ) (penalties : Penalties) (published : Segmentations) (cuts : ℕ) (following : Following) : Type 0 where
+pub record StandsFor (h : List Entry) (commits : List Declaration) (runs : List Stored) (series : Kept) (known : ℕ) (settings : Settings) (published : Segmentations) (cuts : ℕ) (following : Following) : Type 0 where
   pub legal : Legal h
   pub limits : KeepsLimits h
   pub commits_are : commits ≡ declarations h
   pub runs_are : runs ≡ stored_runs h
   pub series_are : (s : Series) → IsTracked h s (seen s series)
   pub known_are : known ≡ length (known_series h)
-  pub penalties_are : (metric : List ℕ) → given metric penalties ≡ penalty_of metric h
-  pub penalties_fit : (metric : List ℕ) → IsPenalty (penalty_of metric h)
+  pub settings_are : (metric : List ℕ) → given metric settings ≡ setting_of metric h
+  pub settings_fit : (metric : List ℕ) → IsSetting (setting_of metric h)
   pub published_are : (s : Series) → IsKept h (last_publication s h) (kept s published)
   pub cuts_are : cuts ≡ cut_count h
   pub followed_are : AreFollowed h following

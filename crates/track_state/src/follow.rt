@@ -13,10 +13,10 @@ ghost use Rattle.track_state.specs.Indexes.{IsReady, TakesIn, runs_after, given_
 
 use crate::NoMemory;
 use crate::following::{Following, follow_job, follow_regression};
-use history_model::{Entry, Run};
+use history_model::{Entry, Run, Setting};
 use line_text::Name;
 use order_index::OrderIndex;
-use publication_index::PenaltyIndex;
+use publication_index::SettingIndex;
 use sample_store::SampleStore;
 use series_index::{SeriesIndex, undo_law};
 use std::alloc::Global;
@@ -27,7 +27,7 @@ pub fn follow(
     commits: &mut OrderIndex,
     runs: &mut SampleStore,
     series: &mut SeriesIndex,
-    penalties: &mut PenaltyIndex,
+    settings: &mut SettingIndex,
     following: &mut Following,
     step: u64,
     entry: &Entry,
@@ -39,12 +39,12 @@ pub fn follow(
     ensures runs { OnOk result (runs.new ≡ runs_after step entry.now runs.old) }
     ensures series { OnOk result ((s : Series) → seen s series.new
         ≡ seen_after step entry.now runs.old s (seen s series.old)) }
-    ensures penalties { OnOk result ((metric : List ℕ) → given metric penalties.new
-        ≡ given_after entry.now metric (given metric penalties.old)) }
+    ensures settings { OnOk result ((metric : List ℕ) → given metric settings.new
+        ≡ given_after entry.now metric (given metric settings.old)) }
     ensures following { OnOk result
         (IsFollowed commits.old entry.now following.old following.new) }
     ensures same { OnErr result (AreSame commits.old commits.new runs.old runs.new
-        series.old series.new penalties.old penalties.new following.old following.new) }
+        series.old series.new settings.old settings.new following.old following.new) }
 {
     match entry {
         Entry::Commit { number, name } => {
@@ -62,9 +62,16 @@ pub fn follow(
             let _ = runs.retract(step, run);
             Ok(())
         }
-        Entry::Tune { metric, penalty } => {
-            let penalty = *penalty.get();
-            penalties.set(metric, penalty)?;
+        Entry::Tune {
+            metric,
+            penalty,
+            length,
+        } => {
+            let setting = Setting {
+                penalty: *penalty.get(),
+                length: *length,
+            };
+            settings.set(metric, setting)?;
             Ok(())
         }
         Entry::Publish { .. } => Ok(()),

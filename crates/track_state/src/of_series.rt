@@ -1,19 +1,18 @@
 //! What the indexes tell of a series.
 ghost use Rattle.std.specs.Prelude.{◌≡◌, ◌↔◌, true, Contains, IfErr, IfOk, OnErr, OnOk, option_copied};
-ghost use Rattle.std.specs.Ordering.{int_eq};
-ghost use Rattle.metric_table.specs.Table.{IsPenalty};
 ghost use Rattle.history_model.specs.Entries.{entries_of};
-ghost use Rattle.history_model.specs.Penalties.{penalty_of};
+ghost use Rattle.history_model.specs.Penalties.{setting_of, IsSetting};
 ghost use Rattle.history_model.specs.Publications.{last_publication};
 ghost use Rattle.history_model.specs.Runs.{Series, is_known};
 ghost use Rattle.track_model.specs.Reports.{AreSeriesLines};
-ghost use Rattle.track_model.specs.Tracks.{with_taken};
+ghost use Rattle.track_model.specs.Tracks.{is_setting, with_taken};
+ghost use Rattle.track_state.specs.Made.{setting_in};
 ghost use Rattle.track_state.specs.State.{HasNone, IsBegun, IsFound, IsKept, IsLast};
 
 use crate::NoMemory;
 use crate::base::Base;
 use crate::state::TrackState;
-use history_model::publication_law;
+use history_model::{Setting, publication_law};
 use line_text::Name;
 use point_list::FrozenPoints;
 use report_lines::series_lines;
@@ -42,13 +41,13 @@ impl TrackState {
         Ok(self.series.known()?)
     }
 
-    /// The penalty of a metric.
-    pub fn penalty(&self, metric: &Name) -> i128
-        ensures given { result ≡ penalty_of metric.now (entries_of self.now.history) }
-        ensures fits { IsPenalty result }
+    /// The setting of a metric.
+    pub fn setting(&self, metric: &Name) -> Setting
+        ensures given { result ≡ setting_of metric.now (entries_of self.now.history) }
+        ensures fits { IsSetting result }
     {
         let _ = &self.history;
-        self.penalties.get(metric)
+        self.settings.get(metric)
     }
 
     /// The positions of a series as they are; none exactly where the series isn't known. Changes nothing that is seen.
@@ -99,7 +98,7 @@ impl TrackState {
     }
 
     /// What the next segmentation of a series begins with: the table of its last publication, where that is home and has
-    /// the present penalty. It is home no longer then. Where there is no memory, nothing changes. Constant time, but for
+    /// the present setting. It is home no longer then. Where there is no memory, nothing changes. Constant time, but for
     /// look-ups.
     pub fn take_base(&mut self, test: &Name, metric: &Name) -> Result<Option<Base>, NoMemory>
         ensures begun { IfOk result (IsBegun self.old
@@ -112,7 +111,7 @@ impl TrackState {
         let Some(done) = self.published.at_home(test, metric) else {
             return Ok(None);
         };
-        if !has_penalty(done, self.penalties.get(metric)) {
+        if !is_made_at(done, self.settings.get(metric)) {
             return Ok(None);
         }
         let version = done.version;
@@ -138,9 +137,9 @@ impl TrackState {
     }
 }
 
-// Whether a segmentation was made at this penalty.
-fn has_penalty(done: &Done, penalty: i128) -> bool
-    ensures { result ≡ int_eq done.now.cert.penalty penalty }
+// Whether a segmentation was made at this setting.
+fn is_made_at(done: &Done, setting: Setting) -> bool
+    ensures { result ≡ is_setting (setting_in done.now) setting }
 {
-    done.cert.penalty == penalty
+    done.cert.penalty == setting.penalty && done.cert.length == setting.length
 }

@@ -13,8 +13,8 @@ ghost use Rattle.track_state.specs.Made.{IsMadeFrom, publication_from};
 use crate::NoMemory;
 use crate::state::TrackState;
 use history_model::{
-    Author, Entry, Placed, Publication, growth_law, jobs_law, penalty_law, positions_law,
-    publication_law, regressions_law, retraction_law,
+    Author, Entry, Placed, Publication, growth_law, jobs_law, positions_law, publication_law,
+    regressions_law, retraction_law, setting_law,
 };
 use line_text::Boxed;
 use pelt_core::Table;
@@ -49,7 +49,7 @@ impl TrackState {
         growth_law();
         positions_law();
         retraction_law();
-        penalty_law();
+        setting_law();
         publication_law();
         regressions_law();
         jobs_law();

@@ -12,12 +12,12 @@ use crate::NoMemory;
 use crate::follow::follow;
 use crate::following::Following;
 use history_model::{
-    Author, Entry, Placed, between_law, growth_law, jobs_law, limits_law, penalty_law,
-    positions_law, publication_law, regressions_law, retraction_law,
+    Author, Entry, Placed, between_law, growth_law, jobs_law, limits_law, positions_law,
+    publication_law, regressions_law, retraction_law, setting_law,
 };
 use line_text::Name;
 use order_index::OrderIndex;
-use publication_index::{PenaltyIndex, PublicationIndex};
+use publication_index::{PublicationIndex, SettingIndex};
 use request_model::{Answer, Reply};
 use sample_store::SampleStore;
 use series_index::SeriesIndex;
@@ -35,7 +35,7 @@ pub struct TrackState {
     pub(crate) runs: SampleStore,
     pub(crate) series: SeriesIndex,
     pub(crate) known: u64,
-    pub(crate) penalties: PenaltyIndex,
+    pub(crate) settings: SettingIndex,
     pub(crate) published: PublicationIndex,
     pub(crate) cuts: u64,
     pub(crate) following: Following,
@@ -62,7 +62,7 @@ impl Model for TrackState {
 
     ghost invariant = { λ s.
         StandsFor (entries_of s.history.items) s.commits s.runs s.series s.known
-        s.penalties s.published s.cuts s.following };
+        s.settings s.published s.cuts s.following };
 }
 
 impl TrackState {
@@ -79,7 +79,7 @@ impl TrackState {
             runs: SampleStore::new(alloc),
             series: SeriesIndex::new(alloc),
             known: 0,
-            penalties: PenaltyIndex::new(alloc),
+            settings: SettingIndex::new(alloc),
             published: PublicationIndex::new(alloc),
             cuts: 0,
             following: Following::new(alloc),
@@ -156,7 +156,7 @@ impl TrackState {
         positions_law();
         retraction_law();
         limits_law();
-        penalty_law();
+        setting_law();
         publication_law();
         regressions_law();
         jobs_law();
@@ -168,7 +168,7 @@ impl TrackState {
             &mut self.commits,
             &mut self.runs,
             &mut self.series,
-            &mut self.penalties,
+            &mut self.settings,
             &mut self.following,
             step,
             &entry,

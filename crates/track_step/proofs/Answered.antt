@@ -18,7 +18,7 @@ not-segment (request.Machine machine) other = refl
 not-segment (request.Commit machine number name) other = refl
 not-segment (request.Submit machine commit run samples ignored stated) other = refl
 not-segment (request.Retract machine run) other = refl
-not-segment (request.Tune machine metric penalty) other = refl
+not-segment (request.Tune machine metric penalty given) other = refl
 not-segment (request.Calibrate machine test metric factor) other = refl
 not-segment (request.Segment machine test metric) other = absurd (other machine test metric refl)
 not-segment (request.Changes machine test metric) other = refl
@@ -37,7 +37,7 @@ plain-base t (request.Machine machine) plain = refl
 plain-base t (request.Commit machine number name) plain = refl
 plain-base t (request.Submit machine commit run samples ignored stated) plain = refl
 plain-base t (request.Retract machine run) plain = refl
-plain-base t (request.Tune machine metric penalty) plain = refl
+plain-base t (request.Tune machine metric penalty given) plain = refl
 plain-base t (request.Calibrate machine test metric factor) plain = refl
 plain-base t (request.Segment machine test metric) plain = absurd (let no : true ≡ false = plain in cc)
 plain-base t (request.Changes machine test metric) plain = refl
@@ -56,7 +56,7 @@ plain-answered author (request.Machine machine) t o plain = refl
 plain-answered author (request.Commit machine number name) t o plain = refl
 plain-answered author (request.Submit machine commit run samples ignored stated) t o plain = refl
 plain-answered author (request.Retract machine run) t o plain = refl
-plain-answered author (request.Tune machine metric penalty) t o plain = refl
+plain-answered author (request.Tune machine metric penalty given) t o plain = refl
 plain-answered author (request.Calibrate machine test metric factor) t o plain = refl
 plain-answered author (request.Segment machine test metric) t o plain = absurd (let no : true ≡ false = plain in cc)
 plain-answered author (request.Changes machine test metric) t o plain = refl
@@ -75,7 +75,7 @@ plain-counts (request.Machine machine) a n m plain same = same
 plain-counts (request.Commit machine number name) a n m plain same = same
 plain-counts (request.Submit machine commit run samples ignored stated) a n m plain same = same
 plain-counts (request.Retract machine run) a n m plain same = same
-plain-counts (request.Tune machine metric penalty) a n m plain same = same
+plain-counts (request.Tune machine metric penalty given) a n m plain same = same
 plain-counts (request.Calibrate machine test metric factor) a n m plain same = same
 plain-counts (request.Segment machine test metric) a n m plain same = absurd (let no : true ≡ false = plain in cc)
 plain-counts (request.Changes machine test metric) a n m plain same = same

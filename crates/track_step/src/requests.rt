@@ -83,9 +83,11 @@ pub fn step(track: &mut TrackState, author: Author, request: &Request) -> Result
             machine: _,
             metric,
             penalty,
+            length,
         } => {
             let penalty = *penalty;
-            tune(track, author, metric, penalty)
+            let length = *length;
+            tune(track, author, metric, penalty, length)
         }
         Request::Calibrate {
             machine: _,

@@ -153,7 +153,7 @@ module _ (grow : TouchesGrow) (past : TouchesArePast) where
     brings-touches before s (entry.Commit number name) miss = refl
     brings-touches before s (entry.Accept run) miss = miss
     brings-touches before s (entry.Retract run) miss = refl
-    brings-touches before s (entry.Tune metric penalty) miss = refl
+    brings-touches before s (entry.Tune metric penalty len) miss = refl
     brings-touches before s (entry.Publish p) miss = refl
     brings-touches before s (entry.Regression event) miss = refl
     brings-touches before s (entry.Job event) miss = refl

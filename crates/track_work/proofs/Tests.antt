@@ -61,7 +61,7 @@ module _ (known : KnownGrows) (stays : KnownStays) (retracted : RetractedStays) 
         just = λ s has. (sym (ap (has_sample s) same) ∙ has, found-any s (is_run run) (acceptances h) has);
         each = λ s has is. ap (has_sample s) same ∙ has;
       }
-  is-test (entry.Tune metric penalty) there = record {
+  is-test (entry.Tune metric penalty len) there = record {
     just = λ s has. let parts = and-parts (is_known s h) (bytes_eq metric s.metric) has in (parts.1, parts.0);
     each = λ s has is. ap (λ b. b && bytes_eq metric s.metric) is ∙ has;
   }

@@ -19,5 +19,5 @@ named metric names s = list_any (λ (n : Series). same_series n s && bytes_eq n.
 abbrev pub touched_by : List Entry → Entry → Series → Bool
 touched_by h (Accept run) s = sampled run.samples s
 touched_by h (Retract run) s = has_sample s (accepted run h)
-touched_by h (Tune metric penalty) s = is_known s h && bytes_eq metric s.metric
+touched_by h (Tune metric penalty len) s = is_known s h && bytes_eq metric s.metric
 touched_by h e s = false

@@ -165,7 +165,7 @@ impl WorkState {
     }
 
     /// Begins the segmentation of a series, for a request. The table of its last publication goes with it, where that is
-    /// home and has the present penalty. All claims stay. Linear in the values of the series, but for samples that came
+    /// home and has the present setting. All claims stay. Linear in the values of the series, but for samples that came
     /// since it was last read.
     pub fn begin(&mut self, test: &Name, metric: &Name) -> Result<Begun, NoMemory>
         ensures begun { IfOk result (IsBegun self.old.track

@@ -20,7 +20,7 @@ use track_state::TrackState;
 pub struct TakenSeries {
     /// Its name.
     pub key: SeriesKey,
-    /// Its positions and its penalty.
+    /// Its positions and its setting.
     pub snapshot: Snapshot,
 }
 

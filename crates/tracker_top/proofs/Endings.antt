@@ -34,10 +34,10 @@ use Rattle.tracker_top.specs.Text.{line_of}
 use Rattle.tracker_top.specs.Endings.{HasCause, EndsOutput, AnswersScript, Begins, WasStarted, Keeps, Prints, AppendCause, LoadCause, EndsSo, EndsScript, EndsApply, IsOfOutput, HasAsked, IsAlone, Ends, IsTold}
 use Rattle.tracker_top.specs.Answers.{IsCertificateText, state_of}
 use Rattle.track_outside.specs.Kept.{with_more}
-use Rattle.kept_machines.specs.Kept.{kept_of, AreKept}
-use Rattle.kept_machines.specs.Loading.{LeadTo, IsFirstBad}
+use Rattle.kept_machines.specs.Kept.{AreKept}
+use Rattle.kept_machines.specs.Loading.{Stored, LeadTo, IsFirstBad}
 use Rattle.kept_machines.specs.Rows.{new_rows}
-use Rattle.script_desk.specs.Growth.{ComesBack}
+use Rattle.script_desk.specs.Growth.{ComesBack, stored_after}
 use Rattle.track_model.specs.Tracks.{Track}
 use Rattle.script_desk.specs.Sessions.{State, AnswersFor}
 use Rattle.script_loop.specs.Outputs.{IsOutput}
@@ -158,13 +158,13 @@ module _ {I O K : Type 0} (g : source.Ghosts I) (h : sink.Ghosts O) (k : keeper.
     bad_shown (Some told) row bad =
         if_some (g.left old) (λ bytes status due. inl (once words (Some told) bytes (BadStore row) status (inr (Apply (Some name), spelled, inl (row, bad, refl))) due))
 
-    store_shown : (rows : Option (List (List ℕ))) (machines : List Track) → IfSome rows (λ told. LeadTo told machines)
+    store_shown : (rows : Option (List (List ℕ))) (stored : Stored) → IfSome rows (λ told. LeadTo told stored)
         → (known : Option (List ℕ)) (result : Status) (R W S : Type 0) → IfSome known (λ bytes. ScriptShows bytes result)
         → IfSome known (λ bytes. (status : Status) → IsDue words rows bytes status → Comes R W S result status)
-    store_shown rows machines led None result R W S shows = tt
-    store_shown None machines led (Some bytes) result R W S shows = λ status due. absurd (none_due bytes status due)
-    store_shown (Some told) machines led (Some bytes) result R W S shows =
-        λ status due. inl (once words (Some told) bytes result status (inr (Apply (Some name), spelled, inr (machines, led, shows))) due)
+    store_shown rows stored led None result R W S shows = tt
+    store_shown None stored led (Some bytes) result R W S shows = λ status due. absurd (none_due bytes status due)
+    store_shown (Some told) stored led (Some bytes) result R W S shows =
+        λ status due. inl (once words (Some told) bytes result status (inr (Apply (Some name), spelled, inr (stored, led, shows))) due)
 
     unread_comes : (result : Status) → LoadCause k first last result → DueComes (k.kept first) result
     unread_comes StoreFault cause = failed_store (k.kept first) StoreFault cause
@@ -179,7 +179,7 @@ module _ {I O K : Type 0} (g : source.Ghosts I) (h : sink.Ghosts O) (k : keeper.
       None e.answers.items e.answers.text e.result result e.answers.read e.answers.wrote e.ends
   apply_comes (Some name) spelled result (inl e) = unread_comes name spelled result e.cause
   apply_comes (Some name) spelled result (inr e) =
-      ends_so_comes (k.kept first) (λ status shows. store_shown name spelled (k.kept first) e.machines e.begins.1 (g.left old) status _ _ _ shows)
+      ends_so_comes (k.kept first) (λ status shows. store_shown name spelled (k.kept first) (record { machines = e.machines; version = e.version }) e.begins.1 (g.left old) status _ _ _ shows)
       (Some name) e.answers.items e.answers.text e.result result e.answers.read e.answers.wrote e.ends
 
   -- ---- gen
@@ -228,7 +228,10 @@ not_done : (stop : ScriptStop) → script_status_of stop ≢ Done
 not_done script.ReadFault is = cc
 not_done other is = cc
 
-module _ {I O K : Type 0} (g : source.Ghosts I) (h : sink.Ghosts O) (k : keeper.Ghosts K) (machines : List Track) (now : State) (old new : I) (before after : O) (first last : K) (from to : ℕ) where
+module _ {I O K : Type 0} (g : source.Ghosts I) (h : sink.Ghosts O) (k : keeper.Ghosts K) (machines : List Track) (version : ℕ) (now : State) (old new : I) (before after : O) (first last : K) (from to : ℕ) where
+  abbrev began : Stored
+  began = record { machines = machines; version = version }
+
   prints : (items : List Item) (text : List ℕ) (known : Option (List ℕ)) → IfSome known (λ bytes. IsScript bytes items end)
       → IsOutput AnswersFor (state_of machines) items text now → Took h before after text → IfSome known (λ bytes. Prints h machines bytes now before after)
   prints items text None read output took = tt
@@ -246,10 +249,11 @@ module _ {I O K : Type 0} (g : source.Ghosts I) (h : sink.Ghosts O) (k : keeper.
   counts_of store (Ok done) status answers ends is = answers.counted
   counts_of store (Err stop) status answers ends is = absurd (not_done stop (sym ends ∙ is))
 
-  pub ends_script : (store : Option (List ℕ)) (why : Result (Unit {0}) ScriptStop) (status : Status) → Begins k store first machines → AnswersScript g h (state_of machines) now old new before after from to why
-      → EndsSo k store first last why status → Keeps k store now.tracks first last status → EndsScript g h k store old new before after first last from to status
+  pub ends_script : (store : Option (List ℕ)) (why : Result (Unit {0}) ScriptStop) (status : Status) → Begins k store first began → AnswersScript g h (state_of machines) now old new before after from to why
+      → EndsSo k store first last why status → Keeps k store version now.tracks first last status → EndsScript g h k store old new before after first last from to status
   ends_script store why status begins answers ends keeps = record {
     machines = machines;
+    version = version;
     begins = begins;
     now = now;
     result = why;
@@ -261,44 +265,44 @@ module _ {I O K : Type 0} (g : source.Ghosts I) (h : sink.Ghosts O) (k : keeper.
   }
 
   -- with a store, where all is done
-  ends_added : (name : List ℕ) (middle : K) (done : Unit {0}) → AreKept machines → IfSome (k.kept first) (λ rows. LeadTo rows machines)
+  ends_added : (name : List ℕ) (middle : K) (done : Unit {0}) → AreKept machines → IfSome (k.kept first) (λ rows. LeadTo rows began)
       → k.kept middle ≡ k.kept first → WasStarted k name first last → AnswersScript g h (state_of machines) now old new before after from to (Ok done)
-      → ComesBack now → k.kept last ≡ with_more (k.kept middle) (new_rows now.tracks) → EndsScript g h k (Some name) old new before after first last from to Done
+      → ComesBack now → k.kept last ≡ with_more (k.kept middle) (new_rows version now.tracks) → EndsScript g h k (Some name) old new before after first last from to Done
   ends_added name middle done are led same started answers back is =
-      let rows : k.kept last ≡ with_more (k.kept first) (new_rows now.tracks) = is ∙ ap (λ r. with_more r (new_rows now.tracks)) same in
+      let rows : k.kept last ≡ with_more (k.kept first) (new_rows version now.tracks) = is ∙ ap (λ r. with_more r (new_rows version now.tracks)) same in
       ends_script (Some name) (Ok done) Done (are, led) answers (inl refl) (record {
         started = started;
         added = rows;
-        comes_back = subst (λ r. IfSome r (λ told. LeadTo told (map kept_of now.tracks))) (sym rows) (leads (k.kept first) led);
+        comes_back = subst (λ r. IfSome r (λ told. LeadTo told (stored_after version now.tracks))) (sym rows) (leads (k.kept first) led);
       })
     where
       output : IsOutput AnswersFor (state_of machines) answers.items answers.text now
       output = subst (IsOutput AnswersFor (state_of machines) answers.items answers.text) (sym answers.answered.stands) answers.answered.output
 
-      leads : (known : Option (List (List ℕ))) → IfSome known (λ told. LeadTo told machines)
-          → IfSome (with_more known (new_rows now.tracks)) (λ told. LeadTo told (map kept_of now.tracks))
+      leads : (known : Option (List (List ℕ))) → IfSome known (λ told. LeadTo told began)
+          → IfSome (with_more known (new_rows version now.tracks)) (λ told. LeadTo told (stored_after version now.tracks))
       leads None led = tt
-      leads (Some told) led = back told (state_of machines) answers.items output.replies refl led output.answers
+      leads (Some told) led = back told version (state_of machines) answers.items output.replies refl led output.answers
 
   -- the same of what was called: the store's name, the machines that the session began with, and those that it left
   pub ends_kept : (name called : List ℕ) (middle : K) (begun : State) (left : List Track) (done : Unit {0})
       → called ≡ name → begun ≡ state_of machines → left ≡ now.tracks
-      → AreKept machines → IfSome (k.kept first) (λ rows. LeadTo rows machines) → k.kept middle ≡ k.kept first
+      → AreKept machines → IfSome (k.kept first) (λ rows. LeadTo rows began) → k.kept middle ≡ k.kept first
       → k.started middle ≡ with_more (k.started first) (called ∷ []) → k.faults first ≤ k.faults middle
       → AnswersScript g h begun now old new before after from to (Ok done) → ComesBack now
-      → k.kept last ≡ with_more (k.kept middle) (new_rows left) → k.started last ≡ k.started middle → k.faults middle ≤ k.faults last
+      → k.kept last ≡ with_more (k.kept middle) (new_rows version left) → k.started last ≡ k.started middle → k.faults middle ≤ k.faults last
       → EndsScript g h k (Some name) old new before after first last from to Done
   ends_kept name called middle begun left done name_is begun_is left_is are led same named counts answers back added stays more =
       let started : k.started last ≡ with_more (k.started first) (name ∷ []) = stays ∙ named ∙ ap (λ n. with_more (k.started first) (n ∷ [])) name_is in
       ends_added name middle done are led same (record { named = started; counts = omega (arith, counts, more) })
       (subst (λ s. AnswersScript g h s now old new before after from to (Ok done)) begun_is answers) back
-      (added ∙ ap (λ ts. with_more (k.kept middle) (new_rows ts)) left_is)
+      (added ∙ ap (λ ts. with_more (k.kept middle) (new_rows version ts)) left_is)
 
 -- without a store
 pub ends-alone : {I O K : Type 0} (g : source.Ghosts I) (h : sink.Ghosts O) (k : keeper.Ghosts K) (now : State) (old new : I) (before after : O) (first : K) (from to : ℕ) (why : Result (Unit {0}) ScriptStop) (status : Status)
     → status ≡ script_status why → AnswersScript g h (state_of []) now old new before after from to why → EndsScript g h k None old new before after first first from to status
-ends-alone g h k now old new before after first from to (Ok done) status is answers = ends_script g h k [] now old new before after first first from to None (Ok done) status refl answers is refl
-ends-alone g h k now old new before after first from to (Err stop) status is answers = ends_script g h k [] now old new before after first first from to None (Err stop) status refl answers is refl
+ends-alone g h k now old new before after first from to (Ok done) status is answers = ends_script g h k [] 1 now old new before after first first from to None (Ok done) status refl answers is refl
+ends-alone g h k now old new before after first from to (Err stop) status is answers = ends_script g h k [] 1 now old new before after first first from to None (Err stop) status refl answers is refl
 
 -- words that are no command: that is due
 pub bad-words-due : (known : Option (List ℕ)) (rows : Option (List (List ℕ))) (words : List (List ℕ)) (R : Type 0) → AreNoCommand words

@@ -10,8 +10,8 @@ use Rattle.track_outside.specs.declared.keeper.Keeper as keeper
 use Rattle.track_outside.specs.Kept.{with_more}
 use Rattle.track_model.specs.Tracks.{Track}
 use Rattle.keep_rows.specs.Faults.{MayHaveName}
-use Rattle.kept_machines.specs.Kept.{kept_of, AreKept}
-use Rattle.kept_machines.specs.Loading.{LeadTo, IsFirstBad}
+use Rattle.kept_machines.specs.Kept.{AreKept}
+use Rattle.kept_machines.specs.Loading.{Stored, nothing_stored, LeadTo, IsFirstBad}
 use Rattle.kept_machines.specs.Rows.{new_rows}
 use Rattle.track_outside.specs.Calls.{Took, FailedIn, IsUntouched, GaveAtMost}
 use Rattle.cut_lines.specs.Stops.{GaveMayGoOn}
@@ -23,6 +23,7 @@ use Rattle.script_loop.specs.Endings.{HasRead, HasAnswered, HasWritten}
 use Rattle.script_loop.specs.Outputs.{AsksFirst, Out}
 use Rattle.script_session.specs.Counts.{redone_by, RoseByRedone}
 use Rattle.script_session.specs.Part.{IsPart}
+use Rattle.script_desk.specs.Growth.{stored_after}
 use Rattle.script_desk.specs.Sessions.{State, AnswersFor, AnswersSome}
 use Rattle.series_gen.specs.Script.{script as script_of}
 use Rattle.command_words.specs.declared.command.Command.{Command}
@@ -99,11 +100,12 @@ Prints h machines bytes now before after =
     (text : List ℕ) × Out AnswersFor (state_of machines) bytes text now end
     × Took h before after text
 
--- the machines that the script begins with: none without a store, else those that its rows lead to
-abbrev pub Begins : {K : Type 0} → keeper.Ghosts K → Option (List ℕ) → K → List Track → Type 0
-Begins k None store machines = machines ≡ []
-Begins k (Some name) store machines =
-    AreKept machines × IfSome (k.kept store) (λ rows. LeadTo rows machines)
+-- what the script begins with: nothing without a store, else the machines and the version that its
+-- rows lead to
+abbrev pub Begins : {K : Type 0} → keeper.Ghosts K → Option (List ℕ) → K → Stored → Type 0
+Begins k None store began = began ≡ nothing_stored
+Begins k (Some name) store began =
+    AreKept began.machines × IfSome (k.kept store) (λ rows. LeadTo rows began)
 
 -- the keeper was started once, by this name
 pub record WasStarted {K : Type 0} (k : keeper.Ghosts K) (name : List ℕ) (first last : K)
@@ -111,21 +113,21 @@ pub record WasStarted {K : Type 0} (k : keeper.Ghosts K) (name : List ℕ) (firs
   pub named : k.started last ≡ with_more (k.started first) (name ∷ [])
   pub counts : k.faults first ≤ k.faults last
 
--- the keeper was started, and has the new rows of these machines behind its own; where it tells its
--- rows, they lead to each of the machines as a store keeps it
-pub record HasAdded {K : Type 0} (k : keeper.Ghosts K) (name : List ℕ) (machines : List Track)
-    (first last : K) : Type 0 where
+-- the keeper was started, and has the new rows of these machines behind its own, which are of this
+-- version; where it tells its rows, they lead to each of the machines as a store keeps it
+pub record HasAdded {K : Type 0} (k : keeper.Ghosts K) (name : List ℕ) (version : ℕ)
+    (machines : List Track) (first last : K) : Type 0 where
   pub started : WasStarted k name first last
-  pub added : k.kept last ≡ with_more (k.kept first) (new_rows machines)
-  pub comes_back : IfSome (k.kept last) (λ rows. LeadTo rows (map kept_of machines))
+  pub added : k.kept last ≡ with_more (k.kept first) (new_rows version machines)
+  pub comes_back : IfSome (k.kept last) (λ rows. LeadTo rows (stored_after version machines))
 
 -- what became of the keeper: without a store it had no call; else it was started, and has the new
 -- rows of these machines behind its own where all is done, and its own at any other status
-abbrev pub Keeps : {K : Type 0} → keeper.Ghosts K → Option (List ℕ) → List Track → K → K → Status
+abbrev pub Keeps : {K : Type 0} → keeper.Ghosts K → Option (List ℕ) → ℕ → List Track → K → K → Status
     → Type 0
-Keeps k None machines first last status = last ≡ first
-Keeps k (Some name) machines first last Done = HasAdded k name machines first last
-Keeps k (Some name) machines first last status =
+Keeps k None version machines first last status = last ≡ first
+Keeps k (Some name) version machines first last Done = HasAdded k name version machines first last
+Keeps k (Some name) version machines first last status =
     WasStarted k name first last × (k.kept last ≡ k.kept first)
 
 -- why the rows were not appended
@@ -147,12 +149,13 @@ pub record EndsScript {I O K : Type 0} (g : source.Ghosts I) (h : sink.Ghosts O)
     (k : keeper.Ghosts K) (store : Option (List ℕ)) (old new : I) (before after : O)
     (first last : K) (from to : ℕ) (status : Status) : Type 0 where
   pub machines : List Track
-  pub begins : Begins k store first machines
+  pub version : ℕ
+  pub begins : Begins k store first (record { machines = machines; version = version })
   pub now : State
   pub result : Result (Unit {0}) Stop
   pub answers : AnswersScript g h (state_of machines) now old new before after from to result
   pub ends : EndsSo k store first last result status
-  pub keeps : Keeps k store now.tracks first last status
+  pub keeps : Keeps k store version now.tracks first last status
   pub whole : status ≡ Done
       → IfSome (g.left old) (λ bytes. Prints h machines bytes now before after)
   pub counted : status ≡ Done

@@ -14,8 +14,7 @@ use Rattle.keep_rows.specs.declared.append.AppendFault.{AppendFault}
 use Rattle.keep_rows.specs.declared.append.AppendFault.TheVariants as append
 use Rattle.keep_rows.specs.declared.load.LoadFault.{LoadFault}
 use Rattle.keep_rows.specs.declared.load.LoadFault.TheVariants as load
-use Rattle.kept_machines.specs.Loading.{LeadTo, IsFirstBad}
-use Rattle.track_model.specs.Tracks.{Track}
+use Rattle.kept_machines.specs.Loading.{Stored, LeadTo, IsFirstBad}
 use Rattle.command_words.specs.declared.command.Command.{Command}
 use Rattle.command_words.specs.declared.command.Command.TheVariants.{Cut, Apply, Gen, Trial, Play, Path, Hunt}
 use Rattle.tracker_top.specs.declared.status.Status.{Status}
@@ -85,7 +84,7 @@ abbrev pub StoreShows : Option (List (List ℕ)) → List ℕ → Status → Typ
 StoreShows None bytes status = ⊥
 StoreShows (Some rows) bytes status =
     ((row : ℕ) × IsFirstBad rows row × (status ≡ BadStore row))
-    ⊎ ((tracks : List Track) × LeadTo rows tracks × ScriptShows bytes status)
+    ⊎ ((stored : Stored) × LeadTo rows stored × ScriptShows bytes status)
 
 -- the first word is this one
 abbrev pub Asks : List ℕ → List (List ℕ) → Type 0

@@ -20,7 +20,7 @@ use command_words::{Command, CutPlan, PathPlan, Word, command_of, one_command_la
 use cost_certificate::put_cert;
 use cut_lines::{one_stop_law, read_points};
 use history_model::{Author, finished_law, publication_law};
-use kept_machines::{append_all, load, rows_law};
+use kept_machines::{Loaded, append_all, load, rows_law};
 use path_command::path_points;
 use pelt_core::{Steps, segmentation};
 use script_desk::{Session, Trial};
@@ -260,16 +260,16 @@ fn apply_to<I: Source, O: Sink, K: Keeper, L: Ledger>(
     ensures { EndsApply I.Source O.Sink K.Keeper (Some store.now)
         input.old input.new out.old out.new keeper.old keeper.new steps.old steps.new result }
 {
-    let machines = match load(alloc, keeper, store.as_str()) {
-        Ok(machines) => machines,
+    let Loaded { states, version } = match load(alloc, keeper, store.as_str()) {
+        Ok(loaded) => loaded,
         Err(fault) => return Status::from(fault),
     };
-    let mut session = session_on(alloc, machines);
+    let mut session = session_on(alloc, states);
     if let Err(stop) = answer(alloc, &mut session, input, out, steps) {
         return Status::from(stop);
     }
     session.comes_back_law();
-    match append_all(alloc, keeper, session.machines()) {
+    match append_all(alloc, keeper, session.machines(), version) {
         Ok(()) => {
             leave(session);
             Status::Done

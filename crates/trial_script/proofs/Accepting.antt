@@ -1,10 +1,12 @@
 -- Each request of the script is accepted on the history that those before it leave.
 use Rattle.std.proofs.Common.{◌≡◌, ◌≢◌, ℕ, pos, suc, ◌+◌, ◌*◌, ◌%◌, ◌<◌, ◌≤◌, ◌^◌, true, not, List, [], ◌∷◌, ◌++◌, length, refl, sym, ◌∙◌, subst, arith, length-append, append-nil, Some, None}
+use Rattle.std.proofs.lemmas.Int.{ints}
 use Rattle.std.proofs.lemmas.List.Elements.{All-cons, All-nil}
 use Rattle.metric_table.specs.Limits.{most}
 use Rattle.metric_table.specs.declared.limits.Limit.TheVariants as limit
 use Rattle.sample_model.specs.Samples.{Measurement, IsSample, AreSamples}
 use Rattle.segment_model.specs.Cuts.{RisesBetween}
+use Rattle.segment_model.specs.Limits.{IsLength}
 use Rattle.segment_model.proofs.CutLists.{places-rise}
 use Rattle.segment_model.specs.Brought.{ValuesAreBrought}
 use Rattle.segment_cost.specs.declared.cert.Cert.{Cert}
@@ -13,8 +15,10 @@ use Rattle.history_model.specs.declared.entries.Entry.TheVariants as entry
 use Rattle.history_model.specs.declared.entries.Declaration.{Declaration}
 use Rattle.history_model.specs.declared.run.Run.{Run}
 use Rattle.history_model.specs.declared.publication.Publication.{Publication}
+use Rattle.history_model.specs.declared.setting.Setting.{Setting}
 use Rattle.history_model.specs.Allowed.{count_of, first_passed, run_limits}
 use Rattle.history_model.specs.Commits.{declarations, number_of}
+use Rattle.history_model.specs.Penalties.{length_of, SettingIsSet, SettingStays}
 use Rattle.history_model.specs.Positions.{positions, brought}
 use Rattle.history_model.specs.Runs.{acceptances, retractions, accepted, retracted, is_known, is_of, live_runs, Series}
 use Rattle.history_model.specs.Publications.{last_publication}
@@ -25,13 +29,13 @@ use Rattle.request_model.specs.declared.replies.Answer.{Answer}
 use Rattle.request_model.specs.declared.replies.Answer.TheVariants as answer
 use Rattle.track_model.specs.Forms as forms
 use Rattle.track_model.specs.Outcomes.{Outcome}
-use Rattle.track_model.specs.Laws.{CommitIsAdded, RetractIsAdded, TuneIsAdded, PublishIsAdded}
+use Rattle.track_model.specs.Laws.{CommitIsAdded, RetractIsAdded, TuneIsAdded, TuneMayFollow, PublishIsAdded}
 use Rattle.track_model.specs.Tracks.{ComesTo}
 use Rattle.track_model.specs.Publishing.{OfKnown, OfPublished, IsPublished, TellsChanges, publication, redone_since, segmented}
 use Rattle.series_gen.specs.Script.{place}
 use Rattle.trial_script.specs.Requests as asked
 use Rattle.trial_script.proofs.Lists.{filter_few}
-use Rattle.trial_script.proofs.Reached.{AreLists, Reached, no_number, no_name, no_run, not_back, with_commit, with_run, with_retraction}
+use Rattle.trial_script.proofs.Reached.{AreLists, Reached, long_stays, no_number, no_name, no_run, not_back, with_commit, with_run, with_retraction}
 use Rattle.trial_script.proofs.Bounds.{series, brought_few, positions_few, samples_few, series_few, new_few, known_there}
 use Rattle.trial_script.proofs.Passing.{Good}
 use Rattle.trial_script.proofs.PlainWords.{plain_name}
@@ -71,7 +75,8 @@ stay : {n j r : ℕ} (h now : List Entry) → AreLists n j r (declarations h) (a
 stay h now lists ds xs rs = rw (ds, xs, rs) lists
 
 -- ---- what the laws of histories and forms say
-module _ (declared : DeclarationsGrow) (accepts : AcceptancesGrow) (retracts : RetractionsGrow) (cuts_grow : CutsGrow) where
+module _ (declared : DeclarationsGrow) (accepts : AcceptancesGrow) (retracts : RetractionsGrow) (cuts_grow : CutsGrow)
+    (setting_stays : SettingStays) where
   module _ (commit_limits : LimitsAfterCommit) (commit_added : CommitIsAdded) where
     commit_history : (n : ℕ) (h : List Entry) → n < 500 → Reached n 0 0 0 h → Reached (suc n) 0 0 0 (h ++ entry.Commit n (asked.commit_name n) ∷ [])
     commit_history n h few now =
@@ -88,6 +93,7 @@ module _ (declared : DeclarationsGrow) (accepts : AcceptancesGrow) (retracts : R
           published = now.published;
           few = now.few;
           cuts = omega (arith, now.cuts, cuts_grow h e);
+          long = long_stays setting_stays h e refl now.long;
         }
 
     pub commit_good : (n : ℕ) (h : List Entry) (o : Outcome) → n < 500 → Reached n 0 0 0 h
@@ -104,29 +110,37 @@ module _ (declared : DeclarationsGrow) (accepts : AcceptancesGrow) (retracts : R
         good_added (Reached (suc n) 0 0 0) h o (answer.Commit n (asked.commit_name n)) (entry.Commit n (asked.commit_name n)) (comes ∙ fits)
         (λ reason is. cc) (commit_history n h few now)
 
-  module _ (tune_limits : LimitsAfterTune) (tune_added : TuneIsAdded) where
-    tune_history : (h : List Entry) → Reached 500 0 0 0 h → Reached 500 0 0 1 (h ++ entry.Tune asked.metric (pos 300_000_000_000) ∷ [])
-    tune_history h now =
-        let e : Entry = entry.Tune asked.metric (pos 300_000_000_000) in
+  module _ (tune_limits : LimitsAfterTune) (tune_added : TuneIsAdded) (tune_may_follow : TuneMayFollow) (setting_is_set : SettingIsSet) where
+    abbrev tuned_to : ℕ → Entry
+    tuned_to len = entry.Tune asked.metric (pos 300_000_000_000) len
+
+    tune_history : (h : List Entry) (len : ℕ) → IsLength len → Reached 500 0 0 0 h → Reached 500 0 0 1 (h ++ tuned_to len ∷ [])
+    tune_history h len long now =
+        let e : Entry = tuned_to len in
         let last : List Entry = h ++ e ∷ [] in
         let ds : declarations last ≡ declarations h = declared h e ∙ append-nil (declarations h) in
         let xs : acceptances last ≡ acceptances h = accepts h e ∙ append-nil (acceptances h) in
         let rs : retractions last ≡ retractions h = retracts h e ∙ append-nil (retractions h) in
+        let set = setting_is_set h e asked.metric (record { penalty = pos 300_000_000_000; length = len }) refl in
         record {
           lists = stay h last now.lists ds xs rs;
-          limits = tune_limits h asked.metric (pos 300_000_000_000) now.limits (omega (arith, now.steps));
+          limits = tune_limits h asked.metric (pos 300_000_000_000) len now.limits (omega (arith, now.steps));
           steps = omega (arith, now.steps, length-append h (e ∷ []));
           published = now.published;
           few = now.few;
           cuts = omega (arith, now.cuts, cuts_grow h e);
+          long = subst (λ (s : Setting). IsLength s.length) (sym set) long;
         }
 
-    pub tune_good : (h : List Entry) (o : Outcome) → Reached 500 0 0 0 h → ComesTo h 0 (request.Tune asked.machine asked.metric (pos 300_000_000_000)) o
+    pub tune_good : (h : List Entry) (o : Outcome) → Reached 500 0 0 0 h → ComesTo h 0 (request.Tune asked.machine asked.metric (pos 300_000_000_000) None) o
         → Good (Reached 500 0 0 1) h o
     tune_good h o now comes =
-        let fits = tune_added h asked.metric (pos 300_000_000_000) refl (omega (arith, now.steps)) in
-        good_added (Reached 500 0 0 1) h o (answer.Tuned asked.metric (pos 300_000_000_000)) (entry.Tune asked.metric (pos 300_000_000_000))
-        (comes ∙ fits) (λ reason is. cc) (tune_history h now)
+        let len : ℕ = length_of asked.metric h in
+        let free : forms.tune_refusal asked.metric (pos 300_000_000_000) len ≡ None =
+        (tune_may_follow h asked.metric (pos 300_000_000_000) len).1 (omega arith, (omega (arith, ints), omega (arith, ints)), now.long) in
+        let fits = tune_added h asked.metric (pos 300_000_000_000) len free (omega (arith, now.steps)) in
+        good_added (Reached 500 0 0 1) h o (answer.Tuned asked.metric (pos 300_000_000_000) len) (tuned_to len)
+        (comes ∙ fits) (λ reason is. cc) (tune_history h len now.long now)
 
   module _ (retract_limits : LimitsAfterRetract) (retract_added : RetractIsAdded) where
     retract_history : (i : ℕ) (h : List Entry) → i < 10 → Reached 500 2_000 i 1 h
@@ -144,6 +158,7 @@ module _ (declared : DeclarationsGrow) (accepts : AcceptancesGrow) (retracts : R
           published = now.published;
           few = now.few;
           cuts = omega (arith, now.cuts, cuts_grow h e);
+          long = long_stays setting_stays h e refl now.long;
         }
 
     pub retract_good : (i : ℕ) (h : List Entry) (o : Outcome) → i < 10 → Reached 500 2_000 i 1 h
@@ -217,6 +232,7 @@ module _ (declared : DeclarationsGrow) (accepts : AcceptancesGrow) (retracts : R
             steps = omega (arith, now.steps, length-append h (e ∷ []));
             few = omega (arith, now.few);
             cuts = omega (arith, now.cuts, cuts_grow h e);
+            long = long_stays setting_stays h e refl now.long;
           };
           less = now.few;
         }
@@ -255,6 +271,7 @@ module _ (declared : DeclarationsGrow) (accepts : AcceptancesGrow) (retracts : R
           steps = omega (arith, now.steps, length-append h (e ∷ []), sum);
           few = at;
           cuts = omega (arith, now.cuts, cuts_grow h e, cuts, sum);
+          long = long_stays setting_stays h e refl now.long;
         }
 
     record Published (j r t : ℕ) (h : List Entry) (o : Outcome) (now : Reached 500 j r t h) : Type 0 where
@@ -276,7 +293,7 @@ module _ (declared : DeclarationsGrow) (accepts : AcceptancesGrow) (retracts : R
         let p : Publication = publication series (length h) base cert in
         let few : length cert.cuts ≤ 16_384 = omega (
           arith,
-          cuts_few 0 (length (positions h series)) cert.cuts (omega arith) (places-rise 1 (length (positions h series)) cert.cuts made.1.best.is_cut_list),
+          cuts_few 0 (length (positions h series)) cert.cuts (omega arith) (places-rise (length_of asked.metric h) (length (positions h series)) cert.cuts made.1.best.is_cut_list),
           (series_limits h series now.limits).1,
         ) in
         record {

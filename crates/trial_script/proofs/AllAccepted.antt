@@ -1,5 +1,5 @@
 -- The whole script of a number is accepted.
-use Rattle.std.proofs.Common.{◌≡◌, ℕ, pos, suc, ◌+◌, ◌*◌, ◌%◌, ◌<◌, ◌≤◌, Bool, true, false, List, [], ◌∷◌, ◌++◌, refl, subst, arith}
+use Rattle.std.proofs.Common.{◌≡◌, ℕ, pos, suc, ◌+◌, ◌*◌, ◌%◌, ◌<◌, ◌≤◌, Bool, true, false, List, [], ◌∷◌, ◌++◌, refl, subst, arith, None}
 use Rattle.std.specs.Prelude.{◌==◌, if◌then◌else◌}
 use Rattle.std.proofs.lemmas.Bool.Decides.{nat_tests}
 use Rattle.metric_table.specs.Limits.{most}
@@ -7,10 +7,11 @@ use Rattle.metric_table.specs.declared.limits.Limit.{Limit}
 use Rattle.metric_table.specs.declared.limits.Limit.TheVariants as limit
 use Rattle.segment_model.specs.Brought.{ValuesAreBrought}
 use Rattle.history_model.specs.Allowed.{count_of}
+use Rattle.history_model.specs.Penalties.{SettingIsSet, SettingStays}
 use Rattle.history_model.specs.Laws.{DeclarationsGrow, AcceptancesGrow, RetractionsGrow, LimitsAfterCommit, LimitsAfterRetract, LimitsAfterTune, LimitsAfterPublish, SeriesKeepLimits, CountsAfterAccept, SamplesFit, PositionsFit, FirstKept, RunKeepsLimits, PublicationIsLast, CutsGrow}
 use Rattle.request_model.specs.declared.requests.Request.{Request}
 use Rattle.request_model.specs.declared.requests.Request.TheVariants as request
-use Rattle.track_model.specs.Laws.{CommitIsAdded, RetractIsAdded, TuneIsAdded, PublishIsAdded}
+use Rattle.track_model.specs.Laws.{CommitIsAdded, RetractIsAdded, TuneIsAdded, TuneMayFollow, PublishIsAdded}
 use Rattle.series_gen.specs.Script.{place, value, state_after}
 use Rattle.trial_script.specs.Requests as asked
 use Rattle.trial_script.specs.Requests.{asked_in_turn}
@@ -52,15 +53,17 @@ begun = record {
   steps = omega arith;
   few = omega arith;
   cuts = omega arith;
+  long = (omega arith, omega arith);
 }
 
 -- the value of a run has at most four digits
 below : (j x : ℕ) → value (place j) x < 10_000
 below j x = let at : place j < 500 = omega arith in omega (arith, at)
 
-module _ (declares : DeclarationsGrow) (accepts : AcceptancesGrow) (retracts : RetractionsGrow) (cuts_grow : CutsGrow) where
+module _ (declares : DeclarationsGrow) (accepts : AcceptancesGrow) (retracts : RetractionsGrow) (cuts_grow : CutsGrow)
+    (setting_stays : SettingStays) where
   module _ (commit_limits : LimitsAfterCommit) (commit_added : CommitIsAdded) (tune_limits : LimitsAfterTune) (tune_added : TuneIsAdded)
-      (retract_limits : LimitsAfterRetract) (retract_added : RetractIsAdded) where
+      (tune_may_follow : TuneMayFollow) (setting_is_set : SettingIsSet) (retract_limits : LimitsAfterRetract) (retract_added : RetractIsAdded) where
     module _ (values : ValuesAreBrought) (counts : CountsAfterAccept) (samples_fit : SamplesFit) (positions_fit : PositionsFit) (kept : FirstKept)
         (run_limits_kept : RunKeepsLimits) where
       module _ (publish_limits : LimitsAfterPublish) (publish_added : PublishIsAdded) (series_limits : SeriesKeepLimits) (is_last : PublicationIsLast) where
@@ -68,24 +71,24 @@ module _ (declares : DeclarationsGrow) (accepts : AcceptancesGrow) (retracts : R
             → Passes (Turned j) (if test then asked.segment ∷ [] else []) (Reached 500 (suc j) 0 1)
         maybe_segment j few true is =
             let hundred : (j + 1) % 100 ≡ 0 = grind (arith, nat_tests) in
-            one asked.segment refl (λ h base o now comes. segment_good declares accepts retracts cuts_grow publish_limits publish_added series_limits is_last j h base o few hundred now comes)
+            one asked.segment refl (λ h base o now comes. segment_good declares accepts retracts cuts_grow setting_stays publish_limits publish_added series_limits is_last j h base o few hundred now comes)
         maybe_segment j few false is = nothing (λ h now. now.reached)
 
         turn : (number j : ℕ) → j < 2_000 → Passes (Reached 500 j 0 1) (asked.turn number j) (Reached 500 (suc j) 0 1)
         turn number j few =
             let v : ℕ = value (place j) (state_after number (suc j)) in
             behind (asked.submit j v ∷ []) (if (j + 1) % 100 == 0 then asked.segment ∷ [] else [])
-            (one (asked.submit j v) refl (λ h base o now comes. submit_good declares accepts retracts cuts_grow values counts samples_fit positions_fit kept run_limits_kept j v h o few (below j _) now comes))
+            (one (asked.submit j v) refl (λ h base o now comes. submit_good declares accepts retracts cuts_grow setting_stays values counts samples_fit positions_fit kept run_limits_kept j v h o few (below j _) now comes))
             (maybe_segment j few ((j + 1) % 100 == 0) refl)
 
         commits : Passes (Reached 0 0 0 0) (asked_in_turn asked.commit 500) (Reached 500 0 0 0)
         commits = in_turn (λ n. Reached n 0 0 0) asked.commit 500
             (λ n few. one (request.Commit asked.machine n (asked.commit_name n)) refl
-            (λ h base o now comes. commit_good declares accepts retracts cuts_grow commit_limits commit_added n h o few now comes))
+            (λ h base o now comes. commit_good declares accepts retracts cuts_grow setting_stays commit_limits commit_added n h o few now comes))
 
-        tuned : Passes (Reached 500 0 0 0) (request.Tune asked.machine asked.metric (pos 300_000_000_000) ∷ []) (Reached 500 0 0 1)
-        tuned = one (request.Tune asked.machine asked.metric (pos 300_000_000_000)) refl
-            (λ h base o now comes. tune_good declares accepts retracts cuts_grow tune_limits tune_added h o now comes)
+        tuned : Passes (Reached 500 0 0 0) (request.Tune asked.machine asked.metric (pos 300_000_000_000) None ∷ []) (Reached 500 0 0 1)
+        tuned = one (request.Tune asked.machine asked.metric (pos 300_000_000_000) None) refl
+            (λ h base o now comes. tune_good declares accepts retracts cuts_grow setting_stays tune_limits tune_added tune_may_follow setting_is_set h o now comes)
 
         runs : (number : ℕ) → Passes (Reached 500 0 0 1) (asked_in_turn (asked.turn number) 2_000) (Reached 500 2_000 0 1)
         runs number = in_turn (λ j. Reached 500 j 0 1) (asked.turn number) 2_000 (turn number)
@@ -93,20 +96,20 @@ module _ (declares : DeclarationsGrow) (accepts : AcceptancesGrow) (retracts : R
         retracted : Passes (Reached 500 2_000 0 1) (asked_in_turn asked.retract 10) (Reached 500 2_000 10 1)
         retracted = in_turn (λ i. Reached 500 2_000 i 1) asked.retract 10
             (λ i few. one (request.Retract asked.machine (asked.run_name (200 * i))) refl
-            (λ h base o now comes. retract_good declares accepts retracts cuts_grow retract_limits retract_added i h o few now comes))
+            (λ h base o now comes. retract_good declares accepts retracts cuts_grow setting_stays retract_limits retract_added i h o few now comes))
 
         segmented : Passes (Reached 500 2_000 10 1) (asked.segment ∷ []) Ready
-        segmented = one asked.segment refl (λ h base o now comes. last_good declares accepts retracts cuts_grow publish_limits publish_added series_limits is_last h base o now comes)
+        segmented = one asked.segment refl (λ h base o now comes. last_good declares accepts retracts cuts_grow setting_stays publish_limits publish_added series_limits is_last h base o now comes)
 
         changed : Passes Ready (request.Changes asked.machine asked.test asked.metric ∷ []) (λ h. Unit {0})
         changed = one (request.Changes asked.machine asked.test asked.metric) refl
-            (λ h base o now comes. changes_good declares accepts retracts cuts_grow publish_limits publish_added series_limits is_last h o now comes)
+            (λ h base o now comes. changes_good declares accepts retracts cuts_grow setting_stays publish_limits publish_added series_limits is_last h o now comes)
 
         all : (number : ℕ) → Begins (asked.requests number) (λ h. Unit {0})
         all number =
             let qm : List Request = request.Machine asked.machine ∷ [] in
             let qc : List Request = asked_in_turn asked.commit 500 in
-            let qt : List Request = request.Tune asked.machine asked.metric (pos 300_000_000_000) ∷ [] in
+            let qt : List Request = request.Tune asked.machine asked.metric (pos 300_000_000_000) None ∷ [] in
             let qr : List Request = asked_in_turn (asked.turn number) 2_000 in
             let qx : List Request = asked_in_turn asked.retract 10 in
             let qs : List Request = asked.segment ∷ [] in

@@ -1,5 +1,5 @@
 -- Each line of the script of a number is a piece, which asks its request.
-use Rattle.std.proofs.Common.{◌≡◌, ℕ, pos, zero, suc, ◌*◌, ◌^◌, ◌<◌, ◌≤◌, inl, List, [], ◌∷◌, ◌++◌, length, refl, sym, ap, ◌∙◌, subst, arith, lit<, length-append, append_assoc, append-nil, Ok}
+use Rattle.std.proofs.Common.{◌≡◌, ℕ, pos, zero, suc, ◌*◌, ◌^◌, ◌<◌, ◌≤◌, inl, List, [], ◌∷◌, ◌++◌, length, refl, sym, ap, ◌∙◌, subst, arith, lit<, length-append, append_assoc, append-nil, None, Ok}
 use Rattle.std.specs.Prelude.{codes, decimal}
 use Rattle.std.specs.Str.Parse.{digits_value}
 use Rattle.std.proofs.lemmas.Fmt.{decimal_is_IsNumeral, length-decimal-le}
@@ -35,7 +35,7 @@ written_piece go_on one form first words body used item is can =
     } in
     one_piece text body used item is (line_back first words can.first_word can.few can.words_short can.five)
     (λ skipped. skipped_formless text skipped form of_form) (inl (form, of_form, sym can.counted))
-    (formed form of_form (named can.within (record { names = can.names; metric = can.metric }) can.range can.asks))
+    (formed form of_form (named can.within (record { names = can.names; metric = can.metric }) can.range can.long can.asks))
 
 -- ---- numbers in words
 
@@ -147,6 +147,7 @@ module _ (names : NamesAreSpelledBack) (numbers : NumbersAreSpelled) (go_on : Wo
         names = (m_word.spells, tt);
         metric = tt;
         range = tt;
+        long = tt;
         asks = ap (λ (m : List ℕ). Ok (request.Machine m)) (sym m_word.back);
       })
 
@@ -174,15 +175,16 @@ module _ (names : NamesAreSpelledBack) (numbers : NumbersAreSpelled) (go_on : Wo
         names = (m_word.spells, (name.spells, tt));
         metric = tt;
         range = tt;
+        long = tt;
         asks = asks;
       })
 
-  pub tune_piece : ArePieces (line (codes "tune g ns/op 300000000000")) (Ok (request.Tune asked.machine asked.metric (pos 300_000_000_000)) ∷ [])
+  pub tune_piece : ArePieces (line (codes "tune g ns/op 300000000000")) (Ok (request.Tune asked.machine asked.metric (pos 300_000_000_000) None) ∷ [])
   tune_piece =
-      let asks : Ok (request.Tune asked.machine asked.metric (pos 300_000_000_000)) ≡ Ok
-      (request.Tune (name_of asked.machine) (name_of asked.metric) (pos (digits_value 10 penalty))) = rw (m_word.back, metric_word.back) refl in
-      written_piece go_on one (tune asked.machine asked.metric penalty) (codes "tune") (asked.machine ∷ asked.metric ∷ penalty ∷ []) []
-      (line (codes "tune g ns/op 300000000000")) (Ok (request.Tune asked.machine asked.metric (pos 300_000_000_000))) refl (record {
+      let asks : Ok (request.Tune asked.machine asked.metric (pos 300_000_000_000) None) ≡ Ok
+      (request.Tune (name_of asked.machine) (name_of asked.metric) (pos (digits_value 10 penalty)) None) = rw (m_word.back, metric_word.back) refl in
+      written_piece go_on one (tune asked.machine asked.metric penalty None) (codes "tune") (asked.machine ∷ asked.metric ∷ penalty ∷ []) []
+      (line (codes "tune g ns/op 300000000000")) (Ok (request.Tune asked.machine asked.metric (pos 300_000_000_000) None)) refl (record {
         is = refl;
         first_word = tune_word;
         few = omega arith;
@@ -196,6 +198,7 @@ module _ (names : NamesAreSpelledBack) (numbers : NumbersAreSpelled) (go_on : Wo
         names = (m_word.spells, (metric_word.spells, tt));
         metric = metric_short;
         range = omega arith;
+        long = tt;
         asks = asks;
       })
 
@@ -220,6 +223,7 @@ module _ (names : NamesAreSpelledBack) (numbers : NumbersAreSpelled) (go_on : Wo
         names = (m_word.spells, (name.spells, tt));
         metric = tt;
         range = tt;
+        long = tt;
         asks = asks;
       })
 
@@ -267,5 +271,6 @@ module _ (names : NamesAreSpelledBack) (numbers : NumbersAreSpelled) (go_on : Wo
         names = (m_word.spells, (c.spells, (r.spells, tt)));
         metric = tt;
         range = tt;
+        long = tt;
         asks = gives;
       })

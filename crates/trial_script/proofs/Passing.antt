@@ -76,7 +76,7 @@ grown author (request.Machine m) t o = added author t o.adds
 grown author (request.Commit m number name) t o = added author t o.adds
 grown author (request.Submit m commit run samples ignored stated) t o = added author t o.adds
 grown author (request.Retract m run) t o = added author t o.adds
-grown author (request.Tune m metric penalty) t o = added author t o.adds
+grown author (request.Tune m metric penalty given) t o = added author t o.adds
 grown author (request.Calibrate m test metric factor) t o = added author t o.adds
 grown author (request.Segment m test metric) t o = segmented author t (record { test = test; metric = metric }) o.answer o.adds
 grown author (request.Changes m test metric) t o = added author t o.adds

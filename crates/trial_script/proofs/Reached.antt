@@ -1,16 +1,19 @@
 -- What a history has once so many commits were declared, runs accepted and runs taken back.
-use Rattle.std.proofs.Common.{◌≡◌, ℕ, suc, ◌+◌, ◌*◌, ◌<◌, ◌≤◌, ◌^◌, false, List, [], ◌∷◌, ◌++◌, length, sym, ap, ◌∙◌, arith, length-append, None}
+use Rattle.std.proofs.Common.{◌≡◌, ℕ, suc, ◌+◌, ◌*◌, ◌<◌, ◌≤◌, ◌^◌, false, List, [], ◌∷◌, ◌++◌, length, sym, subst, ap, ◌∙◌, arith, length-append, None}
 use Rattle.std.specs.Prelude.{find, bytes_eq}
 use Rattle.std.specs.List.{AllByRecursion}
 use Rattle.std.proofs.lemmas.Bool.Decides.{nat_tests}
+use Rattle.segment_model.specs.Limits.{IsLength}
 use Rattle.history_model.specs.declared.entries.Acceptance.{Acceptance}
 use Rattle.history_model.specs.declared.entries.Declaration.{Declaration}
 use Rattle.history_model.specs.declared.entries.Entry.{Entry}
+use Rattle.history_model.specs.declared.setting.Setting.{Setting}
 use Rattle.history_model.specs.Allowed.{KeepsLimits}
 use Rattle.history_model.specs.Commits.{declarations, has_name, has_number}
 use Rattle.history_model.specs.Runs.{Retraction, acceptances, retractions, is_run, takes_back}
+use Rattle.history_model.specs.Penalties.{length_of, set_for, SettingStays}
 use Rattle.history_model.specs.Publications.{cut_count}
-use Rattle.trial_script.specs.Requests.{commit_name, run_name, sample}
+use Rattle.trial_script.specs.Requests.{metric, commit_name, run_name, sample}
 use Rattle.trial_script.proofs.Lists.{below_suc, all_more, all_of, Found, find_none, find_more, find_last, same_name, other_name}
 
 -- a commit below n, by its own name
@@ -50,6 +53,12 @@ pub record Reached (n j r t : ℕ) (h : List Entry) : Type 0 where
   pub steps : length h ≤ n + j + r + t + published
   pub few : 100 * published ≤ j
   pub cuts : cut_count h ≤ 16_384 * (published + t)
+  pub long : IsLength (length_of metric h)
+
+-- the least length of the metric is in range after an entry that leaves it as it is
+pub long_stays : SettingStays → (h : List Entry) (e : Entry) → set_for metric (length h + 1) e ≡ None → IsLength (length_of metric h)
+    → IsLength (length_of metric (h ++ e ∷ []))
+long_stays stays h e none long = subst (λ (s : Setting). IsLength s.length) (sym (stays h e metric none)) long
 
 -- ---- what is not there
 

@@ -1,5 +1,5 @@
 -- The script of a number is whole, and asks what it is for.
-use Rattle.std.proofs.Common.{ℕ, pos, suc, ◌+◌, ◌*◌, ◌%◌, ◌^◌, ◌<◌, ◌≤◌, inl, inr, Bool, true, false, List, [], ◌∷◌, ◌++◌, length, refl, sym, arith, length-append, append-nil}
+use Rattle.std.proofs.Common.{ℕ, pos, suc, ◌+◌, ◌*◌, ◌%◌, ◌^◌, ◌<◌, ◌≤◌, inl, inr, Bool, true, false, List, [], ◌∷◌, ◌++◌, length, refl, sym, arith, length-append, append-nil, None}
 use Rattle.std.specs.Prelude.{codes, decimal, ◌==◌, if◌then◌else◌}
 use Rattle.std.proofs.lemmas.Fmt.{length-decimal-le}
 use Rattle.std.proofs.lemmas.List.Elements.{All-nil}
@@ -144,7 +144,7 @@ module _ (names : NamesAreSpelledBack) (numbers : NumbersAreSpelled) (go_on : Wo
       let l : List ℕ = line (codes "changes g G ns/op") in
       let qm : List Request = request.Machine asked.machine ∷ [] in
       let qc : List Request = asked_in_turn asked.commit 500 in
-      let qt : List Request = request.Tune asked.machine asked.metric (pos 300_000_000_000) ∷ [] in
+      let qt : List Request = request.Tune asked.machine asked.metric (pos 300_000_000_000) None ∷ [] in
       let qr : List Request = asked_in_turn (asked.turn number) 2_000 in
       let qx : List Request = asked_in_turn asked.retract 10 in
       let qs : List Request = asked.segment ∷ [] in

@@ -55,7 +55,7 @@ abbrev pub requests : ℕ → List Request
 requests number =
     (request.Machine machine ∷ [])
     ++ asked_in_turn commit 500
-    ++ (request.Tune machine metric (pos 300_000_000_000) ∷ [])
+    ++ (request.Tune machine metric (pos 300_000_000_000) None ∷ [])
     ++ asked_in_turn (turn number) 2_000
     ++ asked_in_turn retract 10
     ++ (segment ∷ [])

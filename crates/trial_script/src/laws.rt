@@ -3,7 +3,7 @@ ghost use Rattle.trial_script.specs.Laws.{ScriptAsks, ScriptIsWhole};
 ghost use Rattle.trial_script.specs.Accepted.{EachIsAccepted, NoneIsRefused};
 
 use history_model::{
-    accept_law, growth_law, limits_law, positions_law, publication_law, within_law,
+    accept_law, growth_law, limits_law, positions_law, publication_law, setting_law, within_law,
 };
 use line_text::{lines_law, names_law, numbers_law, words_law};
 use script_session::output_law;
@@ -37,5 +37,6 @@ pub fn accepted_law()
     commit_law();
     retract_law();
     tune_law();
+    setting_law();
     publish_law();
 }

@@ -202,7 +202,7 @@ pub entry-failed : (h : List Entry) (e : Entry) → failed (option_to_list (find
 entry-failed h (entry.Commit number name) = refl
 entry-failed h (entry.Accept run) = refl
 entry-failed h (entry.Retract run) = refl
-entry-failed h (entry.Tune metric penalty) = refl
+entry-failed h (entry.Tune metric penalty len) = refl
 entry-failed h (entry.Publish publication) = refl
 entry-failed h (entry.Regression e) = refl
 entry-failed h (entry.Job e) = event-failed h e

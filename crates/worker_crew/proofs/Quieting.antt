@@ -21,7 +21,8 @@ use Rattle.history_model.specs.Allowed.{Allowed, AllowedAfter, Legal}
 use Rattle.history_model.specs.Entries.{entries_of}
 use Rattle.history_model.specs.Jobs.{asked, is_under_way, jobs, open_count, place_asked}
 use Rattle.history_model.specs.Laws.{AcceptancesGrow, CutsGrow, PublicationStays, RetractionsGrow}
-use Rattle.history_model.specs.Penalties.{PenaltyStays, penalty_of}
+use Rattle.history_model.specs.Penalties.{SettingStays, length_of, penalty_of}
+use Rattle.history_model.specs.declared.setting.Setting.{Setting}
 use Rattle.history_model.specs.Positions.{brought, positions, positions_of}
 use Rattle.history_model.specs.Publications.{AreBest, cut_count, last_publication}
 use Rattle.history_model.specs.Runs.{Retraction, Series, acceptances, is_known, live_of, retractions}
@@ -43,7 +44,7 @@ or-false : (b : Bool) → (b || false) ≡ b
 or-false true = refl
 or-false false = refl
 
-module _ (accept : AcceptancesGrow) (retract : RetractionsGrow) (cuts : CutsGrow) (penalty : PenaltyStays) (grow : TouchesGrow) (known : KnownGrows) (stays : PublicationStays) where
+module _ (accept : AcceptancesGrow) (retract : RetractionsGrow) (cuts : CutsGrow) (setting : SettingStays) (grow : TouchesGrow) (known : KnownGrows) (stays : PublicationStays) where
   module _ (h : List Entry) (e : JobEvent) (allowed : Allowed h (entry.Job e)) where
     abbrev h' : List Entry
     h' = h ++ entry.Job e ∷ []
@@ -68,8 +69,8 @@ module _ (accept : AcceptancesGrow) (retract : RetractionsGrow) (cuts : CutsGrow
       cuts = would.cuts;
       total = would.total;
       best =
-          subst (λ (z : ℤ). AreBest (positions h' s) z would.cuts would.total) (sym (penalty h (entry.Job e) s.metric refl))
-          (subst (λ (ps : List Position). AreBest ps (penalty_of s.metric h) would.cuts would.total) (sym (same-positions s)) would.best);
+          subst (λ (x : Setting). AreBest (positions h' s) x.penalty x.length would.cuts would.total) (sym (setting h (entry.Job e) s.metric refl))
+          (subst (λ (ps : List Position). AreBest ps (penalty_of s.metric h) (length_of s.metric h) would.cuts would.total) (sym (same-positions s)) would.best);
       passes = let more = cuts h (entry.Job e) in let passes = would.passes in omega (arith, more, passes);
     }
 

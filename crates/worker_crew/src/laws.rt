@@ -3,7 +3,7 @@ ghost use Rattle.worker_crew.specs.Laws.{RunOfPlayersFits, RunOfPlayersIsQuiet};
 ghost use Rattle.worker_crew.specs.Seated.{BisectorsSit, JoinsGoOn, RecomputersSit, SeatsShare, SplitsGoOn};
 ghost use Rattle.worker_crew.specs.Whole.{CrewRuns};
 
-use history_model::{growth_law, penalty_law, publication_law};
+use history_model::{growth_law, publication_law, setting_law};
 use touch_model::touch_law;
 use track_outside::Runner;
 
@@ -13,8 +13,8 @@ pub fn run_law()
     ensures quiet { RunOfPlayersIsQuiet }
 {
     growth_law();
-    penalty_law();
     publication_law();
+    setting_law();
     touch_law();
 }
 

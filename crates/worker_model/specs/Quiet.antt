@@ -5,7 +5,7 @@ use Rattle.metric_table.specs.declared.limits.Limit.TheVariants.{Cuts, Steps}
 use Rattle.history_model.specs.declared.entries.Entry.{Entry}
 use Rattle.history_model.specs.declared.publication.Publication.{Publication}
 use Rattle.history_model.specs.Jobs.{jobs, open_count}
-use Rattle.history_model.specs.Penalties.{penalty_of}
+use Rattle.history_model.specs.Penalties.{length_of, penalty_of}
 use Rattle.history_model.specs.Positions.{positions}
 use Rattle.history_model.specs.Publications.{AreBest, cut_count, last_publication}
 use Rattle.history_model.specs.Runs.{Series, is_known}
@@ -25,7 +25,7 @@ HasAllSteps h = length h ≡ most Steps
 pub record WouldPassCuts (h : List Entry) (s : Series) : Type 0 where
   pub cuts : List ℕ
   pub total : ℤ
-  pub best : AreBest (positions h s) (penalty_of s.metric h) cuts total
+  pub best : AreBest (positions h s) (penalty_of s.metric h) (length_of s.metric h) cuts total
   pub passes : most Cuts < cut_count h + length cuts
 
 -- no known series is stale, but where a publication of it has no room

@@ -33,4 +33,4 @@ returns c line verb =
     let named : (c.in-Some-2.machine ≡ name_of m) × (c.in-Some-2.commit ≡ name_of commit) = search rules in
     let words : c.args.words ≡ m ∷ decimal job ∷ commit ∷ decimal status ∷ [] = search rules in
     let is : IsOfForm line (answer m job commit status) = record { words = verb ∙ ap (λ xs. codes "answer" ∷ xs) words; numbers = (fits, (omega (arith, few), tt)); amounts = tt; status = few } in
-    rw (named.0, named.1) (named_head line (answer m job commit status) 0 _ is tt tt refl (omega arith) (spelled.0, (spelled.1, tt)) (λ body item told. told))
+    rw (named.0, named.1) (named_head line (answer m job commit status) 0 _ is tt tt tt refl (omega arith) (spelled.0, (spelled.1, tt)) (λ body item told. told))

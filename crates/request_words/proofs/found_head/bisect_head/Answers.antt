@@ -27,4 +27,4 @@ returns c line verb =
     let named : (c.in-Some-2.machine ≡ name_of m) × (c.in-Some-2.lo ≡ name_of l) × (c.in-Some-2.hi ≡ name_of h) = search rules in
     let words : c.args.words ≡ m ∷ l ∷ h ∷ [] = search rules in
     let is : IsOfForm line (bisect m l h) = record { words = verb ∙ ap (λ xs. codes "bisect" ∷ xs) words; numbers = tt; amounts = tt; status = tt } in
-    rw (named.0, named.1, named.2) (named_head line (bisect m l h) 0 _ is tt tt refl (omega arith) (spelled.0, (spelled.1, (spelled.2, tt))) (λ body item told. told))
+    rw (named.0, named.1, named.2) (named_head line (bisect m l h) 0 _ is tt tt tt refl (omega arith) (spelled.0, (spelled.1, (spelled.2, tt))) (λ body item told. told))

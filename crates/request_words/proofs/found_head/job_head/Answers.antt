@@ -32,4 +32,4 @@ returns c line verb =
     let named : c.in-Some-2.machine ≡ name_of m = search rules in
     let words : c.args.words ≡ m ∷ decimal job ∷ [] = search rules in
     let is : IsOfForm line (of_job asked m job) = record { words = verb ∙ ap (λ xs. job_word asked ∷ xs) words; numbers = (fits, tt); amounts = tt; status = tt } in
-    rw (c.job_request.ensures, named) (named_head line (of_job asked m job) 0 _ is tt tt refl (omega arith) (spelled, tt) (λ body item told. told))
+    rw (c.job_request.ensures, named) (named_head line (of_job asked m job) 0 _ is tt tt tt refl (omega arith) (spelled, tt) (λ body item told. told))

@@ -32,4 +32,4 @@ returns c line verb =
     let named : (c.in-Some-2.machine ≡ name_of m) × (c.in-Some-2.test ≡ name_of t) × (c.in-Some-2.metric ≡ name_of x) = search rules in
     let words : c.args.words ≡ m ∷ t ∷ x ∷ decimal change ∷ [] = search rules in
     let is : IsOfForm line (regress m t x change) = record { words = verb ∙ ap (λ xs. codes "regress" ∷ xs) words; numbers = (fits, tt); amounts = tt; status = tt } in
-    rw (named.0, named.1, named.2) (named_head line (regress m t x change) 0 _ is spelled.3 tt refl (omega arith) (spelled.0, (spelled.1, (spelled.2, tt))) (λ body item told. told))
+    rw (named.0, named.1, named.2) (named_head line (regress m t x change) 0 _ is spelled.3 tt tt refl (omega arith) (spelled.0, (spelled.1, (spelled.2, tt))) (λ body item told. told))

@@ -25,4 +25,4 @@ returns c line verb =
     let named : c.in-Some-2.machine ≡ name_of m = search rules in
     let words : c.args.words ≡ m ∷ report_word json ∷ [] = search rules in
     let is : IsOfForm line (report m json) = record { words = verb ∙ ap (λ xs. codes "report" ∷ xs) words; numbers = tt; amounts = tt; status = tt } in
-    rw (named) (named_head line (report m json) 0 _ is tt tt refl (omega arith) (spelled, tt) (λ body item told. told))
+    rw (named) (named_head line (report m json) 0 _ is tt tt tt refl (omega arith) (spelled, tt) (λ body item told. told))

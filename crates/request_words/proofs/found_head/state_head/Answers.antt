@@ -31,4 +31,4 @@ returns c line verb =
     let named : c.in-Some-2.machine ≡ name_of m = search rules in
     let words : c.args.words ≡ m ∷ decimal regression ∷ word state ∷ [] = search rules in
     let is : IsOfForm line (set_state m regression state) = record { words = verb ∙ ap (λ xs. codes "state" ∷ xs) words; numbers = (fits, tt); amounts = tt; status = tt } in
-    rw (named) (named_head line (set_state m regression state) 0 _ is tt tt refl (omega arith) (spelled, tt) (λ body item told. told))
+    rw (named) (named_head line (set_state m regression state) 0 _ is tt tt tt refl (omega arith) (spelled, tt) (λ body item told. told))

@@ -29,4 +29,4 @@ returns c line verb =
     let named : (c.in-Some-2.machine ≡ name_of m) × (c.in-Some-2.name ≡ name_of n) = search rules in
     let words : c.args.words ≡ m ∷ decimal number ∷ n ∷ [] = search rules in
     let is : IsOfForm line (commit m number n) = record { words = verb ∙ ap (λ xs. codes "commit" ∷ xs) words; numbers = (fits, tt); amounts = tt; status = tt } in
-    rw (named.0, named.1) (named_head line (commit m number n) 0 _ is tt tt refl (omega arith) (spelled.0, (spelled.1, tt)) (λ body item told. told))
+    rw (named.0, named.1) (named_head line (commit m number n) 0 _ is tt tt tt refl (omega arith) (spelled.0, (spelled.1, tt)) (λ body item told. told))

@@ -44,4 +44,4 @@ returns c line verb =
     let named : (c.in-Some-2.machine ≡ name_of m) × (c.in-Some-2.commit ≡ name_of commit) × (c.in-Some-2.run' ≡ name_of r) = search rules in
     let words : c.args.words ≡ m ∷ commit ∷ r ∷ decimal len ∷ [] = search rules in
     let is : IsOfForm line (submit_go m commit r len) = record { words = verb ∙ ap (λ xs. codes "submit" ∷ codes "go" ∷ xs) words; numbers = (fits, tt); amounts = tt; status = tt } in
-    rw (named.0, named.1, named.2) (within, named_head line (submit_go m commit r len) len _ is tt tt refl within (spelled.0, (spelled.1, (spelled.2, tt))) (λ body item told. told))
+    rw (named.0, named.1, named.2) (within, named_head line (submit_go m commit r len) len _ is tt tt tt refl within (spelled.0, (spelled.1, (spelled.2, tt))) (λ body item told. told))

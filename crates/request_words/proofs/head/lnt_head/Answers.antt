@@ -41,4 +41,4 @@ returns c line verb =
     let named : (c.in-Some-2.machine ≡ name_of m) × (c.in-Some-2.run' ≡ name_of r) = search rules in
     let words : c.args.words ≡ m ∷ r ∷ decimal len ∷ [] = search rules in
     let is : IsOfForm line (submit_lnt m r len) = record { words = verb ∙ ap (λ xs. codes "submit" ∷ codes "lnt" ∷ xs) words; numbers = (fits, tt); amounts = tt; status = tt } in
-    rw (named.0, named.1) (within, named_head line (submit_lnt m r len) len _ is tt tt refl within (spelled.0, (spelled.1, tt)) (λ body item told. told))
+    rw (named.0, named.1) (within, named_head line (submit_lnt m r len) len _ is tt tt tt refl within (spelled.0, (spelled.1, tt)) (λ body item told. told))

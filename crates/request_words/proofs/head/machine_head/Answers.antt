@@ -23,4 +23,4 @@ returns c line verb =
     let named : c.in-Some-2.machine ≡ name_of word = search rules in
     let words : c.args.words ≡ word ∷ [] = search rules in
     let is : IsOfForm line (machine word) = record { words = verb ∙ ap (λ xs. codes "machine" ∷ xs) words; numbers = tt; amounts = tt; status = tt } in
-    rw named (named_head line (machine word) 0 _ is tt tt refl (omega arith) (spelled, tt) (λ body item told. told))
+    rw named (named_head line (machine word) 0 _ is tt tt tt refl (omega arith) (spelled, tt) (λ body item told. told))

@@ -25,4 +25,4 @@ returns c line verb =
     let named : (c.in-Some-2.machine ≡ name_of m) × (c.in-Some-2.run' ≡ name_of r) = search rules in
     let words : c.args.words ≡ m ∷ r ∷ [] = search rules in
     let is : IsOfForm line (retract m r) = record { words = verb ∙ ap (λ xs. codes "retract" ∷ xs) words; numbers = tt; amounts = tt; status = tt } in
-    rw (named.0, named.1) (named_head line (retract m r) 0 _ is tt tt refl (omega arith) (spelled.0, (spelled.1, tt)) (λ body item told. told))
+    rw (named.0, named.1) (named_head line (retract m r) 0 _ is tt tt tt refl (omega arith) (spelled.0, (spelled.1, tt)) (λ body item told. told))

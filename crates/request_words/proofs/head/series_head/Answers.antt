@@ -33,4 +33,4 @@ returns c line verb =
     let named : (c.in-Some-2.machine ≡ name_of m) × (c.in-Some-2.test ≡ name_of t) × (c.in-Some-2.metric ≡ name_of x) = search rules in
     let words : c.args.words ≡ m ∷ t ∷ x ∷ [] = search rules in
     let is : IsOfForm line (of_series asked m t x) = record { words = verb ∙ ap (λ xs. series_word asked ∷ xs) words; numbers = tt; amounts = tt; status = tt } in
-    rw (c.series_request.ensures, named.0, named.1, named.2) (named_head line (of_series asked m t x) 0 _ is spelled.3 tt refl (omega arith) (spelled.0, (spelled.1, (spelled.2, tt))) (λ body item told. told))
+    rw (c.series_request.ensures, named.0, named.1, named.2) (named_head line (of_series asked m t x) 0 _ is spelled.3 tt tt refl (omega arith) (spelled.0, (spelled.1, (spelled.2, tt))) (λ body item told. told))

@@ -1,7 +1,12 @@
-use Rattle.std.proofs.Common.{◌≡◌, Ok, Err, inl, List, refl, sym, subst}
+use Rattle.std.proofs.Common.{◌≡◌, Ok, Err, ◌≤◌, inl, List, length, refl, sym, subst}
 use Rattle.std.specs.List.{AllByRecursion}
+use Rattle.metric_table.specs.Limits.{most}
+use Rattle.metric_table.specs.declared.limits.Limit.TheVariants.{Machines}
+use Rattle.kept_machines.specs.Loading.{Stored}
+use Rattle.kept_machines.specs.Machines.{AreDifferent, names_of}
 use Rattle.play_crew.specs.Fitting.{IsUnasked}
 use Rattle.worker_crew.specs.Whole.{tallies}
+use Rattle.shared_run.specs.Beginnings.{Begins}
 use Rattle.shared_run.specs.Crews.{asked_by}
 use Rattle.shared_run.proofs.AtLast.{still-unasked}
 use Rattle.shared_run.proofs.Beginning.{first-different}
@@ -10,7 +15,9 @@ use Rattle.shared_run.proofs.Late.{ends-late, ok-apart}
 use Rattle.shared_run.proofs.scripts.run_plan.Goals as goal
 
 pub run_machines-requires-clause-different : goal.run_machines-requires-clause-different
-run_machines-requires-clause-different g c κs within = first-different g.K.Keeper c.args.plan.now c.args.keeper.now c.in-Ok.machines.items c.in-Ok.ensures.begins
+run_machines-requires-clause-different g c κs within =
+    subst (λ (began : Stored). AreDifferent (names_of began.machines)) (sym c.states.view_is)
+    (first-different g.K.Keeper c.args.plan.now c.args.keeper.now c.in-Ok.loaded c.in-Ok.ensures.begins)
 
 pub returns-in-Err-clause-ends : goal.returns-in-Err-clause-ends
 returns-in-Err-clause-ends g c =
@@ -33,9 +40,10 @@ returns-clause-ends g c =
     (record { files = c.run_machines.new.files; out = c.leave_journals-later.new.out; keeper = c.leave_journals-later.new.keeper })
     c.in-Ok-run_machines.left.0.items c.leave_journals-later.result c.deciding_stop.result
     (record {
-      tracks = c.in-Ok.machines.items;
-      begins = c.in-Ok.ensures.begins;
-      few = c.in-Ok.ensures.few;
+      tracks = c.states.inside.states.items;
+      version = c.states.inside.version;
+      begins = subst (Begins g.K.Keeper c.args.plan.now c.args.keeper.now) (sym c.states.view_is) c.in-Ok.ensures.begins;
+      few = subst (λ (began : Stored). length began.machines ≤ most Machines) (sym c.states.view_is) c.in-Ok.ensures.few;
       loaded = c.first_machines.new.keeper;
       was = c.in-Ok.ensures.started (λ same. ok-apart same);
       rows = c.in-Ok.ensures.rows;

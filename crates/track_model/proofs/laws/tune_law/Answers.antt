@@ -9,4 +9,4 @@ pub returns-clause-added : goal.returns-clause-added
 returns-clause-added c = tune-added c.within_law.ensures.passed c.within_law.ensures.kept
 
 pub returns-clause-follows : goal.returns-clause-follows
-returns-clause-follows c h metric penalty = (free-follows metric penalty, follows-free metric penalty)
+returns-clause-follows c h metric penalty len = (free-follows metric penalty len, follows-free metric penalty len)

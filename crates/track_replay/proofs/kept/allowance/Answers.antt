@@ -1,4 +1,4 @@
-use Rattle.std.proofs.Common.{sym, ap, subst, ◌∙◌, Some, None}
+use Rattle.std.proofs.Common.{ℤ, sym, ap, subst, ◌∙◌, Some, None}
 use Rattle.history_model.specs.declared.entries.Entry.{Entry}
 use Rattle.history_model.specs.Entries.{entries_of}
 use Rattle.track_replay.specs.Replays.{IsAllowance, tuning_fits}
@@ -28,11 +28,11 @@ returns-else-retraction_fits c =
 pub returns-then-tuning_fits : goal.returns-then-tuning_fits
 returns-then-tuning_fits c =
     let P : Entry → Type 0 = λ e. IsAllowance (entries_of c.args.track.now.history) e (Some 0) in
-    subst P (sym c.in-Tune.is) (tuning-fits (entries_of c.args.track.now.history) c.history_law.ensures.limits c.limits_law.ensures.tune c.tune_law.ensures.follows c.in-Tune.metric c.in-Tune.penalty
-    (ap (tuning_fits (entries_of c.args.track.now.history) c.in-Tune.metric) (sym c.get.ensures) ∙ sym c.tuning_fits.ensures ∙ c.if-tuning_fits.true))
+    subst P (sym c.in-Tune.is) (tuning-fits (entries_of c.args.track.now.history) c.history_law.ensures.limits c.limits_law.ensures.tune c.tune_law.ensures.follows c.in-Tune.metric c.in-Tune.penalty c.in-Tune.length
+    (ap (λ (z : ℤ). tuning_fits (entries_of c.args.track.now.history) c.in-Tune.metric z c.in-Tune.length) (sym c.get.ensures) ∙ sym c.tuning_fits.ensures ∙ c.if-tuning_fits.true))
 
 pub returns-else-tuning_fits : goal.returns-else-tuning_fits
 returns-else-tuning_fits c =
     let P : Entry → Type 0 = λ e. IsAllowance (entries_of c.args.track.now.history) e None in
-    subst P (sym c.in-Tune.is) (tuning-refused (entries_of c.args.track.now.history) c.history_law.ensures.limits c.tune_law.ensures.follows c.in-Tune.metric c.in-Tune.penalty
-    (ap (tuning_fits (entries_of c.args.track.now.history) c.in-Tune.metric) (sym c.get.ensures) ∙ sym c.tuning_fits.ensures ∙ c.if-tuning_fits.false))
+    subst P (sym c.in-Tune.is) (tuning-refused (entries_of c.args.track.now.history) c.history_law.ensures.limits c.tune_law.ensures.follows c.in-Tune.metric c.in-Tune.penalty c.in-Tune.length
+    (ap (λ (z : ℤ). tuning_fits (entries_of c.args.track.now.history) c.in-Tune.metric z c.in-Tune.length) (sym c.get.ensures) ∙ sym c.tuning_fits.ensures ∙ c.if-tuning_fits.false))

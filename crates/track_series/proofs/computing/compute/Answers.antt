@@ -25,7 +25,7 @@ begun-requires-clause-begins g c =
 pub redo_from-requires : goal.redo_from-requires
 redo_from-requires g c =
     let z : ℤ = c.args.snapshot.penalty in
-    let table : c.in_ok-table.table ≡ table_of (values_by_position c.args.snapshot.old) z 1 = simp (to_z-of_z w128 z (fits z c.args.snapshot.low c.args.snapshot.high)) at c.in_ok-table.ensures in
+    let table : c.in_ok-table.table ≡ table_of (values_by_position c.args.snapshot.old) z c.args.snapshot.length = simp (to_z-of_z w128 z (fits z c.args.snapshot.low c.args.snapshot.high)) at c.in_ok-table.ensures in
     let first = ap (λ (t : Tabled). t.positions) table in
     let within = common-within c.args.snapshot.old c.args.snapshot.points in
     let size : length c.in_ok-table.table.positions ≡ length c.args.snapshot.old = ap length first ∙ length-map c.args.snapshot.old position_values in
@@ -40,16 +40,16 @@ overflow_sub-redone g c =
     let within = common-within c.args.snapshot.old c.args.snapshot.points in
     omega (arith, c.len.ensures, c.common_prefix-front.ensures, within.1)
 
-table-is : (g : _) (c : In_ok-cert g) → c.redo_from.new.table ≡ table_of (values_by_position c.args.snapshot.points) c.args.snapshot.penalty 1
+table-is : (g : _) (c : In_ok-cert g) → c.redo_from.new.table ≡ table_of (values_by_position c.args.snapshot.points) c.args.snapshot.penalty c.args.snapshot.length
 table-is g c =
     let z : ℤ = c.args.snapshot.penalty in
-    let first : c.in_ok-table.table ≡ table_of (values_by_position c.args.snapshot.old) z 1 = simp (to_z-of_z w128 z (fits z c.args.snapshot.low c.args.snapshot.high)) at c.in_ok-table.ensures in
+    let first : c.in_ok-table.table ≡ table_of (values_by_position c.args.snapshot.old) z c.args.snapshot.length = simp (to_z-of_z w128 z (fits z c.args.snapshot.low c.args.snapshot.high)) at c.in_ok-table.ensures in
     c.in_ok-redo_from.ensures.ok ∙ ap₂ (table_of (values_by_position c.args.snapshot.points)) (ap (λ (t : Tabled). t.penalty) first) (ap (λ (t : Tabled). t.length) first)
 
-stands : (g : _) (c : In_ok-cert g) → StandsFor c.args.snapshot.points c.args.snapshot.penalty 1 c.in_ok-cert.cert
+stands : (g : _) (c : In_ok-cert g) → StandsFor c.args.snapshot.points c.args.snapshot.penalty c.args.snapshot.length c.in_ok-cert.cert
 stands g c =
-    c.certificate_law.ensures.stands c.args.snapshot.points c.args.snapshot.penalty 1 c.in_ok-cert.cert
-    (of-points c.args.snapshot.points c.args.snapshot.penalty 1 c.in_ok-cert.cert c.redo_from.new.table (table-is g c) c.in_ok-cert.ensures)
+    c.certificate_law.ensures.stands c.args.snapshot.points c.args.snapshot.penalty c.args.snapshot.length c.in_ok-cert.cert
+    (of-points c.args.snapshot.points c.args.snapshot.penalty c.args.snapshot.length c.in_ok-cert.cert c.redo_from.new.table (table-is g c) c.in_ok-cert.ensures)
 
 pub invariant_of-done : goal.invariant_of-done
 invariant_of-done g c =
@@ -59,9 +59,9 @@ invariant_of-done g c =
       stands = ∣ (
         subst (λ (z : ℤ). pos 0 ≤ℤ z) (sym x.same_penalty) c.args.snapshot.low,
         subst (λ (z : ℤ). z ≤ℤ pos (10 ^ 36)) (sym x.same_penalty) c.args.snapshot.high,
-        subst (λ (len : ℕ). IsLength len) (sym x.same_length) (omega arith, omega arith),
+        subst (λ (len : ℕ). IsLength len) (sym x.same_length) c.args.snapshot.long,
         subst (λ (len : ℕ). StandsFor c.args.snapshot.points c.in_ok-cert.cert.penalty len c.in_ok-cert.cert) (sym x.same_length)
-            (subst (λ (z : ℤ). StandsFor c.args.snapshot.points z 1 c.in_ok-cert.cert) (sym x.same_penalty) x),
+            (subst (λ (z : ℤ). StandsFor c.args.snapshot.points z c.args.snapshot.length c.in_ok-cert.cert) (sym x.same_penalty) x),
       ) ∣₁;
     }
 

@@ -1,4 +1,7 @@
-use Rattle.std.proofs.Common.{inr}
+use Rattle.std.proofs.Common.{inr, subst, sym}
+use Rattle.std.specs.Prelude.{IfSome}
+use Rattle.kept_machines.specs.Kept.{AreKept}
+use Rattle.kept_machines.specs.Loading.{Stored, LeadTo}
 use Rattle.tracker_top.proofs.Endings.{ends_kept}
 use Rattle.tracker_top.proofs.top.apply_to.Goals as goal
 
@@ -6,9 +9,11 @@ pub returns-in-Ok-append_all : goal.returns-in-Ok-append_all
 returns-in-Ok-append_all g c =
     let loaded = c.in-Ok.ensures in
     let added = c.append_all.ensures in
-    inr (ends_kept g.I.Source g.O.Sink g.K.Keeper c.in-Ok.machines.items c.answer.new.session
+    let kept = subst (λ (s : Stored). AreKept s.machines) (sym c.states.view_is) loaded.kept in
+    let led = subst (λ (s : Stored). IfSome (g.K.Keeper.kept c.args.keeper.now) (λ rows. LeadTo rows s)) (sym c.states.view_is) loaded.loaded in
+    inr (ends_kept g.I.Source g.O.Sink g.K.Keeper c.states.inside.states.items c.states.inside.version c.answer.new.session
     c.args.input.now c.answer.new.input c.args.out.now c.answer.new.out c.args.keeper.now c.append_all.new.keeper c.args.steps.now c.answer.new.steps
     c.args.store.now c.as_str.result.now c.load.new.keeper c.session_on-session.result c.machines.result.now c.in_default.field-0
     c.as_str.ensures c.session_on-session.ensures c.machines.ensures
-    loaded.kept loaded.loaded loaded.rows (loaded.named (λ is. cc)) loaded.counts
+    kept led loaded.rows (loaded.named (λ is. cc)) loaded.counts
     c.in_default.ensures c.comes_back_law.ensures c.in-Ok-append_all.ensures.all added.named added.counts)

@@ -7,4 +7,4 @@ returns-clause-fits c = players-fit
 
 pub returns-clause-quiet : goal.returns-clause-quiet
 returns-clause-quiet c =
-    players-quiet c.growth_law.ensures.acceptances c.growth_law.ensures.retractions c.publication_law.ensures.cuts c.penalty_law.ensures.stays c.touch_law.ensures.last c.touch_law.ensures.known c.publication_law.ensures.stays
+    players-quiet c.growth_law.ensures.acceptances c.growth_law.ensures.retractions c.publication_law.ensures.cuts c.setting_law.ensures.stays c.touch_law.ensures.last c.touch_law.ensures.known c.publication_law.ensures.stays

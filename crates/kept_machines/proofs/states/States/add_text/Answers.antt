@@ -1,6 +1,10 @@
-use Rattle.std.proofs.Common.{◌≡◌, true, sym, ◌∙◌}
+use Rattle.std.proofs.Common.{◌≡◌, true, false, List, IfOk, refl, sym, subst, ◌∙◌}
+use Rattle.std.specs.Prelude.{set}
+use Rattle.track_model.specs.Tracks.{Track}
 use Rattle.kept_machines.specs.Kept.{is_kept}
+use Rattle.kept_machines.specs.Loading.{Stored, AddsEntry}
 use Rattle.kept_machines.specs.Places.{IsFirstAt}
+use Rattle.kept_machines.proofs.Once.{one_in}
 use Rattle.kept_machines.proofs.Replayed.{first_is, replayed_kept, replayed_adds, replayed_refuses}
 use Rattle.kept_machines.proofs.states.States.add_text.Goals as goal
 
@@ -18,10 +22,15 @@ invariant_of-self-2 c =
 
 pub returns-clause-added : goal.returns-clause-added
 returns-clause-added c =
-    replayed_adds c.args.machine.now c.self.inside.machines.items c.in-Some.place c.index_mut.result.now c.replay.new.track c.in-Ok.entry (here c) (plain c)
-    c.args.self.now (sym c.self.view_is) c.args.text.now c.in-Ok.ensures.spelt c.replay.result c.replay.ensures.replayed
+    subst (λ (s : Stored). IfOk c.replay.result (λ done. done ≡ true → AddsEntry s.version s.machines c.args.machine.now c.args.text.now (set c.self.inside.machines.items c.in-Some.place c.replay.new.track)))
+    c.self.view_is
+    (replayed_adds c.args.machine.now c.self.inside.machines.items c.in-Some.place c.index_mut.result.now c.replay.new.track c.in-Ok.entry (here c) (plain c)
+    c.self.inside.version c.self.inside.machines.items refl c.args.text.now c.in-Ok.ensures.spelt c.replay.result c.replay.ensures.replayed)
 
 pub returns-clause-refused : goal.returns-clause-refused
 returns-clause-refused c =
-    replayed_refuses c.args.machine.now c.self.inside.machines.items c.in-Some.place c.index_mut.result.now c.replay.new.track c.in-Ok.entry (here c) (plain c)
-    c.args.self.now (sym c.self.view_is) c.args.text.now c.in-Ok.ensures.spelt c.entries_law.ensures c.replay.result c.replay.ensures.replayed
+    subst (λ (s : Stored). IfOk c.replay.result (λ done. done ≡ false → (after : List Track) → ¬ AddsEntry s.version s.machines c.args.machine.now c.args.text.now after))
+    c.self.view_is
+    (replayed_refuses c.args.machine.now c.self.inside.machines.items c.in-Some.place c.index_mut.result.now c.replay.new.track c.in-Ok.entry (here c) (plain c)
+    c.self.inside.version c.self.inside.machines.items refl c.args.text.now c.in-Ok.ensures.spelt
+    (one_in c.entries_law.ensures c.entries_v1_law.ensures c.self.inside.version c.args.text.now) c.replay.result c.replay.ensures.replayed)

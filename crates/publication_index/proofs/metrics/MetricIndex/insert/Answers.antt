@@ -1,4 +1,4 @@
-use Rattle.std.proofs.Common.{◌≡◌, ℕ, List, Option, cond, ap, ◌∙◌}
+use Rattle.std.proofs.Common.{◌≡◌, ℕ, List, Option, Some, cond, ap, ◌∙◌}
 use Rattle.std.specs.Prelude.{bytes_eq}
 use Rattle.publication_index.specs.declared.held.Held.{Held}
 use Rattle.publication_index.specs.Kept.{is_same, held_of, done_in, table_in}
@@ -18,7 +18,9 @@ read g key name m new old old' after written named same =
 pub returns-clause-done : goal.returns-clause-done
 returns-clause-done c m =
     read done_in c.in_ok-key.key c.args.done.metric m _ c.self.inside.entries.entries c.args.self.now _ (c.in_ok-insert.ensures.updates.0 m) c.in_ok-key.ensures c.self.view_is
+    ∙ ap (λ (h : Held). cond (bytes_eq c.args.done.metric m) (Some h.done) (done_in (held_of m c.args.self.now))) c.in_ok-held.ensures
 
 pub returns-clause-table : goal.returns-clause-table
 returns-clause-table c m =
     read table_in c.in_ok-key.key c.args.done.metric m _ c.self.inside.entries.entries c.args.self.now _ (c.in_ok-insert.ensures.updates.0 m) c.in_ok-key.ensures c.self.view_is
+    ∙ ap (λ (h : Held). cond (bytes_eq c.args.done.metric m) h.table (table_in (held_of m c.args.self.now))) c.in_ok-held.ensures

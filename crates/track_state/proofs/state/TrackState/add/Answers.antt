@@ -58,14 +58,14 @@ invariant_of-self-2 c =
     let series_are : (s : Series) → seen s c.follow.new.series ≡ seen_after (length h + 1) e c.self.inside.runs s (seen s c.self.inside.series) =
     rw (← step_is) c.in_ok-follow.ensures.series in
     let grown : length (known_series (h ++ e ∷ [])) ≡ length (known_series h) + c.args.more = rw h_is at c.requires.more in
-    let given_are : (metric : List ℕ) → given metric c.follow.new.penalties ≡ given_after e metric (given metric c.self.inside.penalties) = c.in_ok-follow.ensures.penalties in
+    let given_are : (metric : List ℕ) → given metric c.follow.new.settings ≡ given_after e metric (given metric c.self.inside.settings) = c.in_ok-follow.ensures.settings in
     let followed : IsFollowed (declarations h) e c.self.inside.following c.follow.new.following =
     subst (λ (ds : List Declaration). IsFollowed ds e c.self.inside.following c.follow.new.following) c.self.invariant.commits_are c.in_ok-follow.ensures.following in
     rw (entries_are, commits_are, runs_are)
     (follows c.growth_law.ensures.legal c.positions_law.ensures.accept c.positions_law.ensures.retract c.positions_law.ensures.untouched c.retraction_law.ensures
-    c.penalty_law.ensures.set c.penalty_law.ensures.stays
+    c.setting_law.ensures.set c.setting_law.ensures.stays
     h e c.self.inside.commits c.self.inside.runs c.self.inside.series c.follow.new.series c.self.inside.known c.args.more
-    c.self.inside.penalties c.follow.new.penalties c.self.inside.published c.self.inside.published c.self.inside.cuts c.self.inside.cuts c.self.inside.following c.follow.new.following
+    c.self.inside.settings c.follow.new.settings c.self.inside.published c.self.inside.published c.self.inside.cuts c.self.inside.cuts c.self.inside.following c.follow.new.following
     c.self.invariant allowed grown series_are given_are
     (plain-kept c.publication_law.ensures.stays c.publication_law.ensures.versions h e c.self.inside.published c.requires.plain c.self.invariant.published_are)
     (plain-counted c.publication_law.ensures.cuts h e c.self.inside.cuts c.requires.plain c.self.invariant.cuts_are)

@@ -17,7 +17,7 @@ use Rattle.track_state.proofs.state.TrackState.add_publication.Goals as goal
 pub invariant_of-self-in_err-insert : goal.invariant_of-self-in_err-insert
 invariant_of-self-in_err-insert c =
     let x = c.self.inside in
-    rw c.in_ok-reserve.ensures.items (stays (entries_of x.history.items) x.commits x.runs x.series x.series x.known x.penalties x.penalties x.published c.insert.new.self x.cuts x.following x.following
+    rw c.in_ok-reserve.ensures.items (stays (entries_of x.history.items) x.commits x.runs x.series x.series x.known x.settings x.settings x.published c.insert.new.self x.cuts x.following x.following
     c.self.invariant (λ s. refl) (λ metric. refl) c.in_err-insert.ensures.same refl)
 
 pub overflow_add-self : goal.overflow_add-self
@@ -44,8 +44,8 @@ invariant_of-self-2 c =
     ap entries_of (rw (← c.in_ok-reserve.ensures.items) c.push_reserved.ensures.items) ∙ entries-push x.history.items (record { author = c.args.author; entry = kept })
     ∙ ap (λ (f : Entry). h ++ f ∷ []) kept_is in
     let all = publishes c.growth_law.ensures.legal c.positions_law.ensures.accept c.positions_law.ensures.retract c.positions_law.ensures.untouched c.retraction_law.ensures
-    c.penalty_law.ensures.set c.penalty_law.ensures.stays
+    c.setting_law.ensures.set c.setting_law.ensures.stays
     c.publication_law.ensures.last c.publication_law.ensures.stays c.publication_law.ensures.versions c.publication_law.ensures.cuts
     c.regressions_law.ensures.raised c.regressions_law.ensures.stays c.jobs_law.ensures.stay
-    h c.args.done x.commits x.runs x.series x.known x.penalties x.published c.insert.new.self x.cuts x.following c.self.invariant allowed made c.in_ok-insert.ensures.kept in
+    h c.args.done x.commits x.runs x.series x.known x.settings x.published c.insert.new.self x.cuts x.following c.self.invariant allowed made c.in_ok-insert.ensures.kept in
     rw (entries_are, c.len-cuts.ensures) all

@@ -1,26 +1,24 @@
-use Rattle.std.proofs.Common.{◌≡◌, ℕ, ◌<◌, List, refl, sym, ap, subst, FitsSigned, rules, ◌∙◌, Some, true, false}
+use Rattle.std.proofs.Common.{◌≡◌, ℕ, ◌<◌, List, refl, sym, ap, subst, ◌∙◌, Some, true, false}
 use Rattle.std.specs.Prelude.{option_copied}
 use Rattle.std.specs.FinSet as set
-use Rattle.std.specs.Int.{w128}
-use Rattle.std.specs.Ordering.{int_eq}
-use Rattle.std.proofs.lemmas.Int.{to_z-of_z}
 use Rattle.history_model.specs.Allowed.{Legal}
 use Rattle.history_model.specs.SeriesOrder.{series_cmp}
 use Rattle.publication_index.specs.Standing.{IsKeptTable}
 use Rattle.track_state.specs.declared.base.Base.{Base}
 use Rattle.history_model.specs.declared.entries.Entry.{Entry}
 use Rattle.history_model.specs.Entries.{entries_of}
-use Rattle.history_model.specs.Penalties.{penalty_of}
+use Rattle.history_model.specs.Penalties.{setting_of}
 use Rattle.history_model.specs.Publications.{last_publication}
 use Rattle.history_model.specs.Runs.{Series}
 use Rattle.publication_index.specs.Homes.{homes}
 use Rattle.publication_index.specs.Kept.{kept, kept_at_home}
-use Rattle.track_model.specs.Tracks.{Track, base_of, with_home}
+use Rattle.track_model.specs.Tracks.{Track, is_setting, base_of, with_home}
+use Rattle.track_state.specs.Made.{setting_in}
 use Rattle.track_state.specs.State.{BeginsWith, IsKept}
 use Rattle.track_state.proofs.Bases.{base-none, base-other, begins, taken-none, taken-some}
 use Rattle.track_state.proofs.OneMore.{stays}
 use Rattle.track_state.proofs.state.TrackState.take_base.Goals as goal
-use Rattle.track_state.proofs.state.TrackState.take_base.Goals.{After-has_penalty}
+use Rattle.track_state.proofs.state.TrackState.take_base.Goals.{After-is_made_at}
 
 abbrev asked : List ℕ → List ℕ → Series
 asked test metric = record { test = test; metric = metric }
@@ -40,7 +38,7 @@ returns-in_default-clause-begun c = none c
 pub returns-in_default-clause-taken : goal.returns-in_default-clause-taken
 returns-in_default-clause-taken c = taken-none c.args.self.now (asked c.args.test.now c.args.metric.now) (none c)
 
-module _ (c : After-has_penalty) where
+module _ (c : After-is_made_at) where
   abbrev t : Track
   t = c.args.self.now
 
@@ -62,36 +60,34 @@ module _ (c : After-has_penalty) where
   legal : Legal (entries_of t.history)
   legal = subst (λ (h : List Entry). Legal h) h_is c.self.invariant.legal
 
-  penalty : penalty_of s.metric (entries_of t.history) ≡ c.get.result
-  penalty = sym (c.get.ensures ∙ c.self.invariant.penalties_are s.metric ∙ ap (penalty_of s.metric) h_is)
+  setting : setting_of s.metric (entries_of t.history) ≡ c.get.result
+  setting = sym (c.get.ensures ∙ c.self.invariant.settings_are s.metric ∙ ap (setting_of s.metric) h_is)
 
-  told : c.has_penalty.result ≡ int_eq c.in-Some.done.now.cert.penalty c.get.result
-  told =
-      let fits : FitsSigned w128 c.get.result = search rules in
-      simp (to_z-of_z w128 c.get.result fits) at c.has_penalty.ensures
+  told : c.is_made_at.result ≡ is_setting (setting_in c.in-Some.done.now) c.get.result
+  told = c.is_made_at.ensures
 
-  other : c.has_penalty.result ≡ false → base_of t s ≡ 0
-  other differs = base-other t s c.self.inside.published home-is c.in-Some.done.now is some c.publication_law.ensures.last_stands legal c.get.result penalty (sym told ∙ differs)
+  other : c.is_made_at.result ≡ false → base_of t s ≡ 0
+  other differs = base-other t s c.self.inside.published home-is c.in-Some.done.now is some c.publication_law.ensures.last_stands legal c.get.result setting (sym told ∙ differs)
 
-  begun : c.has_penalty.result ≡ true → (b : Base) → b.version ≡ c.in-Some.done.now.version → b.points ≡ c.in-Some.done.now.points → IsKeptTable b.table (kept s c.self.inside.published) → BeginsWith t s b
-  begun same = begins t s c.self.inside.published home-is c.in-Some.done.now is some c.publication_law.ensures.last_stands legal c.get.result penalty (sym told ∙ same)
+  begun : c.is_made_at.result ≡ true → (b : Base) → b.version ≡ c.in-Some.done.now.version → b.points ≡ c.in-Some.done.now.points → IsKeptTable b.table (kept s c.self.inside.published) → BeginsWith t s b
+  begun same = begins t s c.self.inside.published home-is c.in-Some.done.now is some c.publication_law.ensures.last_stands legal c.get.result setting (sym told ∙ same)
 
-pub returns-then-not-has_penalty-clause-begun : goal.returns-then-not-has_penalty-clause-begun
-returns-then-not-has_penalty-clause-begun c = other (goal.at.returns-then-not-has_penalty-clause-begun c).After-has_penalty c.if-not-has_penalty.true
+pub returns-then-not-is_made_at-clause-begun : goal.returns-then-not-is_made_at-clause-begun
+returns-then-not-is_made_at-clause-begun c = other (goal.at.returns-then-not-is_made_at-clause-begun c).After-is_made_at c.if-not-is_made_at.true
 
-pub returns-then-not-has_penalty-clause-taken : goal.returns-then-not-has_penalty-clause-taken
-returns-then-not-has_penalty-clause-taken c =
-    taken-none c.args.self.now (asked c.args.test.now c.args.metric.now) (other (goal.at.returns-then-not-has_penalty-clause-taken c).After-has_penalty c.if-not-has_penalty.true)
+pub returns-then-not-is_made_at-clause-taken : goal.returns-then-not-is_made_at-clause-taken
+returns-then-not-is_made_at-clause-taken c =
+    taken-none c.args.self.now (asked c.args.test.now c.args.metric.now) (other (goal.at.returns-then-not-is_made_at-clause-taken c).After-is_made_at c.if-not-is_made_at.true)
 
 pub invariant_of-self : goal.invariant_of-self
 invariant_of-self c =
     let x = c.self.inside in
-    stays (entries_of x.history.items) x.commits x.runs x.series x.series x.known x.penalties x.penalties x.published c.take_table.new.self x.cuts x.following x.following
+    stays (entries_of x.history.items) x.commits x.runs x.series x.series x.known x.settings x.settings x.published c.take_table.new.self x.cuts x.following x.following
     c.self.invariant (λ s. refl) (λ metric. refl) c.take_table.ensures.kept refl
 
 pub returns-clause-begun : goal.returns-clause-begun
 returns-clause-begun c =
-    begun (goal.at.returns-clause-begun c).After-has_penalty c.if-not-has_penalty.false
+    begun (goal.at.returns-clause-begun c).After-is_made_at c.if-not-is_made_at.false
     (record { version = c.in-Some.done.now.version; points = c.in_ok-points.points; table = c.in-Some-take_table.table })
     refl c.in_ok-points.ensures c.in-Some-take_table.ensures.stands
 
@@ -99,7 +95,7 @@ pub returns-clause-taken : goal.returns-clause-taken
 returns-clause-taken c =
     let s : Series = asked c.args.test.now c.args.metric.now in
     let first =
-    begun (goal.at.returns-clause-taken c).After-has_penalty c.if-not-has_penalty.false
+    begun (goal.at.returns-clause-taken c).After-is_made_at c.if-not-is_made_at.false
     (record { version = c.in-Some.done.now.version; points = c.in_ok-points.points; table = c.in-Some-take_table.table })
     refl c.in_ok-points.ensures c.in-Some-take_table.ensures.stands in
     let some : 0 < base_of c.args.self.now s = subst (λ (n : ℕ). 0 < n) first.version first.some in

@@ -2,7 +2,7 @@ use Rattle.std.proofs.Common.{refl}
 use Rattle.history_model.specs.declared.entries.Entry.TheVariants as entry
 use Rattle.history_model.specs.Entries.{entries_of}
 use Rattle.track_state.proofs.Series.{no-more}
-use Rattle.track_penalties.proofs.penalties.tune.Goals as goal
+use Rattle.track_penalties.proofs.penalties.set.Goals as goal
 
 pub add-requires-clause-more : goal.add-requires-clause-more
-add-requires-clause-more c = no-more (entries_of c.args.track.now.history) (entry.Tune c.in_ok-metric.metric _) refl
+add-requires-clause-more c = no-more (entries_of c.args.track.now.history) (entry.Tune c.in_ok-metric.metric _ _) refl
