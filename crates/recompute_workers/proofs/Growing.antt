@@ -12,7 +12,7 @@ use Rattle.history_model.specs.declared.publication.Publication.{Publication}
 use Rattle.history_model.specs.Allowed.{Allowed, Legal}
 use Rattle.history_model.specs.Entries.{entries_of}
 use Rattle.history_model.specs.Laws.{AcceptancesGrow, CutsGrow, RetractionsGrow}
-use Rattle.history_model.specs.Penalties.{PenaltyStays}
+use Rattle.history_model.specs.Penalties.{SettingStays}
 use Rattle.history_model.specs.Runs.{Series, is_known}
 use Rattle.touch_model.specs.Laws.{KnownGrows, LatestStays, TouchesGrow}
 use Rattle.track_model.specs.Tracks.{Track, with_entry}
@@ -45,7 +45,7 @@ pub adds-from : (author : Author) (a b c : Track) → bare b ≡ bare a → Adds
 adds-from author a b c same (inl is) = inl (is ∙ same)
 adds-from author a b c same (inr one) = inr (one.0, one.1 ∙ ap (λ (t : Track). with_entry author t (Publish one.0)) same)
 
-module _ (accept : AcceptancesGrow) (retract : RetractionsGrow) (cuts : CutsGrow) (penalty : PenaltyStays) (grow : TouchesGrow) (known : KnownGrows) (latest : LatestStays)
+module _ (accept : AcceptancesGrow) (retract : RetractionsGrow) (cuts : CutsGrow) (setting : SettingStays) (grow : TouchesGrow) (known : KnownGrows) (latest : LatestStays)
     (author : Author) (b c : Track) (legal : Legal (entries_of c.history)) where
   entries : (p : Publication) → bare c ≡ bare (with_entry author b (Publish p)) → entries_of c.history ≡ entries_of b.history ++ Publish p ∷ []
   entries p is = ap (λ (t : Track). entries_of t.history) is ∙ entries-push b.history (record { author = author; entry = Publish p })
@@ -56,10 +56,10 @@ module _ (accept : AcceptancesGrow) (retract : RetractionsGrow) (cuts : CutsGrow
   pub known-more : AddsOne author b c → (s : Series) → is_known s (entries_of c.history) ≡ is_known s (entries_of b.history)
   known-more (inl is) s = ap (λ (t : Track). is_known s (entries_of t.history)) is
   known-more (inr one) s =
-      ap (is_known s) (entries one.0 one.1) ∙ same-known accept retract cuts penalty grow known latest (entries_of b.history) one.0 (may one.0 one.1) s
+      ap (is_known s) (entries one.0 one.1) ∙ same-known accept retract cuts setting grow known latest (entries_of b.history) one.0 (may one.0 one.1) s
 
   pub quiet-more : AddsOne author b c → (s : Series) → IsQuiet (entries_of b.history) s → IsQuiet (entries_of c.history) s
   quiet-more (inl is) s quiet = subst (λ (t : Track). IsQuiet (entries_of t.history) s) (sym is) quiet
   quiet-more (inr one) s quiet =
       subst (λ (h : List Entry). IsQuiet h s) (sym (entries one.0 one.1))
-      (quiet-stays accept retract cuts penalty grow known latest (entries_of b.history) one.0 (may one.0 one.1) s quiet)
+      (quiet-stays accept retract cuts setting grow known latest (entries_of b.history) one.0 (may one.0 one.1) s quiet)

@@ -18,7 +18,9 @@ use Rattle.history_model.specs.declared.publication.Publication.{Publication}
 use Rattle.history_model.specs.Allowed.{Allowed, AllowedAfter, KeepsLimits, Legal, count_of, first_passed}
 use Rattle.history_model.specs.Entries.{entries_of}
 use Rattle.history_model.specs.Laws.{CutsGrow, LastStands, PublicationIsLast}
-use Rattle.history_model.specs.Penalties.{penalty_of}
+use Rattle.history_model.specs.Penalties.{setting_of, penalty_of, length_of}
+use Rattle.history_model.specs.declared.setting.Setting.{Setting}
+use Rattle.track_model.proofs.Settings.{same-setting}
 use Rattle.history_model.specs.Positions.{positions}
 use Rattle.history_model.specs.Publications.{AreBest, cut_count, last_publication}
 use Rattle.history_model.specs.Runs.{Series, is_known}
@@ -100,11 +102,14 @@ module _ (cuts : CutsGrow) (h : List Entry) (keeps : KeepsLimits h) (t : Track) 
   abbrev done : Done
   done = made.done
 
-  are-best : AreBest (positions h s) (penalty_of s.metric h) made.done.cert.cuts made.done.cert.total
+  are-best : AreBest (positions h s) (penalty_of s.metric h) (length_of s.metric h) made.done.cert.cuts made.done.cert.total
   are-best =
-      let stands : StandsFor (positions h s) (penalty_of s.metric h) 1 made.done.cert =
-      subst (λ (g : List Entry). StandsFor (positions g s) (penalty_of s.metric g) 1 made.done.cert) same
-      (subst (λ (z : ℤ). StandsFor (positions (entries_of t.history) s) z 1 made.done.cert) taken.penalty (subst (λ (ps : List Position). StandsFor ps x.penalty 1 made.done.cert) taken.points is.stands)) in
+      let asked : Setting = record { penalty = x.penalty; length = x.length } in
+      let setting : asked ≡ setting_of s.metric (entries_of t.history) = same-setting asked (setting_of s.metric (entries_of t.history)) taken.penalty taken.long in
+      let stands : StandsFor (positions h s) (penalty_of s.metric h) (length_of s.metric h) made.done.cert =
+      subst (λ (g : List Entry). StandsFor (positions g s) (penalty_of s.metric g) (length_of s.metric g) made.done.cert) same
+      (subst (λ (y : Setting). StandsFor (positions (entries_of t.history) s) y.penalty y.length made.done.cert) setting
+      (subst (λ (ps : List Position). StandsFor ps x.penalty x.length made.done.cert) taken.points is.stands)) in
       record { cost = stands.cost; is_cost = stands.is_cost; best = stands.best; totalled = stands.totalled }
 
   pub full-quiet : (l : Limit) → passed h made.done ≡ Some l → IsQuiet h s

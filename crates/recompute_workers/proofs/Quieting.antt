@@ -10,7 +10,8 @@ use Rattle.history_model.specs.declared.entries.Entry.TheVariants.{Publish}
 use Rattle.history_model.specs.declared.publication.Publication.{Publication}
 use Rattle.history_model.specs.Allowed.{Allowed}
 use Rattle.history_model.specs.Laws.{AcceptancesGrow, CutsGrow, RetractionsGrow}
-use Rattle.history_model.specs.Penalties.{PenaltyStays, penalty_of}
+use Rattle.history_model.specs.Penalties.{SettingStays, penalty_of, length_of}
+use Rattle.history_model.specs.declared.setting.Setting.{Setting}
 use Rattle.history_model.specs.Positions.{brought, positions, positions_of}
 use Rattle.history_model.specs.Publications.{AreBest, cut_count, last_publication}
 use Rattle.history_model.specs.Runs.{Retraction, Series, acceptances, is_known, live_of, retractions}
@@ -24,7 +25,7 @@ or-false : (b : Bool) → (b || false) ≡ b
 or-false true = refl
 or-false false = refl
 
-module _ (accept : AcceptancesGrow) (retract : RetractionsGrow) (cuts : CutsGrow) (penalty : PenaltyStays) (grow : TouchesGrow) (known : KnownGrows) (latest : LatestStays)
+module _ (accept : AcceptancesGrow) (retract : RetractionsGrow) (cuts : CutsGrow) (setting : SettingStays) (grow : TouchesGrow) (known : KnownGrows) (latest : LatestStays)
     (h : List Entry) (p : Publication) (allowed : Allowed h (Publish p)) (s : Series) where
   pub same-known : is_known s (h ++ Publish p ∷ []) ≡ is_known s h
   same-known = known h (Publish p) s ∙ or-false (is_known s h)
@@ -52,8 +53,8 @@ module _ (accept : AcceptancesGrow) (retract : RetractionsGrow) (cuts : CutsGrow
     cuts = would.cuts;
     total = would.total;
     best =
-        subst (λ (z : ℤ). AreBest (positions (h ++ Publish p ∷ []) s) z would.cuts would.total) (sym (penalty h (Publish p) s.metric refl))
-        (subst (λ (ps : List Position). AreBest ps (penalty_of s.metric h) would.cuts would.total) (sym same-positions) would.best);
+        subst (λ (x : Setting). AreBest (positions (h ++ Publish p ∷ []) s) x.penalty x.length would.cuts would.total) (sym (setting h (Publish p) s.metric refl))
+        (subst (λ (ps : List Position). AreBest ps (penalty_of s.metric h) (length_of s.metric h) would.cuts would.total) (sym same-positions) would.best);
     passes = let more = cuts h (Publish p) in let passes = would.passes in omega (arith, more, passes);
   }
 

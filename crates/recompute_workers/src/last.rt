@@ -8,7 +8,7 @@ ghost use Rattle.recompute_workers.specs.Recomputing.{AddsOne, AddsPublications}
 ghost use Rattle.track_work.specs.Work.{history_of};
 
 use crate::NoMemory;
-use history_model::{Author, growth_law, penalty_law, publication_law};
+use history_model::{Author, growth_law, publication_law, setting_law};
 use series_index::SeriesName;
 use std::alloc::Global;
 use touch_model::{stale_law, touch_law};
@@ -21,7 +21,7 @@ fn recompute_series(alloc: Global, work: &mut WorkState, name: &SeriesName) -> R
     ensures quiet { OnOk result (IsQuiet (history_of work.new) name.now) }
 {
     growth_law();
-    penalty_law();
+    setting_law();
     publication_law();
     stale_law();
     touch_law();
@@ -41,7 +41,7 @@ pub fn recompute_last(alloc: Global, work: &mut WorkState) -> Result<(), NoMemor
     ensures quiet { OnOk result (SeriesAreQuiet (history_of work.new)) }
 {
     growth_law();
-    penalty_law();
+    setting_law();
     publication_law();
     stale_law();
     touch_law();

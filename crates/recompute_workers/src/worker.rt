@@ -11,37 +11,39 @@ use crate::pace::{AtGate, Pace};
 use history_model::{Author, publication_law};
 use std::alloc::Global;
 use std::sync::Wait;
-use touch_index::SeriesKey;
 use track_outside::Gate;
-use track_room::{Ended, Room, RoomPass};
+use track_room::{Ended, Room, RoomPass, SeriesClaim};
 use track_series::{Snapshot, compute_apart};
-use track_work::TakenSeries;
 
-// Computes a series that was taken, and publishes it.
+// Computes a series that was taken, and publishes it; gives it back where there is no memory.
 fn finish<R: Wait>(
     rt: &R,
     alloc: Global,
     room: &Room,
     pass: &mut RoomPass,
     number: u8,
-    machine: u8,
-    key: &SeriesKey,
+    claim: SeriesClaim,
     snapshot: Snapshot,
 ) -> Result<(), NoMemory>
     requires room { IsPassOf room.now pass.old }
-    requires taken { OfSeen machine pass.old
-        (λ h. IsTaken h (record { key = key.now; snapshot = snapshot })) }
+    requires taken { OfSeen claim.machine pass.old
+        (λ h. IsTaken h (record { key = claim.key; snapshot = snapshot })) }
     ensures room { IsPassOf room.now pass.new }
     ensures works { AllZip (Works (author.Recompute number)) pass.old pass.new }
 {
-    let _ = key;
     publication_law();
-    let redone = compute_apart(alloc, snapshot)?;
-    let _ = room.publish(rt, pass, Author::Recompute(number), machine, redone)?;
+    let redone = match compute_apart(alloc, snapshot) {
+        Ok(redone) => redone,
+        Err(why) => {
+            room.release(rt, pass, claim);
+            return Err(why);
+        }
+    };
+    let _ = room.publish(rt, pass, Author::Recompute(number), claim, redone)?;
     Ok(())
 }
 
-// Takes a series, computes and publishes it; tells whether there was one. Where there is no memory its claim ends.
+// Takes a series, computes and publishes it; tells whether there was one.
 fn turn<R: Wait, P: Pace>(
     rt: &R,
     alloc: Global,
@@ -54,15 +56,11 @@ fn turn<R: Wait, P: Pace>(
     ensures room { IsPassOf room.now pass.new }
     ensures works { AllZip (Works (author.Recompute number)) pass.old pass.new }
 {
-    let Some((machine, taken)) = room.take_series(rt, alloc, pass)? else {
+    let Some((claim, snapshot)) = room.take_series(rt, alloc, pass)? else {
         return Ok(false);
     };
     pace.taken();
-    let TakenSeries { key, snapshot } = taken;
-    if let Err(_) = finish(rt, alloc, room, pass, number, machine, &key, snapshot) {
-        room.release(rt, pass, machine, &key);
-        return Err(NoMemory);
-    }
+    finish(rt, alloc, room, pass, number, claim, snapshot)?;
     pace.done();
     Ok(true)
 }

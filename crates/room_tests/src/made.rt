@@ -6,7 +6,7 @@ ghost use Rattle.track_room.specs.Rooms.{IsFirst, IsPassOf};
 
 use history_model::Author;
 use journal_text::write_journals;
-use kept_machines::load;
+use kept_machines::{Loaded, load};
 use line_text::Names;
 use request_model::{Answer, Refusal, Reply, Request};
 use request_words::{Head, item_of, read_head};
@@ -60,7 +60,7 @@ fn loaded<K: Keeper>(alloc: Global, keeper: &mut K, rows: &[&str]) -> Option<Vec
         }
     }
     match load(alloc, keeper, "rows") {
-        Ok(states) => Some(states),
+        Ok(Loaded { states, .. }) => Some(states),
         Err(_) => None,
     }
 }

@@ -2,6 +2,7 @@
 ghost use Rattle.std.specs.Prelude.{◌≡◌, IfSome};
 ghost use Rattle.publication_index.specs.Standing.{table_for};
 ghost use Rattle.track_state.specs.Made.{IsMadeFrom};
+ghost use Rattle.track_room.specs.Claims.{IsOf, taken_with};
 ghost use Rattle.track_room.specs.Rooms.{IsFirst, IsPassOf};
 ghost use Rattle.track_room.specs.Taking.{IsTaken, OfSeen};
 
@@ -9,9 +10,8 @@ use crate::made::{Kind, MEASURED, asked, is_told, room_of};
 use history_model::{Author, publication_law};
 use std::alloc::Global;
 use std::sync::Wait;
-use track_room::{Room, RoomPass};
-use track_series::{Published, Redone, compute_apart};
-use track_work::TakenSeries;
+use track_room::{Room, RoomPass, SeriesClaim};
+use track_series::{Published, Redone, Snapshot, compute_apart};
 
 const RUN: &str = "submit go m c r3 21";
 
@@ -19,20 +19,24 @@ const RUN_BODY: &str = "BenchmarkX 1 10 B/op\n";
 
 const SEGMENTATION: &str = "segment m X B/op";
 
+// A series that was taken.
+type Taken = (SeriesClaim, Snapshot);
+
 // Publishes what was made of what the pass has seen.
 fn published<R: Wait>(
     rt: &R,
     room: &Room,
     pass: &mut RoomPass,
-    machine: u8,
+    claim: SeriesClaim,
     redone: Redone,
 ) -> Option<Published>
     requires room { IsPassOf room.now pass.old }
-    requires made { OfSeen machine pass.old (λ h. IsMadeFrom h redone.done) }
+    requires claimed { IsOf claim.key redone.done }
+    requires made { OfSeen claim.machine pass.old (λ h. IsMadeFrom h redone.done) }
     requires tabled { redone.table ≡ table_for redone.done }
     ensures { IsPassOf room.now pass.new }
 {
-    match room.publish(rt, pass, Author::Recompute(1), machine, redone) {
+    match room.publish(rt, pass, Author::Recompute(1), claim, redone) {
         Ok(told) => Some(told),
         Err(_) => None,
     }
@@ -44,17 +48,21 @@ fn made_of<R: Wait>(
     alloc: Global,
     room: &Room,
     pass: &mut RoomPass,
-    machine: u8,
-    taken: TakenSeries,
+    claim: SeriesClaim,
+    snapshot: Snapshot,
 ) -> Option<Published>
     requires room { IsPassOf room.now pass.old }
-    requires taken { OfSeen machine pass.old (λ h. IsTaken h taken) }
+    requires taken { OfSeen claim.machine pass.old
+        (λ h. IsTaken h (record { key = claim.key; snapshot = snapshot })) }
     ensures { IsPassOf room.now pass.new }
 {
     publication_law();
-    match compute_apart(alloc, taken.snapshot) {
-        Ok(redone) => published(rt, room, pass, machine, redone),
-        Err(_) => None,
+    match compute_apart(alloc, snapshot) {
+        Ok(redone) => published(rt, room, pass, claim, redone),
+        Err(_) => {
+            room.release(rt, pass, claim);
+            None
+        }
     }
 }
 
@@ -63,27 +71,24 @@ fn hand_in<R: Wait>(
     alloc: Global,
     room: &Room,
     pass: &mut RoomPass,
-    found: Option<(u8, TakenSeries)>,
+    found: Option<Taken>,
 ) -> Option<Published>
     requires room { IsPassOf room.now pass.old }
-    requires known { IfSome found (λ t. OfSeen t.0 pass.old (λ h. IsTaken h t.1)) }
+    requires known { IfSome found
+        (λ t. OfSeen t.0.machine pass.old (λ h. IsTaken h (taken_with t))) }
     ensures { IsPassOf room.now pass.new }
 {
     match found {
-        Some((machine, taken)) => made_of(rt, alloc, room, pass, machine, taken),
+        Some((claim, snapshot)) => made_of(rt, alloc, room, pass, claim, snapshot),
         None => None,
     }
 }
 
-fn take<R: Wait>(
-    rt: &R,
-    alloc: Global,
-    room: &Room,
-    pass: &mut RoomPass,
-) -> Option<(u8, TakenSeries)>
+fn take<R: Wait>(rt: &R, alloc: Global, room: &Room, pass: &mut RoomPass) -> Option<Taken>
     requires { IsPassOf room.now pass.old }
     ensures room { IsPassOf room.now pass.new }
-    ensures known { IfSome result (λ t. OfSeen t.0 pass.new (λ h. IsTaken h t.1)) }
+    ensures known { IfSome result
+        (λ t. OfSeen t.0.machine pass.new (λ h. IsTaken h (taken_with t))) }
 {
     match room.take_series(rt, alloc, pass) {
         Ok(found) => found,
@@ -91,22 +96,25 @@ fn take<R: Wait>(
     }
 }
 
-// Whether there is no series to take.
+// Whether there is no series to take; one that there is is given back.
 fn takes_none<R: Wait>(rt: &R, alloc: Global, room: &Room, pass: &mut RoomPass) -> bool
     requires { IsPassOf room.now pass.old }
     ensures { IsPassOf room.now pass.new }
 {
     match room.take_series(rt, alloc, pass) {
-        Ok(found) => found.is_none(),
+        Ok(None) => true,
+        Ok(Some((claim, _))) => {
+            room.release(rt, pass, claim);
+            false
+        }
         Err(_) => false,
     }
 }
 
 // Whether a series was taken at this version, from this base, with its table or without.
-fn is_of(found: &Option<(u8, TakenSeries)>, version: u64, base: u64, tabled: bool) -> bool {
+fn is_of(found: &Option<Taken>, version: u64, base: u64, tabled: bool) -> bool {
     match found {
-        Some((_, taken)) => {
-            let snapshot = &taken.snapshot;
+        Some((_, snapshot)) => {
             snapshot.version == version
                 && snapshot.base == base
                 && snapshot.table.is_some() == tabled

@@ -29,7 +29,7 @@ beside version base h (request.Segment machine test metric) o not-machine not-se
 beside version base h (request.Commit machine number name) o not-machine not-segment comes = comes
 beside version base h (request.Submit machine commit run samples ignored stated) o not-machine not-segment comes = comes
 beside version base h (request.Retract machine run) o not-machine not-segment comes = comes
-beside version base h (request.Tune machine metric penalty) o not-machine not-segment comes = comes
+beside version base h (request.Tune machine metric penalty given) o not-machine not-segment comes = comes
 beside version base h (request.Calibrate machine test metric factor) o not-machine not-segment comes = comes
 beside version base h (request.Changes machine test metric) o not-machine not-segment comes = comes
 beside version base h (request.Verify machine test metric) o not-machine not-segment comes = comes
@@ -49,7 +49,7 @@ plain (request.Segment machine test metric) not = absurd (not machine test metri
 plain (request.Commit machine number name) not = refl
 plain (request.Submit machine commit run samples ignored stated) not = refl
 plain (request.Retract machine run) not = refl
-plain (request.Tune machine metric penalty) not = refl
+plain (request.Tune machine metric penalty given) not = refl
 plain (request.Calibrate machine test metric factor) not = refl
 plain (request.Changes machine test metric) not = refl
 plain (request.Verify machine test metric) not = refl

@@ -13,7 +13,7 @@ use Rattle.order_index.specs.contracts.index.OrderIndex as OrderIndex
 use Rattle.point_list.specs.contracts.points.Points as Points
 use Rattle.point_list.specs.contracts.frozen.FrozenPoints as FrozenPoints
 use Rattle.prefix_sums.specs.contracts.prefixes.PrefixSums as PrefixSums
-use Rattle.publication_index.specs.contracts.penalties.PenaltyIndex as PenaltyIndex
+use Rattle.publication_index.specs.contracts.settings.SettingIndex as SettingIndex
 use Rattle.publication_index.specs.contracts.published.PublicationIndex as PublicationIndex
 use Rattle.sample_store.specs.contracts.store.SampleStore as SampleStore
 use Rattle.segment_cost.specs.contracts.square.Square as Square
@@ -67,8 +67,8 @@ series_send = search (name_send, points_send, sendable, crosses, maps.crosses, o
 published_send : IsSend PublicationIndex.the_row
 published_send = search (name_send, square_send, shared_send, sendable, crosses, maps.crosses, over.crosses) depth 60 fits 20000
 
-penalty_send : IsSend PenaltyIndex.the_row
-penalty_send = search (sendable, crosses, maps.crosses, over.crosses) depth 60 fits 20000
+setting_send : IsSend SettingIndex.the_row
+setting_send = search (sendable, crosses, maps.crosses, over.crosses) depth 60 fits 20000
 
 touch_send : IsSend TouchIndex.the_row
 touch_send = search (sendable, crosses, maps.crosses, over.crosses) depth 60 fits 20000
@@ -80,7 +80,7 @@ regressions_send : IsSend RegressionIndex.the_row
 regressions_send = search (sendable, crosses, maps.crosses, over.crosses) depth 60 fits 20000
 
 track_send : IsSend TrackState.the_row
-track_send = search (name_send, placed_send, order_send, store_send, series_send, published_send, penalty_send, jobs_send, regressions_send, sendable, crosses) depth 60 fits 20000
+track_send = search (name_send, placed_send, order_send, store_send, series_send, published_send, setting_send, jobs_send, regressions_send, sendable, crosses) depth 60 fits 20000
 
 work_send : IsSend WorkState.the_row
 work_send = search (track_send, touch_send, sendable, crosses) depth 60 fits 20000
@@ -153,8 +153,8 @@ series_sync = search (name_sync, points_sync, sendable, crosses, maps.crosses, o
 published_sync : IsSync PublicationIndex.the_row
 published_sync = search (name_sync, square_sync, shared_points_sync, sendable, crosses, maps.crosses, over.crosses) depth 60 fits 20000
 
-penalty_sync : IsSync PenaltyIndex.the_row
-penalty_sync = search (sendable, crosses, maps.crosses, over.crosses) depth 60 fits 20000
+setting_sync : IsSync SettingIndex.the_row
+setting_sync = search (sendable, crosses, maps.crosses, over.crosses) depth 60 fits 20000
 
 jobs_sync : IsSync JobIndex.the_row
 jobs_sync = search (sendable, crosses, maps.crosses, over.crosses) depth 60 fits 20000
@@ -163,7 +163,7 @@ regressions_sync : IsSync RegressionIndex.the_row
 regressions_sync = search (sendable, crosses, maps.crosses, over.crosses) depth 60 fits 20000
 
 track_sync : IsSync TrackState.the_row
-track_sync = search (name_sync, placed_sync, order_sync, store_sync, series_sync, published_sync, penalty_sync, jobs_sync, regressions_sync, sendable, crosses) depth 60 fits 20000
+track_sync = search (name_sync, placed_sync, order_sync, store_sync, series_sync, published_sync, setting_sync, jobs_sync, regressions_sync, sendable, crosses) depth 60 fits 20000
 
 pub room_sync : IsSync Room.the_row
 room_sync = search (lock_sync, track_sync, sendable, crosses) depth 60 fits 20000

@@ -6,3 +6,4 @@ pub mod Visits
 pub mod Asked
 pub mod Taking
 pub mod Whole
+pub mod Claims

@@ -15,6 +15,7 @@
 #![tactic(auto)]
 
 mod asking;
+mod claim;
 mod closing;
 mod ended;
 mod guarded;
@@ -27,6 +28,7 @@ mod taking;
 mod visits;
 mod work;
 
+pub use claim::SeriesClaim;
 pub use closing::CloseFault;
 pub use ended::Ended;
 pub use laws::whole_law;

@@ -6,11 +6,13 @@ ghost use Rattle.metric_table.specs.declared.limits.Limit.TheVariants.{Machines}
 ghost use Rattle.publication_index.specs.Standing.{table_for};
 ghost use Rattle.track_state.specs.Made.{IsMadeFrom};
 ghost use Rattle.track_room.specs.Asked.{ChangesAt};
+ghost use Rattle.track_room.specs.Claims.{all_placed, taken_with, EndsClaim, IsOf};
 ghost use Rattle.track_room.specs.Rooms.{AreSame, IsPassOf};
 ghost use Rattle.track_room.specs.Sights.{SeesMore, Visits};
 ghost use Rattle.track_room.specs.Taking.{HasJob, IsQuestion, IsTaken, OfSeen, Publishes, Releases, Settles, TakesFirst, TakesJob, TakesSeries};
 
 use crate::NoMemory;
+use crate::claim::SeriesClaim;
 use crate::machine::{MachineLock, MachinePass};
 use crate::room::{Room, RoomPass};
 use history_model::Author;
@@ -18,7 +20,7 @@ use std::alloc::Global;
 use std::sync::Wait;
 use touch_index::SeriesKey;
 use track_follow::Settled;
-use track_series::{Published, Redone};
+use track_series::{Published, Redone, Snapshot};
 use track_work::{Question, TakenSeries};
 
 // Takes a series of the first machine that has one.
@@ -67,28 +69,77 @@ fn first_question<R: Wait>(
 }
 
 impl Room {
-    /// Takes the first stale series that nobody claims, of the first machine that has one, with the machine's place from 0.
-    /// Enters each machine up to that one, and may wait for other passes.
+    /// Takes the first stale series that nobody claims, of the first machine that has one, and claims it. Enters each machine
+    /// up to that one, and may wait for other passes.
     pub fn take_series<R: Wait>(
         &self,
         rt: &R,
         alloc: Global,
         pass: &mut RoomPass,
-    ) -> Result<Option<(u8, TakenSeries)>, NoMemory>
+    ) -> Result<Option<(SeriesClaim, Snapshot)>, NoMemory>
         requires room { IsPassOf self.now pass.old }
         ensures room { IsPassOf self.now pass.new }
         ensures same { AreSame pass.old pass.new }
         ensures sees { AllZip SeesMore pass.old pass.new }
-        ensures taken { IfOk result (λ found. TakesFirst TakesSeries found pass.old pass.new) }
+        ensures taken { IfOk result (λ found.
+            TakesFirst TakesSeries (all_placed found) pass.old pass.new) }
         ensures known { IfOk result (λ found. IfSome found (λ t.
-            OfSeen t.0 pass.new (λ h. IsTaken h t.1))) }
+            OfSeen t.0.machine pass.new (λ h. IsTaken h (taken_with t)))) }
     {
         let _ = alloc;
-        first_series(rt, &self.machines, &mut pass.machines)
+        let Some((machine, taken)) = first_series(rt, &self.machines, &mut pass.machines)? else {
+            return Ok(None);
+        };
+        let TakenSeries { key, snapshot } = taken;
+        Ok(Some((SeriesClaim { machine, key }, snapshot)))
     }
 
-    /// Publishes a segmentation that was made from what the pass has seen of a machine. May wait for other passes.
+    /// Publishes a segmentation of a series that was taken, made from what the pass has seen of its machine. The claim ends, also
+    /// where there is no memory, unless a limit refused the segmentation and no entry touched the series since its version.
+    /// May wait for other passes.
     pub fn publish<R: Wait>(
+        &self,
+        rt: &R,
+        pass: &mut RoomPass,
+        author: Author,
+        claim: SeriesClaim,
+        redone: Redone,
+    ) -> Result<Published, NoMemory>
+        requires room { IsPassOf self.now pass.old }
+        requires claimed { IsOf claim.key redone.done }
+        requires made { OfSeen claim.machine pass.old (λ h. IsMadeFrom h redone.done) }
+        requires tabled { redone.table ≡ table_for redone.done }
+        ensures room { IsPassOf self.now pass.new }
+        ensures same { AreSame pass.old pass.new }
+        ensures ok { IfOk result (λ told. ChangesAt claim.machine
+            (Visits (Publishes author redone.done told)) pass.old pass.new) }
+        ensures err { OnErr result (EndsClaim claim pass.old pass.new) }
+    {
+        let SeriesClaim { machine, key } = claim;
+        match self.hand_in(rt, pass, author, machine, redone) {
+            Ok(told) => Ok(told),
+            Err(why) => {
+                self.end_claim(rt, pass, machine, &key);
+                Err(why)
+            }
+        }
+    }
+
+    /// Gives a series back that was taken: the claim on it ends. May wait for other passes; takes no memory.
+    pub fn release<R: Wait>(&self, rt: &R, pass: &mut RoomPass, claim: SeriesClaim)
+        requires room { IsPassOf self.now pass.old }
+        requires there { claim.machine < length pass.old }
+        ensures room { IsPassOf self.now pass.new }
+        ensures same { AreSame pass.old pass.new }
+        ensures sees { ChangesAt claim.machine SeesMore pass.old pass.new }
+        ensures released { ChangesAt claim.machine (Visits (Releases claim.key)) pass.old pass.new }
+    {
+        let SeriesClaim { machine, key } = claim;
+        self.end_claim(rt, pass, machine, &key);
+    }
+
+    // Publishes a segmentation that was made from what the pass has seen of a machine.
+    fn hand_in<R: Wait>(
         &self,
         rt: &R,
         pass: &mut RoomPass,
@@ -110,8 +161,8 @@ impl Room {
         self.machines[i].publish(rt, &mut pass.machines[i], author, done, table)
     }
 
-    /// Ends the claim on a series of a machine, if there is one. May wait for other passes; takes no memory.
-    pub fn release<R: Wait>(&self, rt: &R, pass: &mut RoomPass, machine: u8, key: &SeriesKey)
+    // Ends the claim on a series of a machine, if there is one.
+    fn end_claim<R: Wait>(&self, rt: &R, pass: &mut RoomPass, machine: u8, key: &SeriesKey)
         requires room { IsPassOf self.now pass.old }
         requires there { machine < length pass.old }
         ensures room { IsPassOf self.now pass.new }

@@ -26,12 +26,12 @@ loop-name-preserved c =
     let d : Track = c.recompute_series.new.work.track in
     let legal = subst (λ (t : Track). Legal (entries_of t.history)) c.track-in-loop-name.ensures c.history_law.ensures.legal in
     let quiet : (s : Series) → IsQuiet (entries_of b.history) s → IsQuiet (entries_of d.history) s =
-    quiet-more c.growth_law.ensures.acceptances c.growth_law.ensures.retractions c.publication_law.ensures.cuts c.penalty_law.ensures.stays c.touch_law.ensures.last c.touch_law.ensures.known c.stale_law.ensures
+    quiet-more c.growth_law.ensures.acceptances c.growth_law.ensures.retractions c.publication_law.ensures.cuts c.setting_law.ensures.stays c.touch_law.ensures.last c.touch_law.ensures.known c.stale_law.ensures
     (Recompute 1) b d legal c.recompute_series.ensures.added in
     let more : take (i + 1) names ≡ take i names ++ x ∷ [] = take_more names i x c.loop-name-test.true ∙ ap (λ (y : Series). take i names ++ y ∷ []) (sym c.name-item.is) in
     record {
       added = adds-more (Recompute 1) c.args.work.now.track b d c.loop-name.invariant.added c.recompute_series.ensures.added;
-      known = λ s. known-more c.growth_law.ensures.acceptances c.growth_law.ensures.retractions c.publication_law.ensures.cuts c.penalty_law.ensures.stays c.touch_law.ensures.last c.touch_law.ensures.known c.stale_law.ensures
+      known = λ s. known-more c.growth_law.ensures.acceptances c.growth_law.ensures.retractions c.publication_law.ensures.cuts c.setting_law.ensures.stays c.touch_law.ensures.last c.touch_law.ensures.known c.stale_law.ensures
           (Recompute 1) b d legal c.recompute_series.ensures.added s ∙ c.loop-name.invariant.known s;
       quiet = subst (λ (ns : List Series). All (λ (s : Series). IsQuiet (entries_of d.history) s) ns) (sym more)
           (All-push (λ (s : Series). IsQuiet (entries_of d.history) s) (take i names) x

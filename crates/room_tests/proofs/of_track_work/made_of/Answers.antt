@@ -12,6 +12,6 @@ published-requires-clause-made g c =
     let at = c.requires.taken in
     let taken = at.2 in
     let is : IsMadeFrom (entries_of taken.0.history) c.in-Ok.redone.done =
-    made-from taken.0 (series_of c.args.taken.key) c.args.taken.snapshot c.in-Ok.redone taken.2 c.in-Ok.ensures c.publication_law.ensures.last_stands
+    made-from taken.0 (series_of c.args.claim.key) c.args.snapshot c.in-Ok.redone taken.2 c.in-Ok.ensures c.publication_law.ensures.last_stands
     (subst (λ (h : List Entry). Legal h) (sym taken.1) taken.3) in
     (at.0, at.1, subst (λ (h : List Entry). IsMadeFrom h c.in-Ok.redone.done) taken.1 is)

@@ -5,9 +5,9 @@ use Rattle.track_room.specs.Rooms.{IsPassOf, badge}
 use Rattle.track_room.specs.Sights.{Sight, SeesMore, Visits}
 use Rattle.track_room.specs.Taking.{Releases}
 use Rattle.track_room.proofs.Standing.{get-at, same-map, sees-badge, still-of}
-use Rattle.track_room.proofs.room.Room.release.Given.{Over}
-use Rattle.track_room.proofs.room.Room.release.Goals as goal
-use Rattle.track_room.proofs.room.Room.release.Goals.{After-release}
+use Rattle.track_room.proofs.room.Room.end_claim.Given.{Over}
+use Rattle.track_room.proofs.room.Room.end_claim.Goals as goal
+use Rattle.track_room.proofs.room.Room.end_claim.Goals.{After-release}
 
 at : (g : Over) (c : After-release g) → slice_get c.pass.inside.machines.items c.args.machine ≡ Some c.index_mut.result.now
 at g c =
