@@ -11,13 +11,14 @@ const WORKED: &str =
 const REPLIES: &str =
     "@0 machine m1\n@1 commit 10 a\n@2 commit 20 b\n@3 commit 30 c\n@4 commit 40 d\n@5 tuned B/op 50\n@6 accepted r1 samples 1 ignored 0\n@7 accepted r2 samples 1 ignored 0\n@8 accepted r4 samples 1 ignored 0\n@9 segmented version 8 base 0 points 3 cuts 1 redone 3 total 50\n@10 accepted r3 samples 1 ignored 0\n@11 segmented version 10 base 8 points 4 cuts 1 redone 2 total 50\n@11 changes version 10 lines 1\nb c 0 10 regression\n";
 
-const ROWS: [&str; 10] = [
+const ROWS: [&str; 11] = [
+    "format 2",
     "machine m1",
     "entry m1 commit 10 a",
     "entry m1 commit 20 b",
     "entry m1 commit 30 c",
     "entry m1 commit 40 d",
-    "entry m1 tune B/op 50",
+    "entry m1 tune B/op 50 1",
     "entry m1 accept r1 10 1 X B/op 0",
     "entry m1 accept r2 20 1 X B/op 0",
     "entry m1 accept r4 40 1 X B/op 10",

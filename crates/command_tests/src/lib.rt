@@ -19,6 +19,8 @@ mod following;
 #[cfg(test)]
 mod limits;
 #[cfg(test)]
+mod older;
+#[cfg(test)]
 mod paths;
 #[cfg(test)]
 mod publications;

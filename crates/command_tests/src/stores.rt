@@ -4,17 +4,36 @@ use std::alloc::Global;
 use track_outside::{Keeper, MemKeeper};
 use tracker_top::Status;
 
-// A run: its script, the status, the output and the line.
-type Stored = (&'static str, Status, &'static str, &'static str);
+/// A run: its script, the status, the output and the line.
+pub type Stored = (&'static str, Status, &'static str, &'static str);
 
 const FIRST: &str = "machine m1\ncommit m1 10 a\ntune m1 B/op 50\n";
 
 const REPLIES: &str = "@0 machine m1\n@1 commit 10 a\n@2 tuned B/op 50\n";
 
-const ROWS: [&str; 3] = [
+const ROWS: [&str; 4] = [
+    "format 2",
     "machine m1",
     "entry m1 commit 10 a",
+    "entry m1 tune B/op 50 1",
+];
+
+// A script on the machine of rows of version 1, with its replies, and those rows with what it adds. The first two rows may be
+// there before it, or three.
+const TUNINGS: &str =
+    "tune m1 B/op 40\ntune m1 B/op 40 2\ntune m1 B/op 30\ntune m1 B/op 30 0\ntune m1 B/op 30 1\n";
+
+const TUNED: &str =
+    "@2 tuned B/op 40\n@3 tuned B/op 40 2\n@4 tuned B/op 30 2\n@0 E30 BadLength\n@5 tuned B/op 30\n";
+
+const GROWN_ROWS: [&str; 7] = [
+    "machine m1",
     "entry m1 tune B/op 50",
+    "format 2",
+    "entry m1 tune B/op 40 1",
+    "entry m1 tune B/op 40 2",
+    "entry m1 tune B/op 30 2",
+    "entry m1 tune B/op 30 1",
 ];
 
 // A machine whose change is raised, and whose commits are being bisected.
@@ -31,13 +50,14 @@ const GOES_ON: &str =
 const GOES_ON_REPLIES: &str =
     "@13 job 1 range 3 questions 1 asks c\n@14 regression 1 active verify\n@14 duplicate @6\n@14 E14 NothingPublished\n@15 job 1 range 3 questions 2 found b c\n@15 report lines 3\nseries X                                        B/op                    4        4        -                    -\nregression 1 X B/op b c verify\njob 1 range 3 questions 2 found b c\n@16 segmented version 15 base 0 points 4 cuts 1 redone 4 total 50\n";
 
-const FOLLOWED_ROWS: [&str; 16] = [
+const FOLLOWED_ROWS: [&str; 17] = [
+    "format 2",
     "machine m",
     "entry m commit 10 a",
     "entry m commit 20 b",
     "entry m commit 30 c",
     "entry m commit 40 d",
-    "entry m tune B/op 50",
+    "entry m tune B/op 50 1",
     "entry m accept r1 10 1 X B/op 0",
     "entry m accept r2 20 1 X B/op 0",
     "entry m accept r4 40 1 X B/op 10",
@@ -89,7 +109,7 @@ const STORED: [(&[u64], &[Stored], &[&str]); 7] = [
         &[],
     ),
     (
-        &[4, 5, 6, 7, 8],
+        &[4, 5, 6, 7, 8, 9],
         &[
             (FIRST, Status::Done, REPLIES, ""),
             ("machine m2", Status::StoreFault, "", "store fault\n"),
@@ -97,7 +117,7 @@ const STORED: [(&[u64], &[Stored], &[&str]); 7] = [
         &ROWS,
     ),
     (
-        &[9],
+        &[10],
         &[
             (FIRST, Status::Done, REPLIES, ""),
             (
@@ -121,17 +141,30 @@ const STORED: [(&[u64], &[Stored], &[&str]); 7] = [
             ),
         ],
         &[
+            "format 2",
             "machine m1",
             "entry m1 commit 10 a",
-            "entry m1 tune B/op 50",
+            "entry m1 tune B/op 50 1",
             "machine m2",
         ],
     ),
 ];
 
 // Rows of which the last is the first bad one.
-const DAMAGED: [&[&str]; 2] = [
-    &["machine m1", "entry m1 commit 10 a", "entry m1 tune B/op x"],
+const DAMAGED: [&[&str]; 9] = [
+    &[
+        "format 2",
+        "machine m1",
+        "entry m1 commit 10 a",
+        "entry m1 tune B/op x",
+    ],
+    &["machine m1", "entry m1 tune B/op 50 1"],
+    &["format 2", "machine m1", "entry m1 tune B/op 50"],
+    &["format 2", "format 2"],
+    &["machine m1", "format 1"],
+    &["machine m1", "entry m1 tune B/op 50", "format"],
+    &["machine m1", "entry m1 tune B/op 50", "entry m1 tune B/op"],
+    &["format 2", "machine m1", "format 2"],
     &["machine m", "machine m"],
 ];
 
@@ -168,6 +201,14 @@ fn rows_are_kept_or_a_fault_is_told(rt: HostRuntime) {
 }
 
 #[test]
+fn rows_of_version_1_go_on(rt: HostRuntime) {
+    let runs = [(TUNINGS, Status::Done, TUNED, "")];
+    for old in [2, 3] {
+        assert!(rt; go_on(rt.alloc(), &GROWN_ROWS, old, &runs), "{TUNED}");
+    }
+}
+
+#[test]
 fn a_read_fault_leaves_the_rows(rt: HostRuntime) {
     for (read, told) in &READS {
         assert!(rt; faults_at(rt.alloc(), *read, told));
@@ -188,6 +229,19 @@ fn damaged_rows_are_refused(rt: HostRuntime) {
 fn runs_over(alloc: Global, fails: u64, runs: &[Stored], rows: &[&str]) -> bool {
     match MemKeeper::new(alloc, &[fails]) {
         Ok(mut keeper) => each_ends(alloc, &mut keeper, runs) && has_rows(alloc, &mut keeper, rows),
+        Err(_) => false,
+    }
+}
+
+/// Whether the runs end so one after another over a keeper that has the first so many of these rows, and it has all of them
+/// then.
+pub fn go_on(alloc: Global, rows: &[&str], old: usize, runs: &[Stored]) -> bool {
+    match MemKeeper::new(alloc, &[]) {
+        Ok(mut keeper) => {
+            has_taken(alloc, &mut keeper, rows, old)
+                && each_ends(alloc, &mut keeper, runs)
+                && has_rows(alloc, &mut keeper, rows)
+        }
         Err(_) => false,
     }
 }
@@ -265,7 +319,7 @@ fn has_row(alloc: Global, keeper: &mut MemKeeper, k: u64, bytes: &[u8]) -> bool 
 fn is_damaged(alloc: Global, rows: &[&str]) -> bool {
     match MemKeeper::new(alloc, &[]) {
         Ok(mut keeper) => {
-            has_taken(alloc, &mut keeper, rows)
+            has_taken(alloc, &mut keeper, rows, rows.len())
                 && is_refused(alloc, &mut keeper, rows.len() as u64)
                 && has_rows(alloc, &mut keeper, rows)
         }
@@ -296,8 +350,9 @@ fn takes_good(alloc: Global, keeper: &mut MemKeeper) -> bool {
     true
 }
 
-fn has_taken(alloc: Global, keeper: &mut MemKeeper, rows: &[&str]) -> bool {
-    for row in rows {
+// Whether the keeper has taken the first so many rows.
+fn has_taken(alloc: Global, keeper: &mut MemKeeper, rows: &[&str], many: usize) -> bool {
+    for row in rows.iter().take(many) {
         if !takes(alloc, keeper, row.as_bytes()) {
             return false;
         }
@@ -322,6 +377,7 @@ fn is_refused(alloc: Global, keeper: &mut MemKeeper, row: u64) -> bool {
         err: match row {
             2 => "bad store: row 2\n",
             3 => "bad store: row 3\n",
+            4 => "bad store: row 4\n",
             _ => "bad store: row 5\n",
         },
     };
