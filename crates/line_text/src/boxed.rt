@@ -2,6 +2,7 @@
 ghost use Rattle.std.specs.Prelude.{◌≡◌, IfOk};
 
 use crate::NoMemory;
+use crate::duplicate::Duplicate;
 use std::alloc::Global;
 use std::marker::Model;
 
@@ -33,5 +34,14 @@ impl<T: Drop> Boxed<T> {
         ensures { result.now ≡ self.now }
     {
         self.value.as_ref()
+    }
+}
+
+impl<T: Duplicate> Boxed<T> {
+    /// An equal value in memory of its own, at the cost of the value's copy.
+    pub fn copy(&self, alloc: Global) -> Result<Boxed<T>, NoMemory>
+        ensures { IfOk result (λ made. made ≡ self.now) }
+    {
+        Boxed::new(alloc, self.get().duplicate(alloc)?)
     }
 }

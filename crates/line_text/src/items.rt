@@ -2,6 +2,7 @@
 ghost use Rattle.std.specs.Prelude.{◌≡◌, ◌↔◌, IsTrue, List, [], ◌∷◌, ◌++◌, length, OnOk, OnErr, IfOk, slice_get, option_copied};
 
 use crate::NoMemory;
+use crate::duplicate::Duplicate;
 use std::alloc::Global;
 use std::marker::Model;
 
@@ -84,13 +85,13 @@ impl<T: Drop> Items<T> {
     }
 }
 
-impl<T: Copy> Items<T> {
-    /// An equal list of its own. Linear in the length.
+impl<T: Duplicate> Items<T> {
+    /// An equal list of its own. Takes one block of memory and what a copy of each item takes. Linear in the length.
     pub fn copy(&self, alloc: Global) -> Result<Items<T>, NoMemory>
         ensures { IfOk result (λ made. made ≡ self.now) }
     {
         Ok(Items {
-            items: Vec::from_slice(alloc, &self.items)?,
+            items: T::duplicates(alloc, &self.items)?,
         })
     }
 }
