@@ -40,7 +40,7 @@ fn add(points: &mut Points, most: u64, number: u64, order: u64, value: i64) -> R
 {
     steps_law();
     let mut near = usize::MAX;
-    match points.insert(&mut near, order, number, value) {
+    match points.insert_near(&mut near, order, number, value) {
         Ok(()) => {
             points.limits();
             if points.len() as u64 > most {

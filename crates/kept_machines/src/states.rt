@@ -17,7 +17,7 @@ use line_text::{Name, Names};
 use metric_table::Limit;
 use std::alloc::Global;
 use std::marker::Model;
-use track_entry::{EntryFault, entries_law, entries_v1_law, read_entry, read_entry_v1};
+use track_entry::{EntryFault, entries_law, entries_v1_law, read_entry_with, read_entry_v1};
 use track_replay::replay;
 use track_state::TrackState;
 
@@ -173,7 +173,7 @@ fn read_in(alloc: Global, names: &mut Names, version: u8, text: &[u8]) -> Result
     if version < 2 {
         return read_entry_v1(alloc, names, text);
     }
-    read_entry(alloc, names, text)
+    read_entry_with(alloc, names, text)
 }
 
 // What stands in a row from a place on.

@@ -42,7 +42,7 @@ impl Block {
         ensures { IfOk result (λ made. made ≡ take (to - from) (drop from list.now)) }
     {
         let mut positions = Vec::with_capacity(alloc, to - from)?;
-        let mut heads = Vec::with_capacity(alloc, 2 * FULL)?;
+        let mut heads = Vec::with_capacity(alloc, 2 * (to - from))?;
         let mut values = Vec::with_capacity(alloc, to - from)?;
         for i in from..to {
             let position = list.at(i);

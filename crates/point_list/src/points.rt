@@ -65,6 +65,18 @@ impl Points {
         }
     }
 
+    /// Equal positions of their own. Linear in the values.
+    pub fn copy(&self, alloc: Global) -> Result<Points, NoMemory>
+        ensures { IfOk result (λ made. made ≡ self.now) }
+    {
+        Ok(Points {
+            alloc,
+            positions: self.positions.copy(alloc)?,
+            values: self.values,
+            front: Vec::new(alloc),
+        })
+    }
+
     /// Says what the type keeps; does nothing.
     pub fn limits(&self)
         ensures { WithinLimits self.now }
@@ -115,11 +127,26 @@ impl Points {
     /// Puts a value into its commit's position, as the last one, or into a new position in its place.
     ///
     /// Changes nothing where it fails. `SamplesFull` comes exactly where there are 65,536 values, `PositionsFull` exactly
-    /// where else the commit has no position and there are 16,384. `near` is where to look first, and becomes the place of
-    /// the commit: it makes no difference to what is done, and `usize::MAX` looks nowhere. Constant time, amortized, where
-    /// no commit is greater, and no search where the commit's position stands at `near`; else logarithmic time, but for
-    /// growing and for moving the positions on the shorter side of a new one.
-    pub fn insert(
+    /// where else the commit has no position and there are 16,384. Constant time, amortized, where no commit is greater;
+    /// else logarithmic time, but for growing and for moving the positions on the shorter side of a new one.
+    pub fn insert(&mut self, commit: u64, step: u64, value: i64) -> Result<(), PointFault>
+        requires { MayCome self.old commit step value }
+        ensures ok { OnOk result
+            (self.new ≡ inserted commit (record { step = step; value = value }) self.old) }
+        ensures err { OnErr result (self.new ≡ self.old) }
+        ensures samples_full { result ≡ Err PointFault.SamplesFull
+            ↔ (65_536 ≤ length (values_of self.old)) }
+        ensures positions_full { result ≡ Err PointFault.PositionsFull
+            ↔ ((length (values_of self.old) < 65_536) × (has_commit commit self.old ≡ false)
+            × (16_384 ≤ length self.old)) }
+    {
+        self.insert_near(&mut usize::MAX, commit, step, value)
+    }
+
+    /// As [`insert`](Points::insert), by one who may know the place: `near` is where to look first, and becomes the place of
+    /// the commit. It makes no difference to what is done, and `usize::MAX` looks nowhere. No search where the commit's
+    /// position stands at `near`.
+    pub fn insert_near(
         &mut self,
         near: &mut usize,
         commit: u64,

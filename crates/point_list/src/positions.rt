@@ -41,6 +41,15 @@ impl PositionList {
         }
     }
 
+    pub fn copy(&self, alloc: Global) -> Result<PositionList, NoMemory>
+        ensures { IfOk result (λ made. made ≡ self.now) }
+    {
+        Ok(PositionList {
+            slots: copies(alloc, &self.slots)?,
+            order: self.order.clone()?,
+        })
+    }
+
     pub fn len(&self) -> usize
         ensures { result ≡ length self.now }
     {
@@ -112,6 +121,17 @@ impl PositionList {
         let _ = self.slots.swap_remove(usize::from(slot));
         rename(self.order.make_contiguous(), last, slot);
     }
+}
+
+// Equal positions of their own, in the same slots.
+fn copies(alloc: Global, slots: &[StoredPosition]) -> Result<Vec<StoredPosition>, NoMemory>
+    ensures { IfOk result (λ made. made.items ≡ slots.now) }
+{
+    let mut made = Vec::with_capacity(alloc, slots.len())?;
+    for slot in slots {
+        made.push(slot.copy(alloc)?)?;
+    }
+    Ok(made)
 }
 
 // Writes one slot for another, wherever that stands.

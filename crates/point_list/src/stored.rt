@@ -5,7 +5,7 @@ ghost use Rattle.std.specs.List.Sorted.{IsNonDecreasingBy};
 ghost use Rattle.segment_model.specs.Segments.{position_values};
 ghost use Rattle.segment_model.specs.Limits.{HasStepsInOrder};
 ghost use Rattle.segment_model.specs.Edits.{with_value, position_of, by_another, same_position};
-ghost use Rattle.point_list.specs.Stored.{HasHalves, AreInOrder, as_steps, samples_of, samples_in};
+ghost use Rattle.point_list.specs.Stored.{HasHalves, AreInOrder, as_steps, samples_of, samples_before, samples_in, without};
 
 use crate::NoMemory;
 use smallvec::SmallVec;
@@ -17,9 +17,10 @@ use std::marker::Model;
 #[derive(Drop)]
 pub struct StoredPosition {
     commit: u64,
-    count: usize,
-    // Cells for values, and behind them as many for their steps, as signed numbers of the same bits. The first `count` of
-    // each are in use.
+    // Of each half of the cells, those from place `first` on and before place `end` are in use.
+    first: u32,
+    end: u32,
+    // Cells for values, and after them as many for their steps, as signed numbers of the same bits.
     cells: SmallVec<i64, 2>,
 }
 
@@ -29,9 +30,9 @@ impl Model for StoredPosition {
 
     ghost Value = { Position };
 
-    ghost view = { λ p. record { commit = p.commit; samples = samples_in p.count p.cells.items } };
+    ghost view = { λ p. record { commit = p.commit; samples = samples_in p.first p.end p.cells.items } };
 
-    ghost invariant = { λ p. HasHalves p.count p.cells.items };
+    ghost invariant = { λ p. HasHalves p.first p.end p.cells.items };
 }
 
 impl StoredPosition {
@@ -41,7 +42,8 @@ impl StoredPosition {
     {
         StoredPosition {
             commit,
-            count: 1,
+            first: 0,
+            end: 1,
             cells: SmallVec::from_buf(alloc, [value, step.cast_signed()]),
         }
     }
@@ -52,19 +54,18 @@ impl StoredPosition {
             (self.new ≡ with_value (record { step = step; value = value }) self.old) }
         ensures err { OnErr result (self.new ≡ self.old) }
     {
-        make_room(&mut self.cells, self.count)?;
-        put_behind(
-            self.cells.as_mut_slice(),
-            self.count,
-            step.cast_signed(),
-            value,
-        );
-        self.count += 1;
+        if self.end == u32::MAX {
+            return Err(NoMemory);
+        }
+        let end = self.end as usize;
+        make_room(&mut self.cells, end)?;
+        put_after(self.cells.as_mut_slice(), end, step.cast_signed(), value);
+        self.end += 1;
         Ok(())
     }
 
     // Takes away the values of a step, and gives their count. The steps don't fall. Logarithmic time in the values, but for
-    // moving those of later steps; takes no memory.
+    // moving those of earlier or of later steps, whichever are fewer; takes no memory.
     pub fn take_step(&mut self, step: u64) -> usize
         requires { HasStepsInOrder self.old }
         ensures left { self.new ≡ record {
@@ -73,10 +74,16 @@ impl StoredPosition {
         } }
         ensures gone { length self.new.samples + result ≡ length self.old.samples }
     {
-        let before = self.count;
-        let kept = keep_others(step, self.cells.as_mut_slice(), before);
-        self.count = kept;
-        before - kept
+        let before = self.len();
+        let (first, end) = keep_others(
+            step,
+            self.cells.as_mut_slice(),
+            self.first as usize,
+            self.end as usize,
+        );
+        self.first = first as u32;
+        self.end = end as u32;
+        before - (end - first)
     }
 
     pub fn commit(&self) -> u64
@@ -88,13 +95,13 @@ impl StoredPosition {
     pub fn len(&self) -> usize
         ensures { result ≡ length self.now.samples }
     {
-        self.count
+        (self.end - self.first) as usize
     }
 
     pub fn values(&self) -> &[i64]
         ensures { result.now ≡ position_values self.now }
     {
-        &self.cells.as_slice()[..self.count]
+        &self.cells.as_slice()[self.first as usize..self.end as usize]
     }
 
     // Whether both have one commit and equal values.
@@ -109,7 +116,8 @@ impl StoredPosition {
     {
         Ok(StoredPosition {
             commit: self.commit,
-            count: self.count,
+            first: self.first,
+            end: self.end,
             cells: copy_of(alloc, self.cells.as_slice())?,
         })
     }
@@ -126,15 +134,15 @@ fn copy_of(alloc: Global, cells: &[i64]) -> Result<SmallVec<i64, 2>, NoMemory>
 }
 
 // Makes both halves of the cells twice as long where all are in use; what the new cells hold means nothing.
-fn make_room(cells: &mut SmallVec<i64, 2>, count: usize) -> Result<(), NoMemory>
-    requires { HasHalves count cells.old.items }
-    ensures halves { OnOk result (HasHalves (count + 1) cells.new.items) }
+fn make_room(cells: &mut SmallVec<i64, 2>, end: usize) -> Result<(), NoMemory>
+    requires { HasHalves 0 end cells.old.items }
+    ensures halves { OnOk result (HasHalves 0 (end + 1) cells.new.items) }
     ensures same { OnOk result
-        (samples_in count cells.new.items ≡ samples_in count cells.old.items) }
+        (samples_before end cells.new.items ≡ samples_before end cells.old.items) }
     ensures err { OnErr result (cells.new.items ≡ cells.old.items) }
 {
     let half = cells.len() / 2;
-    if count < half {
+    if end < half {
         return Ok(());
     }
     let (values, steps) = cells.as_slice().split_at(half);
@@ -147,49 +155,65 @@ fn make_room(cells: &mut SmallVec<i64, 2>, count: usize) -> Result<(), NoMemory>
     Ok(())
 }
 
-// Puts a value behind the values in use, and its step behind theirs.
-fn put_behind(cells: &mut [i64], count: usize, step: i64, value: i64)
-    requires { HasHalves (count + 1) cells.old }
-    ensures put { samples_in (count + 1) cells.new ≡ samples_in count cells.old
+// Puts a value after the values in use, and its step after theirs.
+fn put_after(cells: &mut [i64], end: usize, step: i64, value: i64)
+    requires { HasHalves 0 (end + 1) cells.old }
+    ensures put { samples_before (end + 1) cells.new ≡ samples_before end cells.old
         ++ record { step = cast_unsigned w64 step; value = value } ∷ [] }
     ensures length { length cells.new ≡ length cells.old }
 {
     let (values, steps) = cells.split_at_mut(cells.len() / 2);
-    steps[count] = step;
-    values[count] = value;
+    steps[end] = step;
+    values[end] = value;
 }
 
-// Closes the gap that the values of a step leave in both halves, and gives the count of the others.
-fn keep_others(step: u64, cells: &mut [i64], count: usize) -> usize
-    requires halves { HasHalves count cells.old }
-    requires in_order { AreInOrder (samples_in count cells.old) }
-    ensures kept { samples_in result cells.new
-        ≡ filter (by_another step) (samples_in count cells.old) }
-    ensures within { result ≤ count }
+// Closes the gap that the values of a step leave in both halves, and gives the places where the others begin and end.
+fn keep_others(step: u64, cells: &mut [i64], first: usize, end: usize) -> (usize, usize)
+    requires halves { HasHalves first end cells.old }
+    requires in_order { AreInOrder (samples_in first end cells.old) }
+    ensures kept { samples_in result.0 result.1 cells.new
+        ≡ filter (by_another step) (samples_in first end cells.old) }
+    ensures first { first ≤ result.0 }
+    ensures order { result.0 ≤ result.1 }
+    ensures within { result.1 ≤ end }
     ensures length { length cells.new ≡ length cells.old }
 {
     let (values, steps) = cells.split_at_mut(cells.len() / 2);
-    keep_apart(step, steps, values, count)
+    keep_apart(step, steps, values, first, end)
 }
 
-// Closes the gap that a step and its values leave in both, and gives the count of the others.
-fn keep_apart(step: u64, steps: &mut [i64], values: &mut [i64], count: usize) -> usize
-    requires steps { count ≤ length steps.old }
-    requires values { count ≤ length values.old }
-    requires in_order { AreInOrder
-        (samples_of (as_steps (take count steps.old)) (take count values.old)) }
-    ensures kept { samples_of (as_steps (take result steps.new)) (take result values.new)
-        ≡ filter (by_another step)
-        (samples_of (as_steps (take count steps.old)) (take count values.old)) }
-    ensures within { result ≤ count }
+// Closes the gap that a step and its values leave in both, and gives the places where the others begin and end.
+fn keep_apart(
+    step: u64,
+    steps: &mut [i64],
+    values: &mut [i64],
+    first: usize,
+    end: usize,
+) -> (usize, usize)
+    requires order { first ≤ end }
+    requires steps { end ≤ length steps.old }
+    requires values { end ≤ length values.old }
+    requires in_order { AreInOrder (samples_of
+        (as_steps (drop first (take end steps.old))) (drop first (take end values.old))) }
+    ensures kept { samples_of (as_steps (drop result.0 (take result.1 steps.new)))
+        (drop result.0 (take result.1 values.new))
+        ≡ filter (by_another step) (samples_of
+        (as_steps (drop first (take end steps.old))) (drop first (take end values.old))) }
+    ensures first { first ≤ result.0 }
+    ensures order { result.0 ≤ result.1 }
+    ensures within { result.1 ≤ end }
     ensures steps { length steps.new ≡ length steps.old }
     ensures values { length values.new ≡ length values.old }
 {
-    let low = count_below(&steps[..count], step);
-    let high = count_up_to(&steps[..count], step);
-    close_gap(steps, count, low, high);
-    close_gap(values, count, low, high);
-    count - (high - low)
+    let low = count_below(&steps[first..end], step);
+    let high = count_up_to(&steps[first..end], step);
+    close_gap(steps, first, end, low, high);
+    close_gap(values, first, end, low, high);
+    if low < end - first - high {
+        (first + (high - low), end)
+    } else {
+        (first, end - (high - low))
+    }
 }
 
 // How many steps are below this one, where they don't fall. Logarithmic time.
@@ -216,14 +240,21 @@ fn count_up_to(steps: &[i64], step: u64) -> usize
     steps.partition_point(|s| s.cast_unsigned() <= step)
 }
 
-// Moves the cells from a place up to their count down to a lower place, over those between.
-fn close_gap(cells: &mut [i64], count: usize, low: usize, high: usize)
+// Closes a gap in the cells in use, from a place on and before a higher one among them: moves those in front of it up where
+// they are fewer, else those after it down.
+fn close_gap(cells: &mut [i64], first: usize, end: usize, low: usize, high: usize)
     requires order { low ≤ high }
-    requires high { high ≤ count }
-    requires count { count ≤ length cells.old }
-    ensures closed { take (count - (high - low)) cells.new
-        ≡ take low (take count cells.old) ++ drop high (take count cells.old) }
+    requires high { first + high ≤ end }
+    requires end { end ≤ length cells.old }
+    ensures up { low < end - first - high → drop (first + (high - low)) (take end cells.new)
+        ≡ without low high (drop first (take end cells.old)) }
+    ensures down { end - first - high ≤ low → drop first (take (end - (high - low)) cells.new)
+        ≡ without low high (drop first (take end cells.old)) }
     ensures length { length cells.new ≡ length cells.old }
 {
-    cells.copy_within(high..count, low);
+    if low < end - first - high {
+        cells.copy_within(first..first + low, first + (high - low));
+    } else {
+        cells.copy_within(first + high..end, first + low);
+    }
 }

@@ -141,7 +141,7 @@ fn place(placed: &mut Points, near: &mut usize, x: Coming) -> Result<(), NoMemor
     ensures ok { OnOk result (placed.new ≡ inserted x.commit (observed x) placed.old) }
     ensures err { OnErr result (placed.new ≡ placed.old) }
 {
-    match placed.insert(near, x.commit, x.step, x.value) {
+    match placed.insert_near(near, x.commit, x.step, x.value) {
         Ok(()) => Ok(()),
         Err(PointFault::NoMemory) => Err(NoMemory),
         Err(PointFault::SamplesFull) | Err(PointFault::PositionsFull) => unreachable!(),

@@ -5,7 +5,7 @@ use track_entry::{Entry, EntryFault, put_entry, read_entry, read_entry_v1};
 
 // Whether the text spells an entry, whose copy's spelling is the text.
 fn is_spelling(alloc: Global, text: &[u8]) -> bool {
-    let Ok(entry) = read_entry(alloc, &mut Names::new(alloc, 8), text) else {
+    let Ok(entry) = read_entry(alloc, text) else {
         return false;
     };
     let Ok(made) = entry.copy(alloc) else {
@@ -103,7 +103,7 @@ const NO_ENTRIES: [&str; 54] = [
 // Whether the text is refused.
 fn is_none(alloc: Global, text: &[u8]) -> bool {
     matches!(
-        read_entry(alloc, &mut Names::new(alloc, 8), text),
+        read_entry(alloc, text),
         Err(EntryFault::NotEntry)
     )
 }

@@ -18,6 +18,6 @@ pub use fault::EntryFault;
 pub use fits::{entry_law, legal_law};
 pub use history_model::{Author, Entry, Placed, Publication};
 pub use put::put_entry;
-pub use read::{entries_law, read_entry};
+pub use read::{entries_law, read_entry, read_entry_with};
 pub use std::alloc::AllocError as NoMemory;
 pub use versions::{entries_v1_law, read_entry_v1};

@@ -21,10 +21,18 @@ use metric_table::Limit;
 use sample_model::Samples;
 use std::alloc::Global;
 
-/// The entry that the text spells; `NotEntry` exactly where it spells none. Names that are kept are shared.
+/// The entry that the text spells; `NotEntry` exactly where it spells none.
 ///
-/// Linear in the text, and takes memory in proportion to it.
-pub fn read_entry(alloc: Global, names: &mut Names, text: &[u8]) -> Result<Entry, EntryFault>
+/// Linear in the text, and takes memory in proportion to it. Who reads many shares their names by [`read_entry_with`].
+pub fn read_entry(alloc: Global, text: &[u8]) -> Result<Entry, EntryFault>
+    ensures spelt { IfOk result (λ entry. SpellsEntry text.now entry) }
+    ensures none { result ≡ Err EntryFault.NotEntry → (e : AnEntry) → ¬ SpellsEntry text.now e }
+{
+    read_entry_with(alloc, &mut Names::new(alloc, 8), text)
+}
+
+/// As [`read_entry`], but names that are kept are shared.
+pub fn read_entry_with(alloc: Global, names: &mut Names, text: &[u8]) -> Result<Entry, EntryFault>
     ensures spelt { IfOk result (λ entry. SpellsEntry text.now entry) }
     ensures none { result ≡ Err EntryFault.NotEntry → (e : AnEntry) → ¬ SpellsEntry text.now e }
 {

@@ -5,7 +5,7 @@ ghost use Rattle.track_entry.specs.Versions.{IsOfV1, SpellsV1, IsOneEntryV1};
 
 use crate::NoMemory;
 use crate::fault::EntryFault;
-use crate::read::{entries_law, read_entry};
+use crate::read::{entries_law, read_entry_with};
 use history_model::Entry;
 use line_text::Names;
 use std::alloc::Global;
@@ -20,10 +20,10 @@ pub fn read_entry_v1(alloc: Global, names: &mut Names, text: &[u8]) -> Result<En
 {
     entries_law();
     if !begins_setting(text) {
-        return read_entry(alloc, names, text);
+        return read_entry_with(alloc, names, text);
     }
     let longer = with_length(alloc, text)?;
-    let entry = read_entry(alloc, names, longer.as_slice())?;
+    let entry = read_entry_with(alloc, names, longer.as_slice())?;
     if !is_of_v1(&entry) {
         return Err(EntryFault::NotEntry);
     }

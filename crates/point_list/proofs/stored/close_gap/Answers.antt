@@ -1,18 +1,13 @@
-use Rattle.std.proofs.Common.{◌≡◌, ◌+◌, ◌-◌, ◌++◌, List, ℕ, ℤ, take, drop, sym, ap, ap₂, ◌∙◌, arith, length-drop, take-take}
-use Rattle.std.proofs.lemmas.List.{drop-take}
-use Rattle.std.proofs.lemmas.List.Edits.{take-paste}
+use Rattle.std.proofs.Common.{◌∙◌, ◌+◌, ◌-◌, ap, drop, take}
+use Rattle.point_list.proofs.Gaps.{closed-up, closed-down}
 use Rattle.point_list.proofs.stored.close_gap.Goals as goal
 
-pub returns-clause-closed : goal.returns-clause-closed
-returns-clause-closed c =
-    let cells : List ℤ = c.args.cells.now in
-    let low : ℕ = c.args.low in
-    let high : ℕ = c.args.high in
-    let count : ℕ = c.args.count in
-    let n : ℕ = count - high in
-    let left : count - (high - low) ≡ low + n = omega (arith, c.requires.order, c.requires.high) in
-    let whole : high + n ≡ count = omega (arith, c.requires.high) in
-    ap₂ take left c.copy_within.ensures.after
-    ∙ take-paste cells low (drop high cells) n (omega (arith, c.requires.order, c.requires.high, c.requires.count)) (omega (arith, c.requires.count, length-drop high cells))
-    ∙ ap₂ (λ (xs ys : List ℤ). xs ++ ys) (sym (take-take low count cells (omega (arith, c.requires.order, c.requires.high))))
-    (sym (drop-take high n cells) ∙ ap (λ k. drop high (take k cells)) whole)
+pub returns-then-low-end-clause-up : goal.returns-then-low-end-clause-up
+returns-then-low-end-clause-up c less =
+    ap (λ xs. drop (c.args.first + (c.args.high - c.args.low)) (take c.args.end xs)) c.copy_within.ensures.after
+    ∙ closed-up c.args.cells.now c.args.first c.args.end c.args.low c.args.high c.requires.order c.requires.high c.requires.end
+
+pub returns-else-low-end-clause-down : goal.returns-else-low-end-clause-down
+returns-else-low-end-clause-down c most =
+    ap (λ xs. drop c.args.first (take (c.args.end - (c.args.high - c.args.low)) xs)) c.copy_within-else-low-end.ensures.after
+    ∙ closed-down c.args.cells.now c.args.first c.args.end c.args.low c.args.high c.requires.order c.requires.high c.requires.end

@@ -14,11 +14,11 @@ ok-same text (Err x) same is = tt
 
 pub returns-then-not-begins_setting-clause-spelt : goal.returns-then-not-begins_setting-clause-spelt
 returns-then-not-begins_setting-clause-spelt c =
-    ok-same c.args.text.now c.read_entry.result (λ e. spells-same c.args.text.now e (c.begins_setting.ensures.no c.if-not-begins_setting.true)) c.read_entry.ensures.spelt
+    ok-same c.args.text.now c.read_entry_with.result (λ e. spells-same c.args.text.now e (c.begins_setting.ensures.no c.if-not-begins_setting.true)) c.read_entry_with.ensures.spelt
 
 pub returns-then-not-begins_setting-clause-none : goal.returns-then-not-begins_setting-clause-none
 returns-then-not-begins_setting-clause-none c given e spells =
-    c.read_entry.ensures.none given e (same-spells c.args.text.now e (c.begins_setting.ensures.no c.if-not-begins_setting.true) spells)
+    c.read_entry_with.ensures.none given e (same-spells c.args.text.now e (c.begins_setting.ensures.no c.if-not-begins_setting.true) spells)
 
 pub returns-then-not-is_of_v1-clause-none : goal.returns-then-not-is_of_v1-clause-none
 returns-then-not-is_of_v1-clause-none c given e spells =
