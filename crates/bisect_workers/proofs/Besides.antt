@@ -26,8 +26,8 @@ use Rattle.track_follow.specs.Settling.{IsPut, IsSettled, IsTaken, entry_said}
 use Rattle.track_follow.specs.declared.settling.Settled.{Settled}
 use Rattle.track_model.specs.Following.{asked_commit, named_by}
 use Rattle.track_model.specs.Tracks.{Track, with_entry}
-use Rattle.track_work.specs.Work.{Work, bare, history_of}
-use Rattle.track_work.specs.declared.questions.Question.{Question}
+use Rattle.track_state.specs.Work.{Work, bare, history_of}
+use Rattle.track_state.specs.declared.questions.Question.{Question}
 use Rattle.track_room.specs.Asked.{ChangesAt}
 use Rattle.track_room.specs.Sights.{AddsOneAtMost, SeesMore, Sight, Visits, own_marks, seeing, track_of}
 use Rattle.track_room.specs.Taking.{IsQuestion, OfSeen, Settles, seen_of}

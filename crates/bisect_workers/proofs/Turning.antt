@@ -23,8 +23,8 @@ use Rattle.track_follow.specs.Settling.{IsPut, IsSettled, IsTaken, entry_said}
 use Rattle.track_follow.specs.declared.settling.Settled.{Settled}
 use Rattle.track_model.specs.Following.{asked_commit, named_by}
 use Rattle.track_model.specs.Tracks.{Track, with_entry}
-use Rattle.track_work.specs.Questions.{IsQuestion, NoneIsAsked}
-use Rattle.track_work.specs.declared.questions.Question.{Question}
+use Rattle.track_state.specs.Questions.{IsQuestion, NoneIsAsked}
+use Rattle.track_state.specs.declared.questions.Question.{Question}
 use Rattle.bisect_workers.specs.Bisecting.{IsBisected, IsDue, IsSaidBy, RoseBy}
 use Rattle.bisect_workers.specs.Failures.{failures}
 use Rattle.worker_model.specs.Findings.{AsksCommit, Finding, asked_name, finding_of, named_asked}

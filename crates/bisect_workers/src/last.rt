@@ -11,17 +11,17 @@ ghost use Rattle.bisect_workers.specs.Quiet.{NoneAsks};
 use crate::NoMemory;
 use crate::asking::ask;
 use history_model::{Author, within_law};
+use machine_state::MachineState;
 use metric_table::Limit;
 use std::alloc::Global;
 use track_follow::settle;
 use track_outside::Runner;
-use track_state::TrackState;
-use track_work::open_question;
+use track_state::open_question;
 
 // Asks the first question there is and says what was found; tells whether there was one.
 fn turn<R: Runner>(
     alloc: Global,
-    track: &mut TrackState,
+    track: &mut MachineState,
     test: &str,
     runner: &mut R,
 ) -> Result<bool, NoMemory>
@@ -52,7 +52,7 @@ fn turn<R: Runner>(
 /// was said stands. Returns where the runner's calls do.
 pub fn bisect_last<R: Runner>(
     alloc: Global,
-    track: &mut TrackState,
+    track: &mut MachineState,
     test: &str,
     runner: &mut R,
 ) -> Result<(), NoMemory>

@@ -4,7 +4,7 @@
 //! is tied to the runner's asks. [`bisect_last`] asks a runner each question of a machine's open jobs, until no job is open
 //! or there is no room for another entry.
 //!
-//! Stands on `track_room` for machines that running threads share, on `track_work` for questions, on `track_follow` for what
+//! Stands on `track_room` for machines that running threads share, on `track_state` for questions, on `track_follow` for what
 //! is said of them, and on `track_outside` for runners.
 #![tactic(auto)]
 

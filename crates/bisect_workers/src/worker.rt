@@ -13,7 +13,7 @@ use std::alloc::Global;
 use std::sync::Wait;
 use track_outside::{Gate, Runner};
 use track_room::{Ended, Room, RoomPass};
-use track_work::Question;
+use track_state::Question;
 
 // Asks a question of the runner, and says what became of it.
 fn finish<R: Wait, A: Runner, P: Pace>(

@@ -16,7 +16,10 @@ pub fn points_of(alloc: Global, lines: &[(u64, i64)]) -> Option<Points> {
         if value.unsigned_abs() > GREATEST as u64 {
             return None;
         }
-        if points.insert_near(&mut near, *commit, i as u64, *value).is_err() {
+        if points
+            .insert_near(&mut near, *commit, i as u64, *value)
+            .is_err()
+        {
             return None;
         }
     }

@@ -6,9 +6,9 @@ ghost use Rattle.journal_text.specs.Writing.{Pends, Writes};
 
 use crate::NoMemory;
 use crate::lines::{put_head, put_line};
+use machine_state::MachineState;
 use std::alloc::Global;
 use track_outside::{OutError, Sink, put_all};
-use track_state::TrackState;
 
 // So many bytes are handed out, and no more gathered.
 const MANY: usize = 0x1_0000;
@@ -16,7 +16,7 @@ const MANY: usize = 0x1_0000;
 /// Writes the journals of the machines, one after another. Linear in their text; keeps 64 KiB of it and one entry more.
 pub fn write_journals<O: Sink>(
     alloc: Global,
-    tracks: &[TrackState],
+    tracks: &[MachineState],
     out: &mut O,
 ) -> Result<(), OutError>
     ensures { Writes O.Sink out.old out.new (journals_text tracks.now) result }
@@ -28,7 +28,7 @@ pub fn write_journals<O: Sink>(
 }
 
 // Writes the journal of a machine.
-fn write_journal<O: Sink>(alloc: Global, track: &TrackState, out: &mut O) -> Result<(), OutError>
+fn write_journal<O: Sink>(alloc: Global, track: &MachineState, out: &mut O) -> Result<(), OutError>
     ensures { Writes O.Sink out.old out.new (journal_text track.now) result }
 {
     let mut text = Vec::new(alloc);
@@ -46,7 +46,7 @@ fn write_journal<O: Sink>(alloc: Global, track: &TrackState, out: &mut O) -> Res
 // Appends the line of an entry of the machine.
 fn put_step(
     alloc: Global,
-    track: &TrackState,
+    track: &MachineState,
     step: u64,
     text: &mut Vec<u8>,
 ) -> Result<(), NoMemory>

@@ -1,4 +1,11 @@
-pub mod Spaces
-pub mod Leading
-pub mod Unique
-pub mod Outcomes
+mod Placing
+mod Machines
+mod Once
+mod ComesBack
+mod Replayed
+mod NewRows
+pub mod Choices
+pub mod Followed
+pub mod Unpublished
+mod Examples
+mod Fitting

@@ -1,24 +1,24 @@
--- What holds of rows, whatever they stand for.
-use Rattle.std.specs.Prelude.{◌≡◌, ℕ, List}
-use Rattle.keep_rows.specs.Rows.{Row, IsRowOf}
-use Rattle.keep_rows.specs.Loading.{LeadsTo, IsBad}
+-- What holds of the rows of machines.
+use Rattle.std.specs.Prelude.{ℕ, List, ◌++◌, map, filter}
+use Rattle.history_model.specs.declared.entries.Entry.{Entry}
+use Rattle.history_model.specs.Allowed.{Legal}
+use Rattle.track_model.specs.Tracks.{Track}
+use Rattle.keep_rows.specs.Growth.{WentOn}
+use Rattle.keep_rows.specs.Kept.{is_kept, kept_of, AreKept}
+use Rattle.keep_rows.specs.Loading.{Stored, LeadTo}
+use Rattle.keep_rows.specs.Rows.{new_rows, session_rows, version_after}
 
--- bytes are one row at most
-abbrev pub RowsAreUnique : Type 0
-RowsAreUnique =
-    (bytes : List ℕ) (one other : Row) → IsRowOf bytes one → IsRowOf bytes other → one ≡ other
+-- what was kept comes back: rows that led to some machines, and the new rows of machines that went on from those, lead to
+-- each of the latter as it is kept
+abbrev pub KeptComesBack : Type 0
+KeptComesBack =
+    (rows : List (List ℕ)) (old : Stored) (new : List Track) → LeadTo rows old → WentOn old.machines new
+    → LeadTo (rows ++ new_rows old.version new) (record { machines = map kept_of new; version = version_after old.version (session_rows new) })
 
--- a row leads from a value to one other at most
-abbrev pub IsDetermined : {S : Type 0} → (S → List ℕ → S → Type 0) → Type 0
-IsDetermined {S = S} does =
-    (before : S) (row : List ℕ) (one other : S)
-    → does before row one → does before row other → one ≡ other
+-- what rows lead to is as a store keeps it
+abbrev pub LoadedAreKept : Type 0
+LoadedAreKept = (rows : List (List ℕ)) (stored : Stored) → LeadTo rows stored → AreKept stored.machines
 
--- rows have one outcome at most: they lead to one value at most, one of them at most is the bad one, and never both
-pub record HasOneOutcome {S : Type 0} (does : S → List ℕ → S → Type 0) : Type 0 where
-  pub value : (before : S) (rows : List (List ℕ)) (one other : S)
-      → LeadsTo does before rows one → LeadsTo does before rows other → one ≡ other
-  pub bad : (before : S) (rows : List (List ℕ)) (k j : ℕ)
-      → IsBad does before rows k → IsBad does before rows j → k ≡ j
-  pub either : (before after : S) (rows : List (List ℕ)) (k : ℕ)
-      → LeadsTo does before rows after → ¬ IsBad does before rows k
+-- a history without its publications is legal where the history is
+abbrev pub KeptIsLegal : Type 0
+KeptIsLegal = (h : List Entry) → Legal h → Legal (filter is_kept h)

@@ -1,27 +1,52 @@
--- The rows of a store: a machine, or an entry of a machine.
-use Rattle.std.specs.Prelude.{◌≡◌, ℕ, List, ◌∷◌, ◌++◌, drop, codes, Option, Some, None}
-use Rattle.line_text.specs.Names.{spelling, IsName}
+-- The rows that a session adds to a store: the version where it is new, then machine by machine, in order of declaration.
+use Rattle.std.specs.Prelude.{ℕ, Bool, true, false, ◌&&◌, if◌then◌else◌, List, [], ◌∷◌, ◌++◌, map, filter, codes, ◌==◌}
+use Rattle.std.specs.List.{flat_map}
+use Rattle.history_model.specs.declared.entries.Author.{Author}
+use Rattle.history_model.specs.declared.entries.Author.TheVariants as author
+use Rattle.history_model.specs.declared.entries.Placed.{Placed}
+use Rattle.store_rows.specs.Rows.{machine_row, entry_row, row_text}
+use Rattle.track_entry.specs.Texts.{entry_text}
+use Rattle.track_model.specs.Tracks.{Track}
+use Rattle.keep_rows.specs.Kept.{is_kept}
 
--- a row as what it says; an entry's text is whatever stands behind the machine
-pub data Row : Type 0 where
-  machine_row : List ℕ → Row
-  entry_row : List ℕ → List ℕ → Row
+-- anyone but the store made it
+abbrev pub is_of_session : Author → Bool
+is_of_session author.Kept = false
+is_of_session other = true
 
-abbrev pub row_text : Row → List ℕ
-row_text (machine_row machine) = codes "machine " ++ spelling machine
-row_text (entry_row machine text) = codes "entry " ++ (spelling machine ++ 32 ∷ text)
+-- an entry of this session that is kept
+abbrev pub is_new : Placed → Bool
+is_new p = is_of_session p.author && is_kept p.entry
 
--- the machine of a row
-abbrev pub machine_of : Row → List ℕ
-machine_of (machine_row machine) = machine
-machine_of (entry_row machine text) = machine
+-- the row of an entry
+abbrev pub row_of : List ℕ → Placed → List ℕ
+row_of machine p = row_text (entry_row machine (entry_text p.entry))
 
--- the bytes are the row's, and its machine has a name
-pub record IsRowOf (bytes : List ℕ) (row : Row) : Type 0 where
-  pub text : bytes ≡ row_text row
-  pub named : IsName (machine_of row)
+-- the machine's own row where the store had it not
+abbrev pub head_rows : Track → List (List ℕ)
+head_rows t = if t.kept then [] else row_text (machine_row t.machine) ∷ []
 
--- the row that bytes are, if their machine is this one, and an entry's text begins here
-abbrev pub row_at : List ℕ → List ℕ → Option ℕ → Row
-row_at bytes machine None = machine_row machine
-row_at bytes machine (Some at) = entry_row machine (drop at bytes)
+-- that row, and one for each new entry
+abbrev pub track_rows : Track → List (List ℕ)
+track_rows t = head_rows t ++ map (row_of t.machine) (filter is_new t.history)
+
+-- the rows of a session, machine by machine
+abbrev pub session_rows : List Track → List (List ℕ)
+session_rows tracks = flat_map track_rows tracks
+
+-- the row behind which all rows are of version 2
+abbrev pub format_row : List ℕ
+format_row = codes "format 2"
+
+-- new rows are of version 2; where the store's are of version 1 and there are new ones, `format 2` comes before them
+abbrev pub placed : ℕ → List (List ℕ) → List (List ℕ)
+placed version [] = []
+placed version (row ∷ rows) = if version == 1 then format_row ∷ row ∷ rows else row ∷ rows
+
+abbrev pub new_rows : ℕ → List Track → List (List ℕ)
+new_rows version tracks = placed version (session_rows tracks)
+
+-- the version of a store behind them
+abbrev pub version_after : ℕ → List (List ℕ) → ℕ
+version_after version [] = version
+version_after version (row ∷ rows) = 2

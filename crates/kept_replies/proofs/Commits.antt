@@ -11,9 +11,9 @@ use Rattle.request_model.specs.declared.replies.Answer.{Answer}
 use Rattle.request_model.specs.declared.replies.Answer.TheVariants as answer
 use Rattle.track_model.specs.Forms.{told_of, taken_by, commit}
 use Rattle.track_model.specs.Outcomes.{first}
-use Rattle.kept_machines.specs.Kept.{kept_entries}
+use Rattle.keep_rows.specs.Kept.{kept_entries}
 use Rattle.kept_replies.specs.Replies.{kept_step, kept_answer, kept_outcome, HasRoom}
-use Rattle.kept_machines.proofs.Choices.{find_map}
+use Rattle.keep_rows.proofs.Choices.{find_map}
 use Rattle.kept_replies.proofs.Outcomes.{next, form_so, form_kept, IsKept}
 use Rattle.kept_replies.proofs.Steps.{declared_at, kept_declarations}
 

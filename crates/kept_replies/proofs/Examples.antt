@@ -6,7 +6,7 @@ use Rattle.request_model.specs.declared.replies.Answer.TheVariants as answer
 use Rattle.track_model.specs.Forms.{commit, retract}
 use Rattle.track_model.specs.Outcomes.{tells}
 use Rattle.request_model.specs.declared.replies.Refusal.TheVariants as refusal
-use Rattle.kept_machines.specs.Kept.{kept_entries}
+use Rattle.keep_rows.specs.Kept.{kept_entries}
 use Rattle.kept_replies.specs.Replies.{kept_step, kept_answer}
 
 history : List Entry

@@ -21,10 +21,10 @@ use Rattle.request_model.specs.declared.replies.Answer.TheVariants as answer
 use Rattle.request_model.specs.declared.replies.Refusal.TheVariants as refusal
 use Rattle.track_model.specs.Following.{move_refusal, set_state, named_by, asked_commit, told_by, told_of, told_if, job_answer, job, begin, bisect_refusal, bisect, of_job, answer_refusal, say, answer_to, answer_job, is_found, resume_refusal, resume}
 use Rattle.track_model.specs.Outcomes.{Outcome, tells, refuses, refusal_if, first, unless, adds_within}
-use Rattle.kept_machines.specs.Kept.{kept_entries}
+use Rattle.keep_rows.specs.Kept.{kept_entries}
 use Rattle.kept_replies.specs.Replies.{kept_answer, kept_outcome, HasRoom}
-use Rattle.kept_machines.proofs.Choices.{same_number, same_name}
-use Rattle.kept_machines.proofs.Followed.{same_regressions, same_state, same_jobs}
+use Rattle.keep_rows.proofs.Choices.{same_number, same_name}
+use Rattle.keep_rows.proofs.Followed.{same_regressions, same_state, same_jobs}
 use Rattle.kept_replies.proofs.Limits.{kept_append}
 use Rattle.kept_replies.proofs.Outcomes.{next, plain, form_so, form_kept, IsKept, TellsNone}
 

@@ -8,9 +8,9 @@ use Rattle.metric_table.specs.declared.limits.Limit.{Limit}
 use Rattle.metric_table.specs.declared.limits.Limit.TheVariants as limit
 use Rattle.history_model.specs.declared.entries.Entry.{Entry}
 use Rattle.history_model.specs.Allowed.{count_of, first_passed}
-use Rattle.kept_machines.specs.Kept.{is_kept, kept_entries}
-use Rattle.kept_machines.proofs.Choices.{shorter}
-use Rattle.kept_machines.proofs.Unpublished.{IsUnpublished, count_equal}
+use Rattle.keep_rows.specs.Kept.{is_kept, kept_entries}
+use Rattle.keep_rows.proofs.Choices.{shorter}
+use Rattle.keep_rows.proofs.Unpublished.{IsUnpublished, count_equal}
 
 -- limits on anything but cuts
 abbrev pub AreUncut : List Limit → Type 0

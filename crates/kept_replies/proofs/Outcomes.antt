@@ -11,7 +11,7 @@ use Rattle.request_model.specs.declared.replies.Answer.TheVariants as answer
 use Rattle.request_model.specs.declared.replies.Refusal.{Refusal}
 use Rattle.track_model.specs.Outcomes.{Outcome, refusal_if, first, unless, added_unless, adds_within}
 use Rattle.track_model.specs.Replies.{reply_of}
-use Rattle.kept_machines.specs.Kept.{is_kept, kept_entries}
+use Rattle.keep_rows.specs.Kept.{is_kept, kept_entries}
 use Rattle.kept_replies.specs.Replies.{kept_step, kept_refusal, kept_answer, kept_outcome, kept_reply, behind, HasRoom}
 use Rattle.kept_replies.proofs.Limits.{AreUncut, kept_append, passed_so}
 

@@ -10,9 +10,9 @@ use Rattle.history_model.specs.declared.entries.Entry.{Entry}
 use Rattle.history_model.specs.declared.run.Run.{Run}
 use Rattle.history_model.specs.Positions.{Brought, brought, brought_by, observed, positions, positions_of, position_at, rising}
 use Rattle.history_model.specs.Runs.{Series, is_of, live_runs}
-use Rattle.kept_machines.proofs.Choices.{filter_map, map_map, map_so}
-use Rattle.kept_machines.proofs.Unpublished.{run_of, same_live}
-use Rattle.kept_machines.specs.Kept.{kept_entries}
+use Rattle.keep_rows.proofs.Choices.{filter_map, map_map, map_so}
+use Rattle.keep_rows.proofs.Unpublished.{run_of, same_live}
+use Rattle.keep_rows.specs.Kept.{kept_entries}
 
 -- what was brought, but for its step
 record Value : Type 0 where

@@ -18,13 +18,13 @@ use Rattle.history_model.specs.Runs.{Series, is_known}
 use Rattle.track_model.specs.Forms.{tune}
 use Rattle.track_model.specs.Outcomes.{Outcome, added_unless}
 use Rattle.track_model.specs.Publishing.{OfKnown, publication, publish, redone_since, segmented, IsPublished, SegmentComesTo, is_factor, OfFactor, OfMany, IsCalibrated, CalibrateComesTo}
-use Rattle.kept_machines.specs.Kept.{is_kept, kept_entries}
+use Rattle.keep_rows.specs.Kept.{is_kept, kept_entries}
 use Rattle.kept_replies.specs.Replies.{kept_outcome, HasRoom, is_refused, TellSameCuts, PublishSameCuts}
-use Rattle.kept_machines.proofs.Choices.{same_plain}
+use Rattle.keep_rows.proofs.Choices.{same_plain}
 use Rattle.kept_replies.proofs.Outcomes.{IsKept}
 use Rattle.kept_replies.proofs.Positions.{same_values, same_length}
 use Rattle.kept_replies.proofs.Runs.{tune_so, tune_kept}
-use Rattle.kept_machines.proofs.Unpublished.{known_so}
+use Rattle.keep_rows.proofs.Unpublished.{known_so}
 use Rattle.kept_replies.proofs.Values.{same_noise, same_stands}
 
 -- what holds of an outcome that has room holds of one that is the same

@@ -14,7 +14,7 @@ use Rattle.track_model.specs.Laws.{OneOutcome}
 use Rattle.track_model.specs.Outcomes.{Outcome, tells}
 use Rattle.track_model.specs.Replies.{reply_of}
 use Rattle.track_model.specs.Tracks.{ComesTo}
-use Rattle.kept_machines.specs.Kept.{kept_entries}
+use Rattle.keep_rows.specs.Kept.{kept_entries}
 use Rattle.kept_replies.specs.Replies.{kept_outcome, behind, HasRoom, IsOfKept, AnswersAlike, RepliesAlike, HistoriesAlike}
 use Rattle.kept_replies.proofs.Commits.{commit_so, commit_kept}
 use Rattle.kept_replies.proofs.Following.{state_so, state_kept, bisect_so, bisect_kept, answer_so, answer_kept, resume_so, resume_kept, told_job_so}

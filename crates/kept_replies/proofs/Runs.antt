@@ -17,12 +17,12 @@ use Rattle.request_model.specs.declared.replies.Refusal.TheVariants as refusal
 use Rattle.request_model.specs.declared.runs.RunLine.{RunLine}
 use Rattle.track_model.specs.Forms.{told_again, states_another, submitted, submit_refusal, submit, retract_refusal, retract, is_penalty, is_length, tune_refusal, tune, run_line, runs}
 use Rattle.track_model.specs.Outcomes.{Outcome, tells, refusal_if, first, unless, adds_within}
-use Rattle.kept_machines.specs.Kept.{kept_entries}
+use Rattle.keep_rows.specs.Kept.{kept_entries}
 use Rattle.kept_replies.specs.Replies.{kept_step, kept_answer, kept_outcome, HasRoom}
-use Rattle.kept_machines.proofs.Choices.{find_map, map_map, map_so, same_number, same_name}
+use Rattle.keep_rows.proofs.Choices.{find_map, map_map, map_so, same_number, same_name}
 use Rattle.kept_replies.proofs.Outcomes.{next, plain, form_so, form_kept, IsKept}
 use Rattle.kept_replies.proofs.Steps.{accepted_at, retracted_at, kept_acceptances, kept_retractions}
-use Rattle.kept_machines.proofs.Unpublished.{is_none_map}
+use Rattle.keep_rows.proofs.Unpublished.{is_none_map}
 
 module _ (h : List Entry) where
   -- ---- the run of a name, and its retraction

@@ -13,9 +13,9 @@ use Rattle.history_model.specs.declared.entries.Entry.TheVariants as entry
 use Rattle.history_model.specs.Commits.{declaration, declarations}
 use Rattle.history_model.specs.Entries.{chosen_from, chosen, entries_of}
 use Rattle.history_model.specs.Runs.{Retraction, acceptance, acceptances, retraction, retractions}
-use Rattle.kept_machines.specs.Kept.{is_kept, kept, kept_entries}
-use Rattle.kept_machines.proofs.Choices.{map_cons, declared_none}
-use Rattle.kept_machines.proofs.Unpublished.{accepted_none, taken_none}
+use Rattle.keep_rows.specs.Kept.{is_kept, kept, kept_entries}
+use Rattle.keep_rows.proofs.Choices.{map_cons, declared_none}
+use Rattle.keep_rows.proofs.Unpublished.{accepted_none, taken_none}
 use Rattle.kept_replies.specs.Replies.{StoreKeepsEntries, kept_step}
 
 -- a store keeps the kept entries

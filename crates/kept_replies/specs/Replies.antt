@@ -14,7 +14,7 @@ use Rattle.request_model.specs.declared.requests.Request.TheVariants as request
 use Rattle.track_model.specs.Outcomes.{Outcome}
 use Rattle.track_model.specs.Replies.{reply_of}
 use Rattle.track_model.specs.Tracks.{ComesTo, Track}
-use Rattle.kept_machines.specs.Kept.{kept_of, kept_entries}
+use Rattle.keep_rows.specs.Kept.{kept_of, kept_entries}
 
 -- they are those of the machine as a store keeps it
 abbrev pub StoreKeepsEntries : Type 0

@@ -4,7 +4,7 @@
 //! at what was published gets the same reply on it, with each step in the reply counted without publications, unless the history
 //! has no room for a step; and a segmentation that neither history refuses finds the same cuts.
 //!
-//! The definitions are in `specs/Replies.antt`. Stands on `kept_machines` for what is kept, and on `track_model` for what a
+//! The definitions are in `specs/Replies.antt`. Stands on `keep_rows` for what is kept, and on `track_model` for what a
 //! request comes to.
 #![tactic(auto)]
 

@@ -7,7 +7,7 @@ use Rattle.history_model.specs.declared.entries.Placed.{Placed}
 use Rattle.request_model.specs.declared.requests.Request.{Request}
 use Rattle.request_model.specs.declared.replies.Reply.{Reply}
 use Rattle.request_words.specs.Bodies.{Item}
-use Rattle.request_text.specs.Scripts.{Ending, IsScript, AsksFirst}
+use Rattle.request_reader.specs.Scripts.{Ending, IsScript, AsksFirst}
 use Rattle.reply_text.specs.Replies.{text_of}
 use Rattle.track_model.specs.Outcomes.{refuses}
 use Rattle.track_model.specs.Replies.{machine_of, apart}

@@ -9,7 +9,7 @@
 //! whole first pass these are the parts in the journals (`specs/Whole.antt`), and with what main adds behind them they fit
 //! (`specs/Ends.antt`). The law function does nothing; its contract is what it is for.
 //!
-//! Stands on `play_model` for replies, on `request_text` and `reply_text` for the bytes of scripts and transcripts, on
+//! Stands on `play_model` for replies, on `request_reader` and `reply_text` for the bytes of scripts and transcripts, on
 //! `track_outside` for what a runner was asked, and on `history_lock` for marks.
 #![tactic(auto)]
 

@@ -11,7 +11,7 @@ use Rattle.history_model.specs.declared.entries.Author.{Author}
 use Rattle.request_model.specs.declared.requests.Request.{Request}
 use Rattle.request_model.specs.declared.replies.Reply.{Reply}
 use Rattle.request_words.specs.Bodies.{Item}
-use Rattle.request_text.specs.Scripts.{AsksFirst, IsScript, Ending, end, cut_off, unfinished, ArePieces, Ends, long, last, inside, more}
+use Rattle.request_reader.specs.Scripts.{AsksFirst, IsScript, Ending, end, cut_off, unfinished, ArePieces, Ends, long, last, inside, more}
 use Rattle.reply_text.specs.Replies.{text_of}
 use Rattle.track_model.specs.Outcomes.{refuses}
 use Rattle.track_model.specs.Replies.{apart}

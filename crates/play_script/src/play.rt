@@ -1,7 +1,7 @@
 //! One script of a shared run.
 ghost use Rattle.std.specs.Prelude.{◌≡◌, ◌+◌, ◌≤◌, true};
 ghost use Rattle.track_outside.specs.Calls.{GaveAtMost};
-ghost use Rattle.request_text.specs.Scripts.{input_limit};
+ghost use Rattle.request_reader.specs.Scripts.{input_limit};
 ghost use Rattle.script_loop.specs.Paced.{Paced};
 ghost use Rattle.play_script.specs.Played.{IsPlayed, IsEmpty};
 

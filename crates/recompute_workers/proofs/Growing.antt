@@ -16,7 +16,7 @@ use Rattle.history_model.specs.Penalties.{SettingStays}
 use Rattle.history_model.specs.Runs.{Series, is_known}
 use Rattle.touch_model.specs.Laws.{KnownGrows, LatestStays, TouchesGrow}
 use Rattle.track_model.specs.Tracks.{Track, with_entry}
-use Rattle.track_work.specs.Work.{bare}
+use Rattle.track_state.specs.Work.{bare}
 use Rattle.recompute_workers.specs.Quiet.{IsQuiet}
 use Rattle.recompute_workers.specs.Recomputing.{AddsOne, AddsPublications, IsPublicationBy}
 use Rattle.recompute_workers.proofs.Handing.{last-allowed}

@@ -35,8 +35,8 @@ use Rattle.track_series.specs.declared.publishing.Published.{Published}
 use Rattle.track_series.specs.declared.publishing.Published.TheVariants as published
 use Rattle.track_series.specs.declared.redone.Redone.{Redone}
 use Rattle.track_series.specs.declared.snapshot.Snapshot.{Snapshot}
-use Rattle.track_state.specs.Made.{IsMadeFrom, entry_of, publication_from}
-use Rattle.track_work.specs.Work.{bare}
+use Rattle.machine_state.specs.Made.{IsMadeFrom, entry_of, publication_from}
+use Rattle.track_state.specs.Work.{bare}
 use Rattle.worker_model.specs.Quiet.{HasAllSteps, WouldPassCuts}
 use Rattle.recompute_workers.specs.Quiet.{IsQuiet}
 use Rattle.recompute_workers.specs.Recomputing.{AddsOne}

@@ -5,7 +5,7 @@ ghost use Rattle.history_model.specs.Runs.{is_known};
 ghost use Rattle.worker_model.specs.Quiet.{SeriesAreQuiet};
 ghost use Rattle.recompute_workers.specs.Quiet.{IsQuiet};
 ghost use Rattle.recompute_workers.specs.Recomputing.{AddsOne, AddsPublications};
-ghost use Rattle.track_work.specs.Work.{history_of};
+ghost use Rattle.track_state.specs.Work.{history_of};
 
 use crate::NoMemory;
 use history_model::{Author, growth_law, publication_law, setting_law};
@@ -13,10 +13,10 @@ use series_index::SeriesName;
 use std::alloc::Global;
 use touch_model::{stale_law, touch_law};
 use track_series::compute_apart;
-use track_work::WorkState;
+use track_state::TrackState;
 
 // Publishes a series, where it is stale.
-fn recompute_series(alloc: Global, work: &mut WorkState, name: &SeriesName) -> Result<(), NoMemory>
+fn recompute_series(alloc: Global, work: &mut TrackState, name: &SeriesName) -> Result<(), NoMemory>
     ensures added { AddsOne (author.Recompute 1) work.old.track work.new.track }
     ensures quiet { OnOk result (IsQuiet (history_of work.new) name.now) }
 {
@@ -36,7 +36,7 @@ fn recompute_series(alloc: Global, work: &mut WorkState, name: &SeriesName) -> R
 
 /// Ends all claims and publishes each stale series, in order of test and metric, as the first worker that recomputes.
 /// Where there is no memory, what was published stands. Always returns.
-pub fn recompute_last(alloc: Global, work: &mut WorkState) -> Result<(), NoMemory>
+pub fn recompute_last(alloc: Global, work: &mut TrackState) -> Result<(), NoMemory>
     ensures added { AddsPublications (author.Recompute 1) work.old.track work.new.track }
     ensures quiet { OnOk result (SeriesAreQuiet (history_of work.new)) }
 {

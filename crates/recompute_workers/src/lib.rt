@@ -4,7 +4,7 @@
 //! publications by its author alone. [`recompute_last`] publishes each stale series of a machine: then every known series
 //! has a publication at or after its last touch, unless a limit forbids it.
 //!
-//! Stands on `track_room` for machines that running threads share, on `track_work` for what is stale, and on
+//! Stands on `track_room` for machines that running threads share, on `track_state` for what is stale, and on
 //! `track_series` for segmentations.
 #![tactic(auto)]
 
@@ -15,5 +15,5 @@ mod worker;
 pub use last::recompute_last;
 pub use pace::{AtGate, Pace};
 pub use std::alloc::AllocError as NoMemory;
-pub use track_work::WorkState;
+pub use track_state::TrackState;
 pub use worker::{recompute, recompute_by};

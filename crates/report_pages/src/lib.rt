@@ -12,5 +12,8 @@ mod items;
 mod text;
 
 pub use as_json::put_json;
+pub use report_model::{
+    JobLine, JobLines, Pages, RegressionLine, RegressionLines, SeriesLine, SeriesLines, Told,
+};
 pub use std::alloc::AllocError as NoMemory;
 pub use text::put_text;

@@ -1,29 +1,18 @@
-//! The requests of a script, read from bytes in pieces.
+//! Requests as text: written here, and read by `request_reader`, whose calls are named from here too.
 //!
-//! A script is pieces one after another: a line, and as many bytes behind it as it counts. A line asks nothing where it is
-//! skipped, else one thing: a request, or the first refusal of reading that it meets. `specs/` has the definitions, from
-//! `Scripts` to `Unread`, `Next` and `Reading`. [`read_request`] reads the next request of a source in pieces, with the exact
-//! cause of each stop.
+//! A request has one spelling: the words of its form with single spaces between them, names and numbers in their one
+//! canonical spelling, and behind the line a body where it hands a run in. [`put_request`] appends it, and promises by the
+//! definitions of reading that a script of it asks the request: `specs/Written` says what is written, and of which requests.
 //!
-//! Stands on `request_words` for what a line asks with its body, on `request_model` for requests, on `line_text` for words
-//! and shared names, and on `track_outside` for sources.
+//! Stands on `request_words` and `request_reader` for what lines and scripts ask, on `request_model` for requests, on
+//! `line_text` for the spelling of names and numbers, and on `go_bench_text` and `lnt_report` for bodies.
 #![tactic(auto)]
 
-mod asked;
-mod body_read;
-mod last;
-mod laws;
-mod line;
-mod lines;
-mod need;
-mod pass;
-mod read;
-mod stop;
-mod whole;
+mod sound;
+mod write;
+mod write_line;
 
-pub use asked::Asked;
-pub use laws::{pieces_law, reading_law};
-pub use lines::Lines;
-pub use read::read_request;
+pub use go_bench_text::PutFault;
+pub use request_reader::{Asked, Lines, ReadStop, read_request};
 pub use std::alloc::AllocError as NoMemory;
-pub use stop::ReadStop;
+pub use write::put_request;

@@ -20,8 +20,8 @@ use Rattle.track_series.specs.declared.publishing.Published.{Published}
 use Rattle.track_series.specs.declared.redone.Redone.{Redone}
 use Rattle.track_series.specs.declared.snapshot.Snapshot.{Snapshot}
 use Rattle.track_series.proofs.Segmenting.{made-from, taken-history}
-use Rattle.track_state.specs.Made.{IsMadeFrom, entry_of}
-use Rattle.track_state.proofs.Publishing.{made-later}
+use Rattle.machine_state.specs.Made.{IsMadeFrom, entry_of}
+use Rattle.machine_state.proofs.Publishing.{made-later}
 use Rattle.room_tests.specs.Growth.{Grows, IsTakenBefore}
 
 -- ---- what a publication makes of a history

@@ -12,6 +12,6 @@ mod of_track_room;
 #[cfg(test)]
 mod of_track_series;
 #[cfg(test)]
-mod of_track_work;
+mod of_track_state;
 #[cfg(test)]
 mod of_workers;

@@ -6,15 +6,15 @@ ghost use Rattle.track_room.specs.Rooms.{IsFirst, IsPassOf};
 
 use history_model::Author;
 use journal_text::write_journals;
-use kept_machines::{Loaded, load};
+use keep_rows::{Loaded, load};
 use line_text::Names;
+use machine_state::MachineState;
 use request_model::{Answer, Refusal, Reply, Request};
 use request_words::{Head, item_of, read_head};
 use std::alloc::Global;
 use std::sync::Wait;
 use track_outside::{Keeper, MemKeeper, MemSink};
 use track_room::{Room, RoomPass};
-use track_state::TrackState;
 
 /// The rows of a machine of one commit.
 pub const DECLARED: &[&str] = &["machine m", "entry m commit 1 a"];
@@ -42,7 +42,7 @@ pub const BISECTED: &[&str] = &[
 ];
 
 /// The machines of these rows.
-pub fn machines(alloc: Global, rows: &[&str]) -> Option<Vec<TrackState>>
+pub fn machines(alloc: Global, rows: &[&str]) -> Option<Vec<MachineState>>
     ensures { IfSome result (λ states. length states.items ≤ most Machines) }
 {
     match MemKeeper::new(alloc, &[]) {
@@ -51,7 +51,7 @@ pub fn machines(alloc: Global, rows: &[&str]) -> Option<Vec<TrackState>>
     }
 }
 
-fn loaded<K: Keeper>(alloc: Global, keeper: &mut K, rows: &[&str]) -> Option<Vec<TrackState>>
+fn loaded<K: Keeper>(alloc: Global, keeper: &mut K, rows: &[&str]) -> Option<Vec<MachineState>>
     ensures { IfSome result (λ states. length states.items ≤ most Machines) }
 {
     for row in rows {
@@ -73,7 +73,7 @@ fn put_row<K: Keeper>(alloc: Global, keeper: &mut K, row: &str) -> bool {
 }
 
 /// The machine of these rows.
-pub fn machine_of(alloc: Global, rows: &[&str]) -> Option<TrackState> {
+pub fn machine_of(alloc: Global, rows: &[&str]) -> Option<MachineState> {
     match machines(alloc, rows) {
         Some(mut states) => states.pop(),
         None => None,
@@ -90,7 +90,7 @@ pub fn room_of(alloc: Global, rows: &[&str]) -> Option<(Room, RoomPass)>
     }
 }
 
-fn room_with(alloc: Global, states: Vec<TrackState>) -> Option<(Room, RoomPass)>
+fn room_with(alloc: Global, states: Vec<MachineState>) -> Option<(Room, RoomPass)>
     requires { length states.items ≤ most Machines }
     ensures { IfSome result (λ made. IsPassOf made.0 made.1 × IsFirst made.1) }
 {
@@ -101,7 +101,7 @@ fn room_with(alloc: Global, states: Vec<TrackState>) -> Option<(Room, RoomPass)>
 }
 
 /// Whether the journals of machines end so.
-pub fn journals_end(alloc: Global, states: &[TrackState], end: &str) -> bool {
+pub fn journals_end(alloc: Global, states: &[MachineState], end: &str) -> bool {
     match MemSink::new(alloc, 100_000, &[]) {
         Ok(mut out) => {
             write_journals(alloc, states, &mut out).is_ok() && out.bytes().ends_with(end.as_bytes())

@@ -2,19 +2,19 @@
 ghost use Rattle.publication_index.specs.Standing.{table_for};
 ghost use Rattle.std.specs.Prelude.{◌≡◌, IfSome};
 ghost use Rattle.history_model.specs.Entries.{entries_of};
-ghost use Rattle.track_state.specs.Made.{IsMadeFrom};
+ghost use Rattle.machine_state.specs.Made.{IsMadeFrom};
 ghost use Rattle.room_tests.specs.Growth.{Grows, IsTakenBefore};
 
 use crate::made::{MEASURED, machine_of};
 use history_model::{Author, publication_law};
 use line_text::Name;
+use machine_state::MachineState;
 use pelt_core::Table;
 use segment_cost::Square;
 use std::alloc::Global;
 use track_series::{Published, Redone, Snapshot, compute_apart, publish, take_snapshot};
-use track_state::TrackState;
 
-fn published(track: &mut TrackState, redone: Redone) -> Option<Published>
+fn published(track: &mut MachineState, redone: Redone) -> Option<Published>
     requires made { IsMadeFrom (entries_of track.old.history) redone.done }
     requires tabled { redone.table ≡ table_for redone.done }
     ensures { Grows track.old track.new }
@@ -27,7 +27,7 @@ fn published(track: &mut TrackState, redone: Redone) -> Option<Published>
 }
 
 // Publishes what is made of a snapshot that was taken before.
-fn made_of(alloc: Global, track: &mut TrackState, snapshot: Snapshot) -> Option<Published>
+fn made_of(alloc: Global, track: &mut MachineState, snapshot: Snapshot) -> Option<Published>
     requires { IsTakenBefore track.old snapshot }
     ensures { Grows track.old track.new }
 {
@@ -40,7 +40,7 @@ fn made_of(alloc: Global, track: &mut TrackState, snapshot: Snapshot) -> Option<
 
 fn publish_taken(
     alloc: Global,
-    track: &mut TrackState,
+    track: &mut MachineState,
     found: Option<Snapshot>,
 ) -> Option<Published>
     requires { IfSome found (IsTakenBefore track.old) }
@@ -52,7 +52,7 @@ fn publish_taken(
     }
 }
 
-fn taken(track: &mut TrackState, test: &Name, metric: &Name) -> Option<Snapshot>
+fn taken(track: &mut MachineState, test: &Name, metric: &Name) -> Option<Snapshot>
     ensures grows { Grows track.old track.new }
     ensures taken { IfSome result (IsTakenBefore track.new) }
 {
@@ -84,7 +84,7 @@ fn length_of(table: &Option<Table<Square>>) -> Option<usize> {
 }
 
 // The series is published anew, and then by both of two who took it, the second one first.
-fn is_handed_over(alloc: Global, track: &mut TrackState, test: &Name, metric: &Name) -> bool {
+fn is_handed_over(alloc: Global, track: &mut MachineState, test: &Name, metric: &Name) -> bool {
     let new = taken(track, test, metric);
     let is_new = is_of(&new, 8, 0, None);
     let told_new = publish_taken(alloc, track, new);

@@ -1,7 +1,7 @@
 //! Series that several take, and their tables.
 ghost use Rattle.std.specs.Prelude.{◌≡◌, IfSome};
 ghost use Rattle.publication_index.specs.Standing.{table_for};
-ghost use Rattle.track_state.specs.Made.{IsMadeFrom};
+ghost use Rattle.machine_state.specs.Made.{IsMadeFrom};
 ghost use Rattle.track_room.specs.Claims.{IsOf, taken_with};
 ghost use Rattle.track_room.specs.Rooms.{IsFirst, IsPassOf};
 ghost use Rattle.track_room.specs.Taking.{IsTaken, OfSeen};

@@ -3,13 +3,13 @@ ghost use Rattle.track_room.specs.Rooms.{IsPassOf};
 
 use crate::made::{BISECTED, MEASURED, journals_end, leaves, machine_of, room_of};
 use bisect_workers::{bisect, bisect_last};
+use machine_state::MachineState;
 use recompute_workers::{recompute, recompute_last};
 use std::alloc::Global;
 use std::sync::Wait;
 use track_outside::{MemRunner, OpenGate, Runner};
 use track_room::{Ended, Room, RoomPass};
 use track_state::TrackState;
-use track_work::WorkState;
 
 fn ended() -> Ended {
     let ended = Ended::new();
@@ -78,14 +78,14 @@ const ANSWERED: &str = "\n5 b1 answer 1 1 1\n";
 const GIVEN_UP: &str = "\n5 b1 giveup 1 1\n";
 
 // Main publishes what is stale.
-fn recomputes_last(alloc: Global, track: TrackState) -> bool {
-    let mut work = WorkState::new(track);
+fn recomputes_last(alloc: Global, track: MachineState) -> bool {
+    let mut work = TrackState::of(track);
     let done = recompute_last(alloc, &mut work).is_ok();
     journals_end(alloc, &[work.into_track()], PUBLISHED) && done
 }
 
 // Main asks what is open.
-fn bisects_last<A: Runner>(alloc: Global, mut track: TrackState, runner: &mut A) -> bool {
+fn bisects_last<A: Runner>(alloc: Global, mut track: MachineState, runner: &mut A) -> bool {
     let done = bisect_last(alloc, &mut track, "t", runner).is_ok();
     journals_end(alloc, &[track], ANSWERED) && done
 }

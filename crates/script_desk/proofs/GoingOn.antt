@@ -4,11 +4,11 @@ use Rattle.std.specs.List.{AllByRecursion}
 use Rattle.history_model.specs.declared.entries.Author.{Author}
 use Rattle.history_model.specs.declared.entries.Placed.{Placed}
 use Rattle.track_model.specs.Tracks.{Track}
-use Rattle.kept_machines.specs.Growth.{AreOfSession, GoOn, IsNewTrack, MayBeKept}
-use Rattle.kept_machines.specs.Kept.{kept_of, AreKept}
-use Rattle.kept_machines.specs.Laws.{KeptComesBack, LoadedAreKept}
-use Rattle.kept_machines.specs.Loading.{Stored}
-use Rattle.kept_machines.specs.Rows.{is_of_session}
+use Rattle.keep_rows.specs.Growth.{AreOfSession, GoOn, IsNewTrack, MayBeKept}
+use Rattle.keep_rows.specs.Kept.{kept_of, AreKept}
+use Rattle.keep_rows.specs.Laws.{KeptComesBack, LoadedAreKept}
+use Rattle.keep_rows.specs.Loading.{Stored}
+use Rattle.keep_rows.specs.Rows.{is_of_session}
 use Rattle.script_desk.specs.Growth.{AreBy, ComesBack, IsNew, Grows, SessionsGoOn, Stays}
 use Rattle.script_desk.specs.Sessions.{State}
 use Rattle.script_desk.proofs.Growing.{sessions_stay}

@@ -8,11 +8,11 @@ use Rattle.request_words.specs.Bodies.{Item}
 use Rattle.history_model.specs.declared.entries.Author.{Author}
 use Rattle.history_model.specs.declared.entries.Placed.{Placed}
 use Rattle.track_model.specs.Tracks.{Track}
-use Rattle.kept_machines.specs.Growth.{GoOn}
-use Rattle.kept_machines.specs.Kept.{kept_of, AreKept}
-use Rattle.kept_machines.specs.Loading.{Stored, LeadTo}
-use Rattle.kept_machines.specs.Rows.{is_of_session, new_rows, session_rows, version_after}
-pub use Rattle.kept_machines.specs.Machines.{IsOther, AreDifferent, names_of}
+use Rattle.keep_rows.specs.Growth.{GoOn}
+use Rattle.keep_rows.specs.Kept.{kept_of, AreKept}
+use Rattle.keep_rows.specs.Loading.{Stored, LeadTo}
+use Rattle.keep_rows.specs.Rows.{is_of_session, new_rows, session_rows, version_after}
+pub use Rattle.keep_rows.specs.Machines.{IsOther, AreDifferent, names_of}
 use Rattle.script_desk.specs.Sessions.{State, AnswersFor}
 use Rattle.script_loop.specs.Folds.{AreAnswers}
 

@@ -15,7 +15,7 @@ use Rattle.history_model.specs.Entries.{entries_of}
 use Rattle.track_model.specs.Outcomes.{Outcome, tells, refuses}
 use Rattle.track_model.specs.Replies.{machine_of, reply_of, apart}
 use Rattle.track_model.specs.Tracks.{Track, ComesTo, IsSameButTables, base_asked, with_answered, new_track as empty_track}
-pub use Rattle.kept_machines.specs.Machines.{is_track, changed}
+pub use Rattle.keep_rows.specs.Machines.{is_track, changed}
 
 -- a reply, and the tracks after it, in order of declaration
 pub record Answered : Type 0 where

@@ -12,8 +12,8 @@
 //! `specs/Sessions.antt` says what one request makes of the machines, `specs/Counting.antt` what it makes of the count, and
 //! `specs/Growth.antt` the laws.
 //!
-//! Stands on `script_loop` for how items are answered, on `request_model` and `request_words` for requests and items, on `track_step`, `track_state` and `track_model`
-//! for a machine's answers, and on `kept_machines`, which finds a machine among others.
+//! Stands on `script_loop` for how items are answered, on `request_model` and `request_words` for requests and items, on `track_step`, `machine_state` and `track_model`
+//! for a machine's answers, and on `keep_rows`, which finds a machine among others.
 #![tactic(auto)]
 
 mod counting;

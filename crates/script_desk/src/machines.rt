@@ -8,14 +8,14 @@ ghost use Rattle.script_desk.specs.Sessions.{added, unknown, Answers};
 
 use crate::NoMemory;
 use history_model::Author;
-use kept_machines::place_of;
+use keep_rows::place_of;
 use line_text::Name;
+use machine_state::MachineState;
 use metric_table::Limit;
 use pelt_core::Steps;
 use request_model::{Answer, Refusal, Reply, Request};
 use std::alloc::Global;
 use std::sync::ledger::Ledger;
-use track_state::TrackState;
 use track_step::answer;
 
 // Answers a request of a script, and adds what it adds: a machine, or an entry of one; by as many steps as a segmentation
@@ -23,7 +23,7 @@ use track_step::answer;
 pub(crate) fn answer_request<L: Ledger>(
     alloc: Global,
     author: Author,
-    machines: &mut Vec<TrackState>,
+    machines: &mut Vec<MachineState>,
     request: &Request,
     steps: &mut Steps<L>,
 ) -> Result<Reply, NoMemory>
@@ -41,7 +41,7 @@ pub(crate) fn answer_request<L: Ledger>(
 // Answers a request about a machine that isn't declared.
 fn answer_unknown(
     alloc: Global,
-    machines: &mut Vec<TrackState>,
+    machines: &mut Vec<MachineState>,
     request: &Request,
 ) -> Result<Reply, NoMemory>
     ensures ok { IfOk result (λ reply.
@@ -58,7 +58,7 @@ fn answer_unknown(
 // Declares a machine, if there are fewer than there may be.
 fn add_machine(
     alloc: Global,
-    machines: &mut Vec<TrackState>,
+    machines: &mut Vec<MachineState>,
     machine: &Name,
 ) -> Result<Reply, NoMemory>
     ensures ok { IfOk result (λ reply.
@@ -72,7 +72,7 @@ fn add_machine(
     let answer = Answer::Machine {
         machine: machine.copy(alloc)?,
     };
-    machines.push(TrackState::new(alloc, machine.copy(alloc)?, false))?;
+    machines.push(MachineState::new(alloc, machine.copy(alloc)?, false))?;
     Ok(apart(answer))
 }
 

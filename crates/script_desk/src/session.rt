@@ -8,13 +8,13 @@ use crate::NoMemory;
 use crate::counting::CountingDesk;
 use crate::machines::answer_request;
 use history_model::Author;
-use kept_machines::{comes_back_law, may_be_kept_law};
+use keep_rows::{comes_back_law, may_be_kept_law};
+use machine_state::MachineState;
 use pelt_core::Steps;
 use request_model::{Reply, Request};
 use std::alloc::Global;
 use std::marker::Model;
 use std::sync::ledger::Ledger;
-use track_state::TrackState;
 
 /// The machines of one thread, with the author of the entries that are added. Contracts see the author and the tracks, in
 /// order of declaration.
@@ -22,7 +22,7 @@ use track_state::TrackState;
 pub struct Session {
     alloc: Global,
     author: Author,
-    machines: Vec<TrackState>,
+    machines: Vec<MachineState>,
 }
 
 impl Model for Session {
@@ -39,7 +39,7 @@ impl Model for Session {
 
 impl Session {
     /// A session on these machines.
-    pub fn new(alloc: Global, author: Author, machines: Vec<TrackState>) -> Session
+    pub fn new(alloc: Global, author: Author, machines: Vec<MachineState>) -> Session
         ensures { result ≡ record { author = author; tracks = machines.items } }
     {
         Session {
@@ -82,7 +82,7 @@ impl Session {
     }
 
     /// The machines. Takes no memory.
-    pub fn machines(&self) -> &[TrackState]
+    pub fn machines(&self) -> &[MachineState]
         ensures { result.now ≡ self.now.tracks }
     {
         &self.machines

@@ -12,8 +12,8 @@ use Rattle.reply_text.specs.Replies.{text_of}
 use Rattle.request_words.specs.Bodies.{Item}
 use Rattle.script_loop.specs.Folds.{AnswersItem, AreAnswers}
 use Rattle.script_loop.specs.Outputs.{IsOutput}
-use Rattle.request_text.specs.declared.stop.ReadStop.{ReadStop}
-use Rattle.request_text.specs.declared.stop.ReadStop.TheVariants as read
+use Rattle.request_reader.specs.declared.stop.ReadStop.{ReadStop}
+use Rattle.request_reader.specs.declared.stop.ReadStop.TheVariants as read
 use Rattle.script_loop.specs.Stops.{stop_of}
 use Rattle.script_loop.specs.Paced.{IsLeft}
 use Rattle.script_loop.specs.Turns.{Gathers, WrittenBut}

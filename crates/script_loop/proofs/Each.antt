@@ -2,7 +2,7 @@
 use Rattle.std.proofs.Common.{◌≡◌, ℕ, ◌≤◌, inl, inr, true, List, [], ◌++◌, length, take, Option, None, Some, refl, sym, ap, subst, ◌∙◌, arith, append_assoc, append-nil, length-append, Ok, Err}
 use Rattle.std.specs.Prelude.{Bool, IfSome, OnErr, Result, option_to_list}
 use Rattle.track_outside.specs.declared.source.Source as source
-use Rattle.request_text.specs.Scripts.{AsksFirst}
+use Rattle.request_reader.specs.Scripts.{AsksFirst}
 use Rattle.script_loop.specs.declared.stop.Stop.TheVariants.{NoMemory}
 use Rattle.std.specs.Io.KnownBytes.{append_known}
 use Rattle.std.specs.List.{flat_map}
@@ -12,9 +12,9 @@ use Rattle.track_outside.specs.Calls.{Took, FailedIn, TookFront, TookPart}
 use Rattle.request_model.specs.declared.requests.Request.{Request}
 use Rattle.request_model.specs.declared.replies.Reply.{Reply}
 use Rattle.request_words.specs.Bodies.{Item}
-use Rattle.request_text.specs.Next.{items_of}
-use Rattle.request_text.specs.declared.asked.Asked.{Asked}
-use Rattle.request_text.specs.declared.asked.Asked.TheVariants as asked
+use Rattle.request_reader.specs.Next.{items_of}
+use Rattle.request_reader.specs.declared.asked.Asked.{Asked}
+use Rattle.request_reader.specs.declared.asked.Asked.TheVariants as asked
 use Rattle.reply_text.specs.Replies.{text_of}
 use Rattle.script_loop.specs.Folds.{AreAnswers}
 use Rattle.script_loop.specs.Outputs.{IsOutput}

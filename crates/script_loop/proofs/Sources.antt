@@ -3,14 +3,14 @@ use Rattle.std.proofs.Common.{◌≡◌, ℕ, ◌+◌, ◌≤◌, inl, inr, Bool
 use Rattle.std.specs.Io.KnownBytes.{prepend_known, IsAtEnd}
 use Rattle.std.proofs.lemmas.Option.{none-some}
 use Rattle.track_outside.specs.declared.source.Source.{Ghosts}
-use Rattle.request_text.specs.declared.asked.Asked.{Asked}
-use Rattle.request_text.specs.declared.stop.ReadStop.{ReadStop}
-use Rattle.request_text.specs.declared.stop.ReadStop.TheVariants as stop
+use Rattle.request_reader.specs.declared.asked.Asked.{Asked}
+use Rattle.request_reader.specs.declared.stop.ReadStop.{ReadStop}
+use Rattle.request_reader.specs.declared.stop.ReadStop.TheVariants as stop
 use Rattle.request_words.specs.Bodies.{Item}
-use Rattle.request_text.specs.Scripts.{end, cut_off, unfinished, Reads, IsScript, input_limit}
-use Rattle.request_text.specs.Unread.{Unread, nothing_read, GivesOpen}
-use Rattle.request_text.specs.Next.{items_of, Takes, TakesWhole, TakesLast, ReadsNext, Gave, GaveFew}
-use Rattle.request_text.specs.Reading.{PiecesComeFirst, PiecesJoin, StopsReading, TakesPast}
+use Rattle.request_reader.specs.Scripts.{end, cut_off, unfinished, Reads, IsScript, input_limit}
+use Rattle.request_reader.specs.Unread.{Unread, nothing_read, GivesOpen}
+use Rattle.request_reader.specs.Next.{items_of, Takes, TakesWhole, TakesLast, ReadsNext, Gave, GaveFew}
+use Rattle.request_reader.specs.Reading.{PiecesComeFirst, PiecesJoin, StopsReading, TakesPast}
 use Rattle.script_loop.specs.Stops.{stop_of}
 use Rattle.script_loop.specs.Outputs.{AsksFirst}
 use Rattle.script_loop.specs.Endings.{GaveOpen, HasRead}

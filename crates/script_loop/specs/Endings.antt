@@ -6,7 +6,7 @@ use Rattle.track_outside.specs.Calls.{Took, FailedIn, TookPart}
 use Rattle.track_outside.specs.declared.source.Source as source
 use Rattle.track_outside.specs.declared.sink.Sink as sink
 use Rattle.request_words.specs.Bodies.{Item}
-use Rattle.request_text.specs.Scripts.{end, cut_off, unfinished, Reads, IsScript, input_limit}
+use Rattle.request_reader.specs.Scripts.{end, cut_off, unfinished, Reads, IsScript, input_limit}
 use Rattle.script_loop.specs.declared.stop.Stop.{Stop}
 use Rattle.script_loop.specs.declared.stop.Stop.TheVariants.{ReadFault, WriteFault, CutOff, InputTooLong, NoMemory}
 use Rattle.request_model.specs.declared.requests.Request.{Request}

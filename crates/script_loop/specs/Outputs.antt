@@ -6,8 +6,8 @@ use Rattle.request_model.specs.declared.requests.Request.{Request}
 use Rattle.request_model.specs.declared.replies.Reply.{Reply}
 use Rattle.reply_text.specs.Replies.{text_of}
 use Rattle.request_words.specs.Bodies.{Item}
-use Rattle.request_text.specs.Scripts.{Ending, IsScript}
-pub use Rattle.request_text.specs.Scripts.{AsksFirst}
+use Rattle.request_reader.specs.Scripts.{Ending, IsScript}
+pub use Rattle.request_reader.specs.Scripts.{AsksFirst}
 use Rattle.script_loop.specs.Folds.{AreAnswers}
 
 -- the text that answers some items, and what stands after them

@@ -1,6 +1,6 @@
 -- Why reading stops, as why the answering of a script does.
-use Rattle.request_text.specs.declared.stop.ReadStop.{ReadStop}
-use Rattle.request_text.specs.declared.stop.ReadStop.TheVariants as read
+use Rattle.request_reader.specs.declared.stop.ReadStop.{ReadStop}
+use Rattle.request_reader.specs.declared.stop.ReadStop.TheVariants as read
 use Rattle.script_loop.specs.declared.stop.Stop.{Stop}
 use Rattle.script_loop.specs.declared.stop.Stop.TheVariants as stop
 

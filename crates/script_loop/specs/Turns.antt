@@ -6,9 +6,9 @@ use Rattle.track_outside.specs.Calls.{Took, FailedIn, TookPart}
 use Rattle.track_outside.specs.declared.source.Source as source
 use Rattle.track_outside.specs.declared.sink.Sink as sink
 use Rattle.request_words.specs.Bodies.{Item}
-use Rattle.request_text.specs.Next.{TakesWhole}
-use Rattle.request_text.specs.Scripts.{input_limit}
-use Rattle.request_text.specs.Unread.{Unread}
+use Rattle.request_reader.specs.Next.{TakesWhole}
+use Rattle.request_reader.specs.Scripts.{input_limit}
+use Rattle.request_reader.specs.Unread.{Unread}
 use Rattle.request_model.specs.declared.requests.Request.{Request}
 use Rattle.request_model.specs.declared.replies.Reply.{Reply}
 use Rattle.script_loop.specs.declared.stop.Stop.{Stop}

@@ -11,7 +11,7 @@
 //! `specs/Endings.antt` how its answering ends, and `specs/Paced.antt` what it comes to at a pace. What stands between two
 //! requests (`specs/Turns.antt`) no public contract cites.
 //!
-//! Stands on `request_text` and `reply_text` for the texts of requests and replies, and on `track_outside` for sources and
+//! Stands on `request_reader` and `reply_text` for the texts of requests and replies, and on `track_outside` for sources and
 //! sinks.
 #![tactic(auto)]
 

@@ -2,8 +2,8 @@
 ghost use Rattle.std.specs.Prelude.{◌≡◌, ◌≢◌, ◌+◌, ◌<◌, ◌≤◌, ℕ, true, List, [], All, length, OnOk, OnErr, IfOk, IfErr, option_to_list};
 ghost use Rattle.track_outside.specs.Calls.{GaveAtMost, Took};
 ghost use Rattle.request_words.specs.Bodies.{Item};
-ghost use Rattle.request_text.specs.Next.{items_of};
-ghost use Rattle.request_text.specs.Scripts.{input_limit};
+ghost use Rattle.request_reader.specs.Next.{items_of};
+ghost use Rattle.request_reader.specs.Scripts.{input_limit};
 ghost use Rattle.track_model.specs.Outcomes.{refuses};
 ghost use Rattle.track_model.specs.Replies.{apart};
 ghost use Rattle.script_loop.specs.Folds.{AreAnswers};
@@ -17,7 +17,7 @@ use crate::pace::{Pace, Together};
 use crate::replies::Replies;
 use crate::stop::Stop;
 use request_model::{Answer, Refusal, Reply};
-use request_text::{Asked, Lines, pieces_law, read_request};
+use request_reader::{Asked, Lines, pieces_law, read_request};
 use std::alloc::Global;
 use track_outside::{Sink, Source};
 

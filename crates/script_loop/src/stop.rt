@@ -2,7 +2,7 @@
 ghost use Rattle.std.specs.Prelude.{◌≡◌};
 ghost use Rattle.script_loop.specs.Stops.{stop_of};
 
-use request_text::ReadStop;
+use request_reader::ReadStop;
 
 /// Why the answering of a script ends early.
 #[derive(Clone, Copy, Debug, PartialEq, Eq)]

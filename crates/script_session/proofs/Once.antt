@@ -8,8 +8,8 @@ use Rattle.request_model.specs.declared.requests.Request.{Request}
 use Rattle.request_model.specs.declared.replies.Reply.{Reply}
 use Rattle.reply_text.specs.Replies.{text_of}
 use Rattle.request_words.specs.Bodies.{Item}
-use Rattle.request_text.specs.Scripts.{Ending, end, Reads, IsScript, input_limit}
-use Rattle.request_text.specs.Reading.{OneReading, PiecesAreFirst}
+use Rattle.request_reader.specs.Scripts.{Ending, end, Reads, IsScript, input_limit}
+use Rattle.request_reader.specs.Reading.{OneReading, PiecesAreFirst}
 use Rattle.history_model.specs.declared.entries.Author.{Author}
 use Rattle.history_model.specs.Entries.{entries_of}
 use Rattle.track_model.specs.Laws.{OneOutcome}

@@ -1,7 +1,7 @@
 -- What was read before a fault of the input is asked first.
 use Rattle.std.proofs.Common.{◌≡◌, ℕ, ◌+◌, inl, false, List, [], ◌++◌, length, sym, ap, subst, ◌∙◌, arith, append_assoc, append-nil, length-append}
 use Rattle.request_words.specs.Bodies.{Item}
-use Rattle.request_text.specs.Scripts.{ArePieces, Ends, long, last, inside, more, unfinished}
+use Rattle.request_reader.specs.Scripts.{ArePieces, Ends, long, last, inside, more, unfinished}
 use Rattle.script_session.specs.Laws.{OpenIsFirst}
 
 module _ (at : ℕ) (back : List ℕ) (items : List Item) where

@@ -5,7 +5,7 @@ use Rattle.request_model.specs.declared.requests.Request.{Request}
 use Rattle.request_model.specs.declared.requests.Request.TheVariants as request
 use Rattle.request_model.specs.declared.replies.Reply.{Reply}
 use Rattle.request_words.specs.Bodies.{Item}
-use Rattle.request_text.specs.Scripts.{Ending, IsScript}
+use Rattle.request_reader.specs.Scripts.{Ending, IsScript}
 use Rattle.script_loop.specs.Outputs.{IsOutput, Out, AsksFirst}
 use Rattle.script_loop.specs.Endings.{GaveOpen}
 

@@ -4,7 +4,7 @@ use Rattle.std.specs.List.{flat_map}
 use Rattle.request_model.specs.declared.replies.Reply.{Reply}
 use Rattle.reply_text.specs.Replies.{text_of}
 use Rattle.request_words.specs.Bodies.{Item}
-use Rattle.request_text.specs.Scripts.{Ending, IsScript}
+use Rattle.request_reader.specs.Scripts.{Ending, IsScript}
 use Rattle.script_desk.specs.Sessions.{State, AnswersFor, AnswersSome, is_of_segmentations}
 use Rattle.script_loop.specs.Folds.{AreAnswers}
 use Rattle.script_loop.specs.Outputs.{Out}

@@ -2,7 +2,7 @@
 ghost use Rattle.std.specs.Prelude.{◌≡◌, ◌+◌, ◌≤◌, ℕ, List};
 ghost use Rattle.track_outside.specs.Calls.{GaveAtMost};
 ghost use Rattle.request_words.specs.Bodies.{Item};
-ghost use Rattle.request_text.specs.Scripts.{input_limit};
+ghost use Rattle.request_reader.specs.Scripts.{input_limit};
 ghost use Rattle.script_loop.specs.Endings.{HasRead, HasWritten, HasAnswered};
 ghost use Rattle.script_desk.specs.Counting.{Counting, counted};
 

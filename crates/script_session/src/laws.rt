@@ -19,7 +19,7 @@ ghost use Rattle.script_session.specs.Part.{
   PartOfEach,
 };
 
-use request_text::reading_law;
+use request_reader::reading_law;
 use track_model::outcome_law;
 
 /// A request has one answer and items have one output, which exists where their outcomes are computed; a script has one

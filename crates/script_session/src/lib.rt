@@ -14,7 +14,7 @@
 //! `specs/Laws.antt` the laws; what an output is `script_loop` says.
 //!
 //! Stands on `script_loop` for the loop over the requests of an input, on `script_desk` for what answers one, on
-//! `request_text` and `reply_text` for the texts of requests and replies, and on `track_outside` for sources and sinks.
+//! `request_reader` and `reply_text` for the texts of requests and replies, and on `track_outside` for sources and sinks.
 #![tactic(auto)]
 
 mod counted;

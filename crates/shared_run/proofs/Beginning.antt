@@ -10,13 +10,13 @@ use Rattle.history_model.specs.declared.entries.Entry.{Entry}
 use Rattle.history_model.specs.declared.entries.Placed.{Placed}
 use Rattle.history_model.specs.Entries.{entries_of}
 use Rattle.track_model.specs.Tracks.{Track}
-use Rattle.kept_machines.specs.Kept.{kept, kept_entries, kept_of}
-use Rattle.kept_machines.specs.Machines.{AreDifferent, IsOther, is_track, names_of}
+use Rattle.keep_rows.specs.Kept.{kept, kept_entries, kept_of}
+use Rattle.keep_rows.specs.Machines.{AreDifferent, IsOther, is_track, names_of}
 use Rattle.play_crew.specs.Rooms.{IsPassOf}
 use Rattle.play_crew.specs.Sights.{Home, IsFirstOf, Sight}
 use Rattle.play_crew.specs.Gathered.{AreKept}
 use Rattle.play_crew.specs.Seats as seats
-use Rattle.kept_machines.specs.Loading.{Stored}
+use Rattle.keep_rows.specs.Loading.{Stored}
 use Rattle.shared_run.specs.Beginnings.{AreStored, Begins, MayBeStarted, WasStarted}
 use Rattle.shared_run.specs.Lists.{listed_track, with_listed, with_machine}
 

@@ -4,14 +4,14 @@ use Rattle.std.specs.Prelude.{◌⊎◌, Result, take, slice_get, find, is_some,
 use Rattle.std.proofs.lemmas.Bool.{cases_lt}
 use Rattle.std.proofs.lemmas.Option.{slice_get_within}
 use Rattle.command_words.specs.Plans.{Plan}
-use Rattle.keep_rows.specs.Laws.{HasOneOutcome}
-use Rattle.kept_machines.specs.Loading.{Stored, nothing_stored, Makes, IsFirstBad, LeadTo}
-use Rattle.kept_machines.specs.Machines.{is_track}
+use Rattle.store_rows.specs.Laws.{HasOneOutcome}
+use Rattle.keep_rows.specs.Loading.{Stored, nothing_stored, Makes, IsFirstBad, LeadTo}
+use Rattle.keep_rows.specs.Machines.{is_track}
 use Rattle.metric_table.specs.Limits.{most}
 use Rattle.metric_table.specs.declared.limits.Limit.TheVariants.{Machines}
 use Rattle.play_fits.specs.Workers.{Asked}
-use Rattle.request_text.specs.Reading.{OneReading}
-use Rattle.request_text.specs.Scripts.{Ending, end, cut_off, unfinished, IsScript, input_limit}
+use Rattle.request_reader.specs.Reading.{OneReading}
+use Rattle.request_reader.specs.Scripts.{Ending, end, cut_off, unfinished, IsScript, input_limit}
 use Rattle.request_words.specs.Bodies.{Item}
 use Rattle.script_loop.specs.declared.stop.Stop.{Stop}
 use Rattle.script_loop.specs.declared.stop.Stop.TheVariants as stop

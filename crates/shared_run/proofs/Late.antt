@@ -17,9 +17,9 @@ use Rattle.command_words.specs.Plans.{Plan, AreScripts}
 use Rattle.metric_table.specs.Limits.{most}
 use Rattle.metric_table.specs.declared.limits.Limit.TheVariants.{Machines}
 use Rattle.track_model.specs.Tracks.{Track}
-use Rattle.kept_machines.specs.Rows.{new_rows}
+use Rattle.keep_rows.specs.Rows.{new_rows}
 use Rattle.journal_text.specs.Journals.{journals_text}
-use Rattle.request_text.specs.Scripts.{Ending, end, cut_off, unfinished, IsScript}
+use Rattle.request_reader.specs.Scripts.{Ending, end, cut_off, unfinished, IsScript}
 use Rattle.script_files.specs.declared.open.OpenScript.{OpenScript}
 use Rattle.script_files.specs.Opening.{calls_for}
 use Rattle.script_files.specs.Closing.{RoseBy, failed_inputs, failed_outputs}

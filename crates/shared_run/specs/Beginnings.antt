@@ -5,10 +5,10 @@ use Rattle.track_outside.specs.Kept.{with_more}
 use Rattle.track_outside.specs.declared.keeper.Keeper as keeper
 use Rattle.command_words.specs.Plans.{Plan}
 use Rattle.track_model.specs.Tracks.{Track}
-use Rattle.keep_rows.specs.Faults.{MayHaveName}
-use Rattle.kept_machines.specs.Kept.{AreKept}
-use Rattle.kept_machines.specs.Loading.{Stored, nothing_stored, LeadTo, IsFirstBad}
-use Rattle.kept_machines.specs.Rows.{new_rows}
+use Rattle.store_rows.specs.Faults.{MayHaveName}
+use Rattle.keep_rows.specs.Kept.{AreKept}
+use Rattle.keep_rows.specs.Loading.{Stored, nothing_stored, LeadTo, IsFirstBad}
+use Rattle.keep_rows.specs.Rows.{new_rows}
 use Rattle.shared_run.specs.declared.stop.RunStop.{RunStop}
 use Rattle.shared_run.specs.declared.stop.RunStop.TheVariants.{NoMemory, StoreFault, BadStore, Full}
 use Rattle.shared_run.specs.Lists.{with_listed, IsFullAt}

@@ -1,6 +1,6 @@
 -- The stops at which a run ends where a part of it finds a fault.
-use Rattle.keep_rows.specs.declared.append.AppendFault.{AppendFault}
-use Rattle.keep_rows.specs.declared.append.AppendFault.TheVariants as append
+use Rattle.store_rows.specs.declared.append.AppendFault.{AppendFault}
+use Rattle.store_rows.specs.declared.append.AppendFault.TheVariants as append
 use Rattle.script_files.specs.declared.open.OpenFault.{OpenFault as Fault}
 use Rattle.script_files.specs.declared.open.OpenFault.TheVariants as opening
 use Rattle.shared_run.specs.declared.stop.RunStop.{RunStop}

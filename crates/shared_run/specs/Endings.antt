@@ -12,10 +12,10 @@ use Rattle.command_words.specs.Plans.{Plan, transcript_of}
 use Rattle.metric_table.specs.Limits.{most}
 use Rattle.metric_table.specs.declared.limits.Limit.TheVariants.{Machines}
 use Rattle.track_model.specs.Tracks.{Track}
-use Rattle.kept_machines.specs.Loading.{Stored, nothing_stored, LeadTo, IsFirstBad}
+use Rattle.keep_rows.specs.Loading.{Stored, nothing_stored, LeadTo, IsFirstBad}
 use Rattle.journal_text.specs.Journals.{journals_text}
 use Rattle.request_words.specs.Bodies.{Item}
-use Rattle.request_text.specs.Scripts.{Ending, end, cut_off, unfinished, IsScript}
+use Rattle.request_reader.specs.Scripts.{Ending, end, cut_off, unfinished, IsScript}
 use Rattle.play_fits.specs.Fits.{Play, Played, Fits}
 use Rattle.play_fits.specs.Quiet.{IsQuiet}
 use Rattle.play_fits.specs.Workers.{Asked}

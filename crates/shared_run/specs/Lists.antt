@@ -3,7 +3,7 @@ use Rattle.std.specs.Prelude.{◌≡◌, ℕ, ◌+◌, false, if◌then◌else�
 use Rattle.metric_table.specs.Limits.{most}
 use Rattle.metric_table.specs.declared.limits.Limit.TheVariants.{Machines}
 use Rattle.track_model.specs.Tracks.{Track, new_track}
-use Rattle.kept_machines.specs.Machines.{is_track}
+use Rattle.keep_rows.specs.Machines.{is_track}
 
 -- a machine of no entries, which the store doesn't have
 abbrev pub listed_track : List ℕ → Track

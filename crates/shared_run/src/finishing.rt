@@ -8,9 +8,9 @@ ghost use Rattle.shared_run.specs.Crews.{Finishes};
 
 use crate::run::word_in;
 use command_words::PlayPlan;
+use machine_state::MachineState;
 use std::alloc::Global;
 use track_outside::Runner;
-use track_state::TrackState;
 use worker_crew::{bisect_each, recompute_each};
 
 // Does what the workers left of these machines, as the first worker of each kind, with the first runner, where there are workers
@@ -18,10 +18,10 @@ use worker_crew::{bisect_each, recompute_each};
 pub(crate) fn finish<N: Runner>(
     alloc: Global,
     plan: &PlayPlan<'_>,
-    left: Vec<TrackState>,
-    published: Vec<TrackState>,
+    left: Vec<MachineState>,
+    published: Vec<MachineState>,
     runners: &mut [N],
-) -> (Vec<TrackState>, bool)
+) -> (Vec<MachineState>, bool)
     requires none { published.items ≡ [] }
     requires room { length left.items ≤ vec_capacity published }
     requires enough { plan.now.bisect ≤ length runners.old }
@@ -46,9 +46,9 @@ pub(crate) fn both(one: bool, other: bool) -> bool
 fn finish_series(
     alloc: Global,
     workers: u8,
-    left: Vec<TrackState>,
-    mut published: Vec<TrackState>,
-) -> (Vec<TrackState>, bool)
+    left: Vec<MachineState>,
+    mut published: Vec<MachineState>,
+) -> (Vec<MachineState>, bool)
     requires none { published.items ≡ [] }
     requires room { length left.items ≤ vec_capacity published }
     ensures published { RecomputesLast workers left.items result.0.items }
@@ -67,7 +67,7 @@ fn finish_series(
 fn finish_jobs<N: Runner>(
     alloc: Global,
     workers: u8,
-    states: &mut [TrackState],
+    states: &mut [MachineState],
     test: &str,
     runners: &mut [N],
 ) -> bool

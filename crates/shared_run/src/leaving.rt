@@ -4,7 +4,7 @@ ghost use Rattle.std.specs.List.{AllByRecursion};
 ghost use Rattle.track_outside.specs.Counts.{Rose};
 ghost use Rattle.track_outside.specs.Kept.{with_more};
 ghost use Rattle.command_words.specs.Texts.{shown_if};
-ghost use Rattle.kept_machines.specs.Rows.{new_rows};
+ghost use Rattle.keep_rows.specs.Rows.{new_rows};
 ghost use Rattle.journal_text.specs.Journals.{journals_text};
 ghost use Rattle.shared_run.specs.declared.stop.RunStop.TheVariants as stop;
 ghost use Rattle.shared_run.specs.Leaving.{WritesText};
@@ -13,11 +13,11 @@ ghost use Rattle.shared_run.specs.Stops.{NoneStopped};
 
 use crate::stop::{RunStop, first_stop};
 use journal_text::write_journals;
-use kept_machines::append_all;
+use keep_rows::append_all;
+use machine_state::MachineState;
 use script_loop::Stop;
 use std::alloc::Global;
 use track_outside::{Keeper, OutError, Sink};
-use track_state::TrackState;
 
 // Writes the journals, and adds their new rows where a store of this version is named, no script stopped, and there was memory for all that
 // workers do.
@@ -27,7 +27,7 @@ pub(crate) fn leave_journals<O: Sink, K: Keeper>(
     version: u8,
     full: bool,
     ended: &[Result<(), Stop>],
-    journals: &[TrackState],
+    journals: &[MachineState],
     out: &mut O,
     keeper: &mut K,
 ) -> Result<(), RunStop>
@@ -65,7 +65,7 @@ pub(crate) fn leave_journals<O: Sink, K: Keeper>(
 }
 
 // The machines have legal histories. Changes nothing: its contract is what it is for.
-pub(crate) fn histories_law(machines: &[TrackState])
+pub(crate) fn histories_law(machines: &[MachineState])
     ensures { AllByRecursion HasLegalHistory machines.now }
 {
     let Some((first, rest)) = machines.split_first() else {

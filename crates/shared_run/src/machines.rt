@@ -10,13 +10,13 @@ ghost use Rattle.metric_table.specs.declared.limits.Limit.TheVariants.{Machines}
 
 use crate::stop::RunStop;
 use command_words::PlayPlan;
-use keep_rows::LoadFault;
-use kept_machines::{Loaded, load, place_of};
+use keep_rows::{Loaded, load, place_of};
 use line_text::Name;
+use machine_state::MachineState;
 use metric_table::Limit;
 use std::alloc::{AllocError, Global};
+use store_rows::LoadFault;
 use track_outside::Keeper;
-use track_state::TrackState;
 
 /// Why the machines of a list aren't added.
 #[derive(Clone, Copy, Debug, PartialEq, Eq)]
@@ -42,7 +42,7 @@ impl From<AllocError> for ListFault {
 /// list, for each of the machines that are there.
 pub fn add_listed(
     alloc: Global,
-    machines: &mut Vec<TrackState>,
+    machines: &mut Vec<MachineState>,
     list: &[Name],
 ) -> Result<(), ListFault>
     requires few { length machines.old.items ≤ most Machines }
@@ -64,7 +64,7 @@ pub fn add_listed(
 // Adds a machine unless it is there, and says whether it is there now: there may be no room for it.
 fn add_machine(
     alloc: Global,
-    machines: &mut Vec<TrackState>,
+    machines: &mut Vec<MachineState>,
     name: &Name,
 ) -> Result<bool, AllocError>
     requires few { length machines.old.items ≤ most Machines }
@@ -80,7 +80,7 @@ fn add_machine(
     if machines.len() as u64 >= Limit::Machines.most() {
         return Ok(false);
     }
-    machines.push(TrackState::new(alloc, name.copy(alloc)?, false))?;
+    machines.push(MachineState::new(alloc, name.copy(alloc)?, false))?;
     Ok(true)
 }
 

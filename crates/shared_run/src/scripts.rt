@@ -4,7 +4,7 @@ ghost use Rattle.std.specs.List.{AllByRecursion};
 ghost use Rattle.metric_table.specs.Limits.{most};
 ghost use Rattle.metric_table.specs.declared.limits.Limit.TheVariants.{Machines};
 ghost use Rattle.command_words.specs.Plans.{AreScripts};
-ghost use Rattle.kept_machines.specs.Machines.{AreDifferent, names_of};
+ghost use Rattle.keep_rows.specs.Machines.{AreDifferent, names_of};
 ghost use Rattle.shared_run.specs.Crews.{AreNew, RanIn, asked_by};
 ghost use Rattle.shared_run.specs.Endings.{EndsAsDue, EndsRun};
 ghost use Rattle.shared_run.specs.Ran.{NotRun};
@@ -15,15 +15,15 @@ use crate::machines::first_machines;
 use crate::run::run_players;
 use crate::stop::{RunStop, deciding_stop};
 use command_words::PlayPlan;
-use kept_machines::{Loaded, rows_law};
+use keep_rows::{Loaded, rows_law};
+use machine_state::MachineState;
 use play_crew::{Ended, Room, joining_law};
-use request_text::reading_law;
+use request_reader::reading_law;
 use script_loop::Stop;
 use std::alloc::Global;
 use std::sync::Wait;
 use std::thread::Threads;
 use track_outside::{Files, Gate, Keeper, Runner};
-use track_state::TrackState;
 use worker_crew::{crew_law, run_law};
 
 /// Runs the plan's scripts at once, and beside them its workers, on the machines of its store and its list; then does what the
@@ -115,11 +115,11 @@ fn run_machines<R: Threads + Wait + Sync, F: Files, N: Runner + Send, G: Gate>(
     rt: &R,
     alloc: Global,
     plan: &PlayPlan<'_>,
-    machines: Vec<TrackState>,
+    machines: Vec<MachineState>,
     files: &mut F,
     runners: &mut [N],
     gate: &G,
-) -> Result<(Vec<Result<(), Stop>>, Vec<TrackState>, bool), RunStop>
+) -> Result<(Vec<Result<(), Stop>>, Vec<MachineState>, bool), RunStop>
     requires few { length machines.items ≤ most Machines }
     requires different { AreDifferent (names_of machines.items) }
     requires scripts { AreScripts plan.now.scripts }

@@ -3,10 +3,10 @@ ghost use Rattle.std.specs.Prelude.{◌≡◌, ◌↔◌, ◌<◌, ◌^◌, leng
 ghost use Rattle.script_loop.specs.declared.stop.Stop.TheVariants as script;
 ghost use Rattle.shared_run.specs.Stops.{Decides, IsFirstStop, NoneStopped};
 
-use keep_rows::AppendFault;
 use script_files::OpenFault;
 use script_loop::Stop;
 use std::alloc::AllocError;
+use store_rows::AppendFault;
 
 /// Why a shared run isn't done.
 #[derive(Clone, Copy, Debug, PartialEq, Eq)]

@@ -1,7 +1,7 @@
 //! Requests as they are written.
 use request_model::{Refusal, Request};
-use request_text::{Asked, Lines, read_request};
-use request_written::put_request;
+use request_reader::{Asked, Lines, read_request};
+use request_text::put_request;
 use std::alloc::Global;
 use track_outside::MemSource;
 

@@ -102,10 +102,7 @@ const NO_ENTRIES: [&str; 54] = [
 
 // Whether the text is refused.
 fn is_none(alloc: Global, text: &[u8]) -> bool {
-    matches!(
-        read_entry(alloc, text),
-        Err(EntryFault::NotEntry)
-    )
+    matches!(read_entry(alloc, text), Err(EntryFault::NotEntry))
 }
 
 // Texts of version 1, and those of version 2 that they come to; none where they spell no entry in version 1.

@@ -14,16 +14,16 @@ use crate::NoMemory;
 use bisect_core::Job;
 use history_model::{Author, Entry, JobEvent, between_law, growth_law, jobs_law};
 use line_text::Name;
+use machine_state::MachineState;
 use metric_table::Limit;
 use report_lines::{asked, told};
 use report_model::Told;
 use request_model::{Answer, Refusal, Reply};
 use track_model::{begin_law, say_law, steps_law};
 use track_replay::open_after;
-use track_state::TrackState;
 
 // Where a job stands, its commits by name.
-fn standing(track: &TrackState, number: u64, job: &Job) -> Result<Told, NoMemory>
+fn standing(track: &MachineState, number: u64, job: &Job) -> Result<Told, NoMemory>
     requires { job_in number (jobs (entries_of track.now.history)) ≡ Some job.now }
     ensures { IfOk result
         (λ told. told ≡ following.told_of (entries_of track.now.history) job.now) }
@@ -34,7 +34,7 @@ fn standing(track: &TrackState, number: u64, job: &Job) -> Result<Told, NoMemory
 }
 
 /// `job M JOB`: where a job stands; adds nothing. Takes the time of look-ups.
-pub fn job(track: &TrackState, number: u64) -> Result<Reply, NoMemory>
+pub fn job(track: &MachineState, number: u64) -> Result<Reply, NoMemory>
     ensures { IfOk result (λ reply. reply ≡ reply_of (entries_of track.now.history)
         (following.job (entries_of track.now.history) number)) }
 {
@@ -52,7 +52,7 @@ pub fn job(track: &TrackState, number: u64) -> Result<Reply, NoMemory>
 
 // What is told of a job that stands so once this happened.
 fn told_then(
-    track: &TrackState,
+    track: &MachineState,
     event: JobEvent,
     number: u64,
     job: &Job,
@@ -76,7 +76,7 @@ fn told_then(
 
 // Adds what becomes of a job, and tells of the job as it stands then.
 fn put_job(
-    track: &mut TrackState,
+    track: &mut MachineState,
     author: Author,
     event: JobEvent,
     number: u64,
@@ -100,7 +100,7 @@ fn put_job(
 }
 
 // How many jobs there would be after one more is begun.
-fn next_number(track: &TrackState) -> u64
+fn next_number(track: &MachineState) -> u64
     ensures { result ≡ length (jobs (entries_of track.now.history)) + 1 }
 {
     track.history_law();
@@ -108,7 +108,7 @@ fn next_number(track: &TrackState) -> u64
 }
 
 // The job that would be begun between two commits.
-fn begun(track: &TrackState, lo: u64, hi: u64) -> Result<Job, NoMemory>
+fn begun(track: &MachineState, lo: u64, hi: u64) -> Result<Job, NoMemory>
     requires { MayHappen (entries_of track.now.history) (job_event.Begin lo hi) }
     ensures { IfOk result (λ job.
         jobs (entries_of track.now.history ++ entry.Job (job_event.Begin lo hi) ∷ [])
@@ -125,7 +125,7 @@ fn begun(track: &TrackState, lo: u64, hi: u64) -> Result<Job, NoMemory>
 }
 
 // Begins a job between two commits, where no limit is passed.
-fn begin(track: &mut TrackState, author: Author, lo: u64, hi: u64) -> Result<Reply, NoMemory>
+fn begin(track: &mut MachineState, author: Author, lo: u64, hi: u64) -> Result<Reply, NoMemory>
     requires { MayHappen (entries_of track.old.history) (job_event.Begin lo hi) }
     ensures step { IfOk result (λ reply. IsStep track.old author
         (following.begin (entries_of track.old.history) lo hi) track.new reply) }
@@ -147,7 +147,7 @@ fn begin(track: &mut TrackState, author: Author, lo: u64, hi: u64) -> Result<Rep
 /// `bisect M LO HI`: begins a job over the commits declared from one to another, the first stated good and the last one
 /// bad. Linear in the number of these commits.
 pub fn bisect(
-    track: &mut TrackState,
+    track: &mut MachineState,
     author: Author,
     lo: &Name,
     hi: &Name,
@@ -169,7 +169,7 @@ pub fn bisect(
 }
 
 // Why a job can't be resumed.
-fn resume_refusal(track: &TrackState, number: u64, job: &Job) -> Result<Option<Answer>, NoMemory>
+fn resume_refusal(track: &MachineState, number: u64, job: &Job) -> Result<Option<Answer>, NoMemory>
     requires { job_in number (jobs (entries_of track.now.history)) ≡ Some job.now }
     ensures { IfOk result (λ answer. answer
         ≡ following.resume_refusal (entries_of track.now.history) job.now) }
@@ -187,7 +187,7 @@ fn resume_refusal(track: &TrackState, number: u64, job: &Job) -> Result<Option<A
 
 /// `resume M JOB`: begins a job over what a job left that ended undecided or faulted, with the commits declared by now.
 /// Linear in the number of these commits.
-pub fn resume(track: &mut TrackState, author: Author, number: u64) -> Result<Reply, NoMemory>
+pub fn resume(track: &mut MachineState, author: Author, number: u64) -> Result<Reply, NoMemory>
     ensures step { IfOk result (λ reply. IsStep track.old author
         (following.resume (entries_of track.old.history) number) track.new reply) }
     ensures same { OnErr result (track.new ≡ track.old) }
@@ -206,7 +206,7 @@ pub fn resume(track: &mut TrackState, author: Author, number: u64) -> Result<Rep
 }
 
 // The job as it would stand after the status of the test of the place that it asks.
-fn answered(track: &TrackState, number: u64, place: u64, status: u8) -> Result<Job, NoMemory>
+fn answered(track: &MachineState, number: u64, place: u64, status: u8) -> Result<Job, NoMemory>
     requires { asked number (entries_of track.now.history) ≡ Some place }
     ensures { IfOk result (λ job. job_in number (jobs (entries_of track.now.history
         ++ entry.Job (job_event.Answer number place status) ∷ [])) ≡ Some job) }
@@ -222,7 +222,7 @@ fn answered(track: &TrackState, number: u64, place: u64, status: u8) -> Result<J
 
 // Says that the place that a job asks was tested, where there is room for a step.
 fn say(
-    track: &mut TrackState,
+    track: &mut MachineState,
     author: Author,
     number: u64,
     place: u64,
@@ -251,7 +251,7 @@ fn say(
 
 // Why a job doesn't take the test of a commit.
 fn answer_refusal(
-    track: &TrackState,
+    track: &MachineState,
     number: u64,
     job: &Job,
     commit: &Name,
@@ -280,7 +280,7 @@ fn answer_refusal(
 /// `answer M JOB COMMIT STATUS`: the commit that a job asks was tested, and its test ended with this status. Linear in
 /// the number of the job's commits.
 pub fn answer_job(
-    track: &mut TrackState,
+    track: &mut MachineState,
     author: Author,
     number: u64,
     commit: &Name,

@@ -11,6 +11,7 @@ use crate::NoMemory;
 use change_list::commits_beside;
 use history_model::{Author, Entry, Raised, RegressionEvent};
 use line_text::Name;
+use machine_state::MachineState;
 use metric_table::Limit;
 use regression_state::{State, may_move};
 use request_model::{Answer, Refusal, Reply};
@@ -18,7 +19,6 @@ use segment_cost::Done;
 use std::alloc::Global;
 use track_model::{follow_law, steps_law};
 use track_replay::state_of;
-use track_state::TrackState;
 
 // Whether a number is one of so many, from 1 on.
 fn is_number(count: u64, number: u64) -> bool
@@ -43,7 +43,7 @@ fn raised_from(alloc: Global, done: &Done, change: u64) -> Result<Raised, NoMemo
 }
 
 // Why a regression can't move to a state.
-fn move_refusal(track: &TrackState, number: u64, to: State) -> Option<Answer>
+fn move_refusal(track: &MachineState, number: u64, to: State) -> Option<Answer>
     ensures { result ≡ following.move_refusal (entries_of track.now.history) number to }
 {
     let Some(from) = state_of(track, number) else {
@@ -56,7 +56,7 @@ fn move_refusal(track: &TrackState, number: u64, to: State) -> Option<Answer>
 }
 
 // The state of a regression that may move.
-fn moved_from(track: &TrackState, number: u64, to: State) -> State
+fn moved_from(track: &MachineState, number: u64, to: State) -> State
     requires { following.move_refusal (entries_of track.now.history) number to ≡ None }
     ensures { result ≡ regression.state_of number (entries_of track.now.history) }
 {
@@ -68,7 +68,7 @@ fn moved_from(track: &TrackState, number: u64, to: State) -> State
 
 /// `state M REGRESSION STATE`: moves a regression. Constant time.
 pub fn set_state(
-    track: &mut TrackState,
+    track: &mut MachineState,
     author: Author,
     regression: u64,
     to: State,
@@ -103,7 +103,7 @@ pub fn set_state(
 /// `regress M TEST METRIC CHANGE`: raises a change of the series' last publication, by its number from 1. Constant
 /// time, but for look-ups.
 pub fn regress(
-    track: &mut TrackState,
+    track: &mut MachineState,
     author: Author,
     test: &Name,
     metric: &Name,

@@ -10,9 +10,9 @@ ghost use Rattle.track_follow.specs.Settling.{IsPut, IsSettled, entry_said, said
 use crate::NoMemory;
 use bisect_core::{Answered, Job, Outcome};
 use history_model::{Author, Entry, JobEvent, within_law};
+use machine_state::MachineState;
 use metric_table::Limit;
 use track_model::say_law;
-use track_state::TrackState;
 
 /// What became of something that was said of a place of a job.
 #[derive(Clone, Copy, Debug, PartialEq, Eq)]
@@ -50,7 +50,7 @@ fn said_of(job: u64, place: u64, status: Option<u8>) -> JobEvent
 
 // Adds what is said of the place that a job asks, where there is room for a step.
 fn put_said(
-    track: &mut TrackState,
+    track: &mut MachineState,
     author: Author,
     job: u64,
     place: u64,
@@ -77,7 +77,7 @@ fn put_said(
 /// The test of a place of a job ended with this status, or none could be had: it is added where the job asks that place
 /// and there is room for a step. Linear in the open jobs where it ends its own, else constant time.
 pub fn settle(
-    track: &mut TrackState,
+    track: &mut MachineState,
     author: Author,
     job: u64,
     place: u64,

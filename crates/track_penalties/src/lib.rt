@@ -3,7 +3,7 @@
 //! Each answers and adds exactly what the definitions give on the history so far; where there is no memory nothing
 //! changes.
 //!
-//! Stands on `track_state` for the state of a machine, on `track_replay` for refused penalties, and on `series_noise`
+//! Stands on `machine_state` for the state of a machine, on `track_replay` for refused penalties, and on `series_noise`
 //! for the noise of positions.
 #![tactic(auto)]
 

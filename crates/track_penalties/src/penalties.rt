@@ -9,12 +9,12 @@ ghost use Rattle.track_model.specs.Tracks.{IsStep};
 use crate::NoMemory;
 use history_model::{Author, Entry, limits_law};
 use line_text::{Boxed, Name};
+use machine_state::MachineState;
 use metric_table::Limit;
 use request_model::{Answer, Refusal, Reply};
 use series_noise::noise;
 use track_model::tune_law;
 use track_replay::tune_refusal;
-use track_state::TrackState;
 
 /// `tune M METRIC PENALTY LENGTH`: the metric has this penalty from here on, and this least length, or the one that it has.
 /// Logarithmic time.
@@ -22,7 +22,7 @@ use track_state::TrackState;
 /// Where the metric is too long, or the penalty or the least length out of range, it is refused as reading a request refuses
 /// it.
 pub fn tune(
-    track: &mut TrackState,
+    track: &mut MachineState,
     author: Author,
     metric: &Name,
     penalty: i128,
@@ -39,7 +39,7 @@ pub fn tune(
 
 // The metric has this setting from here on.
 fn set(
-    track: &mut TrackState,
+    track: &mut MachineState,
     author: Author,
     metric: &Name,
     penalty: i128,
@@ -98,7 +98,7 @@ fn penalty_by(factor: u64, noise: u64) -> i128
 /// `calibrate M TEST METRIC FACTOR`: the metric has the factor times the square of the series' noise as its penalty
 /// from here on; its least length stays. O(n log n + v) time for n positions with v values.
 pub fn calibrate(
-    track: &mut TrackState,
+    track: &mut MachineState,
     author: Author,
     test: &Name,
     metric: &Name,

@@ -19,10 +19,10 @@ use Rattle.history_model.specs.Regressions.{regressions, state_of, is_number, Ma
 use Rattle.follow_index.specs.declared.regressions.Followed.{Followed}
 use Rattle.follow_index.specs.Followed.{followed, followed_from}
 use Rattle.follow_index.specs.Numbered.{followed_in}
-use Rattle.track_state.specs.Following.{state_if}
+use Rattle.machine_state.specs.Following.{state_if}
 use Rattle.track_replay.specs.Replays.{IsAllowance}
-use Rattle.track_state.proofs.Followed.{followed-length}
-use Rattle.track_state.proofs.Series.{no-more}
+use Rattle.machine_state.proofs.Followed.{followed-length}
+use Rattle.machine_state.proofs.Series.{no-more}
 
 steps-kept : (h : List Entry) (e : Entry) → Allowed h e → length h < most limit.Steps
 steps-kept h e allowed =

@@ -21,7 +21,7 @@ use Rattle.history_model.specs.Laws.{LimitsAfterCommit, LimitsAfterRetract, Limi
 use Rattle.track_model.specs.Laws.{TuneMayFollow}
 use Rattle.track_replay.specs.Replays.{IsAllowance, commit_fits, retraction_fits, tuning_fits}
 use Rattle.track_replay.proofs.Retractions.{free-run}
-use Rattle.track_state.proofs.Series.{no-more}
+use Rattle.machine_state.proofs.Series.{no-more}
 
 both : (a b : Bool) → (a && b) ≡ true → (a ≡ true) × (b ≡ true)
 both true b h = (refl, h)

@@ -13,8 +13,8 @@ use Rattle.history_model.proofs.Lists.{find-passes, same-bytes}
 use Rattle.track_model.proofs.Rows.{first-none, option_map-none}
 use Rattle.sample_store.specs.declared.store.Stored.{Stored}
 use Rattle.sample_store.specs.Runs.{names}
-use Rattle.track_state.specs.Indexes.{stored, stored_runs}
-use Rattle.track_state.proofs.Marks.{look-up}
+use Rattle.machine_state.specs.Indexes.{stored, stored_runs}
+use Rattle.machine_state.proofs.Marks.{look-up}
 
 -- a run may be retracted where nothing is refused
 pub free-run : (h : List Entry) (run : List ℕ) → forms.retract_refusal h run ≡ None → IsSome (accepted run h) × (retracted run h ≡ None)

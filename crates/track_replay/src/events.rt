@@ -8,15 +8,15 @@ ghost use Rattle.history_model.specs.Regressions.{MayBecome};
 ghost use Rattle.history_model.specs.declared.entries.Entry.TheVariants as entry;
 ghost use Rattle.history_model.specs.declared.events.JobEvent.TheVariants as job_event;
 ghost use Rattle.history_model.specs.declared.events.RegressionEvent.TheVariants as regression_event;
-ghost use Rattle.track_state.specs.Following.{state_if};
+ghost use Rattle.machine_state.specs.Following.{state_if};
 ghost use Rattle.track_replay.specs.Replays.{IsAllowance};
 
 use crate::NoMemory;
 use bisect_core::Job;
 use history_model::{JobEvent, Raised, RegressionEvent, jobs_law, regressions_law};
+use machine_state::MachineState;
 use metric_table::Limit;
 use regression_state::State;
-use track_state::TrackState;
 
 // Whether a job asks a place.
 fn asks_place(job: &Job, place: u64) -> bool
@@ -29,7 +29,7 @@ fn asks_place(job: &Job, place: u64) -> bool
 }
 
 // Whether a change may be raised.
-fn may_raise(track: &TrackState, raised: &Raised) -> bool
+fn may_raise(track: &MachineState, raised: &Raised) -> bool
     ensures { IsTrue result
         ↔ MayBecome (entries_of track.now.history) (regression_event.Raise raised.now) }
 {
@@ -40,7 +40,7 @@ fn may_raise(track: &TrackState, raised: &Raised) -> bool
 }
 
 /// The state of a regression, where it is there.
-pub fn state_of(track: &TrackState, number: u64) -> Option<State>
+pub fn state_of(track: &MachineState, number: u64) -> Option<State>
     ensures { result ≡ state_if (entries_of track.now.history) number }
 {
     match track.regressions().get(number) {
@@ -50,7 +50,7 @@ pub fn state_of(track: &TrackState, number: u64) -> Option<State>
 }
 
 // Whether a regression is there and may move to a state.
-fn may_move(track: &TrackState, number: u64, state: State) -> bool
+fn may_move(track: &MachineState, number: u64, state: State) -> bool
     ensures { IsTrue result
         ↔ MayBecome (entries_of track.now.history) (regression_event.Move number state) }
 {
@@ -60,7 +60,7 @@ fn may_move(track: &TrackState, number: u64, state: State) -> bool
     }
 }
 
-fn may_become(track: &TrackState, event: &RegressionEvent) -> bool
+fn may_become(track: &MachineState, event: &RegressionEvent) -> bool
     ensures { IsTrue result ↔ MayBecome (entries_of track.now.history) event.now }
 {
     match event {
@@ -74,7 +74,7 @@ fn may_become(track: &TrackState, event: &RegressionEvent) -> bool
 }
 
 // No series is made known; none where what becomes of a regression isn't allowed.
-pub(crate) fn regression_allowance(track: &TrackState, event: &RegressionEvent) -> Option<u64>
+pub(crate) fn regression_allowance(track: &MachineState, event: &RegressionEvent) -> Option<u64>
     ensures { IsAllowance (entries_of track.now.history) (entry.Regression event.now) result }
 {
     regressions_law();
@@ -89,7 +89,7 @@ pub(crate) fn regression_allowance(track: &TrackState, event: &RegressionEvent) 
 }
 
 // Whether a job may be begun, but for the limits.
-fn may_begin(track: &TrackState, lo: u64, hi: u64) -> bool
+fn may_begin(track: &MachineState, lo: u64, hi: u64) -> bool
     ensures { IsTrue result
         ↔ MayHappen (entries_of track.now.history) (job_event.Begin lo hi) }
 {
@@ -97,7 +97,7 @@ fn may_begin(track: &TrackState, lo: u64, hi: u64) -> bool
 }
 
 // Whether a job asks a place.
-fn asks(track: &TrackState, job: u64, place: u64) -> bool
+fn asks(track: &MachineState, job: u64, place: u64) -> bool
     ensures { IsTrue result ↔ (asked job (entries_of track.now.history) ≡ Some place) }
 {
     match track.jobs().get(job) {
@@ -107,7 +107,7 @@ fn asks(track: &TrackState, job: u64, place: u64) -> bool
 }
 
 /// How many jobs would be open after one more is begun.
-pub fn open_after(track: &TrackState, lo: u64, hi: u64) -> Result<u64, NoMemory>
+pub fn open_after(track: &MachineState, lo: u64, hi: u64) -> Result<u64, NoMemory>
     requires { MayHappen (entries_of track.now.history) (job_event.Begin lo hi) }
     ensures { IfOk result (λ count. count ≡ open_count (jobs
         (entries_of track.now.history ++ entry.Job (job_event.Begin lo hi) ∷ []))) }
@@ -119,7 +119,7 @@ pub fn open_after(track: &TrackState, lo: u64, hi: u64) -> Result<u64, NoMemory>
     Ok(track.jobs().open() + more)
 }
 
-fn begin_allowance(track: &TrackState, lo: u64, hi: u64) -> Result<Option<u64>, NoMemory>
+fn begin_allowance(track: &MachineState, lo: u64, hi: u64) -> Result<Option<u64>, NoMemory>
     ensures { IfOk result (λ more. IsAllowance (entries_of track.now.history)
         (entry.Job (job_event.Begin lo hi)) more) }
 {
@@ -138,7 +138,7 @@ fn begin_allowance(track: &TrackState, lo: u64, hi: u64) -> Result<Option<u64>, 
 }
 
 // No series is made known; none where it isn't allowed that this is said of a place of a job.
-fn turn_allowance(track: &TrackState, event: &JobEvent, job: u64, place: u64) -> Option<u64>
+fn turn_allowance(track: &MachineState, event: &JobEvent, job: u64, place: u64) -> Option<u64>
     requires { IsTurnOf job place event.now }
     ensures { IsAllowance (entries_of track.now.history) (entry.Job event.now) result }
 {
@@ -154,7 +154,7 @@ fn turn_allowance(track: &TrackState, event: &JobEvent, job: u64, place: u64) ->
 }
 
 // No series is made known; none where what becomes of a job isn't allowed.
-pub(crate) fn job_allowance(track: &TrackState, event: &JobEvent) -> Result<Option<u64>, NoMemory>
+pub(crate) fn job_allowance(track: &MachineState, event: &JobEvent) -> Result<Option<u64>, NoMemory>
     ensures { IfOk result
         (λ more. IsAllowance (entries_of track.now.history) (entry.Job event.now) more) }
 {

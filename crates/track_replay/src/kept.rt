@@ -2,7 +2,7 @@
 ghost use Rattle.std.specs.Prelude.{◌≡◌, IfOk, OnErr};
 ghost use Rattle.history_model.specs.Entries.{entries_of};
 ghost use Rattle.history_model.specs.declared.entries.Entry.TheVariants as entry;
-ghost use Rattle.track_state.specs.Made.{IsPlain};
+ghost use Rattle.machine_state.specs.Made.{IsPlain};
 ghost use Rattle.track_replay.specs.Replays.{IsReplayed, IsAllowance, commit_fits, retraction_fits, tuning_fits};
 
 use crate::NoMemory;
@@ -12,11 +12,11 @@ use crate::refusals::{retract_refusal, tune_refusal};
 use crate::verdict::Verdict;
 use history_model::{Author, Entry, Run, accept_law, limits_law, retraction_law, within_law};
 use line_text::Name;
+use machine_state::MachineState;
 use metric_table::Limit;
 use track_model::tune_law;
-use track_state::TrackState;
 
-fn commit_fits(track: &TrackState, number: u64, name: &Name) -> bool
+fn commit_fits(track: &MachineState, number: u64, name: &Name) -> bool
     ensures { result ≡ commit_fits (entries_of track.now.history) number name.now }
 {
     track.commits().name_of(number).is_none()
@@ -25,19 +25,19 @@ fn commit_fits(track: &TrackState, number: u64, name: &Name) -> bool
         && track.len() < Limit::Steps.most()
 }
 
-fn retraction_fits(track: &TrackState, run: &Name) -> bool
+fn retraction_fits(track: &MachineState, run: &Name) -> bool
     ensures { result ≡ retraction_fits (entries_of track.now.history) run.now }
 {
     retract_refusal(track, run).is_none() && track.len() < Limit::Steps.most()
 }
 
-fn tuning_fits(track: &TrackState, metric: &Name, penalty: &i128, least: u8) -> bool
+fn tuning_fits(track: &MachineState, metric: &Name, penalty: &i128, least: u8) -> bool
     ensures { result ≡ tuning_fits (entries_of track.now.history) metric.now penalty.now least }
 {
     tune_refusal(metric, *penalty, least).is_none() && track.len() < Limit::Steps.most()
 }
 
-fn run_allowance(track: &TrackState, run: &Run) -> Result<Option<u64>, NoMemory>
+fn run_allowance(track: &MachineState, run: &Run) -> Result<Option<u64>, NoMemory>
     ensures { IfOk result
         (λ more. IsAllowance (entries_of track.now.history) (entry.Accept run.now) more) }
 {
@@ -59,7 +59,7 @@ fn run_allowance(track: &TrackState, run: &Run) -> Result<Option<u64>, NoMemory>
 }
 
 // How many series the entry, which is no publication, makes known; none where it isn't allowed.
-fn allowance(track: &TrackState, entry: &Entry) -> Result<Option<u64>, NoMemory>
+fn allowance(track: &MachineState, entry: &Entry) -> Result<Option<u64>, NoMemory>
     requires { IsPlain entry.now }
     ensures { IfOk result (λ more. IsAllowance (entries_of track.now.history) entry.now more) }
 {
@@ -99,7 +99,7 @@ fn allowance(track: &TrackState, entry: &Entry) -> Result<Option<u64>, NoMemory>
 
 /// Adds a kept entry, which is no publication; false exactly where it isn't allowed after those before it, and then
 /// nothing changes.
-pub fn replay(track: &mut TrackState, entry: Entry) -> Result<bool, NoMemory>
+pub fn replay(track: &mut MachineState, entry: Entry) -> Result<bool, NoMemory>
     requires { IsPlain entry }
     ensures replayed { IfOk result (λ added. IsReplayed track.old entry added track.new) }
     ensures same { OnErr result (track.new ≡ track.old) }

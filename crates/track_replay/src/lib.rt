@@ -3,7 +3,7 @@
 //! A kept entry that is no publication is added exactly where it is allowed after those before it. What decides that of a
 //! run, a retraction, a penalty, a regression or a bisection is public too, for the requests that ask the same.
 //!
-//! Stands on `track_state` for the state of a machine, and on `history_model` for what is allowed.
+//! Stands on `machine_state` for the state of a machine, and on `history_model` for what is allowed.
 #![tactic(auto)]
 
 mod events;

@@ -7,11 +7,11 @@ ghost use Rattle.track_replay.specs.Verdicts.{IsVerdict};
 use crate::NoMemory;
 use crate::verdict::Verdict;
 use history_model::{Run, accept_law, within_law};
+use machine_state::MachineState;
 use metric_table::Limit;
-use track_state::TrackState;
 
 /// What the limits say of the run, whose name is new.
-pub fn room_for(track: &TrackState, run: &Run) -> Result<Verdict, NoMemory>
+pub fn room_for(track: &MachineState, run: &Run) -> Result<Verdict, NoMemory>
     requires { retracted run.now.run (entries_of track.now.history) ≡ None }
     ensures { IfOk result (λ verdict. IsVerdict (entries_of track.now.history) run.now verdict) }
 {

@@ -4,8 +4,8 @@ ghost use Rattle.history_model.specs.Entries.{entries_of};
 ghost use Rattle.track_model.specs.Forms as forms;
 
 use line_text::Name;
+use machine_state::MachineState;
 use request_model::{Answer, Refusal};
-use track_state::TrackState;
 
 // The most bytes of a metric's name.
 const METRIC_LIMIT: usize = 64;
@@ -47,7 +47,7 @@ pub fn tune_refusal(metric: &Name, penalty: i128, least: u8) -> Option<Answer>
 }
 
 /// What a retraction is answered where it adds nothing.
-pub fn retract_refusal(track: &TrackState, run: &Name) -> Option<Answer>
+pub fn retract_refusal(track: &MachineState, run: &Name) -> Option<Answer>
     ensures { result ≡ forms.retract_refusal (entries_of track.now.history) run.now }
 {
     let Some(stored) = track.stored_runs().of_name(run) else {

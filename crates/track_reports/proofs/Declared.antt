@@ -24,7 +24,7 @@ use Rattle.history_model.specs.Positions.{brought_by, brought, positions}
 use Rattle.history_model.specs.Runs.{Series, is_of, acceptance, acceptances, retractions, live_of}
 use Rattle.publication_index.specs.Kept.{series_of}
 use Rattle.track_reports.specs.Lines.{HasNames}
-use Rattle.track_state.specs.Made.{IsMadeFrom}
+use Rattle.machine_state.specs.Made.{IsMadeFrom}
 
 -- what holds of all that is chosen from a history holds of what is chosen from its front
 all-front : {A : Type 0} (P : A → Type 0) (choice : ℕ → Entry → Option A) (step v : ℕ) (h : List Entry) → All P (chosen_from step choice h) → All P (chosen_from step choice (take v h))

@@ -12,8 +12,8 @@ use Rattle.request_model.specs.declared.replies.Answer.TheVariants as answer
 use Rattle.publication_index.specs.Kept.{series_of}
 use Rattle.track_model.specs.Outcomes.{tells}
 use Rattle.track_model.specs.Publishing.{named, TellsChanges, TellsCertificate}
-use Rattle.track_state.specs.Made.{publication_from, IsMadeFrom}
-use Rattle.track_state.proofs.Publishing.{made-stands}
+use Rattle.machine_state.specs.Made.{publication_from, IsMadeFrom}
+use Rattle.machine_state.proofs.Publishing.{made-stands}
 
 pub certified : (h : List Entry) (s : Series) (done : Done) → IsMadeFrom h done → series_of done ≡ s → (cert : Cert) → cert ≡ done.cert
     → TellsCertificate h s (publication_from done) (tells (answer.Verified done.version cert))

@@ -3,7 +3,7 @@
 //! Each answers exactly what the definitions give on the history so far, and adds nothing. What was published of a
 //! series is told as it was made, whatever came later.
 //!
-//! Stands on `track_state` for the state of a machine, on `change_list` for what positions show, and on `report_lines`
+//! Stands on `machine_state` for the state of a machine, on `change_list` for what positions show, and on `report_lines`
 //! for the lines of reports.
 #![tactic(auto)]
 

@@ -9,12 +9,12 @@ ghost use Rattle.track_model.specs.Tracks.{IsTold};
 
 use crate::NoMemory;
 use history_model::{jobs_law, regressions_law};
+use machine_state::MachineState;
 use report_model::{JobLines, Pages, RegressionLines, SeriesLines};
 use request_model::{Answer, Boxed, Reply};
-use track_state::TrackState;
 
 // A line for each regression.
-fn regression_lines(track: &TrackState) -> Result<RegressionLines, NoMemory>
+fn regression_lines(track: &MachineState) -> Result<RegressionLines, NoMemory>
     ensures { IfOk result (λ lines. lines
         ≡ numbered (regression_line (entries_of track.now.history)) 1
         (regressions (entries_of track.now.history))) }
@@ -25,7 +25,7 @@ fn regression_lines(track: &TrackState) -> Result<RegressionLines, NoMemory>
 }
 
 // A line for each bisection.
-fn job_lines(track: &TrackState) -> Result<JobLines, NoMemory>
+fn job_lines(track: &MachineState) -> Result<JobLines, NoMemory>
     ensures { IfOk result (λ lines. lines
         ≡ numbered (job_line (entries_of track.now.history)) 1
         (jobs (entries_of track.now.history))) }
@@ -36,7 +36,7 @@ fn job_lines(track: &TrackState) -> Result<JobLines, NoMemory>
 }
 
 // The pages of the machine with these lines of series.
-fn report_with(track: &TrackState, json: bool, series: SeriesLines) -> Result<Reply, NoMemory>
+fn report_with(track: &MachineState, json: bool, series: SeriesLines) -> Result<Reply, NoMemory>
     requires { AreSeriesLines (entries_of track.now.history) series }
     ensures { IfOk result (λ reply. (o : Outcome)
         × ReportComesTo (entries_of track.now.history) track.now.machine json o
@@ -59,7 +59,7 @@ fn report_with(track: &TrackState, json: bool, series: SeriesLines) -> Result<Re
 
 /// `report M`: the pages of the machine; adds nothing. Linear in the lines and in the values of what was published last,
 /// but for look-ups and for samples that came since their series was last read.
-pub fn report(track: &mut TrackState, json: bool) -> Result<Reply, NoMemory>
+pub fn report(track: &mut MachineState, json: bool) -> Result<Reply, NoMemory>
     ensures step { IfOk result (λ reply. (o : Outcome)
         × ReportComesTo (entries_of track.old.history) track.old.machine json o
         × IsTold track.old o reply) }

@@ -10,10 +10,10 @@ use crate::NoMemory;
 use change_list::Change;
 use history_model::runs_law;
 use line_text::Name;
+use machine_state::MachineState;
 use order_index::OrderIndex;
 use request_model::{Answer, Boxed, NamedChange, NamedChanges, Reply};
 use std::alloc::Global;
-use track_state::TrackState;
 
 // A change with its commits by name.
 fn named(alloc: Global, commits: &OrderIndex, change: &Change) -> Result<NamedChange, NoMemory>
@@ -53,7 +53,7 @@ fn all_named(
 
 /// `changes M TEST METRIC`: the changes of the series' last publication; adds nothing. Linear in its values, but for
 /// look-ups.
-pub fn changes(track: &TrackState, test: &Name, metric: &Name) -> Result<Reply, NoMemory>
+pub fn changes(track: &MachineState, test: &Name, metric: &Name) -> Result<Reply, NoMemory>
     ensures { IfOk result (λ reply. (o : Outcome)
         × ChangesComeTo (entries_of track.now.history)
         (record { test = test.now; metric = metric.now }) o
@@ -77,7 +77,7 @@ pub fn changes(track: &TrackState, test: &Name, metric: &Name) -> Result<Reply, 
 }
 
 /// `verify M TEST METRIC`: the certificate of the series' last publication; adds nothing. Linear in its points.
-pub fn verify(track: &TrackState, test: &Name, metric: &Name) -> Result<Reply, NoMemory>
+pub fn verify(track: &MachineState, test: &Name, metric: &Name) -> Result<Reply, NoMemory>
     ensures { IfOk result (λ reply. (o : Outcome)
         × VerifyComesTo (entries_of track.now.history)
         (record { test = test.now; metric = metric.now }) o

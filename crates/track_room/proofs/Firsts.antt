@@ -7,10 +7,10 @@ use Rattle.history_model.specs.declared.entries.Entry.{Entry}
 use Rattle.history_model.specs.Allowed.{Legal}
 use Rattle.history_model.specs.Entries.{entries_of}
 use Rattle.track_model.specs.Tracks.{Track}
-use Rattle.track_work.specs.Work.{Work, history_of, series_of}
-use Rattle.track_work.specs.declared.questions.Question.{Question}
-use Rattle.track_work.specs.declared.taking.TakenSeries.{TakenSeries}
-use Rattle.track_work.proofs.Snapped.{entries-taken}
+use Rattle.track_state.specs.Work.{Work, history_of, series_of}
+use Rattle.track_state.specs.declared.questions.Question.{Question}
+use Rattle.track_state.specs.declared.taking.TakenSeries.{TakenSeries}
+use Rattle.track_state.proofs.Snapped.{entries-taken}
 use Rattle.track_room.specs.Taking.{IsQuestion, IsTaken, OfSeen, TakesAt, TakesFirst, TakesJob, TakesSeries, seen_of}
 use Rattle.track_room.proofs.Places.{zip-push}
 

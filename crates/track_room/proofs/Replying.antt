@@ -13,7 +13,7 @@ use Rattle.request_model.specs.declared.requests.Request.TheVariants as request
 use Rattle.request_model.specs.declared.replies.Reply.{Reply}
 use Rattle.track_model.specs.Counts.{is_segment}
 use Rattle.track_model.specs.Outcomes.{Outcome}
-use Rattle.track_work.specs.Work.{Work, bare, history_of}
+use Rattle.track_state.specs.Work.{Work, bare, history_of}
 use Rattle.track_model.specs.Replies.{machine_of, reply_of}
 use Rattle.track_model.specs.Tracks.{Track, ComesTo, IsStep, with_added}
 use Rattle.play_model.specs.Replies.{first_of, ComesBehind, ComesToBeside, Adds, Tells}

@@ -29,8 +29,8 @@ use Rattle.track_room.specs.contracts.machine.MachineLock as MachineLock
 use Rattle.track_room.specs.contracts.machine.MachinePass as MachinePass
 use Rattle.track_room.specs.contracts.room.Room as Room
 use Rattle.track_room.specs.contracts.room.RoomPass as RoomPass
+use Rattle.machine_state.specs.contracts.state.MachineState as MachineState
 use Rattle.track_state.specs.contracts.state.TrackState as TrackState
-use Rattle.track_work.specs.contracts.state.WorkState as WorkState
 use base.Fml.{Fml}
 use denote.Param.Send.{IsSend, IsSync, part_keyless, sendable, owning_send}
 use denote.RattleType.{RattleType}
@@ -79,10 +79,10 @@ jobs_send = search (sendable, crosses, maps.crosses, over.crosses) depth 60 fits
 regressions_send : IsSend RegressionIndex.the_row
 regressions_send = search (sendable, crosses, maps.crosses, over.crosses) depth 60 fits 20000
 
-track_send : IsSend TrackState.the_row
+track_send : IsSend MachineState.the_row
 track_send = search (name_send, placed_send, order_send, store_send, series_send, published_send, setting_send, jobs_send, regressions_send, sendable, crosses) depth 60 fits 20000
 
-work_send : IsSend WorkState.the_row
+work_send : IsSend TrackState.the_row
 work_send = search (track_send, touch_send, sendable, crosses) depth 60 fits 20000
 
 pub guarded_send : IsSend Guarded.the_row
@@ -162,7 +162,7 @@ jobs_sync = search (sendable, crosses, maps.crosses, over.crosses) depth 60 fits
 regressions_sync : IsSync RegressionIndex.the_row
 regressions_sync = search (sendable, crosses, maps.crosses, over.crosses) depth 60 fits 20000
 
-track_sync : IsSync TrackState.the_row
+track_sync : IsSync MachineState.the_row
 track_sync = search (name_sync, placed_sync, order_sync, store_sync, series_sync, published_sync, setting_sync, jobs_sync, regressions_sync, sendable, crosses) depth 60 fits 20000
 
 pub room_sync : IsSync Room.the_row

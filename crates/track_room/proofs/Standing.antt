@@ -14,7 +14,7 @@ use Rattle.track_model.specs.Replies.{machine_of}
 use Rattle.play_model.specs.Replies.{is_of_history, why_apart}
 use Rattle.track_room.specs.Asked.{Asks, AsksBy, IsReplied, names_of}
 use Rattle.track_room.specs.Rooms.{IsFirst, IsPassOf, badge}
-use Rattle.track_work.specs.Work.{Work}
+use Rattle.track_state.specs.Work.{Work}
 use Rattle.track_room.specs.Sights.{Home, Sight, SeesMore, Visits, seeing}
 use Rattle.track_room.proofs.Segments.{sees-again}
 

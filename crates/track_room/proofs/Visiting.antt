@@ -16,7 +16,7 @@ use Rattle.request_model.specs.declared.replies.Answer.{Answer}
 use Rattle.request_model.specs.declared.replies.Reply.{Reply}
 use Rattle.track_model.specs.Outcomes.{Outcome}
 use Rattle.track_model.specs.Tracks.{Track, IsFinishStep, IsStep, with_added, with_finished}
-use Rattle.track_work.specs.Work.{Work, bare}
+use Rattle.track_state.specs.Work.{Work, bare}
 use Rattle.metric_table.specs.declared.limits.Limit.{Limit}
 use Rattle.metric_table.specs.declared.limits.Limit.TheVariants.{Steps}
 use Rattle.bisect_core.specs.Bisections.{answer_to}
@@ -28,7 +28,7 @@ use Rattle.history_model.specs.Entries.{entries_of}
 use Rattle.history_model.specs.Publications.{last_publication}
 use Rattle.publication_index.specs.Kept.{series_of}
 use Rattle.track_model.specs.Publishing.{later}
-use Rattle.track_state.specs.Made.{entry_of}
+use Rattle.machine_state.specs.Made.{entry_of}
 use Rattle.track_series.specs.Publications.{IsAdded, IsPublished, IsTaken, passed}
 use Rattle.track_series.specs.declared.publishing.Published.{Published}
 use Rattle.track_follow.specs.Settling.{IsPut, IsSettled, entry_said}

@@ -6,7 +6,7 @@ use Rattle.history_lock.specs.declared.view.Marked.{Marked}
 use Rattle.history_lock.specs.Marks.{IsNoneOf, AreBy, AreByOthers, IsLongerOf, marked, entries}
 use Rattle.std.specs.FinSet as set
 use Rattle.track_model.specs.Tracks.{Track}
-use Rattle.track_work.specs.Work.{Work, bare}
+use Rattle.track_state.specs.Work.{Work, bare}
 
 -- a lock, and the machine whose state it guards
 pub record Home : Type 0 where

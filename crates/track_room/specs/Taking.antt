@@ -13,11 +13,11 @@ use Rattle.track_follow.specs.declared.settling.Settled.{Settled}
 use Rattle.track_model.specs.Tracks.{Track}
 use Rattle.track_series.specs.Snapshots.{IsTakenAt}
 use Rattle.track_series.specs.declared.publishing.Published.{Published}
-use Rattle.track_work.specs.Questions as questions
-use Rattle.track_work.specs.Taking as taking
-use Rattle.track_work.specs.Work.{Work, ClaimBecomes, history_of, series_of}
-use Rattle.track_work.specs.declared.questions.Question.{Question}
-use Rattle.track_work.specs.declared.taking.TakenSeries.{TakenSeries}
+use Rattle.track_state.specs.Questions as questions
+use Rattle.track_state.specs.Taking as taking
+use Rattle.track_state.specs.Work.{Work, ClaimBecomes, history_of, series_of}
+use Rattle.track_state.specs.declared.questions.Question.{Question}
+use Rattle.track_state.specs.declared.taking.TakenSeries.{TakenSeries}
 use Rattle.track_room.specs.Sights.{Sight, Visits, track_of}
 
 -- the history that the pass has seen

@@ -10,8 +10,8 @@ use Rattle.track_model.specs.Outcomes.{Outcome}
 use Rattle.track_model.specs.Tracks.{ComesTo, IsStep}
 use Rattle.track_series.specs.Beside.{IsBegun}
 use Rattle.track_series.specs.declared.beside.Begun.{Begun}
-use Rattle.track_work.specs.Taking as taking
-use Rattle.track_work.specs.Work.{Work, bare, history_of}
+use Rattle.track_state.specs.Taking as taking
+use Rattle.track_state.specs.Work.{Work, bare, history_of}
 
 -- a request is answered
 abbrev pub Answers : Author → Request → Reply → Work → Work → Type 0

@@ -9,7 +9,7 @@ ghost use Rattle.track_room.specs.Sights.{Ends, EndsWhole};
 
 use crate::machine::{MachineLock, MachinePass};
 use history_lock::InUse;
-use track_state::TrackState;
+use machine_state::MachineState;
 
 /// Why a room gives no machines when it ends.
 #[derive(Clone, Copy, Debug, PartialEq, Eq)]
@@ -31,8 +31,8 @@ pub enum CloseFault {
 pub(crate) fn close_each(
     machines: Vec<MachineLock>,
     passes: Vec<MachinePass>,
-    mut states: Vec<TrackState>,
-) -> Result<Vec<TrackState>, CloseFault>
+    mut states: Vec<MachineState>,
+) -> Result<Vec<MachineState>, CloseFault>
     requires locks { IsPassOf machines.items passes.items }
     requires few { length passes.items ≤ most Machines }
     requires none { states.items ≡ [] }

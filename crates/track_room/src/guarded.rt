@@ -2,7 +2,7 @@
 use history_lock::Historied;
 use history_model::Placed;
 use line_text::Name;
-use track_work::WorkState;
+use track_state::TrackState;
 
 /// Whose state a lock guards, and whether the store had the machine. No value of it is made.
 pub struct Owner {
@@ -13,7 +13,7 @@ pub struct Owner {
 /// A machine's state with its claims in a lock: its history is that of the machine, and it stays the machine's.
 #[derive(Drop)]
 pub struct Guarded {
-    pub work: WorkState,
+    pub work: TrackState,
 }
 
 impl Historied for Guarded {

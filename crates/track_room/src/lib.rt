@@ -10,7 +10,7 @@
 //! into it; when all were joined, [`Room::close`] gives the machines with exactly what that pass has seen. Not promised: that a
 //! pass is served, or in what order.
 //!
-//! Stands on `history_lock` for the locks, on `track_work` and `track_series` for what a machine answers and what is taken
+//! Stands on `history_lock` for the locks, on `track_state` and `track_series` for what a machine answers and what is taken
 //! of it, and on `play_model` for what a reply beside others is.
 #![tactic(auto)]
 

@@ -7,11 +7,11 @@ use crate::NoMemory;
 use crate::guarded::Guarded;
 use history_lock::{HistoryLock, InUse, Pass};
 use line_text::Name;
+use machine_state::MachineState;
 use std::alloc::Global;
 use std::marker::Model;
 use std::sync::Wait;
 use track_state::TrackState;
-use track_work::WorkState;
 
 /// A machine's state under its lock, with the machine's name. Contracts see the lock and the name.
 #[derive(Drop)]
@@ -52,12 +52,12 @@ impl MachineLock {
     // The machine under a lock of its own, and the lock's first pass.
     pub(crate) fn new(
         alloc: Global,
-        track: TrackState,
+        track: MachineState,
     ) -> Result<(MachineLock, MachinePass), NoMemory>
         ensures { IfOk result (λ made. (made.1.home ≡ made.0) × IsFirstOf track made.1) }
     {
         let machine = track.machine().copy(alloc)?;
-        let work = WorkState::new(track);
+        let work = TrackState::of(track);
         let (lock, pass) = HistoryLock::new(alloc, Guarded { work })?;
         Ok((MachineLock { lock, machine }, MachinePass { pass }))
     }
@@ -98,7 +98,7 @@ impl MachineLock {
     }
 
     // Ends the lock, and gives the machine.
-    pub(crate) fn close(self, pass: MachinePass) -> Result<TrackState, InUse>
+    pub(crate) fn close(self, pass: MachinePass) -> Result<MachineState, InUse>
         requires lock { pass.home ≡ self }
         ensures ok { IfOk result (Ends pass) }
         ensures err { IfErr result (λ why. why.ticket ≢ why.serving) }

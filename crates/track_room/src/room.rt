@@ -14,18 +14,18 @@ use crate::machine::{MachineLock, MachinePass};
 use crate::passes::{join_each, split_all};
 use crate::place::{machine_of, place_of};
 use history_model::Author;
+use machine_state::MachineState;
 use request_model::{Answer, Refusal, Reply, Request};
 use std::alloc::Global;
 use std::marker::Model;
 use std::sync::Wait;
-use track_state::TrackState;
 
 /// Machines, each under a lock of its own. Contracts see the locks, each with its machine's name, in order.
 #[derive(Drop)]
 pub struct Room {
     pub(crate) machines: Vec<MachineLock>,
     // Where the machines' states go when the room ends: it has room for them.
-    pub(crate) ended: Vec<TrackState>,
+    pub(crate) ended: Vec<MachineState>,
 }
 
 impl Model for Room {
@@ -60,7 +60,7 @@ impl Model for RoomPass {
 impl Room {
     /// A room of these machines, and its first pass, which has seen what they have. Without memory they are dropped. Linear
     /// in the machines.
-    pub fn new(alloc: Global, states: Vec<TrackState>) -> Result<(Room, RoomPass), NoMemory>
+    pub fn new(alloc: Global, states: Vec<MachineState>) -> Result<(Room, RoomPass), NoMemory>
         requires few { length states.items ≤ most Machines }
         ensures pass { IfOk result (λ made. IsPassOf made.0 made.1 × IsFirst made.1) }
         ensures first { IfOk result (λ made. AllZip IsFirstOf states.items made.1) }
@@ -107,7 +107,7 @@ impl Room {
 
     /// Ends the room, and gives its machines in order, each with all that was added. Takes no memory, and waits for nobody;
     /// where it refuses, the machines are dropped. With a whole pass it never refuses. Linear in the machines.
-    pub fn close(self, _alloc: Global, pass: RoomPass) -> Result<Vec<TrackState>, CloseFault>
+    pub fn close(self, _alloc: Global, pass: RoomPass) -> Result<Vec<MachineState>, CloseFault>
         requires room { IsPassOf self pass }
         ensures ok { IfOk result (λ states. AllZip Ends pass states.items) }
         ensures err { IfErr result (IsCause pass) }

@@ -1,7 +1,7 @@
 //! What workers do to one machine between entering its lock and leaving it.
 ghost use Rattle.std.specs.Prelude.{◌≡◌, IfOk, OnErr};
 ghost use Rattle.publication_index.specs.Standing.{table_for};
-ghost use Rattle.track_state.specs.Made.{IsMadeFrom};
+ghost use Rattle.machine_state.specs.Made.{IsMadeFrom};
 ghost use Rattle.track_room.specs.Sights.{SeesMore, Visits};
 ghost use Rattle.track_room.specs.Taking.{HasJob, Publishes, Releases, Settles, TakesJob, TakesSeries, seen_of};
 
@@ -14,7 +14,7 @@ use std::sync::Wait;
 use touch_index::SeriesKey;
 use track_follow::Settled;
 use track_series::Published;
-use track_work::{Question, TakenSeries};
+use track_state::{Question, TakenSeries};
 
 impl MachineLock {
     // Takes the first stale series that nobody claims, if there is one.

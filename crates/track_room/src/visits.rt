@@ -3,7 +3,7 @@ ghost use Rattle.std.specs.Prelude.{◌≡◌, IfOk, OnErr, false};
 ghost use Rattle.publication_index.specs.Standing.{table_for};
 ghost use Rattle.track_model.specs.Counts.{is_segment};
 ghost use Rattle.track_model.specs.Replies.{machine_of};
-ghost use Rattle.track_state.specs.Made.{IsMadeFrom};
+ghost use Rattle.machine_state.specs.Made.{IsMadeFrom};
 ghost use Rattle.track_room.specs.Sights.{SeesMore, Visits};
 ghost use Rattle.track_room.specs.Taking.{seen_of};
 ghost use Rattle.track_room.specs.Visits.{Answers, Begins, Finishes};

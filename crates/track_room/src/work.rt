@@ -4,7 +4,7 @@ ghost use Rattle.std.specs.List.{AllZip};
 ghost use Rattle.metric_table.specs.Limits.{most};
 ghost use Rattle.metric_table.specs.declared.limits.Limit.TheVariants.{Machines};
 ghost use Rattle.publication_index.specs.Standing.{table_for};
-ghost use Rattle.track_state.specs.Made.{IsMadeFrom};
+ghost use Rattle.machine_state.specs.Made.{IsMadeFrom};
 ghost use Rattle.track_room.specs.Asked.{ChangesAt};
 ghost use Rattle.track_room.specs.Claims.{all_placed, taken_with, EndsClaim, IsOf};
 ghost use Rattle.track_room.specs.Rooms.{AreSame, IsPassOf};
@@ -21,7 +21,7 @@ use std::sync::Wait;
 use touch_index::SeriesKey;
 use track_follow::Settled;
 use track_series::{Published, Redone, Snapshot};
-use track_work::{Question, TakenSeries};
+use track_state::{Question, TakenSeries};
 
 // Takes a series of the first machine that has one.
 fn first_series<R: Wait>(

@@ -21,7 +21,7 @@ use Rattle.history_model.specs.Publications.{last_publication, publications_of, 
 use Rattle.history_model.specs.Runs.{Series, is_known}
 use Rattle.track_model.specs.Tracks.{Track, is_setting, base_of, version_at}
 use Rattle.track_model.proofs.Settings.{setting-is}
-use Rattle.track_state.specs.State.{IsKept}
+use Rattle.machine_state.specs.State.{IsKept}
 use Rattle.track_series.specs.Begun.{Begins}
 use Rattle.track_series.specs.Publications.{later}
 

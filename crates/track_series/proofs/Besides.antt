@@ -24,12 +24,12 @@ use Rattle.track_model.specs.Outcomes.{Outcome, added_unless, refuses}
 use Rattle.track_model.specs.Publishing.{IsPublishedFrom, OfLatest, SegmentComesFrom, publication, publish, redone_since, segmented}
 use Rattle.track_model.specs.Replies.{reply_of}
 use Rattle.track_model.specs.Tracks.{Track, IsFinishStep}
-use Rattle.track_state.specs.Made.{IsMadeFrom, entry_of, publication_from}
+use Rattle.machine_state.specs.Made.{IsMadeFrom, entry_of, publication_from}
 use Rattle.track_series.specs.Beside.{reply_told}
 use Rattle.track_series.specs.Publications.{IsAdded, IsPublished, IsTaken, later, passed}
 use Rattle.track_series.specs.declared.publishing.Published.{Published}
 use Rattle.track_series.specs.declared.publishing.Published.TheVariants as published
-use Rattle.track_state.proofs.Told.{known}
+use Rattle.machine_state.proofs.Told.{known}
 
 version_in : Published → ℕ
 version_in (published.Stale version) = version

@@ -32,7 +32,7 @@ use Rattle.track_model.specs.Outcomes.{tells, added_unless}
 use Rattle.track_model.specs.Publishing.{SegmentComesTo, IsPublished, publication, publish, redone_since, segmented}
 use Rattle.track_model.specs.Replies.{reply_of}
 use Rattle.track_model.specs.Tracks.{Track, IsSameButTables, IsSegmentStep, base_of, with_entry, with_home, with_publication, with_taken}
-use Rattle.track_state.specs.Made.{publication_from, entry_of, setting_in, IsMadeFrom}
+use Rattle.machine_state.specs.Made.{publication_from, entry_of, setting_in, IsMadeFrom}
 use Rattle.history_model.specs.declared.setting.Setting.{Setting}
 use Rattle.track_model.proofs.Settings.{same-setting}
 use Rattle.track_series.specs.Publications.{IsAdded}
@@ -41,7 +41,7 @@ use Rattle.track_series.specs.declared.publishing.Published.{Published}
 use Rattle.track_series.specs.declared.publishing.Published.TheVariants as published
 use Rattle.track_series.specs.declared.redone.Redone.{Redone}
 use Rattle.track_series.specs.declared.snapshot.Snapshot.{Snapshot}
-use Rattle.track_state.proofs.Told.{known}
+use Rattle.machine_state.proofs.Told.{known}
 use Rattle.track_series.proofs.Beginning.{base-lawful}
 
 -- ---- a track once a segmentation took its table

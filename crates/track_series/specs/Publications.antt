@@ -13,7 +13,7 @@ pub use Rattle.track_model.specs.Publishing.{later}
 use Rattle.track_model.specs.Tracks.{Track, with_publication}
 use Rattle.track_series.specs.declared.publishing.Published.{Published}
 use Rattle.track_series.specs.declared.publishing.Published.TheVariants as published
-use Rattle.track_state.specs.Made.{entry_of, publication_from}
+use Rattle.machine_state.specs.Made.{entry_of, publication_from}
 
 -- where it passes a limit that is told and nothing changes, else it is added, and its table is home
 abbrev pub IsAdded : Option Limit → Track → Author → Done → Published → Track → Type 0

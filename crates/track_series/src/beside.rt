@@ -6,7 +6,7 @@ ghost use Rattle.publication_index.specs.Standing.{table_for};
 ghost use Rattle.track_model.specs.Outcomes.{Outcome};
 ghost use Rattle.track_model.specs.Publishing.{SegmentComesFrom};
 ghost use Rattle.track_model.specs.Tracks.{IsFinishStep, with_taken};
-ghost use Rattle.track_state.specs.Made.{IsMadeFrom};
+ghost use Rattle.machine_state.specs.Made.{IsMadeFrom};
 ghost use Rattle.track_series.specs.Beside.{IsBegun, reply_told};
 ghost use Rattle.track_series.specs.Publications.{IsPublished};
 
@@ -16,10 +16,10 @@ use crate::segments::{segmented, take_snapshot};
 use crate::snapshot::Snapshot;
 use history_model::{Author, publication_law};
 use line_text::Name;
+use machine_state::MachineState;
 use pelt_core::Table;
 use request_model::{Answer, Refusal, Reply};
 use segment_cost::{Done, Square};
-use track_state::TrackState;
 
 /// A segmentation that was begun.
 pub enum Begun {
@@ -40,7 +40,7 @@ pub struct Finished {
 
 /// Begins the segmentation of a series. The table of its last publication goes with it, where that is home and has the
 /// present penalty. Linear in the values of the series, but for samples that came since it was last read.
-pub fn begin(track: &mut TrackState, test: &Name, metric: &Name) -> Result<Begun, NoMemory>
+pub fn begin(track: &mut MachineState, test: &Name, metric: &Name) -> Result<Begun, NoMemory>
     ensures begun { IfOk result (IsBegun track.old
         (record { test = test.now; metric = metric.now })) }
     ensures taken { OnOk result (track.new
@@ -54,7 +54,7 @@ pub fn begin(track: &mut TrackState, test: &Name, metric: &Name) -> Result<Begun
 }
 
 // The reply to what was told of a publication.
-fn reply_to(track: &TrackState, told: Published, answer: Answer) -> Reply
+fn reply_to(track: &MachineState, told: Published, answer: Answer) -> Reply
     ensures { result ≡ reply_told (entries_of track.now.history) told answer }
 {
     match told {
@@ -67,7 +67,7 @@ fn reply_to(track: &TrackState, told: Published, answer: Answer) -> Reply
 /// Publishes a segmentation that was made of a version of the history, and replies as that version gives it. Linear in its
 /// cuts, but for look-ups.
 pub fn finish(
-    track: &mut TrackState,
+    track: &mut MachineState,
     author: Author,
     done: Done,
     table: Table<Square>,

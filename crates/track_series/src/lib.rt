@@ -4,7 +4,7 @@
 //! series' last publication with it, where that is home; [`compute`] redoes it, and it comes home with the publication.
 //! Where there is no memory nothing changes, but that a table that was taken doesn't come home.
 //!
-//! Stands on `track_state` for the state of a machine, on `checkpoint_redo` for tables of positions that were edited, and
+//! Stands on `machine_state` for the state of a machine, on `checkpoint_redo` for tables of positions that were edited, and
 //! on `pelt_core` for the tables themselves.
 #![tactic(auto)]
 

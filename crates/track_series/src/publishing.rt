@@ -4,17 +4,17 @@ ghost use Rattle.history_model.specs.Entries.{entries_of};
 ghost use Rattle.history_model.specs.Publications.{IsUpTo, last_publication};
 ghost use Rattle.publication_index.specs.Kept.{series_of};
 ghost use Rattle.publication_index.specs.Standing.{table_for};
-ghost use Rattle.track_state.specs.Made.{IsMadeFrom, publication_from};
+ghost use Rattle.machine_state.specs.Made.{IsMadeFrom, publication_from};
 ghost use Rattle.track_series.specs.Publications.{IsAdded, IsPublished, later, passed};
 
 use crate::NoMemory;
 use history_model::{Author, Publication, publication_law, within_law};
+use machine_state::MachineState;
 use metric_table::Limit;
 use pelt_core::Table;
 use segment_cost::{Done, Square};
 use std::alloc::Global;
 use track_model::publish_law;
-use track_state::TrackState;
 
 /// What became of a finished segmentation.
 #[derive(Clone, Copy, Debug, PartialEq, Eq)]
@@ -43,7 +43,7 @@ fn publication_of(alloc: Global, done: &Done) -> Result<Publication, NoMemory>
 
 // Publishes it where it passes no limit; no later version of its series was published.
 pub(crate) fn put(
-    track: &mut TrackState,
+    track: &mut MachineState,
     author: Author,
     done: Done,
     table: Table<Square>,
@@ -72,7 +72,7 @@ pub(crate) fn put(
 }
 
 // The version of the series' last publication, where it is above that of the segmentation.
-fn later(track: &TrackState, done: &Done) -> Option<u64>
+fn later(track: &MachineState, done: &Done) -> Option<u64>
     ensures { result ≡ later done.now.version
         (last_publication (series_of done.now) (entries_of track.now.history)) }
 {
@@ -88,7 +88,7 @@ fn later(track: &TrackState, done: &Done) -> Option<u64>
 /// Publishes a segmentation that was made from the history, at its version or before, and keeps its table, which is home
 /// then. Linear in its cuts, but for look-ups.
 pub fn publish(
-    track: &mut TrackState,
+    track: &mut MachineState,
     author: Author,
     done: Done,
     table: Table<Square>,

@@ -13,18 +13,18 @@ use crate::publishing::{Published, put};
 use crate::snapshot::Snapshot;
 use history_model::{Author, publication_law};
 use line_text::Name;
+use machine_state::MachineState;
 use pelt_core::Steps;
 use point_list::FrozenPoints;
 use request_model::{Answer, Refusal, Reply};
 use segment_cost::Done;
 use std::sync::ledger::Ledger;
-use track_state::TrackState;
 
 /// What the history has of a series; none exactly where the series is unknown. The table of its last publication goes with
 /// it, where that is home and has the present setting. Where there is no memory, nothing changes. One step for 128
 /// positions, but for look-ups and for samples that came since it was last read.
 pub fn take_snapshot(
-    track: &mut TrackState,
+    track: &mut MachineState,
     test: &Name,
     metric: &Name,
 ) -> Result<Option<Snapshot>, NoMemory>
@@ -90,7 +90,7 @@ pub(crate) fn segmented(done: &Done) -> Answer
 /// where few positions stand past those in common and changes come at bounded distances. One step for each position that
 /// was redone.
 pub fn segment<L: Ledger>(
-    track: &mut TrackState,
+    track: &mut MachineState,
     author: Author,
     test: &Name,
     metric: &Name,

@@ -1,13 +1,9 @@
-pub mod Followed
-pub mod Steps
-pub mod Marks
-pub mod Publishing
-pub mod Published
-pub mod Told
-pub mod Named
-pub mod Bases
-mod OneMore
-mod Ready
-pub mod Series
-mod Asked
-mod Reporting
+pub mod Snapped
+mod Covering
+mod Touching
+mod Tests
+mod Found
+mod Opening
+mod Handed
+mod Numbers
+mod Stepping

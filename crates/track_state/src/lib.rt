@@ -1,25 +1,30 @@
-//! The state of one machine: its history, with the indexes that are found in it fast.
+//! The state of a machine: its history, and what workers have taken of it.
 //!
-//! Contracts see the machine's name, whether the store had it, the history, a list of entries with their authors, and the
-//! series whose tables are home. Whatever is asked of a state is defined by the history, and the base of the next
-//! segmentation of a series by what is home as well. An entry is added only where it is allowed after those
-//! before it, so each history keeps its limits and is legal.
+//! A `TrackState` has a machine's history with its indexes, and the claims of those who work on it: a series may be taken,
+//! or refused by a limit, and a job may be taken. Claims stand in no history. Whoever wants work is given the first stale
+//! series that nobody claims, or the open job of the smallest number.
 //!
-//! What was published of a series is kept as it was made, with its certificate and its positions, so nothing that comes
-//! later changes what is told of it.
+//! The series that something touched are in an ordered index. It follows the history when work is asked for, once for
+//! each entry, so that a request pays nothing for it and a search looks at no series that is fresh.
 //!
-//! Stands on `order_index`, `sample_store`, `series_index`, `publication_index` and `follow_index` for what is kept of a
-//! history, and on `history_model` and `track_model` for what histories and tracks are.
+//! Stands on `machine_state` for the history with its indexes, on `track_series` and `track_follow` for what is added, and on
+//! `touch_model` and `touch_index` for what is stale.
 #![tactic(auto)]
 
-mod base;
-mod follow;
-mod following;
-mod of_history;
-mod of_series;
-mod publish;
+mod catching;
+mod publishing;
+mod questions;
+mod requests;
 mod state;
+mod taking;
 
-pub use base::Base;
+pub use history_model::{Author, Entry, Placed};
+pub use questions::{Question, open_question};
+pub use request_model::{
+    Answer, NamedChange, NamedChanges, RangePlace, Refusal, Reply, Request, RunLine, Runs,
+};
 pub use state::TrackState;
 pub use std::alloc::AllocError as NoMemory;
+pub use taking::TakenSeries;
+pub use track_follow::Settled;
+pub use track_series::{Published, Redone, Snapshot};

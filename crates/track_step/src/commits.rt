@@ -8,14 +8,18 @@ ghost use Rattle.track_model.specs.Tracks.{IsStep};
 use crate::NoMemory;
 use history_model::{Author, Declaration, Entry};
 use line_text::Name;
+use machine_state::MachineState;
 use metric_table::Limit;
 use request_model::{Answer, Refusal, Reply};
 use track_model::{commit_law, retract_law};
 use track_replay::retract_refusal;
-use track_state::TrackState;
 
 // What a commit is answered where it adds nothing.
-fn commit_refusal(track: &TrackState, number: u64, name: &Name) -> Result<Option<Answer>, NoMemory>
+fn commit_refusal(
+    track: &MachineState,
+    number: u64,
+    name: &Name,
+) -> Result<Option<Answer>, NoMemory>
     ensures { IfOk result (λ answer. answer
         ≡ forms.commit_refusal (declarations (entries_of track.now.history)) number name.now) }
 {
@@ -31,7 +35,7 @@ fn commit_refusal(track: &TrackState, number: u64, name: &Name) -> Result<Option
     Ok(None)
 }
 
-fn taken_by(track: &TrackState, other: &Declaration) -> Result<Answer, NoMemory>
+fn taken_by(track: &MachineState, other: &Declaration) -> Result<Answer, NoMemory>
     ensures { IfOk result (λ answer. answer ≡ forms.taken_by other.now) }
 {
     Ok(Answer::Refused(Refusal::CommitTaken {
@@ -42,7 +46,7 @@ fn taken_by(track: &TrackState, other: &Declaration) -> Result<Answer, NoMemory>
 
 /// `commit M NUMBER NAME`
 pub fn commit(
-    track: &mut TrackState,
+    track: &mut MachineState,
     author: Author,
     number: u64,
     name: &Name,
@@ -72,7 +76,7 @@ pub fn commit(
 }
 
 /// `retract M RUN`
-pub fn retract(track: &mut TrackState, author: Author, run: &Name) -> Result<Reply, NoMemory>
+pub fn retract(track: &mut MachineState, author: Author, run: &Name) -> Result<Reply, NoMemory>
     ensures step { IfOk result (λ reply. IsStep track.old author
         (forms.retract (entries_of track.old.history) run.now) track.new reply) }
     ensures same { OnErr result (track.new ≡ track.old) }

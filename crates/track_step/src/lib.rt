@@ -4,7 +4,7 @@
 //! there is no memory nothing changes, but that a segmentation may lose the table that it began with. [`answer`] counts the
 //! steps: one for each position that a segmentation looks at anew.
 //!
-//! Stands on `track_state` for the state of a machine, on `track_replay` for what is allowed, and on `track_penalties`,
+//! Stands on `machine_state` for the state of a machine, on `track_replay` for what is allowed, and on `track_penalties`,
 //! `track_series`, `track_reports` and `track_follow` for the requests about series, regressions and bisections.
 #![tactic(auto)]
 

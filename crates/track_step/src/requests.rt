@@ -11,6 +11,7 @@ use crate::commits::{commit, retract};
 use crate::run_lines::runs;
 use crate::submissions::submit;
 use history_model::Author;
+use machine_state::MachineState;
 use pelt_core::Steps;
 use request_model::{Answer, Reply, Request};
 use std::sync::ledger::Ledger;
@@ -18,11 +19,10 @@ use track_follow::{answer_job, bisect, regress, resume, set_state};
 use track_penalties::{calibrate, tune};
 use track_reports::{changes, report, verify};
 use track_series::segment;
-use track_state::TrackState;
 
 /// Answers a request about this machine: `segment` by the steps that it takes, any other by [`step`].
 pub fn answer<L: Ledger>(
-    track: &mut TrackState,
+    track: &mut MachineState,
     author: Author,
     request: &Request,
     steps: &mut Steps<L>,
@@ -46,7 +46,7 @@ pub fn answer<L: Ledger>(
 }
 
 /// Answers a request about this machine that segments nothing.
-pub fn step(track: &mut TrackState, author: Author, request: &Request) -> Result<Reply, NoMemory>
+pub fn step(track: &mut MachineState, author: Author, request: &Request) -> Result<Reply, NoMemory>
     requires asked { machine_of request.now ≡ track.old.machine }
     requires plain { is_segment request.now ≡ false }
     ensures step { IfOk result (λ reply. (o : Outcome)

@@ -9,14 +9,14 @@ ghost use Rattle.track_step.specs.Lines.{line_of};
 
 use crate::NoMemory;
 use history_model::runs_law;
+use machine_state::MachineState;
 use order_index::OrderIndex;
 use request_model::{Answer, Reply, RunLine, Runs};
 use sample_store::Stored;
 use std::alloc::Global;
-use track_state::TrackState;
 
 /// `runs M`: adds nothing. Linear in the number of runs.
-pub fn runs(track: &TrackState) -> Result<Reply, NoMemory>
+pub fn runs(track: &MachineState) -> Result<Reply, NoMemory>
     ensures { IfOk result (λ reply. reply
         ≡ reply_of (entries_of track.now.history) (forms.runs (entries_of track.now.history))) }
 {

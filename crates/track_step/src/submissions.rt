@@ -10,15 +10,15 @@ ghost use Rattle.track_step.specs.Told.{told_of};
 use crate::NoMemory;
 use history_model::{Author, Entry, Run, accept_law, retraction_law, within_law};
 use line_text::{Name, Text};
+use machine_state::MachineState;
 use request_model::{Answer, Refusal, Reply};
 use sample_model::Samples;
 use sample_store::Accepted;
 use track_replay::{Verdict, room_for};
-use track_state::TrackState;
 
 // The run that a submission at a commit of that number would add; at 0 where the commit has none.
 fn submitted(
-    track: &TrackState,
+    track: &MachineState,
     number: Option<u64>,
     run: &Name,
     samples: &Samples,
@@ -49,7 +49,7 @@ fn told_of(judged: Accepted) -> Option<Answer>
 }
 
 // What is said of a run whose name was accepted before.
-fn told_again(track: &TrackState, new: &Run) -> Option<Answer>
+fn told_again(track: &MachineState, new: &Run) -> Option<Answer>
     ensures { result ≡ option_map (forms.told_again new.now)
         (accepted new.now.run (entries_of track.now.history)) }
 {
@@ -57,7 +57,7 @@ fn told_again(track: &TrackState, new: &Run) -> Option<Answer>
 }
 
 // Whether a body states another machine.
-fn states_another(track: &TrackState, stated: &Option<Name>) -> bool
+fn states_another(track: &MachineState, stated: &Option<Name>) -> bool
     ensures { result ≡ forms.states_another track.now.machine stated.now }
 {
     match stated {
@@ -68,7 +68,7 @@ fn states_another(track: &TrackState, stated: &Option<Name>) -> bool
 
 // What a submission at a commit of that number is answered where it adds nothing and passes no limit.
 fn submit_refusal(
-    track: &TrackState,
+    track: &MachineState,
     number: Option<u64>,
     new: &Run,
     stated: &Option<Name>,
@@ -90,7 +90,7 @@ fn submit_refusal(
 
 /// `submit M COMMIT RUN`, with a body that was read.
 pub fn submit(
-    track: &mut TrackState,
+    track: &mut MachineState,
     author: Author,
     commit: &Name,
     run: &Name,

@@ -7,7 +7,7 @@ use Rattle.track_outside.specs.declared.keeper.Keeper as keeper
 use Rattle.track_outside.specs.declared.source.Failed.{Failed}
 use Rattle.track_outside.specs.Calls.{Took, FailedIn}
 use Rattle.request_words.specs.Bodies.{Item}
-use Rattle.request_text.specs.Scripts.{Ending, end, cut_off, unfinished, IsScript}
+use Rattle.request_reader.specs.Scripts.{Ending, end, cut_off, unfinished, IsScript}
 use Rattle.script_loop.specs.declared.stop.Stop.{Stop as ScriptStop}
 use Rattle.script_loop.specs.declared.stop.Stop.TheVariants as script
 use Rattle.script_loop.specs.Endings.{HasRead, HasWritten}
@@ -34,9 +34,9 @@ use Rattle.tracker_top.specs.Text.{line_of}
 use Rattle.tracker_top.specs.Endings.{HasCause, EndsOutput, AnswersScript, Begins, WasStarted, Keeps, Prints, AppendCause, LoadCause, EndsSo, EndsScript, EndsApply, IsOfOutput, HasAsked, IsAlone, Ends, IsTold}
 use Rattle.tracker_top.specs.Answers.{IsCertificateText, state_of}
 use Rattle.track_outside.specs.Kept.{with_more}
-use Rattle.kept_machines.specs.Kept.{AreKept}
-use Rattle.kept_machines.specs.Loading.{Stored, LeadTo, IsFirstBad}
-use Rattle.kept_machines.specs.Rows.{new_rows}
+use Rattle.keep_rows.specs.Kept.{AreKept}
+use Rattle.keep_rows.specs.Loading.{Stored, LeadTo, IsFirstBad}
+use Rattle.keep_rows.specs.Rows.{new_rows}
 use Rattle.script_desk.specs.Growth.{ComesBack, stored_after}
 use Rattle.track_model.specs.Tracks.{Track}
 use Rattle.script_desk.specs.Sessions.{State, AnswersFor}

@@ -12,7 +12,7 @@ use Rattle.script_loop.specs.declared.stop.Stop.{Stop}
 use Rattle.script_loop.specs.declared.stop.Stop.TheVariants as stop
 use Rattle.script_desk.specs.Counting.{Counted, Counting, counted}
 use Rattle.script_desk.specs.Sessions.{State, AnswersFor, AnswersSome}
-use Rattle.request_text.specs.Scripts.{end, cut_off, unfinished}
+use Rattle.request_reader.specs.Scripts.{end, cut_off, unfinished}
 use Rattle.script_loop.specs.Folds.{AreAnswers}
 use Rattle.script_loop.specs.Outputs.{Out}
 use Rattle.script_session.specs.Counts.{TrialsCount}

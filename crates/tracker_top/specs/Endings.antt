@@ -9,14 +9,14 @@ use Rattle.track_outside.specs.declared.sink.Sink as sink
 use Rattle.track_outside.specs.declared.keeper.Keeper as keeper
 use Rattle.track_outside.specs.Kept.{with_more}
 use Rattle.track_model.specs.Tracks.{Track}
-use Rattle.keep_rows.specs.Faults.{MayHaveName}
-use Rattle.kept_machines.specs.Kept.{AreKept}
-use Rattle.kept_machines.specs.Loading.{Stored, nothing_stored, LeadTo, IsFirstBad}
-use Rattle.kept_machines.specs.Rows.{new_rows}
+use Rattle.store_rows.specs.Faults.{MayHaveName}
+use Rattle.keep_rows.specs.Kept.{AreKept}
+use Rattle.keep_rows.specs.Loading.{Stored, nothing_stored, LeadTo, IsFirstBad}
+use Rattle.keep_rows.specs.Rows.{new_rows}
 use Rattle.track_outside.specs.Calls.{Took, FailedIn, IsUntouched, GaveAtMost}
 use Rattle.cut_lines.specs.Stops.{GaveMayGoOn}
 use Rattle.request_words.specs.Bodies.{Item}
-use Rattle.request_text.specs.Scripts.{Ending, end, IsScript}
+use Rattle.request_reader.specs.Scripts.{Ending, end, IsScript}
 use Rattle.script_loop.specs.declared.stop.Stop.{Stop}
 use Rattle.script_loop.specs.declared.stop.Stop.TheVariants as stop
 use Rattle.script_loop.specs.Endings.{HasRead, HasAnswered, HasWritten}

@@ -2,7 +2,7 @@
 use Rattle.std.specs.Prelude.{◌≡◌, ℕ, ◌⊎◌, List, ◌∷◌, codes, Option, Some, None, Result, Ok, Err}
 use Rattle.segment_model.specs.Segments.{Position}
 use Rattle.request_words.specs.Bodies.{Item}
-use Rattle.request_text.specs.Scripts.{Ending, end, cut_off, unfinished, IsScript}
+use Rattle.request_reader.specs.Scripts.{Ending, end, cut_off, unfinished, IsScript}
 use Rattle.script_loop.specs.declared.stop.Stop.{Stop as ScriptStop}
 use Rattle.script_loop.specs.declared.stop.Stop.TheVariants as script
 use Rattle.cut_lines.specs.declared.stop.Refusal.TheVariants as refusal
@@ -10,11 +10,11 @@ use Rattle.cut_lines.specs.declared.stop.Stop.{Stop}
 use Rattle.cut_lines.specs.declared.stop.Stop.TheVariants as stop
 use Rattle.cut_lines.specs.Reading.{ArePointsWithin}
 use Rattle.cut_lines.specs.Stops.{BytesShowWithin}
-use Rattle.keep_rows.specs.declared.append.AppendFault.{AppendFault}
-use Rattle.keep_rows.specs.declared.append.AppendFault.TheVariants as append
-use Rattle.keep_rows.specs.declared.load.LoadFault.{LoadFault}
-use Rattle.keep_rows.specs.declared.load.LoadFault.TheVariants as load
-use Rattle.kept_machines.specs.Loading.{Stored, LeadTo, IsFirstBad}
+use Rattle.store_rows.specs.declared.append.AppendFault.{AppendFault}
+use Rattle.store_rows.specs.declared.append.AppendFault.TheVariants as append
+use Rattle.store_rows.specs.declared.load.LoadFault.{LoadFault}
+use Rattle.store_rows.specs.declared.load.LoadFault.TheVariants as load
+use Rattle.keep_rows.specs.Loading.{Stored, LeadTo, IsFirstBad}
 use Rattle.command_words.specs.declared.command.Command.{Command}
 use Rattle.command_words.specs.declared.command.Command.TheVariants.{Cut, Apply, Gen, Trial, Play, Path, Hunt}
 use Rattle.tracker_top.specs.declared.status.Status.{Status}

@@ -9,7 +9,7 @@ ghost use Rattle.tracker_top.specs.declared.status.Status.{Status};
 
 use cut_lines::{Refusal, Stop as CutStop};
 use hunt_command::HuntEnd;
-use kept_machines::{AppendFault, LoadFault};
+use keep_rows::{AppendFault, LoadFault};
 use path_command::PathEnd;
 use script_session::Stop as ScriptStop;
 use shared_run::RunStop;

@@ -20,7 +20,8 @@ use command_words::{Command, CutPlan, PathPlan, Word, command_of, one_command_la
 use cost_certificate::put_cert;
 use cut_lines::{one_stop_law, read_points};
 use history_model::{Author, finished_law, publication_law};
-use kept_machines::{Loaded, append_all, load, rows_law};
+use keep_rows::{Loaded, append_all, load, rows_law};
+use machine_state::MachineState;
 use path_command::path_points;
 use pelt_core::{Steps, segmentation};
 use script_desk::{Session, Trial};
@@ -31,7 +32,6 @@ use std::alloc::Global;
 use std::mem::forget;
 use std::sync::ledger::Ledger;
 use track_outside::{Files, Keeper, NoMemory, Sink, Source, SureSource, put_all};
-use track_state::TrackState;
 use trial_script::{accepted_law, script_law};
 
 /// No words, rows of a store and bytes of an input have two statuses, but for those that the outside or the memory give.
@@ -279,7 +279,7 @@ fn apply_to<I: Source, O: Sink, K: Keeper, L: Ledger>(
 }
 
 // The session of the one script, on these machines.
-fn session_on(alloc: Global, machines: Vec<TrackState>) -> Session
+fn session_on(alloc: Global, machines: Vec<MachineState>) -> Session
     ensures { result ≡ state_of machines.items }
 {
     Session::new(alloc, Author::Script(1), machines)

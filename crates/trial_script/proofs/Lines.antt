@@ -12,11 +12,11 @@ use Rattle.request_model.specs.declared.requests.Request.TheVariants as request
 use Rattle.request_words.specs.Forms.{Form, machine, commit, submit_go, retract, tune, IsOfForm, name_of}
 use Rattle.request_words.specs.Bodies.{Item, AsksNamed}
 use Rattle.request_words.specs.Items.{formed, named}
-use Rattle.request_text.specs.Scripts.{ArePieces}
+use Rattle.request_reader.specs.Scripts.{ArePieces}
 use Rattle.request_words.proofs.Skipped.{skipped_formless}
-use Rattle.request_text.proofs.WholePieces.{one_piece}
-use Rattle.request_written.proofs.WrittenBack.{IsWritable, written_back}
-use Rattle.request_written.proofs.WrittenLines.{IsShortWord, words_back, line_back, number_word, a_word, machine_word, commit_word, submit_word, go_word, retract_word, tune_word}
+use Rattle.request_reader.proofs.WholePieces.{one_piece}
+use Rattle.request_text.proofs.WrittenBack.{IsWritable, written_back}
+use Rattle.request_text.proofs.WrittenLines.{IsShortWord, words_back, line_back, number_word, a_word, machine_word, commit_word, submit_word, go_word, retract_word, tune_word}
 use Rattle.series_gen.specs.Script.{line, place, commit_line, submit_line, body_line, segment_line, retract_line}
 use Rattle.trial_script.specs.Requests as asked
 use Rattle.trial_script.proofs.PlainWords.{IsOwnWord, plain_name, own_word, numbered}

@@ -15,7 +15,7 @@ use Rattle.std.proofs.lemmas.List.Sums.{AllPass-from_list_all, list_all-from_All
 use Rattle.line_text.specs.Names.{IsName, is_plain, byte_spelling, spelling, Spells, NamesAreSpelledBack}
 use Rattle.go_bench_text.proofs.PutFields.{ascii_word}
 use Rattle.request_words.specs.Forms.{name_of, SpellsName}
-use Rattle.request_written.proofs.WrittenLines.{IsShortWord, name_word}
+use Rattle.request_text.proofs.WrittenLines.{IsShortWord, name_word}
 
 pub all_weaker : (p q : ℕ → Bool) → ((b : ℕ) → p b ≡ true → q b ≡ true) → (xs : List ℕ) → list_all p xs ≡ true → list_all q xs ≡ true
 all_weaker p q weaker xs all = list_all-from_AllPass q xs (λ k d l. weaker (get_or xs k d) (AllPass-from_list_all p xs all k d l))

@@ -9,7 +9,7 @@ use Rattle.line_text.specs.Numbers.{NumbersAreSpelled}
 use Rattle.request_model.specs.declared.requests.Request.{Request}
 use Rattle.request_model.specs.declared.requests.Request.TheVariants as request
 use Rattle.request_words.specs.Bodies.{Item}
-use Rattle.request_text.specs.Scripts.{ArePieces, IsScript, last, end, input_limit}
+use Rattle.request_reader.specs.Scripts.{ArePieces, IsScript, last, end, input_limit}
 use Rattle.script_session.specs.Laws.{OneScript}
 use Rattle.request_words.proofs.Skipped.{skipped_counts}
 use Rattle.series_gen.specs.Script.{line, place, value, state_after, in_turn, commit_line, submit_line, body_line, segment_line, turn, retract_line, script}

@@ -7,7 +7,7 @@ use Rattle.request_model.specs.declared.replies.Reply.{Reply}
 use Rattle.script_desk.specs.Sessions.{State, AnswersFor}
 use Rattle.script_loop.specs.Folds.{AreAnswers}
 use Rattle.script_loop.specs.Outputs.{Out}
-use Rattle.request_text.specs.Scripts.{Ending}
+use Rattle.request_reader.specs.Scripts.{Ending}
 use Rattle.series_gen.specs.Script.{script}
 use Rattle.trial_script.specs.Requests.{items}
 

@@ -1,7 +1,7 @@
 -- What holds of the script of each number.
 use Rattle.std.specs.Prelude.{◌≡◌, ℕ, List}
 use Rattle.request_words.specs.Bodies.{Item}
-use Rattle.request_text.specs.Scripts.{Ending, end, IsScript}
+use Rattle.request_reader.specs.Scripts.{Ending, end, IsScript}
 use Rattle.series_gen.specs.Script.{script}
 use Rattle.trial_script.specs.Requests.{items}
 

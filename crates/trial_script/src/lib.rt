@@ -5,8 +5,8 @@
 //! nor too long. [`accepted_law`] says that a session without machines refuses none of these requests
 //! (`specs/Accepted.antt`). The laws do nothing: their contracts are what they are for.
 //!
-//! Stands on `series_gen` for the script, on `request_words` and `request_text` for the reading of lines and scripts, on
-//! `request_written` for the words of lines that are read back, and on `script_session`, which says that bytes are one
+//! Stands on `series_gen` for the script, on `request_words` and `request_reader` for the reading of lines and scripts, on
+//! `request_text` for the words of lines that are read back, and on `script_session`, which says that bytes are one
 //! script and how requests are answered; on `line_text` for words, names and numbers, on `go_bench_text` for the bodies, and
 //! on `track_model` and `history_model` for what a request comes to on a history.
 #![tactic(auto)]

@@ -9,18 +9,18 @@ ghost use Rattle.worker_crew.specs.Last.{HasQuietJobs, HasQuietSeries, Publishes
 
 use crate::NoMemory;
 use bisect_workers::bisect_last;
-use recompute_workers::{WorkState, recompute_last};
+use machine_state::MachineState;
+use recompute_workers::{TrackState, recompute_last};
 use std::alloc::Global;
 use std::vec::IntoIter;
 use track_outside::Runner;
-use track_state::TrackState;
 
 /// Publishes each stale series of each machine, as the first worker that recomputes, and gives the machines into a list that
 /// has room for them. Where there is no memory, what was published stands, and the machines behind are as they were.
 pub fn recompute_each(
     alloc: Global,
-    states: Vec<TrackState>,
-    left: &mut Vec<TrackState>,
+    states: Vec<MachineState>,
+    left: &mut Vec<MachineState>,
 ) -> Result<(), NoMemory>
     requires none { left.old.items ≡ [] }
     requires room { length states.items ≤ vec_capacity left.old }
@@ -33,8 +33,8 @@ pub fn recompute_each(
 // Those that are left.
 fn recompute_rest(
     alloc: Global,
-    mut states: IntoIter<TrackState>,
-    left: &mut Vec<TrackState>,
+    mut states: IntoIter<MachineState>,
+    left: &mut Vec<MachineState>,
 ) -> Result<(), NoMemory>
     requires room { length left.old.items + length (into_iter_items states)
         ≤ vec_capacity left.old }
@@ -43,7 +43,7 @@ fn recompute_rest(
     let Some(state) = states.next() else {
         return Ok(());
     };
-    let mut work = WorkState::new(state);
+    let mut work = TrackState::of(state);
     let done = recompute_last(alloc, &mut work);
     left.push_reserved(work.into_track());
     match done {
@@ -56,7 +56,7 @@ fn recompute_rest(
 }
 
 // Moves those that are left as they are.
-fn move_rest(mut states: IntoIter<TrackState>, left: &mut Vec<TrackState>)
+fn move_rest(mut states: IntoIter<MachineState>, left: &mut Vec<MachineState>)
     requires room { length left.old.items + length (into_iter_items states)
         ≤ vec_capacity left.old }
     ensures { left.new.items ≡ left.old.items ++ into_iter_items states }
@@ -72,7 +72,7 @@ fn move_rest(mut states: IntoIter<TrackState>, left: &mut Vec<TrackState>)
 /// was said stands, and the machines behind are as they were.
 pub fn bisect_each<A: Runner>(
     alloc: Global,
-    states: &mut [TrackState],
+    states: &mut [MachineState],
     test: &str,
     runner: &mut A,
 ) -> Result<(), NoMemory>

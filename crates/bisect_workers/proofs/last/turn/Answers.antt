@@ -7,9 +7,9 @@ use Rattle.history_model.specs.declared.entries.Entry.{Entry}
 use Rattle.history_model.specs.Entries.{entries_of}
 use Rattle.track_follow.specs.Settling.{entry_said}
 use Rattle.track_model.specs.Tracks.{Track, with_entry}
-use Rattle.track_work.specs.Asking.{IsOpenQuestion}
-use Rattle.track_work.specs.Questions.{IsFirstQuestion}
-use Rattle.track_work.specs.declared.questions.Question.{Question}
+use Rattle.track_state.specs.Asking.{IsOpenQuestion}
+use Rattle.track_state.specs.Questions.{IsFirstQuestion}
+use Rattle.track_state.specs.declared.questions.Question.{Question}
 use Rattle.bisect_workers.specs.Bisecting.{IsBisected}
 use Rattle.bisect_workers.proofs.Joined.{nothing}
 use Rattle.bisect_workers.proofs.Turning.{none-asks, recorded, unused, used}

@@ -14,10 +14,10 @@ use Rattle.track_series.specs.Publications.{passed}
 use Rattle.track_series.specs.Snapshots.{IsTakenAt}
 use Rattle.track_series.specs.declared.snapshot.Snapshot.{Snapshot}
 use Rattle.track_series.proofs.Segmenting.{made-from, series-is}
-use Rattle.track_state.specs.Made.{IsMadeFrom, entry_of}
-use Rattle.track_work.specs.Taking.{TakesStale}
-use Rattle.track_work.specs.Work.{bare, history_of}
-use Rattle.track_work.proofs.Snapped.{bare-taken, entries-taken}
+use Rattle.machine_state.specs.Made.{IsMadeFrom, entry_of}
+use Rattle.track_state.specs.Taking.{TakesStale}
+use Rattle.track_state.specs.Work.{bare, history_of}
+use Rattle.track_state.proofs.Snapped.{bare-taken, entries-taken}
 use Rattle.touch_model.specs.Stale.{is_stale}
 use Rattle.recompute_workers.specs.Quiet.{IsQuiet}
 use Rattle.recompute_workers.specs.Recomputing.{AddsOne}

@@ -6,9 +6,9 @@ use Rattle.history_model.specs.declared.entries.Author.TheVariants.{Recompute}
 use Rattle.history_model.specs.declared.entries.Entry.{Entry}
 use Rattle.history_model.specs.Allowed.{Legal}
 use Rattle.history_model.specs.Entries.{entries_of}
-use Rattle.track_state.specs.Made.{IsMadeFrom}
+use Rattle.machine_state.specs.Made.{IsMadeFrom}
 use Rattle.track_series.proofs.Segmenting.{made-from}
-use Rattle.track_work.specs.Work.{series_of}
+use Rattle.track_state.specs.Work.{series_of}
 use Rattle.track_room.specs.Sights.{SeesMore, Visits}
 use Rattle.track_room.specs.Taking.{Publishes}
 use Rattle.recompute_workers.specs.Works.{Works}

@@ -2,10 +2,10 @@ use Rattle.std.proofs.Common.{List, subst, sym}
 use Rattle.history_model.specs.declared.entries.Entry.{Entry}
 use Rattle.history_model.specs.Allowed.{Legal}
 use Rattle.history_model.specs.Entries.{entries_of}
-use Rattle.track_state.specs.Made.{IsMadeFrom}
+use Rattle.machine_state.specs.Made.{IsMadeFrom}
 use Rattle.track_series.proofs.Segmenting.{made-from}
-use Rattle.track_work.specs.Work.{series_of}
-use Rattle.room_tests.proofs.of_track_work.made_of.Goals as goal
+use Rattle.track_state.specs.Work.{series_of}
+use Rattle.room_tests.proofs.of_track_state.made_of.Goals as goal
 
 pub published-requires-clause-made : goal.published-requires-clause-made
 published-requires-clause-made g c =

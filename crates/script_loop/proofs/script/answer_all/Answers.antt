@@ -1,6 +1,6 @@
 use Rattle.std.proofs.Common.{◌≡◌, inl, inr, true, false, [], ◌++◌, refl, ap, sym, ◌∙◌}
 use Rattle.std.proofs.lemmas.Result.{err_from_is_err_and}
-use Rattle.request_text.specs.Next.{items_of}
+use Rattle.request_reader.specs.Next.{items_of}
 use Rattle.script_loop.proofs.Answering.{output_none, output_join, gathers_none, gathers_more, gathers_on, failed_on, stands_read, written_read}
 use Rattle.script_loop.proofs.Each.{one_item, splits-all, splits-last, lost-answers, pending-of, pending-failed}
 use Rattle.script_loop.proofs.Sources.{taken_none, taken_next, asks_none, asks_these, asks_more, ends_here, nothing_left, stops, few_stop, few_next}

@@ -1,5 +1,5 @@
 use Rattle.std.proofs.Common.{◌-◌}
-use Rattle.request_text.specs.Scripts.{input_limit}
+use Rattle.request_reader.specs.Scripts.{input_limit}
 use Rattle.script_loop.specs.Turns.{Goes}
 use Rattle.script_loop.proofs.script.answer_all.Given as goal
 

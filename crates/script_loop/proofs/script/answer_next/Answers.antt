@@ -1,4 +1,4 @@
-use Rattle.request_text.specs.Next.{items_of}
+use Rattle.request_reader.specs.Next.{items_of}
 use Rattle.script_loop.proofs.Each.{on_error, lost-by}
 use Rattle.script_loop.proofs.script.answer_next.Goals as goal
 

@@ -2,8 +2,8 @@ use Rattle.std.proofs.Common.{◌≡◌, Ok, Err, ◌≤◌, inl, List, length, 
 use Rattle.std.specs.List.{AllByRecursion}
 use Rattle.metric_table.specs.Limits.{most}
 use Rattle.metric_table.specs.declared.limits.Limit.TheVariants.{Machines}
-use Rattle.kept_machines.specs.Loading.{Stored}
-use Rattle.kept_machines.specs.Machines.{AreDifferent, names_of}
+use Rattle.keep_rows.specs.Loading.{Stored}
+use Rattle.keep_rows.specs.Machines.{AreDifferent, names_of}
 use Rattle.play_crew.specs.Fitting.{IsUnasked}
 use Rattle.worker_crew.specs.Whole.{tallies}
 use Rattle.shared_run.specs.Beginnings.{Begins}

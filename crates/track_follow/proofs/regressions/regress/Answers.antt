@@ -18,14 +18,14 @@ use Rattle.request_model.specs.declared.replies.Refusal.TheVariants as refusal
 use Rattle.request_model.specs.declared.replies.Reply.{Reply}
 use Rattle.track_model.specs.Following as following
 use Rattle.track_model.specs.Outcomes.{Outcome, refuses}
-use Rattle.track_state.specs.Made.{publication_from}
-use Rattle.track_state.specs.State.{HasNone, IsLast}
-use Rattle.track_state.proofs.Followed.{followed-length}
+use Rattle.machine_state.specs.Made.{publication_from}
+use Rattle.machine_state.specs.State.{HasNone, IsLast}
+use Rattle.machine_state.proofs.Followed.{followed-length}
 use Rattle.track_follow.proofs.Raising.{comes, change-is, none-such, free, full, added}
-use Rattle.track_state.proofs.Published.{tells-none}
-use Rattle.track_state.proofs.Series.{no-more}
-use Rattle.track_state.proofs.Steps.{added-step}
-use Rattle.track_state.proofs.Told.{tells-it}
+use Rattle.machine_state.proofs.Published.{tells-none}
+use Rattle.machine_state.proofs.Series.{no-more}
+use Rattle.machine_state.proofs.Steps.{added-step}
+use Rattle.machine_state.proofs.Told.{tells-it}
 use Rattle.track_follow.proofs.regressions.regress.Goals as goal
 
 pub returns-in-Err-clause-step : goal.returns-in-Err-clause-step

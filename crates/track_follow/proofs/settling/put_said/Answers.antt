@@ -12,7 +12,7 @@ use Rattle.history_model.specs.Entries.{entries_of}
 use Rattle.history_model.specs.Jobs.{asked}
 use Rattle.track_model.specs.Laws.{SayIsAllowed, GiveUpIsAllowed}
 use Rattle.track_model.specs.Tracks.{with_entry}
-use Rattle.track_state.proofs.Series.{no-more}
+use Rattle.machine_state.proofs.Series.{no-more}
 use Rattle.track_follow.specs.Settling.{IsPut, entry_said, said_of}
 use Rattle.track_follow.specs.declared.settling.Settled.TheVariants as settled
 use Rattle.track_follow.proofs.settling.put_said.Goals as goal

@@ -5,7 +5,7 @@ use Rattle.request_model.specs.declared.replies.Answer.TheVariants as answer
 use Rattle.request_model.specs.declared.replies.Refusal.TheVariants as refusal
 use Rattle.history_model.specs.Entries.{entries_of}
 use Rattle.sample_store.specs.Runs.{names}
-use Rattle.track_state.specs.Indexes.{stored_runs}
+use Rattle.machine_state.specs.Indexes.{stored_runs}
 use Rattle.track_replay.proofs.Retractions.{refusal-unknown, refusal-stored}
 use Rattle.track_replay.proofs.refusals.retract_refusal.Goals as goal
 

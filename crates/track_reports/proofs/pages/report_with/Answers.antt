@@ -6,7 +6,7 @@ use Rattle.history_model.specs.Entries.{entries_of}
 use Rattle.report_model.specs.declared.pages.Pages.{Pages}
 use Rattle.request_model.specs.declared.replies.Answer.TheVariants as answer
 use Rattle.track_model.specs.Reports.{IsReport, ReportComesTo}
-use Rattle.track_state.proofs.Told.{only-told}
+use Rattle.machine_state.proofs.Told.{only-told}
 use Rattle.track_reports.proofs.pages.report_with.Goals as goal
 
 pub returns : goal.returns

@@ -10,9 +10,9 @@ use Rattle.request_model.specs.declared.replies.Answer.TheVariants as answer
 use Rattle.track_model.specs.Outcomes.{tells}
 use Rattle.track_model.specs.Publishing.{ChangesComeTo, named, TellsChanges}
 use Rattle.track_model.specs.Replies.{reply_of}
-use Rattle.track_state.specs.State.{HasNone, IsLast}
-use Rattle.track_state.proofs.Published.{tells-last, tells-none}
-use Rattle.track_state.proofs.Told.{only-told}
+use Rattle.machine_state.specs.State.{HasNone, IsLast}
+use Rattle.machine_state.proofs.Published.{tells-last, tells-none}
+use Rattle.machine_state.proofs.Told.{only-told}
 use Rattle.track_reports.specs.Lines.{named_by}
 use Rattle.track_reports.proofs.Declared.{all-have-names}
 use Rattle.track_reports.proofs.Telling.{changed}

@@ -7,9 +7,9 @@ use Rattle.history_model.specs.Runs.{Series}
 use Rattle.request_model.specs.declared.replies.Answer.TheVariants as answer
 use Rattle.track_model.specs.Outcomes.{tells}
 use Rattle.track_model.specs.Publishing.{VerifyComesTo, TellsCertificate}
-use Rattle.track_state.specs.State.{HasNone, IsLast}
-use Rattle.track_state.proofs.Published.{tells-last, tells-none}
-use Rattle.track_state.proofs.Told.{only-told}
+use Rattle.machine_state.specs.State.{HasNone, IsLast}
+use Rattle.machine_state.proofs.Published.{tells-last, tells-none}
+use Rattle.machine_state.proofs.Told.{only-told}
 use Rattle.track_reports.proofs.Telling.{certified}
 use Rattle.track_reports.proofs.told.verify.Goals as goal
 

@@ -2,7 +2,7 @@ use Rattle.std.proofs.Common.{◌∙◌, refl, ◌≡◌, ℕ, ◌<◌, List, le
 use Rattle.std.specs.Prelude.{slice_get}
 use Rattle.std.specs.List.{AllZip}
 use Rattle.std.proofs.lemmas.List.{length-map}
-use Rattle.track_work.specs.declared.taking.TakenSeries.{TakenSeries}
+use Rattle.track_state.specs.declared.taking.TakenSeries.{TakenSeries}
 use Rattle.track_room.specs.Rooms.{AreSame, IsPassOf, badge}
 use Rattle.track_room.specs.Sights.{Home, Sight, SeesMore, Visits}
 use Rattle.track_room.specs.Taking.{TakesSeries}

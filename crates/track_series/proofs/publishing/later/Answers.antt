@@ -7,7 +7,7 @@ use Rattle.history_model.specs.declared.publication.Publication.{Publication}
 use Rattle.history_model.specs.Entries.{entries_of}
 use Rattle.history_model.specs.Publications.{last_publication}
 use Rattle.publication_index.specs.Kept.{series_of}
-use Rattle.track_state.specs.State.{IsKept}
+use Rattle.machine_state.specs.State.{IsKept}
 use Rattle.track_series.proofs.Beginning.{later-kept}
 use Rattle.track_series.proofs.publishing.later.Goals as goal
 

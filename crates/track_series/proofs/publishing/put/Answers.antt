@@ -11,10 +11,10 @@ use Rattle.history_model.specs.Allowed.{Allowed}
 use Rattle.history_model.specs.Entries.{entries_of}
 use Rattle.history_model.specs.Publications.{cut_count}
 use Rattle.track_model.specs.Tracks.{with_publication}
-use Rattle.track_state.specs.Made.{publication_from, entry_of}
+use Rattle.machine_state.specs.Made.{publication_from, entry_of}
 use Rattle.track_series.specs.Publications.{IsAdded, passed}
 use Rattle.track_series.specs.declared.publishing.Published.TheVariants as published
-use Rattle.track_state.proofs.Publishing.{may-publish}
+use Rattle.machine_state.proofs.Publishing.{may-publish}
 use Rattle.track_series.proofs.publishing.put.Goals as goal
 
 pub add_publication-requires-clause-allowed : goal.add_publication-requires-clause-allowed

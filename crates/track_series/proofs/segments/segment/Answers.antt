@@ -13,13 +13,13 @@ use Rattle.track_model.specs.Outcomes.{tells, refuses}
 use Rattle.track_model.specs.Replies.{reply_of}
 use Rattle.track_model.specs.Tracks.{Track, IsSameButTables, base_of}
 use Rattle.track_model.specs.Publishing.{IsPublished, publish}
-use Rattle.track_state.specs.Made.{publication_from, IsMadeFrom}
+use Rattle.machine_state.specs.Made.{publication_from, IsMadeFrom}
 use Rattle.track_series.specs.Publications.{IsAdded, passed}
 use Rattle.track_series.specs.Snapshots.{IsSnapshot, IsTakenAt}
 use Rattle.track_series.specs.declared.publishing.Published.{Published}
 use Rattle.track_series.specs.declared.publishing.Published.TheVariants as published
 use Rattle.track_series.specs.declared.snapshot.Snapshot.{Snapshot}
-use Rattle.track_state.proofs.Told.{unknown}
+use Rattle.machine_state.proofs.Told.{unknown}
 use Rattle.track_series.proofs.Segmenting.{same-tables, taken-tables, taken-history, not-stale, ok-step, full-same, full-step, series-is, made-from, comes, up-to}
 use Rattle.track_series.proofs.segments.segment.Goals as goal
 use Rattle.track_series.proofs.segments.segment.Goals.{In_ok-made}

@@ -3,13 +3,13 @@ use Rattle.std.specs.Int.{w128}
 use Rattle.std.proofs.lemmas.Int.{to_z-of_z, ints, fits_signed_from_abs}
 use Rattle.segment_model.specs.Values.{values_by_position}
 use Rattle.pelt_core.specs.Seen.{table_of}
-use Rattle.track_state.specs.declared.base.Base.{Base}
+use Rattle.machine_state.specs.declared.base.Base.{Base}
 use Rattle.history_model.specs.declared.setting.Setting.{Setting}
 use Rattle.history_model.specs.Entries.{entries_of}
 use Rattle.history_model.specs.Runs.{Series, is_known}
 use Rattle.track_model.specs.Tracks.{Track}
-use Rattle.track_state.specs.State.{BeginsWith, IsBegun, IsFound}
-use Rattle.track_state.proofs.Bases.{taken-none}
+use Rattle.machine_state.specs.State.{BeginsWith, IsBegun, IsFound}
+use Rattle.machine_state.proofs.Bases.{taken-none}
 use Rattle.track_series.proofs.Beginning.{unknown-base}
 use Rattle.track_series.proofs.segments.take_snapshot.Goals as goal
 

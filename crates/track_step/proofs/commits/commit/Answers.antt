@@ -12,8 +12,8 @@ use Rattle.history_model.specs.Allowed.{Allowed, KeepsLimits}
 use Rattle.history_model.specs.Commits.{declarations}
 use Rattle.history_model.specs.Entries.{entries_of}
 use Rattle.track_model.specs.Forms as forms
-use Rattle.track_state.proofs.Steps.{told-step, added-step}
-use Rattle.track_state.proofs.Series.{no-more}
+use Rattle.machine_state.proofs.Steps.{told-step, added-step}
+use Rattle.machine_state.proofs.Series.{no-more}
 use Rattle.track_step.proofs.commits.commit.Goals as goal
 
 pub returns-then-len-most-clause-step : goal.returns-then-len-most-clause-step

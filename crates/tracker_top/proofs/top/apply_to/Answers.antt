@@ -1,7 +1,7 @@
 use Rattle.std.proofs.Common.{inr, subst, sym}
 use Rattle.std.specs.Prelude.{IfSome}
-use Rattle.kept_machines.specs.Kept.{AreKept}
-use Rattle.kept_machines.specs.Loading.{Stored, LeadTo}
+use Rattle.keep_rows.specs.Kept.{AreKept}
+use Rattle.keep_rows.specs.Loading.{Stored, LeadTo}
 use Rattle.tracker_top.proofs.Endings.{ends_kept}
 use Rattle.tracker_top.proofs.top.apply_to.Goals as goal
 

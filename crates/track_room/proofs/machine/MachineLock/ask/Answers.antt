@@ -5,7 +5,7 @@ use Rattle.history_model.specs.Entries.{entries_of}
 use Rattle.request_model.specs.declared.replies.Reply.{Reply}
 use Rattle.request_model.specs.declared.requests.Request.{Request}
 use Rattle.track_model.specs.Tracks.{ComesTo}
-use Rattle.track_work.specs.Work.{bare}
+use Rattle.track_state.specs.Work.{bare}
 use Rattle.track_room.specs.Asked.{IsReplied}
 use Rattle.track_room.specs.Sights.{Home, Sight, Visits}
 use Rattle.track_room.specs.Visits.{Answers}

@@ -7,7 +7,7 @@ use Rattle.history_model.specs.declared.entries.Placed.{Placed}
 use Rattle.history_model.specs.Allowed.{Legal}
 use Rattle.history_model.specs.Entries.{entries_of}
 use Rattle.track_model.specs.Tracks.{Track}
-use Rattle.track_work.specs.Work.{Work, bare, history_of}
+use Rattle.track_state.specs.Work.{Work, bare, history_of}
 use Rattle.track_room.specs.declared.guarded.Guarded.{Guarded}
 use Rattle.track_room.specs.declared.guarded.Owner.{Owner}
 use Rattle.track_room.specs.Inside.{machine_in, sight_of}
@@ -15,8 +15,8 @@ use Rattle.track_room.specs.Sights.{Home, Sight, SeesMore, Visits}
 use Rattle.history_model.specs.Runs.{Series}
 use Rattle.track_series.specs.declared.beside.Begun.{Begun}
 use Rattle.track_series.specs.Beside.{IsBegun}
-use Rattle.track_work.specs.Taking.{IsBegunOn}
-use Rattle.track_work.proofs.Snapped.{bare-taken}
+use Rattle.track_state.specs.Taking.{IsBegunOn}
+use Rattle.track_state.proofs.Snapped.{bare-taken}
 use Rattle.track_room.specs.Visits.{Begins}
 use Rattle.track_room.proofs.Visiting.{both-ok, stays-result}
 use Rattle.track_room.specs.Visits.{Stays}

@@ -7,15 +7,15 @@ use Rattle.history_model.specs.declared.entries.Placed.{Placed}
 use Rattle.history_model.specs.Allowed.{Legal}
 use Rattle.history_model.specs.Entries.{entries_of}
 use Rattle.track_model.specs.Tracks.{Track}
-use Rattle.track_work.specs.Work.{Work, bare, history_of}
+use Rattle.track_state.specs.Work.{Work, bare, history_of}
 use Rattle.track_room.specs.declared.guarded.Guarded.{Guarded}
 use Rattle.track_room.specs.declared.guarded.Owner.{Owner}
 use Rattle.track_room.specs.Inside.{machine_in, sight_of}
 use Rattle.track_room.specs.Sights.{Home, Sight, SeesMore, Visits}
 use Rattle.request_model.specs.declared.replies.Reply.{Reply}
 use Rattle.publication_index.specs.Kept.{series_of}
-use Rattle.track_state.specs.Made.{IsMadeFrom}
-use Rattle.track_work.specs.Work.{IsSame}
+use Rattle.machine_state.specs.Made.{IsMadeFrom}
+use Rattle.track_state.specs.Work.{IsSame}
 use Rattle.track_room.specs.Visits.{Finishes}
 use Rattle.track_room.proofs.Segments.{made-still}
 use Rattle.track_room.specs.Visits.{Stays}

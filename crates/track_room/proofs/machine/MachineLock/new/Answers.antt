@@ -4,7 +4,7 @@ use Rattle.history_model.specs.declared.entries.Placed.{Placed}
 use Rattle.track_room.specs.declared.guarded.Guarded.{Guarded}
 use Rattle.track_room.specs.declared.guarded.Owner.{Owner}
 use Rattle.history_lock.specs.Marks.{unmarked}
-use Rattle.track_work.specs.Work.{Work}
+use Rattle.track_state.specs.Work.{Work}
 use Rattle.track_room.specs.Inside.{owner_of}
 use Rattle.track_room.proofs.Known.{first-of, home-of}
 use Rattle.track_room.proofs.machine.MachineLock.new.Goals as goal

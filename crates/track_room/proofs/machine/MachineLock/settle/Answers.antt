@@ -7,7 +7,7 @@ use Rattle.history_model.specs.declared.entries.Placed.{Placed}
 use Rattle.history_model.specs.Allowed.{Legal}
 use Rattle.history_model.specs.Entries.{entries_of}
 use Rattle.track_model.specs.Tracks.{Track}
-use Rattle.track_work.specs.Work.{Work, bare, history_of}
+use Rattle.track_state.specs.Work.{Work, bare, history_of}
 use Rattle.track_room.specs.declared.guarded.Guarded.{Guarded}
 use Rattle.track_room.specs.declared.guarded.Owner.{Owner}
 use Rattle.track_room.specs.Inside.{machine_in, sight_of}

@@ -7,15 +7,15 @@ use Rattle.history_model.specs.declared.entries.Placed.{Placed}
 use Rattle.history_model.specs.Allowed.{Legal}
 use Rattle.history_model.specs.Entries.{entries_of}
 use Rattle.track_model.specs.Tracks.{Track}
-use Rattle.track_work.specs.Work.{Work, bare, history_of}
+use Rattle.track_state.specs.Work.{Work, bare, history_of}
 use Rattle.track_room.specs.declared.guarded.Guarded.{Guarded}
 use Rattle.track_room.specs.declared.guarded.Owner.{Owner}
 use Rattle.track_room.specs.Inside.{machine_in, sight_of}
 use Rattle.track_room.specs.Sights.{Home, Sight, SeesMore, Visits}
-use Rattle.track_work.specs.declared.taking.TakenSeries.{TakenSeries}
-use Rattle.track_work.specs.Taking.{Takes}
-use Rattle.track_work.specs.Work.{IsSame, series_of}
-use Rattle.track_work.proofs.Snapped.{bare-taken}
+use Rattle.track_state.specs.declared.taking.TakenSeries.{TakenSeries}
+use Rattle.track_state.specs.Taking.{Takes}
+use Rattle.track_state.specs.Work.{IsSame, series_of}
+use Rattle.track_state.proofs.Snapped.{bare-taken}
 use Rattle.track_room.specs.Taking.{TakesSeries}
 use Rattle.track_room.proofs.Visiting.{stays-if}
 use Rattle.track_room.specs.Visits.{Stays}

@@ -2,8 +2,8 @@ use Rattle.std.proofs.Common.{◌≡◌, List, map, set, sym, ap, subst, ◌∙�
 use Rattle.std.specs.Prelude.{slice_get, unwrap_or}
 use Rattle.std.specs.List.{AllZip}
 use Rattle.track_series.specs.declared.publishing.Published.{Published}
-use Rattle.track_work.specs.Work.{Work}
-use Rattle.track_state.specs.Made.{IsMadeFrom}
+use Rattle.track_state.specs.Work.{Work}
+use Rattle.machine_state.specs.Made.{IsMadeFrom}
 use Rattle.track_room.specs.Asked.{ChangesAt}
 use Rattle.track_room.specs.Rooms.{IsPassOf, badge}
 use Rattle.track_room.specs.Sights.{Sight, SeesMore, Visits}

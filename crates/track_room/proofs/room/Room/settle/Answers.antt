@@ -2,7 +2,7 @@ use Rattle.std.proofs.Common.{◌≡◌, List, map, set, sym, ap, subst, ◌∙�
 use Rattle.std.specs.Prelude.{slice_get}
 use Rattle.std.specs.List.{AllZip}
 use Rattle.track_follow.specs.declared.settling.Settled.{Settled}
-use Rattle.track_work.specs.Work.{Work}
+use Rattle.track_state.specs.Work.{Work}
 use Rattle.track_room.specs.Rooms.{IsPassOf, badge}
 use Rattle.track_room.specs.Sights.{Sight, SeesMore}
 use Rattle.track_room.specs.Taking.{Settles}

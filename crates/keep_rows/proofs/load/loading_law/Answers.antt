@@ -1,5 +1,0 @@
-use Rattle.keep_rows.proofs.Outcomes.{one_outcome}
-use Rattle.keep_rows.proofs.load.loading_law.Goals as goal
-
-pub returns : goal.returns
-returns g c = one_outcome g.S.Restored.does

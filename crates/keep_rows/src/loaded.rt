@@ -1,0 +1,24 @@
+//! What was loaded from a keeper.
+use machine_state::MachineState;
+use std::marker::Model;
+
+/// The machines of a store, and the version of its rows: 2 where `format 2` stands among them, else 1.
+#[derive(Drop)]
+pub struct Loaded {
+    /// The machines, in the order of their rows.
+    pub states: Vec<MachineState>,
+    /// The version.
+    pub version: u8,
+}
+
+impl Model for Loaded {
+    ghost use Rattle.std.specs.Coded.{codes};
+    ghost use Rattle.track_model.specs.Tracks.{coded_home};
+    ghost use Rattle.keep_rows.specs.Loading.{Stored};
+
+    ghost Value = { Stored };
+
+    ghost coded = { Prim.hlevel (codes, coded_home) };
+
+    ghost view = { λ l. record { machines = l.states.items; version = l.version } };
+}

@@ -1,5 +1,0 @@
-use Rattle.kept_machines.proofs.ComesBack.{comes_back, loaded_kept}
-use Rattle.kept_machines.proofs.laws.comes_back_law.Goals as goal
-
-pub returns : goal.returns
-returns c = record { back = comes_back; loaded = loaded_kept }

@@ -1,5 +1,0 @@
-use Rattle.kept_machines.proofs.Once.{determined}
-use Rattle.kept_machines.proofs.laws.rows_law.Goals as goal
-
-pub returns : goal.returns
-returns c = c.loading_law.ensures (determined c.rows_law.ensures c.entries_law.ensures c.entries_v1_law.ensures)

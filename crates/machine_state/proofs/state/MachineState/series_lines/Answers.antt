@@ -1,0 +1,43 @@
+use Rattle.std.proofs.Common.{◌≡◌, List, ap, sym, subst}
+use Rattle.std.proofs.lemmas.Result.{IfOk-weaker}
+use Rattle.history_model.specs.declared.entries.Entry.{Entry}
+use Rattle.history_model.specs.Entries.{entries_of}
+use Rattle.history_model.specs.Publications.{last_publication}
+use Rattle.history_model.specs.Runs.{Series}
+use Rattle.publication_index.specs.Kept.{kept}
+use Rattle.series_index.specs.Seen.{seen}
+use Rattle.series_index.specs.declared.tracked.Tracked.{Tracked}
+use Rattle.report_lines.specs.SeriesLines.{AreLines}
+use Rattle.report_model.specs.declared.items.SeriesLine.{SeriesLine}
+use Rattle.track_model.specs.Reports.{AreSeriesLines}
+use Rattle.track_model.specs.Tracks.{Track}
+use Rattle.machine_state.specs.State.{IsKept, IsTracked}
+use Rattle.machine_state.proofs.Reporting.{series-lines}
+use Rattle.machine_state.proofs.state.MachineState.series_lines.Goals as goal
+
+pub invariant_of-self : goal.invariant_of-self
+invariant_of-self c =
+    let h : List Entry = entries_of c.self.inside.history.items in
+    record {
+      legal = c.self.invariant.legal;
+      limits = c.self.invariant.limits;
+      commits_are = c.self.invariant.commits_are;
+      runs_are = c.self.invariant.runs_are;
+      series_are = λ s. subst (λ (t : Tracked). IsTracked h s t) (sym (c.series_lines.ensures.same s)) (c.self.invariant.series_are s);
+      known_are = c.self.invariant.known_are;
+      settings_are = c.self.invariant.settings_are;
+      settings_fit = c.self.invariant.settings_fit;
+      published_are = c.self.invariant.published_are;
+      cuts_are = c.self.invariant.cuts_are;
+      followed_are = c.self.invariant.followed_are;
+    }
+
+pub returns-clause-lines : goal.returns-clause-lines
+returns-clause-lines c =
+    let h : List Entry = entries_of c.args.self.now.history in
+    let h_is : entries_of c.self.inside.history.items ≡ h = ap (λ (t : Track). entries_of t.history) c.self.view_is in
+    let tracked : (s : Series) → IsTracked h s (seen s c.self.inside.series) = λ s. subst (λ (before : List Entry). IsTracked before s (seen s c.self.inside.series)) h_is (c.self.invariant.series_are s) in
+    let kept_are : (s : Series) → IsKept h (last_publication s h) (kept s c.self.inside.published) =
+    λ s. subst (λ (before : List Entry). IsKept before (last_publication s before) (kept s c.self.inside.published)) h_is (c.self.invariant.published_are s) in
+    IfOk-weaker c.series_lines.result (λ (lines : List SeriesLine). AreLines c.self.inside.series c.self.inside.published lines) (λ (lines : List SeriesLine). AreSeriesLines h lines)
+    (series-lines c.publication_law.ensures.last_stands h c.history_law.ensures.legal c.self.inside.series c.self.inside.published tracked kept_are) c.series_lines.ensures.lines

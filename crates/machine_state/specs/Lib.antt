@@ -1,0 +1,5 @@
+pub mod Made
+pub mod Following
+pub mod Indexes
+pub mod State
+pub mod Asked

@@ -1,0 +1,11 @@
+pub mod Scripts
+pub mod Unread
+pub mod Next
+pub mod Reading
+pub mod Filling
+pub mod Parts
+pub mod LineEnds
+pub mod Needs
+pub mod LastLines
+pub mod Begun
+pub mod Passes

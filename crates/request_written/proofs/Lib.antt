@@ -1,2 +1,0 @@
-pub mod WrittenLines
-pub mod WrittenBack

@@ -1,0 +1,4 @@
+pub mod Spaces
+pub mod Leading
+pub mod Unique
+pub mod Outcomes

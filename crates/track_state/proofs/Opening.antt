@@ -1,0 +1,155 @@
+-- What is open by the marks, where all entries were looked at, and what a claim more or a mark less changes.
+use Rattle.std.proofs.Common.{◌≡◌, ℕ, ◌≤◌, Bool, true, false, cond, ◌&&◌, List, length, refl, sym, ap, subst, ◌∙◌, inl, inr, Option, Some, None, arith}
+use Rattle.std.specs.Prelude.{nat_lt}
+use Rattle.std.specs.Ordering.{is_eq, is_lt}
+use Rattle.std.proofs.lemmas.Bool.{cases_Bool}
+use Rattle.history_model.specs.declared.entries.Entry.{Entry}
+use Rattle.history_model.specs.Publications.{last_publication}
+use Rattle.history_model.specs.Runs.{Series, is_known, same_series}
+use Rattle.touch_index.specs.Marks.{Entries, IsFirstFree, NoneIsFree, key_cmp, mark_of, touched_claim, with_claim}
+use Rattle.touch_index.specs.declared.key.SeriesKey.{SeriesKey}
+use Rattle.touch_index.specs.declared.mark.Claim.{Claim}
+use Rattle.touch_index.specs.declared.mark.Claim.TheVariants.{Free, Taken, Refused}
+use Rattle.touch_index.specs.declared.mark.Mark.{Mark}
+use Rattle.touch_model.specs.Stale.{is_behind, is_stale}
+use Rattle.touch_model.specs.Touches.{last_touch}
+use Rattle.track_state.specs.Covering.{Covers, Fits, IsMark, MakeSame}
+use Rattle.track_state.specs.Work.{IsFirstBy, IsOpenBy, NoneIsOpenBy, claim_by, key_of, series_of}
+use Rattle.track_state.proofs.Covering.{either, fresh-unmarked, marked-claim, marked-stale, unmarked-fresh}
+use Rattle.track_state.proofs.Touching.{is_key, key-is, same-key}
+
+-- ---- what is open
+open-free : (h : List Entry) (t : Series) (o : Option Mark) → Fits h (length h) t o → is_stale h t ≡ true → claim_by h t o ≡ Free → (m : Mark) × (o ≡ Some m) × (m.claim ≡ Free)
+open-free h t None fits stale free = absurd (let never : false ≡ true = sym (unmarked-fresh h t fits) ∙ stale in cc)
+open-free h t (Some m) fits stale free = (m, refl, sym (marked-claim h t m fits) ∙ free)
+
+module _ (h : List Entry) (marks : Entries) (covers : Covers h (length h) marks) where
+  pub first-is : (k : SeriesKey) (step : ℕ) → IsFirstFree marks k step → is_behind step (last_publication (series_of k) h) ≡ true → IsFirstBy h marks (series_of k)
+  first-is k step first behind =
+      let s : Series = series_of k in
+      let m : Mark = record { touched = step; claim = Free } in
+      let fits : IsMark h (length h) s m = subst (λ (o : Option Mark). Fits h (length h) s o) first.free (covers.each s) in
+      record {
+        is_open = record {
+          stale = marked-stale h s m fits ∙ behind;
+          free = ap (claim_by h s) first.free ∙ marked-claim h s m fits;
+        };
+        first = λ t is.
+            let found = open-free h t (mark_of (key_of t) marks) (covers.each t) is.stale is.free in
+            first.least (key_of t) found.0 found.1 found.2;
+      }
+
+  pub none-is : NoneIsFree marks → NoneIsOpenBy h marks
+  none-is none t is =
+      let found = open-free h t (mark_of (key_of t) marks) (covers.each t) is.stale is.free in
+      none (key_of t) found.0 found.1 found.2
+
+  -- ---- a mark less
+  module _ (k : SeriesKey) (step : ℕ) (first : IsFirstFree marks k step) (fresh : is_behind step (last_publication (series_of k) h) ≡ false) (b : Entries)
+      (removed : (q : SeriesKey) → mark_of q b ≡ cond (is_eq (key_cmp k q)) None (mark_of q marks)) where
+    there : (s : Series) → is_key k s ≡ true → mark_of (key_of s) marks ≡ Some (record { touched = step; claim = Free })
+    there s same = ap (λ (q : SeriesKey). mark_of q marks) (sym (same-key k s same)) ∙ first.free
+
+    behind-not : (s : Series) → is_key k s ≡ true → is_behind step (last_publication s h) ≡ false
+    behind-not s same = ap (λ (q : SeriesKey). is_behind step (last_publication (series_of q) h)) (sym (same-key k s same)) ∙ fresh
+
+    now : (s : Series) → mark_of (key_of s) b ≡ cond (is_key k s) None (mark_of (key_of s) marks)
+    now s = removed (key_of s) ∙ ap (λ c. cond c None (mark_of (key_of s) marks)) (key-is k s)
+
+    pub removed-covers : Covers h (length h) b
+    removed-covers = record {
+      seen_are = covers.seen_are;
+      each = λ s. elim (cases_Bool (is_key k s)) [
+        | inl same ↦
+            let m : Mark = record { touched = step; claim = Free } in
+            let fits : IsMark h (length h) s m = subst (λ (o : Option Mark). Fits h (length h) s o) (there s same) (covers.each s) in
+            subst (λ (o : Option Mark). Fits h (length h) s o) (sym (now s ∙ ap (λ c. cond c None (mark_of (key_of s) marks)) same))
+            (fresh-unmarked h s (marked-stale h s m fits ∙ behind-not s same))
+        | inr other ↦
+            subst (λ (o : Option Mark). Fits h (length h) s o) (sym (now s ∙ ap (λ c. cond c None (mark_of (key_of s) marks)) other)) (covers.each s)
+      ];
+    }
+
+    pub removed-claims : MakeSame h marks b
+    removed-claims s = elim (cases_Bool (is_key k s)) [
+      | inl same ↦
+          let m : Mark = record { touched = step; claim = Free } in
+          let fits : IsMark h (length h) s m = subst (λ (o : Option Mark). Fits h (length h) s o) (there s same) (covers.each s) in
+          ap (claim_by h s) (now s ∙ ap (λ c. cond c None (mark_of (key_of s) marks)) same)
+          ∙ sym (ap (claim_by h s) (there s same) ∙ marked-claim h s m fits)
+      | inr other ↦ ap (claim_by h s) (now s ∙ ap (λ c. cond c None (mark_of (key_of s) marks)) other)
+    ]
+
+-- ---- another claim on a series
+module _ (h : List Entry) (seen : ℕ) (a b : Entries) (covers : Covers h seen a) (k : SeriesKey) (claim : Claim)
+    (claimed : (q : SeriesKey) → mark_of q b ≡ cond (is_eq (key_cmp k q)) (with_claim claim (mark_of k a)) (mark_of q a)) where
+  then : (s : Series) → mark_of (key_of s) b ≡ cond (is_key k s) (with_claim claim (mark_of k a)) (mark_of (key_of s) a)
+  then s = claimed (key_of s) ∙ ap (λ c. cond c (with_claim claim (mark_of k a)) (mark_of (key_of s) a)) (key-is k s)
+
+  its : (s : Series) → is_key k s ≡ true → mark_of (key_of s) b ≡ with_claim claim (mark_of (key_of s) a)
+  its s same =
+      then s ∙ ap (λ c. cond c (with_claim claim (mark_of k a)) (mark_of (key_of s) a)) same
+      ∙ ap (λ (q : SeriesKey). with_claim claim (mark_of q a)) (same-key k s same)
+
+  others : (s : Series) → is_key k s ≡ false → mark_of (key_of s) b ≡ mark_of (key_of s) a
+  others s other = then s ∙ ap (λ c. cond c (with_claim claim (mark_of k a)) (mark_of (key_of s) a)) other
+
+  refits : (claim ≡ Refused → length h ≤ seen) → (s : Series) (o : Option Mark) → Fits h seen s o → Fits h seen s (with_claim claim o)
+  refits late s None fits = fits
+  refits late s (Some m) fits = record {
+    known = fits.known;
+    since = fits.since;
+    past = fits.past;
+    touch = fits.touch;
+    refused = λ is. let all = late is in let le = fits.past in omega (arith, all, le);
+  }
+
+  pub claimed-covers : (claim ≡ Refused → length h ≤ seen) → Covers h seen b
+  claimed-covers late = record {
+    seen_are = covers.seen_are;
+    each = λ s. elim (cases_Bool (is_key k s)) [
+      | inl same ↦ subst (λ (o : Option Mark). Fits h seen s o) (sym (its s same)) (refits late s (mark_of (key_of s) a) (covers.each s))
+      | inr other ↦ subst (λ (o : Option Mark). Fits h seen s o) (sym (others s other)) (covers.each s)
+    ];
+  }
+
+  -- where the claim that its mark makes then is this one
+  pub claimed-claims : ((s : Series) → is_key k s ≡ true → claim_by h s (with_claim claim (mark_of (key_of s) a)) ≡ claim)
+      → (t : Series) → claim_by h t (mark_of (key_of t) b) ≡ cond (same_series (series_of k) t) claim (claim_by h t (mark_of (key_of t) a))
+  claimed-claims makes t = elim (cases_Bool (is_key k t)) [
+    | inl same ↦
+        ap (claim_by h t) (its t same) ∙ makes t same
+        ∙ sym (ap (λ c. cond c claim (claim_by h t (mark_of (key_of t) a))) same)
+    | inr other ↦
+        ap (claim_by h t) (others t other)
+        ∙ sym (ap (λ c. cond c claim (claim_by h t (mark_of (key_of t) a))) other)
+  ]
+
+-- a claim that is no refusal is what its mark makes
+pub makes-plain : (h : List Entry) (s : Series) (claim : Claim) (m : Mark) → touched_claim claim ≡ claim → claim_by h s (with_claim claim (Some m)) ≡ claim
+makes-plain h s claim m plain = ap (λ (c : Claim). cond (nat_lt m.touched (last_touch h s)) c claim) plain ∙ either (nat_lt m.touched (last_touch h s)) claim
+
+pub makes-free : (h : List Entry) (s : Series) (o : Option Mark) → claim_by h s (with_claim Free o) ≡ Free
+makes-free h s None = refl
+makes-free h s (Some m) = makes-plain h s Free m refl
+
+-- ---- the same claims by other marks
+pub first-same : (h : List Entry) (a b : Entries) → MakeSame h a b → (s : Series) → IsFirstBy h b s → IsFirstBy h a s
+first-same h a b same s is = record {
+  is_open = record { stale = is.is_open.stale; free = sym (same s) ∙ is.is_open.free };
+  first = λ t open_t. is.first t (record { stale = open_t.stale; free = same t ∙ open_t.free });
+}
+
+pub none-same : (h : List Entry) (a b : Entries) → MakeSame h a b → NoneIsOpenBy h b → NoneIsOpenBy h a
+none-same h a b same none t open_t = none t (record { stale = open_t.stale; free = same t ∙ open_t.free })
+
+-- ---- the first open series is taken
+pub taken-claims : (h : List Entry) (a b : Entries) → Covers h (length h) a → (k : SeriesKey) → IsOpenBy h a (series_of k)
+    → ((q : SeriesKey) → mark_of q b ≡ cond (is_eq (key_cmp k q)) (with_claim Taken (mark_of k a)) (mark_of q a))
+    → (t : Series) → claim_by h t (mark_of (key_of t) b) ≡ cond (same_series (series_of k) t) Taken (claim_by h t (mark_of (key_of t) a))
+taken-claims h a b covers k is claimed =
+    let found = open-free h (series_of k) (mark_of k a) (covers.each (series_of k)) is.stale is.free in
+    claimed-claims h (length h) a b covers k Taken claimed
+    (λ s same. ap (λ (q : SeriesKey). claim_by h s (with_claim Taken (mark_of q a))) (sym (same-key k s same))
+    ∙ ap (λ (o : Option Mark). claim_by h s (with_claim Taken o)) found.1
+    ∙ makes-plain h s Taken found.0 refl)

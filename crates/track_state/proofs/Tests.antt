@@ -1,0 +1,67 @@
+-- The test of an entry that is looked at tells the known series that it touches.
+use Rattle.std.proofs.Common.{◌≡◌, ℕ, ◌+◌, Bool, true, false, cond, ◌&&◌, ◌||◌, List, [], ◌∷◌, ◌++◌, length, take, refl, sym, ap, ◌∙◌, inl, inr, Option, Some, None}
+use Rattle.std.specs.Prelude.{find, slice_get, bytes_eq, option_map}
+use Rattle.std.specs.List.{list_any}
+use Rattle.std.proofs.lemmas.Bool.{cases_Bool}
+use Rattle.history_model.specs.declared.entries.Acceptance.{Acceptance}
+use Rattle.history_model.specs.declared.entries.Entry.{Entry}
+use Rattle.history_model.specs.declared.entries.Entry.TheVariants as entry
+use Rattle.history_model.specs.Allowed.{Legal}
+use Rattle.history_model.specs.Laws.{KnownStays}
+use Rattle.history_model.specs.Runs.{Series, acceptances, accepted, is_known, is_of, is_run}
+use Rattle.touch_model.specs.Laws.{KnownGrows, RetractedStays, brings}
+use Rattle.touch_model.specs.Touches.{has_sample, touches}
+use Rattle.track_state.specs.Covering.{IsTest}
+use Rattle.track_state.specs.Touching.{touched_by}
+use Rattle.track_state.proofs.Covering.{next}
+
+or-true : (b : Bool) → (b || true) ≡ true
+or-true true = refl
+or-true false = refl
+
+and-parts : (a b : Bool) → (a && b) ≡ true → (a ≡ true) × (b ≡ true)
+and-parts true true both = (refl, refl)
+and-parts true false both = absurd (cc)
+and-parts false b both = absurd (cc)
+
+-- a series of which a run that is found has a sample is one of all
+found-any : (s : Series) (p : Acceptance → Bool) (runs : List Acceptance) → has_sample s (find p runs) ≡ true
+    → list_any (λ (a : Acceptance). list_any (is_of s) a.run.samples) runs ≡ true
+found-any s p [] has = absurd (let miss : false ≡ true = has in cc)
+found-any s p (a ∷ runs) has = elim (cases_Bool (p a)) [
+  | inl hit ↦
+      ap (λ b. b || list_any (λ (x : Acceptance). list_any (is_of s) x.run.samples) runs)
+      (sym (ap (λ b. has_sample s (cond b (Some a) (find p runs))) hit) ∙ has)
+  | inr missed ↦
+      ap (λ b. list_any (is_of s) a.run.samples || b) (found-any s p runs (sym (ap (λ b. has_sample s (cond b (Some a) (find p runs))) missed) ∙ has))
+      ∙ or-true (list_any (is_of s) a.run.samples)
+]
+
+module _ (known : KnownGrows) (stays : KnownStays) (retracted : RetractedStays) (h : List Entry) (legal : Legal h) (place : ℕ) where
+  brought-known : (e : Entry) → slice_get h place ≡ Some e → (s : Series) → brings s e ≡ true → is_known s h ≡ true
+  brought-known e there s is =
+      stays h s (place + 1)
+      (ap (is_known s) (next h place e there) ∙ known (take place h) e s ∙ ap (λ b. is_known s (take place h) || b) is ∙ or-true (is_known s (take place h)))
+
+  never : {P : Type 0} → false ≡ true → P
+  never miss = absurd (cc)
+
+  pub is-test : (e : Entry) → slice_get h place ≡ Some e → IsTest h place e (touched_by h e)
+  is-test (entry.Commit number name) there = record { just = λ s miss. never miss; each = λ s miss is. never miss }
+  is-test (entry.Publish p) there = record { just = λ s miss. never miss; each = λ s miss is. never miss }
+  is-test (entry.Regression event) there = record { just = λ s miss. never miss; each = λ s miss is. never miss }
+  is-test (entry.Job event) there = record { just = λ s miss. never miss; each = λ s miss is. never miss }
+  is-test (entry.Accept run) there = record {
+    just = λ s has. (has, brought-known (entry.Accept run) there s has);
+    each = λ s has is. has;
+  }
+  is-test (entry.Retract run) there =
+      let same : accepted run h ≡ accepted run (take place h) = retracted h place run legal there in
+      record {
+        just = λ s has. (sym (ap (has_sample s) same) ∙ has, found-any s (is_run run) (acceptances h) has);
+        each = λ s has is. ap (has_sample s) same ∙ has;
+      }
+  is-test (entry.Tune metric penalty len) there = record {
+    just = λ s has. let parts = and-parts (is_known s h) (bytes_eq metric s.metric) has in (parts.1, parts.0);
+    each = λ s has is. ap (λ b. b && bytes_eq metric s.metric) is ∙ has;
+  }

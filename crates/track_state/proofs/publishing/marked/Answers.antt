@@ -1,0 +1,60 @@
+use Rattle.std.proofs.Common.{◌≡◌, ℕ, ◌≤◌, List, length, refl, sym, ap, subst, ◌∙◌, Option, Some, None}
+use Rattle.std.specs.Prelude.{option_copied}
+use Rattle.segment_cost.specs.declared.done.Done.{Done}
+use Rattle.history_model.specs.declared.entries.Entry.{Entry}
+use Rattle.history_model.specs.declared.publication.Publication.{Publication}
+use Rattle.history_model.specs.Entries.{entries_of}
+use Rattle.history_model.specs.Publications.{last_publication}
+use Rattle.history_model.specs.Runs.{Series}
+use Rattle.touch_index.specs.Marks.{mark_of}
+use Rattle.touch_index.specs.declared.key.SeriesKey.{SeriesKey}
+use Rattle.touch_index.specs.declared.mark.Claim.TheVariants.{Free}
+use Rattle.touch_index.specs.declared.mark.Mark.{Mark}
+use Rattle.machine_state.specs.Made.{publication_from}
+use Rattle.machine_state.specs.State.{IsKept}
+use Rattle.track_state.specs.Covering.{Fits}
+use Rattle.track_state.specs.Work.{series_of}
+use Rattle.track_state.proofs.Handed.{kept-none, kept-some, put-claims, put-covers, was-published}
+use Rattle.track_state.proofs.Touching.{same-itself}
+use Rattle.track_state.proofs.publishing.marked.Goals as goal
+
+pub unreachable-requires : goal.unreachable-requires
+unreachable-requires c =
+    let h : List Entry = entries_of c.args.track.now.history in
+    let k : SeriesKey = c.args.key.now in
+    let s : Series = series_of k in
+    let none : mark_of k c.args.touched.now ≡ None = sym c.get.ensures ∙ c.in_default.is in
+    let unpublished : last_publication s h ≡ None =
+    kept-none h (last_publication s h) (subst (λ (o : Option Done). IsKept h (last_publication s h) o) (ap option_copied c.in_default-published.is) c.published.ensures) in
+    was-published h s c.requires.known (subst (λ (o : Option Mark). Fits h (length h) s o) none (c.requires.covers.each s)) unpublished
+
+pub returns-clause-covers : goal.returns-clause-covers
+returns-clause-covers c =
+    let h : List Entry = entries_of c.args.track.now.history in
+    let k : SeriesKey = c.args.key.now in
+    let s : Series = series_of k in
+    let done : Done = c.in-Some-published.done.now in
+    let none : mark_of k c.args.touched.now ≡ None = sym c.get.ensures ∙ c.in_default.is in
+    let last : last_publication s h ≡ Some (publication_from done) =
+    kept-some h (last_publication s h) done (subst (λ (o : Option Done). IsKept h (last_publication s h) o) (ap option_copied c.in-Some-published.is) c.published.ensures) in
+    let past : done.version ≤ length h = (c.publication_law.ensures.last_stands h s (publication_from done) c.history_law.ensures.legal last).1.past in
+    put-covers h c.args.touched.now c.put.new.self c.requires.covers k c.requires.known none (publication_from done) last past c.in_ok-put.ensures.ok
+
+pub returns-clause-claims : goal.returns-clause-claims
+returns-clause-claims c =
+    let h : List Entry = entries_of c.args.track.now.history in
+    let k : SeriesKey = c.args.key.now in
+    let s : Series = series_of k in
+    let done : Done = c.in-Some-published.done.now in
+    let none : mark_of k c.args.touched.now ≡ None = sym c.get.ensures ∙ c.in_default.is in
+    let last : last_publication s h ≡ Some (publication_from done) =
+    kept-some h (last_publication s h) done (subst (λ (o : Option Done). IsKept h (last_publication s h) o) (ap option_copied c.in-Some-published.is) c.published.ensures) in
+    let past : done.version ≤ length h = (c.publication_law.ensures.last_stands h s (publication_from done) c.history_law.ensures.legal last).1.past in
+    put-claims h c.args.touched.now c.put.new.self c.requires.covers k c.requires.known none (publication_from done) last past c.in_ok-put.ensures.ok
+
+pub returns-clause-mark : goal.returns-clause-mark
+returns-clause-mark c = record {
+  mark = record { touched = c.in-Some-published.done.now.version; claim = Free };
+  there = c.in_ok-put.ensures.ok c.args.key.now ∙ same-itself c.args.key.now _ _;
+  touched = refl;
+}

@@ -1,0 +1,34 @@
+use Rattle.std.proofs.Common.{◌≡◌, ℕ, cond, List, length, sym, subst, ◌∙◌, ap}
+use Rattle.std.specs.Prelude.{nat_lt}
+use Rattle.std.specs.Ordering.{is_eq}
+use Rattle.history_model.specs.declared.entries.Entry.{Entry}
+use Rattle.history_model.specs.Entries.{entries_of}
+use Rattle.history_model.specs.Runs.{same_series}
+use Rattle.touch_index.specs.Marks.{key_cmp, mark_of, with_claim}
+use Rattle.touch_index.specs.declared.key.SeriesKey.{SeriesKey}
+use Rattle.touch_index.specs.declared.mark.Claim.{Claim}
+use Rattle.touch_index.specs.declared.mark.Claim.TheVariants.{Free, Refused}
+use Rattle.touch_model.specs.Touches.{last_touch}
+use Rattle.track_state.specs.Covering.{Covers}
+use Rattle.track_state.specs.Work.{claim_by, key_of, series_of}
+use Rattle.track_state.proofs.Handed.{refused-claims, refused-covers}
+use Rattle.track_state.proofs.publishing.note_refusal.Goals as goal
+
+pub returns-clause-covers : goal.returns-clause-covers
+returns-clause-covers c =
+    let h : List Entry = entries_of c.args.track.now.history in
+    let key : SeriesKey = c.args.key.now in
+    let claimed = subst (λ (claim : Claim). (q : SeriesKey) → mark_of q c.set_claim.new.self ≡ cond (is_eq (key_cmp key q)) (with_claim claim (mark_of key c.marked.new.touched)) (mark_of q c.marked.new.touched))
+    c.claim_refused.ensures c.set_claim.ensures in
+    subst (λ (n : ℕ). Covers h n c.set_claim.new.self) (sym c.in_ok-catch_up.ensures.all)
+    (refused-covers h c.marked.new.touched c.set_claim.new.self c.marked.ensures.covers key c.args.version c.in_ok-step.step c.in_ok-step.ensures.mark c.requires.latest claimed)
+
+pub returns-clause-refused : goal.returns-clause-refused
+returns-clause-refused c t =
+    let h : List Entry = entries_of c.args.track.now.history in
+    let key : SeriesKey = c.args.key.now in
+    let claimed = subst (λ (claim : Claim). (q : SeriesKey) → mark_of q c.set_claim.new.self ≡ cond (is_eq (key_cmp key q)) (with_claim claim (mark_of key c.marked.new.touched)) (mark_of q c.marked.new.touched))
+    c.claim_refused.ensures c.set_claim.ensures in
+    let left : Claim = cond (nat_lt c.args.version (last_touch h (series_of key))) Free Refused in
+    refused-claims h c.marked.new.touched c.set_claim.new.self c.marked.ensures.covers key c.args.version c.in_ok-step.step c.in_ok-step.ensures.mark c.requires.latest claimed t
+    ∙ ap (λ (claim : Claim). cond (same_series (series_of key) t) left claim) (c.marked.ensures.claims t ∙ c.catch_up.ensures.claims t)

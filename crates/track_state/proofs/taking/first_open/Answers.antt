@@ -1,0 +1,33 @@
+use Rattle.std.proofs.Common.{◌≡◌, ℕ, Bool, false, List, sym, ◌∙◌, subst, Option}
+use Rattle.std.specs.Prelude.{IfSome}
+use Rattle.history_model.specs.declared.entries.Entry.{Entry}
+use Rattle.history_model.specs.Entries.{entries_of}
+use Rattle.history_model.specs.Publications.{last_publication}
+use Rattle.history_model.specs.Runs.{Series}
+use Rattle.touch_index.specs.Marks.{Entries, IsFirstFree}
+use Rattle.touch_index.specs.declared.key.SeriesKey.{SeriesKey}
+use Rattle.touch_model.specs.Stale.{is_behind}
+use Rattle.track_state.specs.Work.{series_of}
+use Rattle.track_state.proofs.Opening.{first-is, removed-claims, removed-covers}
+use Rattle.track_state.proofs.taking.first_open.Goals as goal
+
+pub returns-then-is_behind-clause-some : goal.returns-then-is_behind-clause-some
+returns-then-is_behind-clause-some c =
+    let h : List Entry = entries_of c.args.track.now.history in
+    let marks : Entries = c.loop-key.touched in
+    let first : IsFirstFree marks c.in-Some.key c.in-Some.step =
+    subst (λ (o : Option (SeriesKey × ℕ)). IfSome o (λ found. IsFirstFree marks found.0 found.1)) c.in-Some.is c.in_ok-key.ensures.some in
+    first-is h marks c.loop-key.invariant.covers c.in-Some.key c.in-Some.step first (sym c.is_behind.ensures ∙ c.if-is_behind.true)
+
+pub loop-key-preserved : goal.loop-key-preserved
+loop-key-preserved c =
+    let h : List Entry = entries_of c.args.track.now.history in
+    let marks : Entries = c.loop-key.touched in
+    let first : IsFirstFree marks c.in-Some.key c.in-Some.step =
+    subst (λ (o : Option (SeriesKey × ℕ)). IfSome o (λ found. IsFirstFree marks found.0 found.1)) c.in-Some.is c.in_ok-key.ensures.some in
+    let fresh : is_behind c.in-Some.step (last_publication (series_of c.in-Some.key) h) ≡ false = sym c.is_behind.ensures ∙ c.if-is_behind.false in
+    record {
+      covers = removed-covers h marks c.loop-key.invariant.covers c.in-Some.key c.in-Some.step first fresh c.remove.new.self c.remove.ensures.marks;
+      claims = λ s. removed-claims h marks c.loop-key.invariant.covers c.in-Some.key c.in-Some.step first fresh c.remove.new.self c.remove.ensures.marks s
+          ∙ c.loop-key.invariant.claims s;
+    }

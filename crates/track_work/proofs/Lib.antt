@@ -1,9 +1,0 @@
-pub mod Snapped
-mod Covering
-mod Touching
-mod Tests
-mod Found
-mod Opening
-mod Handed
-mod Numbers
-mod Stepping

@@ -1,8 +1,0 @@
-use Rattle.std.proofs.Common.{take}
-use Rattle.track_work.specs.Covering.{AreTouched}
-use Rattle.track_work.specs.Touching.{named}
-use Rattle.track_work.proofs.catching.touch_named.Given as goal
-
--- the named series so far were touched
-abbrev pub invariant-loop-name : goal.invariant-loop-name
-invariant-loop-name l = AreTouched (named l.metric (take l.name-index l.names)) l.step l.fn.touched l.touched

@@ -1,8 +1,0 @@
-use Rattle.std.proofs.Common.{take}
-use Rattle.track_work.specs.Covering.{AreTouched}
-use Rattle.track_work.specs.Touching.{sampled}
-use Rattle.track_work.proofs.catching.touch_samples.Given as goal
-
--- the series of the samples so far were touched
-abbrev pub invariant-loop-sample : goal.invariant-loop-sample
-invariant-loop-sample l = AreTouched (sampled (take l.sample-index l.samples)) l.step l.fn.touched l.touched
