@@ -19,19 +19,13 @@ use std::alloc::Global;
 /// Appends the text of a reply: a line with `@`, the number of entries, and the words of the answer, and behind it the
 /// lines of a list, of a certificate or of a report. The forms are those of docs/FORMATS.md.
 ///
-/// The text of a certificate is made in `room`, whose bytes make no difference and are lost: one vector serves many replies. Linear
-/// in the text; where there is no memory, `out` is as it was.
-pub fn put_reply(
-    alloc: Global,
-    room: &mut Vec<u8>,
-    out: &mut Vec<u8>,
-    reply: &Reply,
-) -> Result<(), NoMemory>
+/// Linear in the text; where there is no memory, `out` is as it was.
+pub fn put_reply(alloc: Global, out: &mut Vec<u8>, reply: &Reply) -> Result<(), NoMemory>
     ensures ok { OnOk result (out.new.items ≡ out.old.items ++ text_of reply.now) }
     ensures err { OnErr result (out.new.items ≡ out.old.items) }
 {
     let before = out.len();
-    if let Err(fault) = put_text_of(alloc, room, out, reply) {
+    if let Err(fault) = put_text_of(alloc, out, reply) {
         out.truncate(before);
         return Err(fault);
     }
@@ -39,27 +33,17 @@ pub fn put_reply(
 }
 
 // Appends the text of a reply, or a part of it where there is no memory.
-fn put_text_of(
-    alloc: Global,
-    room: &mut Vec<u8>,
-    out: &mut Vec<u8>,
-    reply: &Reply,
-) -> Result<(), NoMemory>
+fn put_text_of(alloc: Global, out: &mut Vec<u8>, reply: &Reply) -> Result<(), NoMemory>
     ensures { Puts result out.old.items out.new.items (text_of reply.now) }
 {
     put_at(alloc, out, reply.step)?;
     put_answer(alloc, out, &reply.answer)?;
     out.push(b'\n')?;
-    put_lines(alloc, room, out, &reply.answer)
+    put_lines(alloc, out, &reply.answer)
 }
 
 // Appends the lines behind the first.
-fn put_lines(
-    alloc: Global,
-    room: &mut Vec<u8>,
-    out: &mut Vec<u8>,
-    answer: &Answer,
-) -> Result<(), NoMemory>
+fn put_lines(alloc: Global, out: &mut Vec<u8>, answer: &Answer) -> Result<(), NoMemory>
     ensures { Puts result out.old.items out.new.items (text_behind answer.now) }
 {
     match answer {
@@ -69,26 +53,18 @@ fn put_lines(
             metric.as_str().as_bytes(),
             items.as_slice(),
         ),
-        Answer::Verified { cert, .. } => put_whole_cert(alloc, room, out, cert.get()),
+        Answer::Verified { cert, .. } => put_whole_cert(alloc, out, cert.get()),
         Answer::Runs { runs } => put_runs(alloc, out, runs.as_slice()),
         Answer::Report { pages } => put_pages(alloc, out, pages.get()),
         _ => Ok(()),
     }
 }
 
-// Appends the lines of a certificate, by way of the room: what lies in it is lost.
-fn put_whole_cert(
-    alloc: Global,
-    room: &mut Vec<u8>,
-    out: &mut Vec<u8>,
-    cert: &Cert,
-) -> Result<(), NoMemory>
+// Appends the lines of a certificate.
+fn put_whole_cert(alloc: Global, out: &mut Vec<u8>, cert: &Cert) -> Result<(), NoMemory>
     ensures { Puts result out.old.items out.new.items (certificate.text_of cert.now) }
 {
-    room.clear();
-    put_cert(alloc, room, cert)?;
-    out.extend_from_slice(room)?;
-    Ok(())
+    put_cert(alloc, out, cert)
 }
 
 // Appends the lines of changes in this metric.

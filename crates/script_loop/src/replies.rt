@@ -19,8 +19,6 @@ const MANY: usize = 0x1_0000;
 #[derive(Drop)]
 pub(crate) struct Replies {
     text: Vec<u8>,
-    // Where the text of a certificate is made.
-    room: Vec<u8>,
 }
 
 impl Model for Replies {
@@ -38,7 +36,6 @@ impl Replies {
     {
         Replies {
             text: Vec::new(alloc),
-            room: Vec::new(alloc),
         }
     }
 
@@ -47,7 +44,7 @@ impl Replies {
         ensures ok { OnOk result (self.new ≡ self.old ++ text_of reply.now) }
         ensures err { OnErr result (self.new ≡ self.old) }
     {
-        put_reply(alloc, &mut self.room, &mut self.text, reply)
+        put_reply(alloc, &mut self.text, reply)
     }
 
     // Whether they are so many bytes that no more are to be gathered.
