@@ -1,7 +1,11 @@
 //! What a report says of a series, a regression and a bisection.
+ghost use Rattle.std.specs.Prelude.{◌≡◌, IfOk};
+
+use crate::NoMemory;
 use crate::told::Told;
-use line_text::{Items, Name};
+use line_text::{Duplicate, Items, Name};
 use regression_state::State;
+use std::alloc::Global;
 
 /// What a report says of a series.
 #[derive(Debug, Drop)]
@@ -58,3 +62,67 @@ pub type RegressionLines = Items<RegressionLine>;
 
 /// What a report says of each bisection.
 pub type JobLines = Items<JobLine>;
+
+impl SeriesLine {
+    /// An equal line of its own. Constant time.
+    pub fn copy(&self, alloc: Global) -> Result<SeriesLine, NoMemory>
+        ensures { IfOk result (λ made. made ≡ self.now) }
+    {
+        Ok(SeriesLine {
+            test: self.test.copy(alloc)?,
+            metric: self.metric.copy(alloc)?,
+            samples: self.samples,
+            positions: self.positions,
+            changes: self.changes,
+            centre: self.centre,
+        })
+    }
+}
+
+impl RegressionLine {
+    /// An equal line of its own. Constant time.
+    pub fn copy(&self, alloc: Global) -> Result<RegressionLine, NoMemory>
+        ensures { IfOk result (λ made. made ≡ self.now) }
+    {
+        Ok(RegressionLine {
+            number: self.number,
+            test: self.test.copy(alloc)?,
+            metric: self.metric.copy(alloc)?,
+            before: self.before.copy(alloc)?,
+            after: self.after.copy(alloc)?,
+            state: self.state,
+        })
+    }
+}
+
+impl JobLine {
+    /// An equal line of its own. Constant time.
+    pub fn copy(&self, alloc: Global) -> Result<JobLine, NoMemory>
+        ensures { IfOk result (λ made. made ≡ self.now) }
+    {
+        Ok(JobLine {
+            job: self.job,
+            range: self.range,
+            questions: self.questions,
+            outcome: self.outcome.copy(alloc)?,
+        })
+    }
+}
+
+impl Duplicate for SeriesLine {
+    fn duplicate(&self, alloc: Global) -> Result<SeriesLine, NoMemory> {
+        self.copy(alloc)
+    }
+}
+
+impl Duplicate for RegressionLine {
+    fn duplicate(&self, alloc: Global) -> Result<RegressionLine, NoMemory> {
+        self.copy(alloc)
+    }
+}
+
+impl Duplicate for JobLine {
+    fn duplicate(&self, alloc: Global) -> Result<JobLine, NoMemory> {
+        self.copy(alloc)
+    }
+}

@@ -1,5 +1,9 @@
 //! Where a bisection stands, by name.
+ghost use Rattle.std.specs.Prelude.{◌≡◌, IfOk};
+
+use crate::NoMemory;
 use line_text::Name;
+use std::alloc::Global;
 
 /// Where a bisection stands, with its commits by name.
 #[derive(Debug, Drop)]
@@ -22,4 +26,24 @@ pub enum Told {
     },
     /// It ended at a commit whose test could not be had.
     Faulted(Name),
+}
+
+impl Told {
+    /// An equal value of its own. Constant time.
+    pub fn copy(&self, alloc: Global) -> Result<Told, NoMemory>
+        ensures { IfOk result (λ made. made ≡ self.now) }
+    {
+        Ok(match self {
+            Told::Asks(commit) => Told::Asks(commit.copy(alloc)?),
+            Told::Found { lo, hi } => Told::Found {
+                lo: lo.copy(alloc)?,
+                hi: hi.copy(alloc)?,
+            },
+            Told::Undecided { commit, status } => Told::Undecided {
+                commit: commit.copy(alloc)?,
+                status: *status,
+            },
+            Told::Faulted(commit) => Told::Faulted(commit.copy(alloc)?),
+        })
+    }
 }
