@@ -26,6 +26,19 @@ pub struct Stored {
     pub retracted: Option<u64>,
 }
 
+impl Stored {
+    /// An equal run of its own, with its steps. Takes the time of [`Run::copy`].
+    pub fn copy(&self, alloc: Global) -> Result<Stored, NoMemory>
+        ensures { IfOk result (λ made. made ≡ self.now) }
+    {
+        Ok(Stored {
+            step: self.step,
+            run: self.run.copy(alloc)?,
+            retracted: self.retracted,
+        })
+    }
+}
+
 /// The runs that were accepted, in order.
 #[derive(Drop)]
 pub struct SampleStore {
