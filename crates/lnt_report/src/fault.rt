@@ -1,10 +1,11 @@
 //! Why bytes are no LNT run that can be read.
-ghost use Rattle.std.specs.Prelude.{◌≡◌};
+ghost use Rattle.std.specs.Prelude.{◌≡◌, IfOk};
 ghost use Rattle.lnt_report.specs.declared.fault.ReportFault.TheVariants as fault;
 
 use crate::NoMemory;
 use line_text::Text;
 use metric_table::Limit;
+use std::alloc::Global;
 
 /// Why bytes are no LNT run that can be read. Places in the bytes count from 0.
 #[derive(Debug, Drop)]
@@ -42,5 +43,28 @@ impl From<NoMemory> for ReportFault {
 
     fn from(_: NoMemory) -> ReportFault {
         ReportFault::NoMemory
+    }
+}
+
+impl ReportFault {
+    /// An equal fault of its own. Linear in the length of its words.
+    pub fn copy(&self, alloc: Global) -> Result<ReportFault, NoMemory>
+        ensures { IfOk result (λ made. made ≡ self.now) }
+    {
+        match self {
+            ReportFault::NotText(place) => Ok(ReportFault::NotText(*place)),
+            ReportFault::NotJson(place) => Ok(ReportFault::NotJson(*place)),
+            ReportFault::TooDeep(place) => Ok(ReportFault::TooDeep(*place)),
+            ReportFault::NotReport { rule, member } => Ok(ReportFault::NotReport {
+                rule: *rule,
+                member: member.copy(alloc)?,
+            }),
+            ReportFault::OutOfRange { test, metric } => Ok(ReportFault::OutOfRange {
+                test: test.copy(alloc)?,
+                metric: metric.copy(alloc)?,
+            }),
+            ReportFault::Full(limit) => Ok(ReportFault::Full(*limit)),
+            ReportFault::NoMemory => Ok(ReportFault::NoMemory),
+        }
     }
 }

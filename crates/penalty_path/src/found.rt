@@ -37,6 +37,18 @@ pub struct Counted {
     pub tables: u64,
 }
 
+impl Counted {
+    /// An equal path of its own, with the number of its tables. Takes the time of [`Cert::copy`] for each stretch.
+    pub fn copy(&self, alloc: Global) -> Result<Counted, NoMemory>
+        ensures { IfOk result (λ made. made ≡ self.now) }
+    {
+        Ok(Counted {
+            stretches: self.stretches.copy(alloc)?,
+            tables: self.tables,
+        })
+    }
+}
+
 /// The path of the points, with the number of tables that were made for it: at most three for each stretch.
 ///
 /// Makes a certificate at each of the two penalties, and between two with different cuts one more, where their totals as

@@ -1,5 +1,8 @@
 //! The changes of a publication, as a reply lists them.
-use line_text::{Items, Name};
+ghost use Rattle.std.specs.Prelude.{◌≡◌, IfOk};
+
+use line_text::{Duplicate, Items, Name, NoMemory};
+use std::alloc::Global;
 
 /// A change at a cut, its commits by name.
 #[derive(Drop)]
@@ -18,3 +21,24 @@ pub struct NamedChange {
 
 /// Changes, in order of their cuts.
 pub type NamedChanges = Items<NamedChange>;
+
+impl NamedChange {
+    /// An equal change of its own. Constant time.
+    pub fn copy(&self, alloc: Global) -> Result<NamedChange, NoMemory>
+        ensures { IfOk result (λ made. made ≡ self.now) }
+    {
+        Ok(NamedChange {
+            before: self.before.copy(alloc)?,
+            after: self.after.copy(alloc)?,
+            left: self.left,
+            right: self.right,
+            worse: self.worse,
+        })
+    }
+}
+
+impl Duplicate for NamedChange {
+    fn duplicate(&self, alloc: Global) -> Result<NamedChange, NoMemory> {
+        self.copy(alloc)
+    }
+}

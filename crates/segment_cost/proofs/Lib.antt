@@ -1,2 +1,3 @@
 mod OneCertificate
+mod Segmentations
 mod Squares

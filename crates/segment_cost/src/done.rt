@@ -1,11 +1,12 @@
 //! A finished segmentation of a series.
-ghost use Rattle.std.specs.Prelude.{pos, ◌≤ℤ◌, ◌^◌};
+ghost use Rattle.std.specs.Prelude.{◌≡◌, IfOk, pos, ◌≤ℤ◌, ◌^◌};
 ghost use Rattle.segment_model.specs.Limits.{IsLength};
 ghost use Rattle.segment_cost.specs.Certificate.{StandsFor};
 
-use crate::FrozenPoints;
 use crate::cert::Cert;
+use crate::{FrozenPoints, NoMemory};
 use line_text::Name;
+use std::alloc::Global;
 
 /// A finished segmentation of a series, as it is published.
 #[derive(Drop)]
@@ -26,4 +27,21 @@ pub struct Done {
     pub points: FrozenPoints,
     pub ghost stands: { ∥ (pos 0 ≤ℤ cert.penalty) × (cert.penalty ≤ℤ pos (10 ^ 36))
         × IsLength cert.length × StandsFor points cert.penalty cert.length cert ∥₁ },
+}
+
+impl Done {
+    /// An equal segmentation of its own, whose positions are shared. Takes the time of [`Cert::copy`].
+    pub fn copy(&self, alloc: Global) -> Result<Done, NoMemory>
+        ensures { IfOk result (λ made. made ≡ self.now) }
+    {
+        Ok(Done {
+            test: self.test.copy(alloc)?,
+            metric: self.metric.copy(alloc)?,
+            version: self.version,
+            base: self.base,
+            redone: self.redone,
+            cert: self.cert.copy(alloc)?,
+            points: self.points.share()?,
+        })
+    }
 }

@@ -11,7 +11,7 @@ ghost use Rattle.series_index.specs.Seen.{is_same};
 use crate::NoMemory;
 use crate::metrics::MetricIndex;
 use crate::series::SeriesIndex;
-use line_text::{Items, Name};
+use line_text::{Duplicate, Items, Name};
 use std::alloc::Global;
 use std::collections::BTreeMap;
 use std::marker::Model;
@@ -47,6 +47,22 @@ impl SeriesName {
         ensures { result.now ≡ self.now.metric }
     {
         &self.metric
+    }
+
+    /// The same series once more. Constant time.
+    pub fn copy(&self, alloc: Global) -> Result<SeriesName, NoMemory>
+        ensures { IfOk result (λ made. made ≡ self.now) }
+    {
+        Ok(SeriesName {
+            test: self.test.copy(alloc)?,
+            metric: self.metric.copy(alloc)?,
+        })
+    }
+}
+
+impl Duplicate for SeriesName {
+    fn duplicate(&self, alloc: Global) -> Result<SeriesName, NoMemory> {
+        self.copy(alloc)
     }
 }
 
