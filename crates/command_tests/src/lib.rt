@@ -29,6 +29,8 @@ mod run;
 #[cfg(test)]
 mod scripts;
 #[cfg(test)]
+mod stated_calls;
+#[cfg(test)]
 mod stores;
 #[cfg(test)]
 mod texts;

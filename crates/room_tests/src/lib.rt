@@ -15,3 +15,5 @@ mod of_track_series;
 mod of_track_state;
 #[cfg(test)]
 mod of_workers;
+#[cfg(test)]
+mod stated_calls;

@@ -1,0 +1,21 @@
+//! Each public call of the program's libraries, named once with its types: where one is missing, or has others, this crate
+//! doesn't compile. The calls of machines and of the program, which stand on much, are named likewise by the modules
+//! `stated_calls` of `room_tests` and `command_tests`.
+//!
+//! A call is named as a pointer of its type. One that gives a reference away is called instead, since such a pointer can't
+//! be made today. Nothing here is run. docs/DECISIONS.md says which calls have other types than a plain reading of their
+//! purpose gives, and why.
+#![tactic(auto)]
+
+#[cfg(test)]
+mod of_bodies;
+#[cfg(test)]
+mod of_histories;
+#[cfg(test)]
+mod of_outside;
+#[cfg(test)]
+mod of_scripts;
+#[cfg(test)]
+mod of_segmentation;
+#[cfg(test)]
+mod of_texts;

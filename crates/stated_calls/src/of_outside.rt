@@ -1,0 +1,56 @@
+//! What the program is handed.
+
+use keep_sqlite::SqliteKeeper;
+use line_text::NoMemory;
+use std::alloc::Global;
+use std::rt::HostRuntime;
+use track_outside::{
+    Failed, MemFiles, MemKeeper, MemRunner, MemSink, MemSource, RealFiles, RealRunner, RealSink,
+    RealSource, RepeatSource, Sink, SureSink, SureSource, put_all,
+};
+
+fn in_memory() {
+    let _: fn(Global, &[u8], &[u64]) -> Result<MemSource, NoMemory> = MemSource::new;
+    let _: fn(Global, usize, &[u64]) -> Result<MemSink, NoMemory> = MemSink::new;
+    let _: fn(Global, usize, &[u64]) -> Result<MemFiles, NoMemory> = MemFiles::new;
+    let _: fn(&mut MemFiles, &str, &[u8]) -> Result<(), NoMemory> = MemFiles::put;
+    let _: fn(Global, &[u64]) -> Result<MemKeeper, NoMemory> = MemKeeper::new;
+    let _: fn(Global, &[(u64, u8)], &[u64]) -> Result<MemRunner, NoMemory> = MemRunner::new;
+    let _: fn(Global, &[u8], u64) -> Result<RepeatSource, NoMemory> = RepeatSource::new;
+    let _: fn(Global, &[u8]) -> Result<SureSource, NoMemory> = SureSource::new;
+    let _: fn() -> SureSink = SureSink::new;
+}
+
+fn taken(sink: &MemSink) -> &[u8] {
+    sink.bytes()
+}
+
+fn bytes_of(files: &MemFiles) -> Option<&[u8]> {
+    files.get("a")
+}
+
+fn asked(runner: &MemRunner) -> Option<(&str, &str, Option<u8>)> {
+    runner.asked(0)
+}
+
+fn written<S: Sink>() {
+    let _: fn(&mut S, &[u8]) -> Result<(), Failed> = put_all::<S>;
+}
+
+fn real() {
+    let _: fn(&HostRuntime) -> RealSource = RealSource::input;
+    let _: fn(&HostRuntime) -> RealSink = RealSink::output;
+    let _: fn(&HostRuntime) -> RealSink = RealSink::error;
+}
+
+fn files(rt: &HostRuntime) -> RealFiles<'_> {
+    RealFiles::new(rt)
+}
+
+fn runner(rt: &HostRuntime) -> RealRunner<'_> {
+    RealRunner::new(rt)
+}
+
+fn keeper(rt: &HostRuntime, alloc: Global) -> SqliteKeeper<'_> {
+    SqliteKeeper::new(rt, alloc)
+}

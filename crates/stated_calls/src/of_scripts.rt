@@ -1,0 +1,56 @@
+//! Scripts: requests and replies as text, and what they say.
+
+use line_text::{Name, NoMemory};
+use reply_text::put_reply;
+use report_pages::{JobLine, Pages, RegressionLine, SeriesLine, Told, put_json, put_text};
+use request_model::{
+    Answer, NamedChange, NamedChanges, RangePlace, Refusal, Reply, Request, RunLine, Runs,
+};
+use request_text::{Asked, Lines, PutFault, ReadStop, put_request, read_request};
+use series_gen::put_script;
+use std::alloc::Global;
+use track_outside::Source;
+
+fn read<S: Source>() {
+    let _: fn(Global) -> Result<Lines, NoMemory> = Lines::new;
+    let _: fn(Global, &mut Lines, &mut S) -> Result<Asked, ReadStop> = read_request::<S>;
+}
+
+fn written() {
+    let _: fn(Global, &mut Vec<u8>, &Request) -> Result<(), PutFault> = put_request;
+    let _: fn(Global, &mut Vec<u8>, &Reply) -> Result<(), NoMemory> = put_reply;
+    let _: fn(Global, &mut Vec<u8>, &Pages) -> Result<(), NoMemory> = put_text;
+    let _: fn(Global, &mut Vec<u8>, &Pages) -> Result<(), NoMemory> = put_json;
+    let _: fn(Global, &mut Vec<u8>, u64) -> Result<(), NoMemory> = put_script;
+}
+
+fn copies() {
+    let _: fn(&Request, Global) -> Result<Request, NoMemory> = Request::copy;
+    let _: fn(&Answer, Global) -> Result<Answer, NoMemory> = Answer::copy;
+    let _: fn(&Refusal, Global) -> Result<Refusal, NoMemory> = Refusal::copy;
+    let _: fn(&RangePlace, Global) -> Result<RangePlace, NoMemory> = RangePlace::copy;
+    let _: fn(&Reply, Global) -> Result<Reply, NoMemory> = Reply::copy;
+    let _: fn(&NamedChange, Global) -> Result<NamedChange, NoMemory> = NamedChange::copy;
+    let _: fn(&RunLine, Global) -> Result<RunLine, NoMemory> = RunLine::copy;
+    let _: fn(&NamedChanges, Global) -> Result<NamedChanges, NoMemory> = NamedChanges::copy;
+    let _: fn(&Runs, Global) -> Result<Runs, NoMemory> = Runs::copy;
+    let _: fn(&Told, Global) -> Result<Told, NoMemory> = Told::copy;
+    let _: fn(&Pages, Global) -> Result<Pages, NoMemory> = Pages::copy;
+    let _: fn(&SeriesLine, Global) -> Result<SeriesLine, NoMemory> = SeriesLine::copy;
+    let _: fn(&RegressionLine, Global) -> Result<RegressionLine, NoMemory> = RegressionLine::copy;
+    let _: fn(&JobLine, Global) -> Result<JobLine, NoMemory> = JobLine::copy;
+}
+
+fn change(change: NamedChange) -> (Name, Name, i64, i64, bool) {
+    (
+        change.before,
+        change.after,
+        change.left,
+        change.right,
+        change.worse,
+    )
+}
+
+fn run(line: RunLine) -> (Name, Name, u64, bool) {
+    (line.run, line.commit, line.samples, line.live)
+}

@@ -1,0 +1,108 @@
+//! The segmentation of a series.
+
+use change_list::{Change, ChangeItems, changes};
+use checkpoint_redo::redo;
+use cost_certificate::{check, put_cert};
+use line_text::{Name, NoMemory, Numbers};
+use part_core::part;
+use pelt_core::{Steps, Table};
+use point_list::{FrozenPoints, PointFault, Points, common_prefix};
+use prefix_sums::{PrefixSums, Sums};
+use segment_cost::{Cert, Cost, Costs, Done, Places, Square};
+use std::alloc::Global;
+use std::sync::ledger::Ledger;
+
+fn points() {
+    let _: fn(Global) -> Points = Points::new;
+    let _: fn(&mut Points, u64, u64, i64) -> Result<(), PointFault> = Points::insert;
+    let _: fn(&mut Points, u64, u64) = Points::remove;
+    let _: fn(&Points) -> usize = Points::len;
+    let _: fn(&Points, usize) -> u64 = Points::commit;
+    let _: fn(&Points, Global) -> Result<Points, NoMemory> = Points::copy;
+    let _: fn(&FrozenPoints, &FrozenPoints) -> usize = common_prefix;
+}
+
+fn sums() {
+    let _: fn(Global) -> PrefixSums = PrefixSums::new;
+    let _: fn(&mut PrefixSums, usize) -> Result<(), NoMemory> = PrefixSums::reserve;
+    let _: fn(&mut PrefixSums, &[i64]) = PrefixSums::push;
+    let _: fn(&mut PrefixSums, usize) = PrefixSums::cut_back;
+    let _: fn(&PrefixSums, usize, usize) -> Sums = PrefixSums::part;
+}
+
+fn costs() {
+    let _: fn(Global) -> Square = Square::fresh;
+    let _: fn(&mut Square, usize) -> Result<(), NoMemory> = Square::reserve;
+    let _: fn(&mut Square, &[i64]) = Square::push;
+    let _: fn(&mut Square, usize) = Square::cut_back;
+    let _: fn(&Square) -> usize = Square::len;
+    let _: fn(&Square, usize, usize) -> i128 = Square::cost;
+    let _: fn(&Square, usize, usize) -> i64 = Square::centre;
+}
+
+fn certificates() {
+    let _: fn(Global, &Points, i128, u8) -> Result<Cert, NoMemory> = part;
+    let _: fn(&Cert, &Points, &Square) -> bool = check;
+    let _: fn(Global, &mut Vec<u8>, &Cert) -> Result<(), NoMemory> = put_cert;
+    let _: fn(&Cert, Global) -> Result<Cert, NoMemory> = Cert::copy;
+    let _: fn(&Done, Global) -> Result<Done, NoMemory> = Done::copy;
+}
+
+fn parts(cert: Cert) -> (u64, i128, u8, Numbers, i128, Costs, Places, Places) {
+    (
+        cert.points,
+        cert.penalty,
+        cert.length,
+        cert.cuts,
+        cert.total,
+        cert.least,
+        cert.back,
+        cert.pruned,
+    )
+}
+
+fn made(done: Done) -> (Name, Name, u64, u64, u64, Cert, FrozenPoints) {
+    (
+        done.test,
+        done.metric,
+        done.version,
+        done.base,
+        done.redone,
+        done.cert,
+        done.points,
+    )
+}
+
+fn tables<C: Cost, L: Ledger>() {
+    let _: fn(Global, i128, u8) -> Result<Table<C>, NoMemory> = Table::<C>::start;
+    let _: fn(&mut Table<C>, &[i64], &mut Steps<L>) -> Result<(), NoMemory> = Table::<C>::advance::<
+        L,
+    >;
+    let _: fn(&mut Table<C>, usize) = Table::<C>::rewind;
+    let _: fn(&Table<C>) -> usize = Table::<C>::len;
+    let _: fn(&Table<C>) -> i128 = Table::<C>::penalty;
+    let _: fn(&Table<C>, Global) -> Result<Cert, NoMemory> = Table::<C>::certificate;
+}
+
+fn redone<L: Ledger>() {
+    let _: fn(
+        &mut Table<Square>,
+        &FrozenPoints,
+        &FrozenPoints,
+        &mut Steps<L>,
+    ) -> Result<(), NoMemory> = redo::<L>;
+}
+
+fn changed() {
+    let _: fn(Global, &Done) -> Result<ChangeItems, NoMemory> = changes;
+}
+
+fn change(change: Change) -> (u64, u64, i64, i64, bool) {
+    (
+        change.before,
+        change.after,
+        change.left,
+        change.right,
+        change.worse,
+    )
+}
