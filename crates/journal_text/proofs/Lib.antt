@@ -1,5 +1,3 @@
-mod Feeds
-mod Lacking
+mod Readings
 mod Stepwise
-mod Unique
 mod Written

@@ -1,34 +1,8 @@
 -- The text of a journal: a line with the machine and the number of its entries, and a line for each.
-use Rattle.std.specs.Prelude.{ℕ, ◌+◌, List, [], ◌∷◌, ◌++◌, length, codes, decimal}
+use Rattle.std.specs.Prelude.{ℕ, List, ◌++◌, length}
 use Rattle.std.specs.List.{flat_map}
-use Rattle.line_text.specs.Names.{spelling}
-use Rattle.history_model.specs.declared.entries.Author.{Author}
-use Rattle.history_model.specs.declared.entries.Author.TheVariants as author
-use Rattle.history_model.specs.declared.entries.Placed.{Placed}
-use Rattle.track_entry.specs.Texts.{entry_text}
+pub use Rattle.journal_lines.specs.Texts.{author_word, entry_line, lines_from, head_line}
 use Rattle.track_model.specs.Tracks.{Track}
-
--- k for a kept entry, else s, r or b and the number of the script or worker
-abbrev pub author_word : Author → List ℕ
-author_word author.Kept = codes "k"
-author_word (author.Script i) = codes "s" ++ decimal i
-author_word (author.Recompute i) = codes "r" ++ decimal i
-author_word (author.Bisect i) = codes "b" ++ decimal i
-
--- the line of an entry: its step, its author and its text
-abbrev pub entry_line : ℕ → Placed → List ℕ
-entry_line step p =
-    decimal step ++ 32 ∷ (author_word p.author ++ 32 ∷ (entry_text p.entry ++ 10 ∷ []))
-
--- the lines of entries, from a step on
-abbrev pub lines_from : ℕ → List Placed → List ℕ
-lines_from step [] = []
-lines_from step (p ∷ ps) = entry_line step p ++ lines_from (step + 1) ps
-
--- the line of the machine
-abbrev pub head_line : List ℕ → ℕ → List ℕ
-head_line machine count =
-    codes "machine " ++ (spelling machine ++ (codes " steps " ++ (decimal count ++ 10 ∷ [])))
 
 abbrev pub journal_text : Track → List ℕ
 journal_text t = head_line t.machine (length t.history) ++ lines_from 1 t.history

@@ -5,44 +5,10 @@ use Rattle.track_outside.specs.Asked.{Ask}
 use Rattle.history_model.specs.declared.entries.Author.{Author}
 use Rattle.history_model.specs.declared.entries.Author.TheVariants as author
 use Rattle.history_model.specs.declared.entries.Entry.{Entry}
-use Rattle.history_model.specs.declared.entries.Entry.TheVariants as entry
 use Rattle.history_model.specs.declared.entries.Placed.{Placed}
-use Rattle.history_model.specs.declared.events.JobEvent.TheVariants as event
+pub use Rattle.journal_lines.specs.Authors.{IsPublication, IsSettled, IsOneOf, Crew, MayAdd}
 use Rattle.worker_model.specs.Findings.{AsksCommit, Finding, finding_of, gives_up}
 use Rattle.play_model.specs.Replies.{first_of}
-
--- ---- kinds of entries
-
--- what a worker that recomputes may add: publications alone
-abbrev pub IsPublication : Entry → Type 0
-IsPublication (entry.Publish p) = Unit {0}
-IsPublication e = ⊥
-
--- what a worker that bisects may add: answers, and questions given up
-abbrev pub IsSettled : Entry → Type 0
-IsSettled (entry.Job (event.Answer job place status)) = Unit {0}
-IsSettled (entry.Job (event.GiveUp job place)) = Unit {0}
-IsSettled e = ⊥
-
--- one of so many, counted from 1
-abbrev pub IsOneOf : ℕ → ℕ → Type 0
-IsOneOf count n = (1 ≤ n) × (n ≤ count)
-
--- how many scripts there are, and workers of each kind
-pub record Crew : Type 0 where
-  pub scripts : ℕ
-  pub recompute : ℕ
-  pub bisect : ℕ
-
--- a new entry is one of these authors, of a kind that its author may add
-abbrev pub MayAdd : Crew → Placed → Type 0
-MayAdd crew p = by_author p.author
-  where
-    by_author : Author → Type 0
-    by_author author.Kept = ⊥
-    by_author (author.Script i) = IsOneOf crew.scripts i
-    by_author (author.Recompute i) = IsOneOf crew.recompute i × IsPublication p.entry
-    by_author (author.Bisect i) = IsOneOf crew.bisect i × IsSettled p.entry
 
 -- ---- what a worker that bisects found
 

@@ -15,9 +15,9 @@ use Rattle.regression_state.specs.Moves.{word}
 use Rattle.regression_state.specs.declared.states.State.{State}
 use Rattle.regression_state.specs.declared.states.State.TheVariants.{Detected, Staged, Active, NotToBeFixed, Ignored, Verify, Fixed}
 use Rattle.track_entry.specs.Texts.{next, spaced, sample_words, entry_words, entry_text, IsEntry}
-use Rattle.journal_text.specs.Journals.{author_word}
-use Rattle.journal_text.specs.Reading.{IsAuthor}
-use Rattle.journal_text.proofs.Lacking.{Lacks, lacks_both, lacks_standing, lacks_decimal, lacks_over}
+use Rattle.journal_lines.specs.Texts.{author_word}
+use Rattle.journal_lines.specs.Lines.{IsAuthor}
+use Rattle.journal_lines.proofs.Lacking.{Lacks, lacks_both, lacks_standing, lacks_decimal, lacks_over}
 
 abbrev AreLacking : List (List ℕ) → Type 0
 AreLacking [] = Unit {0}

@@ -1,4 +1,4 @@
--- Private: no public contract cites this. Bytes are the text of one list of journals.
+-- Private: no public contract cites this. A line says one thing at most, and bytes are the text of one list of journals.
 use Rattle.std.proofs.Common.{◌≡◌, ℕ, ◌+◌, ◌^◌, ◌<◌, List, [], ◌∷◌, ◌++◌, length, get_or, drop, codes, decimal, refl, sym, ap, ap₂, ◌∙◌, arith, append_assoc, append-nil}
 use Rattle.std.specs.List.{AllByRecursion}
 use Rattle.std.specs.Str.Parse.{digits_value}
@@ -10,11 +10,11 @@ use Rattle.history_model.specs.declared.entries.Author.TheVariants as author
 use Rattle.history_model.specs.declared.entries.Entry.{Entry}
 use Rattle.history_model.specs.declared.entries.Placed.{Placed}
 use Rattle.track_entry.specs.Texts.{entry_text, IsEntry, IsOneEntry}
-use Rattle.track_model.specs.Tracks.{Track}
-use Rattle.journal_text.specs.Journals.{author_word, entry_line, head_line, lines_from, journals_text}
-use Rattle.journal_text.specs.Reading.{IsAuthor, HasLine, HasLines, HasOneReading, Journal, journal_of}
-use Rattle.journal_text.proofs.Lacking.{parted, lacks_decimal, behind_same}
-use Rattle.journal_text.proofs.Feeds.{name_lacks, entry_lacks, author_lacks}
+use Rattle.journal_lines.specs.Texts.{Journal, author_word, entry_line, head_line, lines_from, texts_of}
+use Rattle.journal_lines.specs.Lines.{IsAuthor, HasLine}
+use Rattle.journal_lines.specs.Laws.{OneHead, OneStep, OneText}
+use Rattle.journal_lines.proofs.Lacking.{parted, lacks_decimal, behind_same}
+use Rattle.journal_lines.proofs.Feeds.{name_lacks, entry_lacks, author_lacks}
 
 -- names with one spelling are one
 one_name : NamesAreSpelledBack → (one other : List ℕ) → IsName one → IsName other → spelling one ≡ spelling other → one ≡ other
@@ -58,6 +58,13 @@ one_head names numbers machine other count many rest more a b c d e =
         (append_assoc (spelling m) (codes " steps " ++ (decimal n ++ 10 ∷ [])) l
         ∙ ap (λ (t : List ℕ). spelling m ++ (codes " steps " ++ t)) (append_assoc (decimal n) (10 ∷ []) l))
 
+pub heads_are_one : NamesAreSpelledBack → NumbersAreSpelled → OneHead
+heads_are_one names numbers line machine other count many a b =
+    let same : SameHead machine other count many [] [] =
+    one_head names numbers machine other count many [] [] a.named b.named a.fits b.fits
+    (append-nil (head_line machine count) ∙ sym a.text ∙ b.text ∙ sym (append-nil (head_line other many))) in
+    (same.machine_is, same.count_is)
+
 -- ---- entries
 
 one_author : NumbersAreSpelled → (a b : Author) → IsAuthor a → IsAuthor b → author_word a ≡ author_word b → a ≡ b
@@ -77,6 +84,17 @@ one_author law (author.Bisect i) author.Kept p q e = let byte : ◌≡◌ {A = �
 one_author law (author.Bisect i) (author.Script j) p q e = let byte : ◌≡◌ {A = ℕ} 98 115 = ap (λ (l : List ℕ). get_or l 0 0) e in absurd (omega (arith, byte))
 one_author law (author.Bisect i) (author.Recompute j) p q e = let byte : ◌≡◌ {A = ℕ} 98 114 = ap (λ (l : List ℕ). get_or l 0 0) e in absurd (omega (arith, byte))
 one_author law (author.Bisect i) (author.Bisect j) p q e = ap (λ (n : ℕ). author.Bisect n) (one_number law i j (omega (arith, p)) (omega (arith, q)) (ap (λ (l : List ℕ). drop 1 l) e))
+
+-- a letter and what stands behind it name no author
+pub author_none : (letter : ℕ) (digits : List ℕ) → (letter ≡ 107 → digits ≡ [] → ⊥)
+    → (letter ≡ 115 → (n : ℕ) → n < 2 ^ 8 → digits ≡ decimal n → ⊥)
+    → (letter ≡ 114 → (n : ℕ) → n < 2 ^ 8 → digits ≡ decimal n → ⊥)
+    → (letter ≡ 98 → (n : ℕ) → n < 2 ^ 8 → digits ≡ decimal n → ⊥)
+    → (a : Author) → IsAuthor a → letter ∷ digits ≡ author_word a → ⊥
+author_none letter digits k s r b author.Kept is e = k (ap (λ (l : List ℕ). get_or l 0 0) e) (ap (λ (l : List ℕ). drop 1 l) e)
+author_none letter digits k s r b (author.Script i) is e = s (ap (λ (l : List ℕ). get_or l 0 0) e) i is (ap (λ (l : List ℕ). drop 1 l) e)
+author_none letter digits k s r b (author.Recompute i) is e = r (ap (λ (l : List ℕ). get_or l 0 0) e) i is (ap (λ (l : List ℕ). drop 1 l) e)
+author_none letter digits k s r b (author.Bisect i) is e = b (ap (λ (l : List ℕ). get_or l 0 0) e) i is (ap (λ (l : List ℕ). drop 1 l) e)
 
 -- two lines of a step in front of bytes are one
 pub record SameStep (p q : Placed) (rest more : List ℕ) : Type 0 where
@@ -108,6 +126,11 @@ one_step names numbers one step p q rest more a b c d e =
         (append_assoc (author_word x.author) (32 ∷ (entry_text x.entry ++ 10 ∷ [])) l
         ∙ ap (λ (t : List ℕ). author_word x.author ++ 32 ∷ t) (append_assoc (entry_text x.entry) (10 ∷ []) l))
 
+pub steps_are_one : NamesAreSpelledBack → NumbersAreSpelled → IsOneEntry → OneStep
+steps_are_one names numbers one step line p q a b =
+    (one_step names numbers one step p q [] [] a.author b.author a.entry b.entry
+    (append-nil (entry_line step p) ∙ sym a.text ∙ b.text ∙ sym (append-nil (entry_line step q)))).entry_is
+
 -- ---- journals
 
 -- as many entries in front of bytes
@@ -128,18 +151,18 @@ one_history names numbers one step (p ∷ h) (q ∷ k) rest more a b many e =
     let others : SameLines h k rest more = one_history names numbers one (step + 1) h k rest more a.1 b.1 (omega (arith, many)) first.rest_is in
     record { entries_are = ap₂ (λ (x : Placed) (l : List Placed). x ∷ l) first.entry_is others.entries_are; rest_is = others.rest_is }
 
-pub one_reading : NamesAreSpelledBack → NumbersAreSpelled → IsOneEntry → HasOneReading
-one_reading names numbers one [] [] a b e = refl
-one_reading names numbers one [] (o ∷ others) a b e =
+pub one_text : NamesAreSpelledBack → NumbersAreSpelled → IsOneEntry → OneText
+one_text names numbers one [] [] a b e = refl
+one_text names numbers one [] (o ∷ others) a b e =
     let byte : ◌≡◌ {A = ℕ} 0 109 = ap (λ (l : List ℕ). get_or l 0 0) e in absurd (omega (arith, byte))
-one_reading names numbers one (t ∷ tracks) [] a b e =
+one_text names numbers one (j ∷ js) [] a b e =
     let byte : ◌≡◌ {A = ℕ} 109 0 = ap (λ (l : List ℕ). get_or l 0 0) e in absurd (omega (arith, byte))
-one_reading names numbers one (t ∷ tracks) (o ∷ others) a b e =
-    let head : SameHead t.machine o.machine (length t.history) (length o.history) (lines_from 1 t.history ++ journals_text tracks) (lines_from 1 o.history ++ journals_text others) =
-    one_head names numbers t.machine o.machine (length t.history) (length o.history) _ _ a.0.named b.0.named a.0.fits b.0.fits
-    (sym (append_assoc (head_line t.machine (length t.history)) (lines_from 1 t.history) (journals_text tracks)) ∙ e
-    ∙ append_assoc (head_line o.machine (length o.history)) (lines_from 1 o.history) (journals_text others)) in
-    let lines : SameLines t.history o.history (journals_text tracks) (journals_text others) =
-    one_history names numbers one 1 t.history o.history (journals_text tracks) (journals_text others) a.0.each b.0.each head.count_is head.rest_is in
-    let journal : journal_of t ≡ journal_of o = ap₂ (λ (m : List ℕ) (h : List Placed). record { machine = m; history = h }) head.machine_is lines.entries_are in
-    ap₂ (λ (x : Journal) (l : List Journal). x ∷ l) journal (one_reading names numbers one tracks others a.1 b.1 lines.rest_is)
+one_text names numbers one (j ∷ js) (o ∷ others) a b e =
+    let head : SameHead j.machine o.machine (length j.history) (length o.history) (lines_from 1 j.history ++ texts_of js) (lines_from 1 o.history ++ texts_of others) =
+    one_head names numbers j.machine o.machine (length j.history) (length o.history) _ _ a.0.named b.0.named a.0.fits b.0.fits
+    (sym (append_assoc (head_line j.machine (length j.history)) (lines_from 1 j.history) (texts_of js)) ∙ e
+    ∙ append_assoc (head_line o.machine (length o.history)) (lines_from 1 o.history) (texts_of others)) in
+    let lines : SameLines j.history o.history (texts_of js) (texts_of others) =
+    one_history names numbers one 1 j.history o.history (texts_of js) (texts_of others) a.0.each b.0.each head.count_is head.rest_is in
+    let journal : j ≡ o = ap₂ (λ (m : List ℕ) (h : List Placed). record { machine = m; history = h }) head.machine_is lines.entries_are in
+    ap₂ (λ (x : Journal) (l : List Journal). x ∷ l) journal (one_text names numbers one js others a.1 b.1 lines.rest_is)

@@ -1,5 +1,5 @@
 -- Private: no public contract cites this. Bytes that lack one byte, and where bytes are parted at it.
-use Rattle.std.proofs.Common.{◌≡◌, ℕ, suc, ◌^◌, ◌+◌, ◌<◌, ◌≤◌, List, [], ◌∷◌, ◌++◌, All, Bool, true, false, cond, ltb, decimal, refl, sym, ap, ◌∙◌, arith}
+use Rattle.std.proofs.Common.{◌≡◌, ◌≢◌, ℕ, zero, suc, ◌^◌, ◌+◌, ◌<◌, ◌≤◌, List, [], ◌∷◌, ◌++◌, length, get_or, take, drop, All, Bool, true, false, cond, ltb, decimal, refl, sym, ap, ◌∙◌, arith}
 use Rattle.std.specs.Str.Parse.{AllDigits}
 use Rattle.std.proofs.lemmas.Bool.{false≢true, le-ltb}
 use Rattle.std.proofs.lemmas.Fmt.{decimal_is_IsNumeral_wide}
@@ -13,6 +13,10 @@ Lacks c (b ∷ bytes) = (b ≡ c → ⊥) × Lacks c bytes
 pub lacks_both : (c : ℕ) (front back : List ℕ) → Lacks c front → Lacks c back → Lacks c (front ++ back)
 lacks_both c [] back one two = two
 lacks_both c (b ∷ front) back one two = (one.0, lacks_both c front back one.1 two)
+
+pub lacks_all : (c : ℕ) (bytes : List ℕ) → All (λ b. b ≢ c) bytes → Lacks c bytes
+lacks_all c [] each = tt
+lacks_all c (b ∷ bytes) each = (each 0 0 (omega arith), lacks_all c bytes (λ k d below. each (suc k) d (omega (arith, below))))
 
 pub lacks_standing : (c : ℕ) (bytes : List ℕ) → c ≤ 32 → All MayStand bytes → Lacks c bytes
 lacks_standing c [] low each = tt
@@ -60,3 +64,28 @@ parted c (b ∷ word) (d ∷ other) text more one two e =
 pub behind_same : (front one other : List ℕ) → front ++ one ≡ front ++ other → one ≡ other
 behind_same [] one other e = e
 behind_same (b ∷ front) one other e = let rest : front ++ one ≡ front ++ other = cc in behind_same front one other rest
+
+-- ---- the first of a byte
+
+-- bytes before and behind a place
+pub parts_at : (c : ℕ) (bytes : List ℕ) (i : ℕ) → i < length bytes → get_or bytes i 0 ≡ c → bytes ≡ take i bytes ++ c ∷ drop (i + 1) bytes
+parts_at c [] i within here = absurd (omega arith)
+parts_at c (b ∷ bytes) zero within here = rw (sym here) refl
+parts_at c (b ∷ bytes) (suc i) within here =
+    let step : suc i + 1 ≡ suc (i + 1) = omega arith in
+    rw step (ap (λ (l : List ℕ). b ∷ l) (parts_at c bytes i (omega (arith, within)) here))
+
+-- those before the first
+pub front_lacks : (c : ℕ) (bytes : List ℕ) (i : ℕ) → ((k : ℕ) → k < i → get_or bytes k 0 ≡ c → ⊥) → i ≤ length bytes → All (λ b. b ≢ c) (take i bytes)
+front_lacks c [] zero none within k d below same = absurd (omega (arith, below))
+front_lacks c [] (suc i) none within k d below same = absurd (omega (arith, within))
+front_lacks c (b ∷ bytes) zero none within k d below same = absurd (omega (arith, below))
+front_lacks c (b ∷ bytes) (suc i) none within zero d below same = none 0 (omega arith) same
+front_lacks c (b ∷ bytes) (suc i) none within (suc k) d below same =
+    front_lacks c bytes i (λ j under is. none (suc j) (omega (arith, under)) is) (omega (arith, within)) k d (omega (arith, below)) same
+
+pub whole_lacks : (c : ℕ) (bytes : List ℕ) → ((k : ℕ) → k < length bytes → get_or bytes k 0 ≡ c → ⊥) → All (λ b. b ≢ c) bytes
+whole_lacks c [] none k d below same = absurd (omega (arith, below))
+whole_lacks c (b ∷ bytes) none zero d below same = none 0 (omega arith) same
+whole_lacks c (b ∷ bytes) none (suc k) d below same =
+    whole_lacks c bytes (λ j under is. none (suc j) (omega (arith, under)) is) k d (omega (arith, below)) same
