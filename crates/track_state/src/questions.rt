@@ -12,6 +12,7 @@ use history_model::{Author, growth_law, jobs_law, publication_law};
 use line_text::Name;
 use machine_state::MachineState;
 use report_lines::asked as asked_commit;
+use std::alloc::Global;
 use touch_model::{stale_law, touch_law};
 use track_follow::{Settled, settle};
 
@@ -24,6 +25,19 @@ pub struct Question {
     pub place: u64,
     /// The name of the commit there.
     pub commit: Name,
+}
+
+impl Question {
+    /// An equal question of its own. Constant time.
+    pub fn copy(&self, alloc: Global) -> Result<Question, NoMemory>
+        ensures { IfOk result (λ made. made ≡ self.now) }
+    {
+        Ok(Question {
+            job: self.job,
+            place: self.place,
+            commit: self.commit.copy(alloc)?,
+        })
+    }
 }
 
 // The first of some numbers that isn't claimed.
