@@ -73,7 +73,7 @@ fn made(done: Done) -> (Name, Name, u64, u64, u64, Cert, FrozenPoints) {
     )
 }
 
-fn tables<C: Cost, L: Ledger>() {
+fn tables<C: Cost + Drop, L: Ledger>() {
     let _: fn(Global, i128, u8) -> Result<Table<C>, NoMemory> = Table::<C>::start;
     let _: fn(&mut Table<C>, &[i64], &mut Steps<L>) -> Result<(), NoMemory> = Table::<C>::advance::<
         L,
