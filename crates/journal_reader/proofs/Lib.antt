@@ -1,0 +1,6 @@
+mod Lists
+mod Sorting
+mod Leading
+mod Refusing
+mod Heads
+mod Unique

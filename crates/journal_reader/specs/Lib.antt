@@ -1,0 +1,5 @@
+pub mod Journals
+pub mod Reading
+pub mod Judging
+pub mod Next
+pub mod Laws
