@@ -1,5 +1,9 @@
-//! The calls of the program, named once with their types: see the crate `stated_calls`. Nobody may
-//! call the functions that name them.
+//! The calls of the program, named once with their types: see the crate `stated_calls`. Each is
+//! called under its own conditions.
+ghost use Rattle.std.specs.Prelude.{◌≤◌, All, length};
+ghost use Rattle.command_words.specs.Texts.{texts};
+ghost use Rattle.tracker_top.specs.Plays.{IsNewRunner};
+ghost use Rattle.tracker_top.specs.Statuses.{AsksHunt, AsksPlay};
 
 use pelt_core::Steps;
 use std::alloc::Global;
@@ -22,7 +26,8 @@ fn runs<W: Threads + Wait + Sync, F: Files, K: Keeper, N: Runner + Send, G: Gate
     gate: &G,
     steps: &mut Steps<L>,
 ) -> Status
-    requires { ⊥ }
+    requires eight { 8 ≤ length runners.old.items }
+    requires unasked { All (IsNewRunner N.Runner) runners.old.items }
 {
     run(
         rt, alloc, words, input, out, err, files, keeper, runners, gate, steps,
@@ -39,7 +44,8 @@ fn runs_alone<F: Files, K: Keeper, L: Ledger>(
     keeper: &mut K,
     steps: &mut Steps<L>,
 ) -> Status
-    requires { ⊥ }
+    requires play { ¬ AsksPlay (texts words.now) }
+    requires hunt { ¬ AsksHunt (texts words.now) }
 {
     alone(alloc, words, input, out, err, files, keeper, steps)
 }
@@ -55,7 +61,9 @@ fn plays<W: Threads + Wait + Sync, F: Files, K: Keeper, N: Runner + Send, G: Gat
     runners: &mut Vec<N>,
     gate: &G,
 ) -> Status
-    requires { ⊥ }
+    requires first { AsksPlay (texts words.now) }
+    requires eight { 8 ≤ length runners.old.items }
+    requires unasked { All (IsNewRunner N.Runner) runners.old.items }
 {
     play(rt, alloc, words, out, err, files, keeper, runners, gate)
 }
@@ -69,7 +77,9 @@ fn hunts<W: Threads + Wait + Sync, F: Files, N: Runner + Send>(
     err: &mut F::Output,
     runners: &mut Vec<N>,
 ) -> Status
-    requires { ⊥ }
+    requires first { AsksHunt (texts words.now) }
+    requires eight { 8 ≤ length runners.old.items }
+    requires unasked { All (IsNewRunner N.Runner) runners.old.items }
 {
     hunt::<W, F, N>(rt, alloc, words, input, out, err, runners)
 }

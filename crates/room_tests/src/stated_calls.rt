@@ -1,5 +1,12 @@
 //! The calls of machines, their stores, and machines that threads share, named once with their types: see the crate
-//! `stated_calls`. Where a call has type parameters it is called by a function that nobody may call.
+//! `stated_calls`. Where a call has type parameters it is called under its own conditions.
+ghost use Rattle.std.specs.Prelude.{◌≡◌, ◌<◌, ◌⊎◌, Some, length};
+ghost use Rattle.history_lock.specs.Passes.{label, IsFirst, IsPassOf, IsOutside, IsInside, MayLeave};
+ghost use Rattle.machine_state.specs.Made.{IsMadeFrom};
+ghost use Rattle.publication_index.specs.Standing.{table_for};
+ghost use Rattle.track_room.specs.Claims.{IsOf};
+ghost use Rattle.track_room.specs.Rooms as rooms;
+ghost use Rattle.track_room.specs.Taking.{HasJob, OfSeen};
 
 use bisect_workers::{bisect, bisect_last};
 use history_lock::{Historied, HistoryLock, InUse, Pass};
@@ -60,9 +67,7 @@ fn release(state: &mut TrackState, taken: &TakenSeries) {
     state.release(&taken.key);
 }
 
-fn loaded<K: Keeper>(alloc: Global, keeper: &mut K, name: &str) -> Result<Loaded, LoadFault>
-    requires { ⊥ }
-{
+fn loaded<K: Keeper>(alloc: Global, keeper: &mut K, name: &str) -> Result<Loaded, LoadFault> {
     load(alloc, keeper, name)
 }
 
@@ -71,26 +76,26 @@ fn appended<K: Keeper>(
     keeper: &mut K,
     states: &[MachineState],
     version: u8,
-) -> Result<(), AppendFault>
-    requires { ⊥ }
-{
+) -> Result<(), AppendFault> {
     append_all(alloc, keeper, states, version)
 }
 
-fn lock<S: Historied>(alloc: Global, state: S) -> Result<(HistoryLock<S>, Pass<S>), NoMemory>
-    requires { ⊥ }
-{
+fn lock<S: Historied>(alloc: Global, state: S) -> Result<(HistoryLock<S>, Pass<S>), NoMemory> {
     HistoryLock::new(alloc, state)
 }
 
 fn entered<S: Historied, R: Wait>(lock: &HistoryLock<S>, rt: &R, pass: &mut Pass<S>) -> S
-    requires { ⊥ }
+    requires lock { IsPassOf lock.now pass.old }
+    requires outside { IsOutside pass.old }
 {
     lock.enter(rt, pass)
 }
 
 fn left<S: Historied>(lock: &HistoryLock<S>, pass: &mut Pass<S>, state: S)
-    requires { ⊥ }
+    requires lock { IsPassOf lock.now pass.old }
+    requires inside { IsInside pass.old }
+    requires label { label pass.old ≡ Some (S.label state) }
+    requires history { MayLeave (S.history state) pass.old }
 {
     lock.leave(pass, state);
 }
@@ -100,19 +105,23 @@ fn split<S: Historied>(
     alloc: Global,
     pass: &mut Pass<S>,
 ) -> Result<Pass<S>, NoMemory>
-    requires { ⊥ }
+    requires lock { IsPassOf lock.now pass.old }
+    requires first { IsFirst pass.old × IsOutside pass.old }
 {
     lock.split(alloc, pass)
 }
 
 fn joined<S: Historied>(lock: &HistoryLock<S>, pass: &mut Pass<S>, other: Pass<S>)
-    requires { ⊥ }
+    requires lock { IsPassOf lock.now pass.old × IsPassOf lock.now other }
+    requires first { IsFirst pass.old × IsOutside pass.old }
+    requires other { IsOutside other }
 {
     lock.join(pass, other);
 }
 
 fn closed<S: Historied>(lock: HistoryLock<S>, pass: Pass<S>) -> Result<S, InUse>
-    requires { ⊥ }
+    requires lock { IsPassOf lock pass }
+    requires pass { IsOutside pass ⊎ IsInside pass }
 {
     lock.close(pass)
 }
@@ -132,7 +141,7 @@ fn asked<R: Wait>(
     author: Author,
     request: &Request,
 ) -> Result<Reply, NoMemory>
-    requires { ⊥ }
+    requires room { rooms.IsPassOf room.now pass.old }
 {
     room.ask(rt, alloc, pass, author, request)
 }
@@ -143,7 +152,7 @@ fn series<R: Wait>(
     alloc: Global,
     pass: &mut RoomPass,
 ) -> Result<Option<(SeriesClaim, Snapshot)>, NoMemory>
-    requires { ⊥ }
+    requires room { rooms.IsPassOf room.now pass.old }
 {
     room.take_series(rt, alloc, pass)
 }
@@ -156,13 +165,17 @@ fn published<R: Wait>(
     claim: SeriesClaim,
     redone: Redone,
 ) -> Result<Published, NoMemory>
-    requires { ⊥ }
+    requires room { rooms.IsPassOf room.now pass.old }
+    requires claimed { IsOf claim.key redone.done }
+    requires made { OfSeen claim.machine pass.old (λ h. IsMadeFrom h redone.done) }
+    requires tabled { redone.table ≡ table_for redone.done }
 {
     room.publish(rt, pass, author, claim, redone)
 }
 
 fn released<R: Wait>(room: &Room, rt: &R, pass: &mut RoomPass, claim: SeriesClaim)
-    requires { ⊥ }
+    requires room { rooms.IsPassOf room.now pass.old }
+    requires there { claim.machine < length pass.old }
 {
     room.release(rt, pass, claim);
 }
@@ -173,7 +186,7 @@ fn question<R: Wait>(
     alloc: Global,
     pass: &mut RoomPass,
 ) -> Result<Option<(u8, Question)>, NoMemory>
-    requires { ⊥ }
+    requires room { rooms.IsPassOf room.now pass.old }
 {
     room.take_question(rt, alloc, pass)
 }
@@ -187,7 +200,8 @@ fn settled<R: Wait>(
     question: &Question,
     status: Option<u8>,
 ) -> Result<Settled, NoMemory>
-    requires { ⊥ }
+    requires room { rooms.IsPassOf room.now pass.old }
+    requires job { OfSeen machine pass.old (HasJob question.now.job) }
 {
     room.settle(rt, pass, author, machine, question, status)
 }
@@ -196,9 +210,7 @@ fn computed<L: Ledger>(
     alloc: Global,
     snapshot: Snapshot,
     steps: &mut Steps<L>,
-) -> Result<Redone, NoMemory>
-    requires { ⊥ }
-{
+) -> Result<Redone, NoMemory> {
     compute(alloc, snapshot, steps)
 }
 
@@ -211,7 +223,7 @@ fn recomputes<R: Wait, G: Gate>(
     ended: &Ended,
     gate: &G,
 ) -> Result<(), NoMemory>
-    requires { ⊥ }
+    requires { rooms.IsPassOf room.now pass.old }
 {
     recompute(rt, alloc, room, pass, number, ended, gate)
 }
@@ -227,7 +239,7 @@ fn bisects<R: Wait, N: Runner, G: Gate>(
     ended: &Ended,
     gate: &G,
 ) -> Result<(), NoMemory>
-    requires { ⊥ }
+    requires { rooms.IsPassOf room.now pass.old }
 {
     bisect(rt, alloc, room, pass, number, test, runner, ended, gate)
 }
@@ -237,9 +249,7 @@ fn bisects_last<N: Runner>(
     state: &mut MachineState,
     test: &str,
     runner: &mut N,
-) -> Result<(), NoMemory>
-    requires { ⊥ }
-{
+) -> Result<(), NoMemory> {
     bisect_last(alloc, state, test, runner)
 }
 
