@@ -11,8 +11,8 @@ mod of_command_words;
 #[cfg(test)]
 mod of_history_lock;
 #[cfg(test)]
-mod of_store_rows;
-#[cfg(test)]
 mod of_side_by_side;
+#[cfg(test)]
+mod of_store_rows;
 #[cfg(test)]
 mod of_track_outside;

@@ -1,6 +1,14 @@
 //! The calls of machines, their stores, and machines that threads share, named once with their types: see the crate
-//! `stated_calls`.
+//! `stated_calls`. Where a call has type parameters it is called under its own conditions.
+ghost use Rattle.std.specs.Prelude.{◌≡◌, ◌<◌, ◌⊎◌, Some, length};
+ghost use Rattle.history_lock.specs.Passes.{label, IsFirst, IsPassOf, IsOutside, IsInside, MayLeave};
+ghost use Rattle.machine_state.specs.Made.{IsMadeFrom};
+ghost use Rattle.publication_index.specs.Standing.{table_for};
+ghost use Rattle.track_room.specs.Claims.{IsOf};
+ghost use Rattle.track_room.specs.Rooms as rooms;
+ghost use Rattle.track_room.specs.Taking.{HasJob, OfSeen};
 
+use bisect_workers::{bisect, bisect_last};
 use history_lock::{Historied, HistoryLock, InUse, Pass};
 use keep_rows::{AppendFault, LoadFault, Loaded, append_all, load};
 use line_text::{Name, NoMemory};
@@ -59,78 +67,194 @@ fn release(state: &mut TrackState, taken: &TakenSeries) {
     state.release(&taken.key);
 }
 
-fn stores<K: Keeper>() {
-    let _: fn(Global, &mut K, &str) -> Result<Loaded, LoadFault> = load::<K>;
-    let _: fn(Global, &mut K, &[MachineState], u8) -> Result<(), AppendFault> = append_all::<K>;
+fn loaded<K: Keeper>(alloc: Global, keeper: &mut K, name: &str) -> Result<Loaded, LoadFault> {
+    load(alloc, keeper, name)
 }
 
-fn locks<S: Historied, R: Wait>() {
-    let _: fn(Global, S) -> Result<(HistoryLock<S>, Pass<S>), NoMemory> = HistoryLock::<S>::new;
-    let _: fn(&HistoryLock<S>, &R, &mut Pass<S>) -> S = HistoryLock::<S>::enter::<R>;
-    let _: fn(&HistoryLock<S>, &mut Pass<S>, S) = HistoryLock::<S>::leave;
-    let _: fn(&HistoryLock<S>, Global, &mut Pass<S>) -> Result<Pass<S>, NoMemory> = HistoryLock::<
-        S,
-    >::split;
-    let _: fn(&HistoryLock<S>, &mut Pass<S>, Pass<S>) = HistoryLock::<S>::join;
-    let _: fn(HistoryLock<S>, Pass<S>) -> Result<S, InUse> = HistoryLock::<S>::close;
+fn appended<K: Keeper>(
+    alloc: Global,
+    keeper: &mut K,
+    states: &[MachineState],
+    version: u8,
+) -> Result<(), AppendFault> {
+    append_all(alloc, keeper, states, version)
 }
 
-fn rooms<R: Wait>() {
+fn lock<S: Historied>(alloc: Global, state: S) -> Result<(HistoryLock<S>, Pass<S>), NoMemory> {
+    HistoryLock::new(alloc, state)
+}
+
+fn entered<S: Historied, R: Wait>(lock: &HistoryLock<S>, rt: &R, pass: &mut Pass<S>) -> S
+    requires lock { IsPassOf lock.now pass.old }
+    requires outside { IsOutside pass.old }
+{
+    lock.enter(rt, pass)
+}
+
+fn left<S: Historied>(lock: &HistoryLock<S>, pass: &mut Pass<S>, state: S)
+    requires lock { IsPassOf lock.now pass.old }
+    requires inside { IsInside pass.old }
+    requires label { label pass.old ≡ Some (S.label state) }
+    requires history { MayLeave (S.history state) pass.old }
+{
+    lock.leave(pass, state);
+}
+
+fn split<S: Historied>(
+    lock: &HistoryLock<S>,
+    alloc: Global,
+    pass: &mut Pass<S>,
+) -> Result<Pass<S>, NoMemory>
+    requires lock { IsPassOf lock.now pass.old }
+    requires first { IsFirst pass.old × IsOutside pass.old }
+{
+    lock.split(alloc, pass)
+}
+
+fn joined<S: Historied>(lock: &HistoryLock<S>, pass: &mut Pass<S>, other: Pass<S>)
+    requires lock { IsPassOf lock.now pass.old × IsPassOf lock.now other }
+    requires first { IsFirst pass.old × IsOutside pass.old }
+    requires other { IsOutside other }
+{
+    lock.join(pass, other);
+}
+
+fn closed<S: Historied>(lock: HistoryLock<S>, pass: Pass<S>) -> Result<S, InUse>
+    requires lock { IsPassOf lock pass }
+    requires pass { IsOutside pass ⊎ IsInside pass }
+{
+    lock.close(pass)
+}
+
+fn rooms() {
     let _: fn(Global, Vec<MachineState>) -> Result<(Room, RoomPass), NoMemory> = Room::new;
     let _: fn(&Room, Global, &mut RoomPass) -> Result<RoomPass, NoMemory> = Room::split;
     let _: fn(&Room, &mut RoomPass, RoomPass) = Room::join;
-    let _: fn(&Room, &R, Global, &mut RoomPass, Author, &Request) -> Result<Reply, NoMemory> =
-        Room::ask::<R>;
-    let _: fn(
-        &Room,
-        &R,
-        Global,
-        &mut RoomPass,
-    ) -> Result<Option<(SeriesClaim, Snapshot)>, NoMemory> = Room::take_series::<R>;
-    let _: fn(
-        &Room,
-        &R,
-        &mut RoomPass,
-        Author,
-        SeriesClaim,
-        Redone,
-    ) -> Result<Published, NoMemory> = Room::publish::<R>;
-    let _: fn(&Room, &R, &mut RoomPass, SeriesClaim) = Room::release::<R>;
-    let _: fn(&Room, &R, Global, &mut RoomPass) -> Result<Option<(u8, Question)>, NoMemory> =
-        Room::take_question::<R>;
-    let _: fn(
-        &Room,
-        &R,
-        &mut RoomPass,
-        Author,
-        u8,
-        &Question,
-        Option<u8>,
-    ) -> Result<Settled, NoMemory> = Room::settle::<R>;
     let _: fn(Room, Global, RoomPass) -> Result<Vec<MachineState>, CloseFault> = Room::close;
 }
 
-fn computed<L: Ledger>() {
-    let _: fn(Global, Snapshot, &mut Steps<L>) -> Result<Redone, NoMemory> = compute::<L>;
+fn asked<R: Wait>(
+    room: &Room,
+    rt: &R,
+    alloc: Global,
+    pass: &mut RoomPass,
+    author: Author,
+    request: &Request,
+) -> Result<Reply, NoMemory>
+    requires room { rooms.IsPassOf room.now pass.old }
+{
+    room.ask(rt, alloc, pass, author, request)
 }
 
-fn workers<R: Wait, N: Runner, G: Gate>() {
-    let _: fn(&R, Global, &Room, &mut RoomPass, u8, &Ended, &G) -> Result<(), NoMemory> =
-        recompute::<R, G>;
+fn series<R: Wait>(
+    room: &Room,
+    rt: &R,
+    alloc: Global,
+    pass: &mut RoomPass,
+) -> Result<Option<(SeriesClaim, Snapshot)>, NoMemory>
+    requires room { rooms.IsPassOf room.now pass.old }
+{
+    room.take_series(rt, alloc, pass)
+}
+
+fn published<R: Wait>(
+    room: &Room,
+    rt: &R,
+    pass: &mut RoomPass,
+    author: Author,
+    claim: SeriesClaim,
+    redone: Redone,
+) -> Result<Published, NoMemory>
+    requires room { rooms.IsPassOf room.now pass.old }
+    requires claimed { IsOf claim.key redone.done }
+    requires made { OfSeen claim.machine pass.old (λ h. IsMadeFrom h redone.done) }
+    requires tabled { redone.table ≡ table_for redone.done }
+{
+    room.publish(rt, pass, author, claim, redone)
+}
+
+fn released<R: Wait>(room: &Room, rt: &R, pass: &mut RoomPass, claim: SeriesClaim)
+    requires room { rooms.IsPassOf room.now pass.old }
+    requires there { claim.machine < length pass.old }
+{
+    room.release(rt, pass, claim);
+}
+
+fn question<R: Wait>(
+    room: &Room,
+    rt: &R,
+    alloc: Global,
+    pass: &mut RoomPass,
+) -> Result<Option<(u8, Question)>, NoMemory>
+    requires room { rooms.IsPassOf room.now pass.old }
+{
+    room.take_question(rt, alloc, pass)
+}
+
+fn settled<R: Wait>(
+    room: &Room,
+    rt: &R,
+    pass: &mut RoomPass,
+    author: Author,
+    machine: u8,
+    question: &Question,
+    status: Option<u8>,
+) -> Result<Settled, NoMemory>
+    requires room { rooms.IsPassOf room.now pass.old }
+    requires job { OfSeen machine pass.old (HasJob question.now.job) }
+{
+    room.settle(rt, pass, author, machine, question, status)
+}
+
+fn computed<L: Ledger>(
+    alloc: Global,
+    snapshot: Snapshot,
+    steps: &mut Steps<L>,
+) -> Result<Redone, NoMemory> {
+    compute(alloc, snapshot, steps)
+}
+
+fn recomputes<R: Wait, G: Gate>(
+    rt: &R,
+    alloc: Global,
+    room: &Room,
+    pass: &mut RoomPass,
+    number: u8,
+    ended: &Ended,
+    gate: &G,
+) -> Result<(), NoMemory>
+    requires { rooms.IsPassOf room.now pass.old }
+{
+    recompute(rt, alloc, room, pass, number, ended, gate)
+}
+
+fn bisects<R: Wait, N: Runner, G: Gate>(
+    rt: &R,
+    alloc: Global,
+    room: &Room,
+    pass: &mut RoomPass,
+    number: u8,
+    test: &str,
+    runner: &mut N,
+    ended: &Ended,
+    gate: &G,
+) -> Result<(), NoMemory>
+    requires { rooms.IsPassOf room.now pass.old }
+{
+    bisect(rt, alloc, room, pass, number, test, runner, ended, gate)
+}
+
+fn bisects_last<N: Runner>(
+    alloc: Global,
+    state: &mut MachineState,
+    test: &str,
+    runner: &mut N,
+) -> Result<(), NoMemory> {
+    bisect_last(alloc, state, test, runner)
+}
+
+fn lasts() {
     let _: fn(Global, &mut TrackState) -> Result<(), NoMemory> = recompute_last;
-    let _: fn(
-        &R,
-        Global,
-        &Room,
-        &mut RoomPass,
-        u8,
-        &str,
-        &mut N,
-        &Ended,
-        &G,
-    ) -> Result<(), NoMemory> = bisect_workers::bisect::<R, N, G>;
-    let _: fn(Global, &mut MachineState, &str, &mut N) -> Result<(), NoMemory> =
-        bisect_workers::bisect_last::<N>;
     let _: fn() -> Ended = Ended::new;
     let _: fn(&Ended) = Ended::set;
     let _: fn(&Ended) -> bool = Ended::is_set;

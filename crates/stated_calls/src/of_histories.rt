@@ -21,8 +21,11 @@ fn name(commits: &OrderIndex) -> Option<&Name> {
 fn regressions() {
     let _: fn(State, State) -> bool = may_move;
     let _: fn(&mut State, State) -> Result<(), IllegalMove> = State::move_to;
-    let _: fn(&State) -> &'static str = State::word;
     let _: fn(&[u8]) -> Option<State> = read_state;
+}
+
+fn word(state: &State) -> &'static str {
+    state.word()
 }
 
 fn jobs() {

@@ -33,8 +33,8 @@ fn asked(runner: &MemRunner) -> Option<(&str, &str, Option<u8>)> {
     runner.asked(0)
 }
 
-fn written<S: Sink>() {
-    let _: fn(&mut S, &[u8]) -> Result<(), Failed> = put_all::<S>;
+fn written<S: Sink>(sink: &mut S, bytes: &[u8]) -> Result<(), Failed> {
+    put_all(sink, bytes)
 }
 
 fn real() {

@@ -1,4 +1,5 @@
 //! Scripts: requests and replies as text, and what they say.
+ghost use Rattle.std.specs.Prelude.{◌≡◌, false};
 
 use line_text::{Name, NoMemory};
 use reply_text::put_reply;
@@ -11,9 +12,14 @@ use series_gen::put_script;
 use std::alloc::Global;
 use track_outside::Source;
 
-fn read<S: Source>() {
+fn lines() {
     let _: fn(Global) -> Result<Lines, NoMemory> = Lines::new;
-    let _: fn(Global, &mut Lines, &mut S) -> Result<Asked, ReadStop> = read_request::<S>;
+}
+
+fn read<S: Source>(alloc: Global, lines: &mut Lines, source: &mut S) -> Result<Asked, ReadStop>
+    requires { lines.old.stopped ≡ false }
+{
+    read_request(alloc, lines, source)
 }
 
 fn written() {
@@ -32,13 +38,19 @@ fn copies() {
     let _: fn(&Reply, Global) -> Result<Reply, NoMemory> = Reply::copy;
     let _: fn(&NamedChange, Global) -> Result<NamedChange, NoMemory> = NamedChange::copy;
     let _: fn(&RunLine, Global) -> Result<RunLine, NoMemory> = RunLine::copy;
-    let _: fn(&NamedChanges, Global) -> Result<NamedChanges, NoMemory> = NamedChanges::copy;
-    let _: fn(&Runs, Global) -> Result<Runs, NoMemory> = Runs::copy;
     let _: fn(&Told, Global) -> Result<Told, NoMemory> = Told::copy;
     let _: fn(&Pages, Global) -> Result<Pages, NoMemory> = Pages::copy;
     let _: fn(&SeriesLine, Global) -> Result<SeriesLine, NoMemory> = SeriesLine::copy;
     let _: fn(&RegressionLine, Global) -> Result<RegressionLine, NoMemory> = RegressionLine::copy;
     let _: fn(&JobLine, Global) -> Result<JobLine, NoMemory> = JobLine::copy;
+}
+
+fn changes(changes: &NamedChanges, alloc: Global) -> Result<NamedChanges, NoMemory> {
+    changes.copy(alloc)
+}
+
+fn runs(runs: &Runs, alloc: Global) -> Result<Runs, NoMemory> {
+    runs.copy(alloc)
 }
 
 fn change(change: NamedChange) -> (Name, Name, i64, i64, bool) {

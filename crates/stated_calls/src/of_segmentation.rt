@@ -1,4 +1,7 @@
 //! The segmentation of a series.
+ghost use Rattle.std.specs.Prelude.{◌≡◌, ◌≤◌, ◌^◌, ◌≤ℤ◌, [], ◌∷◌, ◌++◌, length, pos};
+ghost use Rattle.segment_model.specs.Limits.{IsLength};
+ghost use Rattle.segment_model.specs.Values.{AreWithinLimits, values_by_position};
 
 use change_list::{Change, ChangeItems, changes};
 use checkpoint_redo::redo;
@@ -73,24 +76,47 @@ fn made(done: Done) -> (Name, Name, u64, u64, u64, Cert, FrozenPoints) {
     )
 }
 
-fn tables<C: Cost, L: Ledger>() {
-    let _: fn(Global, i128, u8) -> Result<Table<C>, NoMemory> = Table::<C>::start;
-    let _: fn(&mut Table<C>, &[i64], &mut Steps<L>) -> Result<(), NoMemory> = Table::<C>::advance::<
-        L,
-    >;
-    let _: fn(&mut Table<C>, usize) = Table::<C>::rewind;
-    let _: fn(&Table<C>) -> usize = Table::<C>::len;
-    let _: fn(&Table<C>) -> i128 = Table::<C>::penalty;
-    let _: fn(&Table<C>, Global) -> Result<Cert, NoMemory> = Table::<C>::certificate;
+fn table<C: Cost + Drop>(alloc: Global, penalty: i128, length: u8) -> Result<Table<C>, NoMemory>
+    requires low { pos 0 ≤ℤ penalty }
+    requires high { penalty ≤ℤ pos (10 ^ 36) }
+    requires length { IsLength length }
+{
+    Table::<C>::start(alloc, penalty, length)
 }
 
-fn redone<L: Ledger>() {
-    let _: fn(
-        &mut Table<Square>,
-        &FrozenPoints,
-        &FrozenPoints,
-        &mut Steps<L>,
-    ) -> Result<(), NoMemory> = redo::<L>;
+fn longer<C: Cost + Drop, L: Ledger>(
+    table: &mut Table<C>,
+    values: &[i64],
+    steps: &mut Steps<L>,
+) -> Result<(), NoMemory>
+    requires { AreWithinLimits (table.old.positions ++ values.now ∷ []) }
+{
+    table.advance(values, steps)
+}
+
+fn shorter<C: Cost + Drop>(table: &mut Table<C>, k: usize)
+    requires { k ≤ length table.old.positions }
+{
+    table.rewind(k);
+}
+
+fn told<C: Cost + Drop>(table: &Table<C>) -> (usize, i128, u8) {
+    (table.len(), table.penalty(), table.length())
+}
+
+fn certificate<C: Cost + Drop>(table: &Table<C>, alloc: Global) -> Result<Cert, NoMemory> {
+    table.certificate(alloc)
+}
+
+fn redone<L: Ledger>(
+    table: &mut Table<Square>,
+    old: &FrozenPoints,
+    new: &FrozenPoints,
+    steps: &mut Steps<L>,
+) -> Result<(), NoMemory>
+    requires { table.old.positions ≡ values_by_position old.now }
+{
+    redo(table, old, new, steps)
 }
 
 fn changed() {

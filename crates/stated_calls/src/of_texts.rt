@@ -35,11 +35,20 @@ fn words() {
     let _: fn(Global, &mut Vec<u8>, i128) -> Result<(), NoMemory> = put_i128;
 }
 
-fn lists() {
-    let _: fn(Global) -> Numbers = Numbers::new;
-    let _: fn(&mut Numbers, u64) -> Result<(), NoMemory> = Numbers::push;
-    let _: fn(&Numbers) -> usize = Numbers::len;
-    let _: fn(&Numbers, Global) -> Result<Numbers, NoMemory> = Numbers::copy;
+fn list(alloc: Global) -> Numbers {
+    Numbers::new(alloc)
+}
+
+fn longer(numbers: &mut Numbers, number: u64) -> Result<(), NoMemory> {
+    numbers.push(number)
+}
+
+fn length(numbers: &Numbers) -> usize {
+    numbers.len()
+}
+
+fn copied(numbers: &Numbers, alloc: Global) -> Result<Numbers, NoMemory> {
+    numbers.copy(alloc)
 }
 
 fn item(numbers: &Numbers) -> Option<&u64> {

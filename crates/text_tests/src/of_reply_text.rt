@@ -93,8 +93,7 @@ fn answer(alloc: Global, name: Name, place: u64) -> Option<Answer> {
 fn is_told(alloc: Global, answer: Answer, wanted: &str) -> bool {
     let reply = Reply { step: 3, answer };
     let mut out = Vec::new(alloc);
-    put_reply(alloc, &mut out, &reply).is_ok()
-        && out.as_slice() == wanted.as_bytes()
+    put_reply(alloc, &mut out, &reply).is_ok() && out.as_slice() == wanted.as_bytes()
 }
 
 fn is_refused(alloc: Global, number: u64, wanted: &str) -> bool {

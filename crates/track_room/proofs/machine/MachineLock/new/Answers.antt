@@ -12,8 +12,8 @@ use Rattle.track_room.proofs.machine.MachineLock.new.Goals as goal
 pub returns : goal.returns
 returns c =
     let made = c.in_ok-lock.ensures in
-    let labelled = ap (λ (w : Work). Some (owner_of w.track)) c.new-work.ensures in
-    let seen = ap (λ (w : Work). unmarked w.track.history) c.new-work.ensures in
+    let labelled = ap (λ (w : Work). Some (owner_of w.track)) c.of-work.ensures in
+    let seen = ap (λ (w : Work). unmarked w.track.history) c.of-work.ensures in
     let p : Pass Guarded Placed Owner = c.in_ok-lock.pass in (
       home-of p c.args.track _ _ made.pass.0.0 (made.seen.1 ∙ labelled) (c.in_ok-machine.ensures ∙ c.machine.ensures),
       first-of p c.args.track (made.seen.1 ∙ labelled) (made.seen.0 ∙ seen) made.marks.0 made.marks.1 made.marks.2,

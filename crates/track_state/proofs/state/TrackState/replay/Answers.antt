@@ -9,7 +9,7 @@ use Rattle.track_state.proofs.Stepping.{step-claims, step-covers}
 use Rattle.track_state.proofs.state.TrackState.replay.Goals as goal
 
 -- what is added
-adds : Bool → Entry → Option Entry
+abbrev adds : Bool → Entry → Option Entry
 adds true e = Some e
 adds false e = None
 

@@ -1,0 +1,4 @@
+mod Fits
+pub mod Exchanges
+pub mod Hears
+pub mod Machines

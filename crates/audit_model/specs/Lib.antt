@@ -1,0 +1,4 @@
+pub mod Heard
+pub mod Verdicts
+pub mod Fitting
+pub mod Hearing

@@ -1,0 +1,4 @@
+mod Plain
+mod Forms
+mod Named
+pub mod OneReply
