@@ -1,0 +1,142 @@
+-- A walk that goes on with its next entry, or is stuck.
+use Rattle.std.proofs.Common.{◌≡◌, ℕ, Bool, true, false, List, [], ◌∷◌, ◌++◌, length, inl, inr, refl, sym, ap, ◌∙◌, subst, Option, Some, None, IfSome, IfNone}
+use Rattle.std.specs.Prelude.{cond, is_some, slice_get}
+use Rattle.std.specs.Slice.{IsItemAt}
+use denote.Ref.{Bor}
+use Rattle.std.proofs.lemmas.Bool.{cases_Bool, false≢true}
+use Rattle.std.proofs.lemmas.Option.{slice_get-get_or}
+use Rattle.history_model.specs.declared.entries.Author.TheVariants.{Kept}
+use Rattle.history_model.specs.declared.entries.Entry.{Entry}
+use Rattle.history_model.specs.declared.entries.Entry.TheVariants.{Publish}
+use Rattle.history_model.specs.declared.entries.Placed.{Placed}
+use Rattle.history_model.specs.declared.publication.Publication.{Publication}
+use Rattle.history_model.specs.Allowed.{Allowed}
+use Rattle.history_model.specs.Entries.{entries_of}
+use Rattle.history_model.proofs.Chosen.{entries-push}
+use Rattle.request_model.specs.declared.replies.Reply.{Reply}
+use Rattle.track_model.specs.Outcomes.{Outcome}
+use Rattle.track_model.specs.Tracks.{IsStep, Track, with_added, with_entry}
+use Rattle.track_replay.specs.Replays.{IsReplayed}
+use Rattle.journal_walk.specs.Ahead.{AllMet, IsReady, KeepsAhead}
+use Rattle.journal_walk.specs.Steps.{Publishes}
+use Rattle.journal_walk.specs.Walks.{GoesOn, IsAlong, IsPublishedNext, IsStuck, PublishesNothing, Walked}
+use Rattle.journal_walk.specs.declared.ahead.Ahead.{Ahead}
+use Rattle.journal_walk.proofs.Adding.{grown, stays}
+use Rattle.journal_walk.proofs.Along.{along-entries, coming-entry}
+
+abbrev pub walk : List Placed → Track → Walked
+walk history track = record { history = history; track = track }
+
+-- what was read of a list at a place
+pub item-at : {X : Type 0} (xs : List X) (i k : ℕ) (x : Bor X) → i ≡ k → IsItemAt xs i (Some x) → slice_get xs k ≡ Some x.now
+item-at xs i k x same item = ap (slice_get xs) (sym same) ∙ slice_get-get_or xs i x.now item.3.0 ∙ ap Some (sym item.1)
+
+-- all needs up to now were met, and nothing else changed
+pub record Met (history : List Placed) (now : Track) (a : Ahead) (self : Walked) : Type 0 where
+  pub kept : KeepsAhead (entries_of history) (entries_of now.history) a
+  pub met : AllMet (entries_of now.history) a
+  pub is : walk history now ≡ self
+
+pub met-now : (history : List Placed) (before now : Track) (a : Ahead) (self : Walked) → KeepsAhead (entries_of history) (entries_of before.history) a
+    → AllMet (entries_of before.history) a → now ≡ before → walk history before ≡ self → Met history now a self
+met-now history before now a self kept met same view = subst (λ (t : Track). Met history t a self) (sym same) (record { kept = kept; met = met; is = view })
+
+-- all that was needed is there for a publication that comes next
+pub ready : (history : List Placed) (track : Track) (a : Ahead) (self : Walked) (x : Placed) (p : Publication) → Met history track a self → IsAlong self
+    → slice_get history (length track.history) ≡ Some x → x.entry ≡ Publish p → IsReady (entries_of history) (entries_of track.history) a p
+ready history track a self x p met along at told = record {
+  kept = met.kept;
+  all_met = met.met;
+  along = along-entries (walk history track) (subst IsAlong (sym met.is) along);
+  next = coming-entry (walk history track) x at ∙ ap (λ (e : Entry). Some e) told;
+}
+
+-- what a reply that is there keeps
+pub if-there : (P : Reply → Type 0) (o : Option Reply) → IfSome o P → is_some o ≡ true → (reply : Reply) × P reply
+if-there P None holds some = absurd (false≢true some)
+if-there P (Some reply) holds some = (reply, holds)
+
+pub if-not : (P : Type 0) (o : Option Reply) → IfNone o P → is_some o ≡ false → P
+if-not P None holds none = holds
+if-not P (Some reply) holds none = absurd (false≢true (sym none))
+
+pub if-more : (P Q : Reply → Type 0) (o : Option Reply) → IfSome o P → ((reply : Reply) → P reply → Q reply) → IfSome o Q
+if-more P Q None holds more = tt
+if-more P Q (Some reply) holds more = more reply holds
+
+pub none-more : (P Q : Type 0) (o : Option Reply) → IfNone o P → (P → Q) → IfNone o Q
+none-more P Q None holds more = more holds
+none-more P Q (Some reply) holds more = tt
+
+module _ (history : List Placed) (old new : Track) (x : Placed) (at : slice_get history (length old.history) ≡ Some x) where
+  pub goes-published : (p : Publication) → x.entry ≡ Publish p → (reply : Reply) → Publishes old p new reply → GoesOn (walk history old) (walk history new)
+  goes-published p told reply is = record {
+    same = refl;
+    machine = is.machine;
+    entry = x;
+    next = at;
+    grown = is.grown ∙ ap (λ (e : Entry). entries_of old.history ++ e ∷ []) (sym told);
+  }
+
+  pub published-next : (p : Publication) → x.entry ≡ Publish p → (reply : Reply) → Publishes old p new reply → IsPublishedNext (walk history old) (walk history new) reply
+  unfolding goes-published
+  published-next p told reply is = record {
+    goes = goes-published p told reply is;
+    publication = p;
+    is = told;
+    outcome = is.outcome;
+    comes = is.comes;
+    adds = is.adds;
+    told = is.told;
+  }
+
+  refused : (p : Publication) → x.entry ≡ Publish p → ¬ Allowed (entries_of old.history) (Publish p) → ¬ Allowed (entries_of old.history) x.entry
+  refused p told never = subst (λ (e : Entry). ¬ Allowed (entries_of old.history) e) (sym told) never
+
+  pub stuck-published : (p : Publication) → x.entry ≡ Publish p → ¬ Allowed (entries_of old.history) (Publish p) → IsStuck (walk history old)
+  stuck-published p told never = inr (x, at, refused p told never)
+
+  pub nothing-published : (p : Publication) → x.entry ≡ Publish p → ¬ Allowed (entries_of old.history) (Publish p) → PublishesNothing (walk history old)
+  nothing-published p told never = inr (x, at, inr (refused p told never))
+
+  pub goes-replayed : (added : Bool) → IsReplayed old x.entry added new → added ≡ true → GoesOn (walk history old) (walk history new)
+  goes-replayed added is hit =
+      let now : new ≡ with_entry Kept old x.entry = is.track ∙ ap (λ (b : Bool). cond b (with_entry Kept old x.entry) old) hit in
+      record {
+        same = refl;
+        machine = ap (λ (t : Track). t.machine) now;
+        entry = x;
+        next = at;
+        grown = ap (λ (t : Track). entries_of t.history) now ∙ entries-push old.history (record { author = Kept; entry = x.entry });
+      }
+
+  pub stuck-replayed : (added : Bool) → IsReplayed old x.entry added new → added ≡ false → IsStuck (walk history old)
+  stuck-replayed added is miss = inr (x, at, λ allowed. false≢true (sym miss ∙ is.allowed.1 allowed))
+
+-- nothing changed where nothing was added
+pub same-replayed : (old new : Track) (e : Entry) (added : Bool) → IsReplayed old e added new → added ≡ false → new ≡ old
+same-replayed old new e added is miss = is.track ∙ ap (λ (b : Bool). cond b (with_entry Kept old e) old) miss
+
+-- what is kept behind an entry that was added, or wasn't
+pub keeps-replayed : (es : List Entry) (a : Ahead) (old new : Track) (e : Entry) (added : Bool) → KeepsAhead es (entries_of old.history) a → AllMet (entries_of old.history) a
+    → IsReplayed old e added new → KeepsAhead es (entries_of new.history) a
+keeps-replayed es a old new e added kept met is = elim (cases_Bool added) [
+  | inl hit ↦
+      let now : new ≡ with_entry Kept old e = is.track ∙ ap (λ (b : Bool). cond b (with_entry Kept old e) old) hit in
+      grown es (entries_of old.history) (entries_of new.history) e a kept met
+      (ap (λ (t : Track). entries_of t.history) now ∙ entries-push old.history (record { author = Kept; entry = e }))
+  | inr miss ↦ stays es (entries_of old.history) (entries_of new.history) a kept (ap (λ (t : Track). entries_of t.history) (same-replayed old new e added is miss))
+]
+
+pub keeps-answered : (es : List Entry) (a : Ahead) (old new : Track) (o : Outcome) (reply : Reply) → KeepsAhead es (entries_of old.history) a → AllMet (entries_of old.history) a
+    → IsStep old Kept o new reply → KeepsAhead es (entries_of new.history) a
+keeps-answered es a old new o reply kept met is = of o.adds refl
+  where
+    of : (e : Option Entry) → o.adds ≡ e → KeepsAhead es (entries_of new.history) a
+    of None adds =
+        let now : new ≡ old = is.track ∙ ap (with_added Kept old) adds in
+        stays es (entries_of old.history) (entries_of new.history) a kept (ap (λ (t : Track). entries_of t.history) now)
+    of (Some e) adds =
+        let now : new ≡ with_entry Kept old e = is.track ∙ ap (with_added Kept old) adds in
+        grown es (entries_of old.history) (entries_of new.history) e a kept met
+        (ap (λ (t : Track). entries_of t.history) now ∙ entries-push old.history (record { author = Kept; entry = e }))

@@ -1,0 +1,10 @@
+mod FirstPlaces
+mod Plans
+mod Keeping
+mod Ready
+mod Adding
+mod Along
+mod Going
+mod Judging
+mod Making
+mod Publishing

@@ -1,0 +1,52 @@
+use Rattle.std.proofs.Common.{◌≡◌, ◌<◌, List, length, refl, ap, subst, arith, Some}
+use Rattle.std.specs.Prelude.{slice_get}
+use Rattle.std.proofs.lemmas.Option.{slice_get_read}
+use Rattle.history_model.specs.declared.entries.Entry.{Entry}
+use Rattle.history_model.specs.Entries.{entries_of}
+use Rattle.track_model.specs.Tracks.{Track}
+use Rattle.journal_walk.specs.Ahead.{Keeps}
+use Rattle.journal_walk.proofs.Keeping.{all-later, none-later}
+use Rattle.journal_walk.proofs.Plans.{many, need-inside}
+use Rattle.journal_walk.proofs.ahead.meet_needs.Goals as goal
+use Rattle.journal_walk.proofs.ahead.meet_needs.Goals.{After-index-need}
+
+-- the next need
+there : (c : After-index-need) → slice_get c.loop-ahead.ahead.needs.items c.loop-ahead.ahead.met ≡ Some c.index-need.result.now
+there c =
+    let within = c.loop-ahead-test.true in
+    let size = c.loop-ahead.ahead.needs.ok.0 in
+    slice_get_read c.loop-ahead.ahead.needs.items (length c.loop-ahead.ahead.needs.items) c.loop-ahead.ahead.met c.index-need.result.now refl
+    (omega (arith, within, size, c.len.ensures)) c.index-need.ensures
+
+pub returns-then-need-len-clause-met : goal.returns-then-need-len-clause-met
+returns-then-need-len-clause-met c =
+    let es : List Entry = entries_of c.args.history.now in
+    let h : List Entry = entries_of c.args.track.now.history in
+    let same : entries_of c.loop-ahead.track.history ≡ entries_of c.args.track.now.history = ap (λ (t : Track). entries_of t.history) c.loop-ahead.invariant.same in
+    let at = c.loop-ahead.ahead in
+    let keeps : Keeps es h at.needs.items at.met at.bases.items at.versions.items =
+    subst (λ (l : List Entry). Keeps es l at.needs.items at.met at.bases.items at.versions.items) same c.loop-ahead.invariant.keeps.keeps in
+    let later : length (entries_of c.args.track.now.history) < c.index-need.result.now.at =
+    omega (arith, c.if-need-len.true, c.len-in-loop-ahead.ensures, many c.loop-ahead.track.history, ap length same) in
+    all-later es h at.needs.items at.met at.bases.items at.versions.items keeps c.index-need.result.now
+    (there (goal.at.returns-then-need-len-clause-met c).After-index-need) later
+
+pub meet-requires-clause-next : goal.meet-requires-clause-next
+meet-requires-clause-next c = there (goal.at.meet-requires-clause-next c).After-index-need
+
+pub meet-requires-clause-now : goal.meet-requires-clause-now
+meet-requires-clause-now c =
+    let up = c.loop-ahead.invariant.keeps.keeps.to_come c.loop-ahead.ahead.met c.index-need.result.now
+    (there (goal.at.meet-requires-clause-now c).After-index-need) (omega arith) in
+    omega (arith, up, c.if-need-len.false, c.len-in-loop-ahead.ensures, many c.loop-ahead.track.history)
+
+pub meet-requires-clause-inside : goal.meet-requires-clause-inside
+meet-requires-clause-inside c =
+    need-inside c.args.history.now c.loop-ahead.ahead.needs.items c.loop-ahead.invariant.keeps.keeps.plan c.loop-ahead.ahead.met c.index-need.result.now
+    (there (goal.at.meet-requires-clause-inside c).After-index-need)
+
+pub returns-clause-met : goal.returns-clause-met
+returns-clause-met c =
+    let over = c.loop-ahead-test.false in
+    let size = c.loop-ahead.ahead.needs.ok.0 in
+    none-later (entries_of c.args.track.now.history) c.loop-ahead.ahead.needs.items c.loop-ahead.ahead.met (omega (arith, over, size, c.len.ensures))

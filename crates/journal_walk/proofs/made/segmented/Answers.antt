@@ -1,0 +1,29 @@
+use Rattle.std.proofs.Common.{ℕ, ◌-◌, List, refl, ap₂, ◌∙◌, subst, arith}
+use Rattle.std.specs.Int.{w128}
+use Rattle.std.proofs.lemmas.Int.{to_z-of_z}
+use Rattle.segment_model.specs.Segments.{Position}
+use Rattle.segment_cost.specs.Certificate.{StandsFor}
+use Rattle.checkpoint_redo.proofs.Fronts.{common-within}
+use Rattle.history_model.specs.declared.setting.Setting.{Setting}
+use Rattle.journal_walk.proofs.Making.{fits}
+use Rattle.journal_walk.proofs.made.segmented.Goals as goal
+
+pub overflow_sub-redone : goal.overflow_sub-redone
+overflow_sub-redone c =
+    let within = common-within c.args.old.now c.args.then.now.points in
+    omega (arith, c.len.ensures, c.common_prefix.ensures, within.1)
+
+pub returns : goal.returns
+returns c =
+    let x : Setting = c.args.then.now.setting in
+    let made : StandsFor c.in_ok-share.field-0 x.penalty x.length c.in_ok-done.field-0.done.cert = simp (to_z-of_z w128 x.penalty (fits x c.args.then.now.fits)) at c.in_ok-done.ensures.stands in
+    record {
+      test = c.in_ok-done.ensures.test ∙ c.in_ok-copy.ensures;
+      metric = c.in_ok-done.ensures.metric ∙ c.in_ok-copy-2.ensures;
+      version = c.in_ok-done.ensures.version;
+      base = refl;
+      redone = ap₂ (λ (a b : ℕ). a - b) c.len.ensures c.common_prefix.ensures;
+      points = c.in_ok-done.ensures.points ∙ c.in_ok-share.ensures;
+      stands = subst (λ (ps : List Position). StandsFor ps x.penalty x.length c.in_ok-done.field-0.done.cert) c.in_ok-share.ensures made;
+      tabled = c.in_ok-done.ensures.tabled;
+    }

@@ -1,0 +1,45 @@
+use Rattle.std.proofs.Common.{◌≡◌, List, length, sym, ap, ◌∙◌, subst, Some}
+use Rattle.std.specs.Prelude.{slice_get}
+use Rattle.history_model.specs.declared.entries.Entry.TheVariants.{Publish}
+use Rattle.history_model.specs.declared.entries.Placed.{Placed}
+use Rattle.history_model.specs.declared.publication.Publication.{Publication}
+use Rattle.history_model.specs.Allowed.{Allowed}
+use Rattle.history_model.specs.Entries.{entries_of}
+use Rattle.journal_walk.specs.Steps.{Publishes}
+use Rattle.journal_walk.specs.Walks.{IsPublishedNext, PublishesNothing, Walked}
+use Rattle.journal_walk.proofs.Going.{Met, if-more, item-at, met-now, none-more, nothing-published, published-next, ready, walk}
+use Rattle.journal_walk.proofs.walk.Walk.publish_next.Goals as goal
+use Rattle.journal_walk.proofs.walk.Walk.publish_next.Goals.{After-get-p}
+
+met-is : (c : After-get-p) → Met c.self.inside.history.now c.meet_needs.new.track c.meet_needs.new.ahead c.args.self.now
+met-is c =
+    let is = c.in_ok-meet_needs.ensures in
+    met-now c.self.inside.history.now c.self.inside.track c.meet_needs.new.track c.meet_needs.new.ahead c.args.self.now is.keeps is.met is.same c.self.view_is
+
+at-is : (c : After-get-p) → slice_get c.self.inside.history.now (length c.meet_needs.new.track.history) ≡ Some c.in-Some.next.now
+at-is c = item-at c.self.inside.history.now c.len-place.result (length c.meet_needs.new.track.history) c.in-Some.next c.len-place.ensures c.in-Some.ensures.lookup
+
+told-is : (c : After-get-p) → c.in-Some.next.now.entry ≡ Publish c.get-p.result.now
+told-is c = c.in-Publish.is ∙ ap (λ (p : Publication). Publish p) (sym c.get-p.ensures)
+
+pub publish_next-requires : goal.publish_next-requires
+publish_next-requires c =
+    let k = (goal.at.publish_next-requires c).After-get-p in
+    ready c.self.inside.history.now c.meet_needs.new.track c.meet_needs.new.ahead c.args.self.now c.in-Some.next.now c.get-p.result.now (met-is k) c.requires (at-is k) (told-is k)
+
+pub returns-clause-published : goal.returns-clause-published
+returns-clause-published c =
+    let k = (goal.at.returns-clause-published c).After-get-p in
+    let history : List Placed = c.self.inside.history.now in
+    if-more (Publishes c.meet_needs.new.track c.get-p.result.now c.publish_next.new.track) (IsPublishedNext c.args.self.now (walk history c.publish_next.new.track))
+    c.in_ok-reply.reply c.in_ok-reply.ensures.published
+    (λ reply is. subst (λ (w : Walked). IsPublishedNext w (walk history c.publish_next.new.track) reply) (met-is k).is
+    (published-next history c.meet_needs.new.track c.publish_next.new.track c.in-Some.next.now (at-is k) c.get-p.result.now (told-is k) reply is))
+
+pub returns-clause-none : goal.returns-clause-none
+returns-clause-none c =
+    let k = (goal.at.returns-clause-none c).After-get-p in
+    none-more (¬ Allowed (entries_of c.meet_needs.new.track.history) (Publish c.get-p.result.now)) (PublishesNothing c.args.self.now)
+    c.in_ok-reply.reply c.in_ok-reply.ensures.none
+    (λ never. subst PublishesNothing (met-is k).is
+    (nothing-published c.self.inside.history.now c.meet_needs.new.track c.publish_next.new.track c.in-Some.next.now (at-is k) c.get-p.result.now (told-is k) never))
