@@ -1,0 +1,175 @@
+-- Private: no public contract cites this. What a request comes to behind a walk, as a reply by the journal.
+use Rattle.std.proofs.Common.{◌≡◌, ◌≢◌, inl, inr, ℕ, zero, suc, ◌^◌, ◌+◌, ◌<◌, ◌≤◌, Bool, false, List, [], ◌∷◌, ◌++◌, length, drop, Option, Some, None, refl, sym, ap, subst, ◌∙◌, arith, length-append}
+use Rattle.std.specs.Prelude.{slice_get}
+use Rattle.std.proofs.lemmas.Option.{slice_get_past}
+use Rattle.history_model.specs.declared.entries.Author.{Author}
+use Rattle.history_model.specs.declared.entries.Author.TheVariants as author
+use Rattle.history_model.specs.declared.entries.Entry.{Entry}
+use Rattle.history_model.specs.declared.entries.Placed.{Placed}
+use Rattle.request_model.specs.declared.requests.Request.{Request}
+use Rattle.request_model.specs.declared.replies.Reply.{Reply}
+use Rattle.reply_text.specs.Replies.{text_of}
+use Rattle.track_model.specs.Counts.{is_segment}
+use Rattle.track_model.specs.Outcomes.{Outcome}
+use Rattle.track_model.specs.Replies.{reply_of}
+use Rattle.track_model.specs.Tracks.{ComesTo, IsStep, Track, with_added}
+use Rattle.play_model.specs.Laws.{AddedIsNew, RepliesNameEntries}
+use Rattle.play_model.specs.Replies.{Adds, ComesToBeside, Tells, first_of, stands_alone}
+use Rattle.play_model.proofs.Replies.{added-step, told-step}
+use Rattle.reply_laws.specs.Kinds.{Names, tells_by_letter, tells_none}
+use Rattle.reply_laws.specs.Laws.{OneAdds, OneBeside, OneTells, PlainBeside, RepliesAreNamed}
+use Rattle.journal_walk.specs.Walks.{Walked, added}
+use Rattle.audit_model.proofs.Exchanges.{at_end}
+use Rattle.play_audit.specs.Places.{IsBehind}
+use Rattle.play_audit.specs.Replies.{HasNone, IsNext}
+use Rattle.play_audit.specs.Texts.{BeginsWith}
+use Rattle.play_audit.proofs.Fronts.{one_name, names_more}
+use Rattle.play_audit.proofs.Walking.{first_behind}
+
+-- ---- what was added
+
+pub none_added : (a : Author) (t : Track) (o : Option Entry) → length (with_added a t o).history ≡ length t.history → o ≡ None
+none_added a t None is = refl
+none_added a t (Some e) is = absurd (omega (arith, is, length-append t.history (record { author = a; entry = e } ∷ [])))
+
+pub one_added : (a : Author) (t : Track) (o : Option Entry) (p : Placed) → slice_get (with_added a t o).history (length t.history) ≡ Some p → o ≡ Some p.entry
+one_added a t None p is = let no : None ≡ Some p = sym (slice_get_past t.history (length t.history) (omega arith)) ∙ is in absurd (cc)
+one_added a t (Some e) p is =
+    let x : Placed = record { author = a; entry = e } in
+    let both : Some x ≡ Some p = sym (at_end t.history x) ∙ is in
+    let same : x ≡ p = cc in
+    ap (λ (y : Placed). Some y.entry) same
+
+pub length_added : (a : Author) (t : Track) (o : Option Entry) (e : Entry) → o ≡ Some e → length (with_added a t o).history ≡ length t.history + 1
+length_added a t None e is = absurd (cc)
+length_added a t (Some x) e is = length-append t.history (record { author = a; entry = x } ∷ [])
+
+-- ---- what a transcript tells of a reply in front of it
+
+pub told_names : RepliesAreNamed → (text : List ℕ) (r : Reply) (rest : List ℕ) (step letter : ℕ) → r.step < 2 ^ 64 → step < 2 ^ 64 → text ≡ text_of r ++ rest → Names text step letter
+    → (r.step ≡ step) × (tells_none r.answer ≡ tells_by_letter letter)
+told_names named text r rest step letter small few is names =
+    let own = named r in
+    let its : Names text r.step own.letter = subst (λ (l : List ℕ). Names l r.step own.letter) (sym is) (names_more (text_of r) rest r.step own.letter own.names) in
+    let both : (r.step ≡ step) × (own.letter ≡ letter) = one_name text r.step step own.letter letter small few its names in
+    (both.0, sym own.kind ∙ ap tells_by_letter both.1)
+
+pub same_steps : RepliesAreNamed → (text : List ℕ) (r s : Reply) (rest more : List ℕ) → r.step < 2 ^ 64 → s.step < 2 ^ 64 → text ≡ text_of r ++ rest → text ≡ text_of s ++ more
+    → r.step ≡ s.step
+same_steps named text r s rest more small few is its =
+    let own = named s in
+    let names : Names text s.step own.letter = subst (λ (l : List ℕ). Names l s.step own.letter) (sym its) (names_more (text_of s) more s.step own.letter own.names) in
+    (told_names named text r rest s.step own.letter small few is names).0
+
+-- ---- behind a walk, requests that segment nothing
+module _ (machine : List ℕ) (j : List Placed) (known count : ℕ) (q : Request) (w : Walked) (o : Outcome) (r : Reply) (b : IsBehind machine j count w)
+    (since : known ≤ count) (within : count ≤ length j) (seg : is_segment q ≡ false) (comes : ComesTo (added w) 0 q o) (told : r ≡ reply_of (added w) o) where
+  first : added w ≡ first_of count j
+  first = first_behind machine j count w b
+
+  there : ComesTo (first_of count j) 0 q o
+  there = subst (λ (h : List Entry). ComesTo h 0 q o) first comes
+
+  reply-is : r ≡ reply_of (first_of count j) o
+  reply-is = told ∙ ap (λ (h : List Entry). reply_of h o) first
+
+  pub plain_tells : PlainBeside → stands_alone q ≡ false → o.adds ≡ None → Tells j known q r
+  plain_tells alone shared none = record {
+    count = count;
+    outcome = o;
+    comes = record {
+      since = since;
+      within = within;
+      version = count;
+      made_since = since;
+      made_before = omega arith;
+      base = 0;
+      comes = alone (first_of count j) 0 (first_of count j) q o seg shared there;
+    };
+    adds = none;
+    told = reply-is;
+  }
+
+  pub plain_adds : PlainBeside → stands_alone q ≡ false → (author : Author) (e : Entry) → o.adds ≡ Some e → slice_get j count ≡ Some (record { author = author; entry = e }) → Adds author j known q r
+  plain_adds alone shared author e adds stands = record {
+    count = count;
+    outcome = o;
+    comes = record {
+      since = since;
+      within = within;
+      version = count;
+      made_since = since;
+      made_before = omega arith;
+      base = 0;
+      comes = alone (first_of count j) 0 (first_of count j) q o seg shared there;
+    };
+    entry = e;
+    adds = adds;
+    stands = stands;
+    told = reply-is;
+  }
+
+  -- another reply that names as many comes from the same outcome
+  pub tells_same : OneBeside → PlainBeside → stands_alone q ≡ false → (s : Reply) → Tells j known q s → s.step ≡ count → o.adds ≡ None
+  tells_same once alone shared s t its =
+      let counts : t.count ≡ count = sym (told-step j known q s t) ∙ its in
+      let mine : ComesToBeside (first_of count j) 0 (first_of count j) q o = alone (first_of count j) 0 (first_of count j) q o seg shared there in
+      let other : ComesToBeside (first_of t.comes.version j) t.comes.base (first_of count j) q t.outcome =
+      subst (λ (n : ℕ). ComesToBeside (first_of t.comes.version j) t.comes.base (first_of n j) q t.outcome) counts t.comes.comes in
+      let same : o ≡ t.outcome = once (first_of count j) (first_of t.comes.version j) 0 t.comes.base (first_of count j) q o t.outcome seg mine other in
+      ap (λ (x : Outcome). x.adds) same ∙ t.adds
+
+  pub adds_same : OneBeside → PlainBeside → stands_alone q ≡ false → (author : Author) (s : Reply) → Adds author j known q s → s.step ≡ count + 1
+      → (e : Entry) × (o.adds ≡ Some e) × (slice_get j count ≡ Some (record { author = author; entry = e }))
+  adds_same once alone shared author s a its =
+      let step : s.step ≡ a.count + 1 = added-step author j known q s a in
+      let counts : a.count ≡ count = omega (arith, step, its) in
+      let mine : ComesToBeside (first_of count j) 0 (first_of count j) q o = alone (first_of count j) 0 (first_of count j) q o seg shared there in
+      let other : ComesToBeside (first_of a.comes.version j) a.comes.base (first_of count j) q a.outcome =
+      subst (λ (n : ℕ). ComesToBeside (first_of a.comes.version j) a.comes.base (first_of n j) q a.outcome) counts a.comes.comes in
+      let same : o ≡ a.outcome = once (first_of count j) (first_of a.comes.version j) 0 a.comes.base (first_of count j) q o a.outcome seg mine other in
+      (a.entry, ap (λ (x : Outcome). x.adds) same ∙ a.adds, subst (λ (n : ℕ). slice_get j n ≡ Some (record { author = author; entry = a.entry })) counts a.stands)
+
+-- ---- the reply that stands next, or none
+module _ (j : List Placed) (known : ℕ) (q : Request) (text : List ℕ) (fits64 : length j < 2 ^ 64) where
+  pub tells_next : RepliesAreNamed → RepliesNameEntries → OneTells → is_segment q ≡ false → (r : Reply) (len step : ℕ) → Tells j known q r → r.step ≡ step → BeginsWith text r len
+      → IsNext (Tells j known q) text step len
+  tells_next named names once seg r len step tells its begins =
+      let own = names author.Kept j known q r (inr tells) in
+      record {
+        reply = r;
+        fits = tells;
+        its_step = its;
+        begins = begins;
+        only = λ other rest fits is.
+            let bound = names author.Kept j known q other (inr fits) in
+            once j known q other r seg fits tells
+            (same_steps named text other r rest (drop len text) (omega (arith, bound.within, fits64)) (omega (arith, own.within, fits64)) is begins.text);
+      }
+
+  pub tells_no_text : OneTells → is_segment q ≡ false → (r : Reply) (step : ℕ) → Tells j known q r → r.step ≡ step → ((rest : List ℕ) → text ≢ text_of r ++ rest)
+      → HasNone (Tells j known q) text step
+  tells_no_text once seg r step tells its none reply rest fits same is =
+      let one : reply ≡ r = once j known q reply r seg fits tells (same ∙ sym its) in
+      none rest (is ∙ ap (λ (x : Reply). text_of x ++ rest) one)
+
+  pub adds_next : RepliesAreNamed → RepliesNameEntries → OneAdds → (author : Author) (r : Reply) (len step : ℕ) → Adds author j known q r → r.step ≡ step → BeginsWith text r len
+      → IsNext (Adds author j known q) text step len
+  adds_next named names once author r len step adds its begins =
+      let own = names author j known q r (inl adds) in
+      record {
+        reply = r;
+        fits = adds;
+        its_step = its;
+        begins = begins;
+        only = λ other rest fits is.
+            let bound = names author j known q other (inl fits) in
+            once author j known q other r fits adds
+            (same_steps named text other r rest (drop len text) (omega (arith, bound.within, fits64)) (omega (arith, own.within, fits64)) is begins.text);
+      }
+
+  pub adds_no_text : OneAdds → (author : Author) (r : Reply) (step : ℕ) → Adds author j known q r → r.step ≡ step → ((rest : List ℕ) → text ≢ text_of r ++ rest)
+      → HasNone (Adds author j known q) text step
+  adds_no_text once author r step adds its none reply rest fits same is =
+      let one : reply ≡ r = once author j known q reply r fits adds (same ∙ sym its) in
+      none rest (is ∙ ap (λ (x : Reply). text_of x ++ rest) one)

@@ -1,0 +1,91 @@
+-- Private: no public contract cites this. Lists by their places.
+use Rattle.std.proofs.Common.{◌≡◌, ◌⊎◌, inl, inr, ℕ, zero, suc, ◌+◌, ◌<◌, ◌≤◌, Bool, true, false, List, [], ◌∷◌, ◌++◌, length, map, take, get_or, set, Some, Vec, Global, refl, sym, ap, subst, ◌∙◌, arith}
+use Rattle.std.specs.Prelude.{slice_get, sum_by}
+use Rattle.std.proofs.lemmas.List as lists
+use Rattle.std.proofs.lemmas.List.Sums.{sum_by-append, sum_by-cons, sum_by-take-le}
+use Rattle.std.proofs.lemmas.Option.{get_or_from_slice_get, slice_get_read, slice_get_within, slice_get-get_or}
+use Rattle.journal_reader.specs.Journals.{Journal}
+use Rattle.track_model.specs.Tracks.{Track}
+use Rattle.audit_model.specs.Verdicts.{track_of}
+use Rattle.audit_model.proofs.Exchanges.{take_next}
+use Rattle.play_audit.specs.Known.{tracks_of}
+use Rattle.play_audit.specs.Marks.{rows_of}
+
+pub read_at : {A : Type 0} (xs : List A) (n : ℕ) (x : A) → n < length xs → x ≡ get_or xs n x → slice_get xs n ≡ Some x
+read_at xs n x below is = slice_get_read xs (length xs) n x refl below is
+
+pub map_at : {A B : Type 0} (f : A → B) (xs : List A) (n : ℕ) (x : A) → slice_get xs n ≡ Some x → slice_get (map f xs) n ≡ Some (f x)
+map_at f [] zero x is = absurd (cc)
+map_at f [] (suc n) x is = absurd (cc)
+map_at f (y ∷ xs) zero x is = let one : y ≡ x = cc in ap (λ (z : _). Some (f z)) one
+map_at f (y ∷ xs) (suc n) x is = map_at f xs n x is
+
+pub map_back : {A B : Type 0} (f : A → B) (xs : List A) (n : ℕ) (y : B) → slice_get (map f xs) n ≡ Some y → (x : A) × (slice_get xs n ≡ Some x) × (f x ≡ y)
+map_back f [] zero y is = absurd (cc)
+map_back f [] (suc n) y is = absurd (cc)
+map_back f (x ∷ xs) zero y is = (x, refl, (let same : f x ≡ y = cc in same))
+map_back f (x ∷ xs) (suc n) y is = map_back f xs n y is
+
+pub some_at : {A : Type 0} (xs : List A) (k : ℕ) → k < length xs → (x : A) × (slice_get xs k ≡ Some x)
+some_at [] k below = absurd (omega (arith, below))
+some_at (x ∷ xs) zero below = (x, refl)
+some_at (x ∷ xs) (suc k) below = some_at xs k (omega (arith, below))
+
+pub same_at : {A : Type 0} (xs : List A) (k : ℕ) (x y : A) → slice_get xs k ≡ Some x → slice_get xs k ≡ Some y → x ≡ y
+same_at xs k x y one two = let both : Some x ≡ Some y = sym one ∙ two in cc
+
+-- sums over the first ones
+pub sum_next : {A : Type 0} (f : A → ℕ) (xs : List A) (n : ℕ) (x : A) → slice_get xs n ≡ Some x → sum_by f (take (n + 1) xs) ≡ sum_by f (take n xs) + f x
+sum_next f xs n x is =
+    let step : n + 1 ≡ suc n = omega arith in
+    let one : sum_by f (x ∷ []) ≡ f x + 0 = sum_by-cons f x [] in
+    let last : sum_by f (take n xs) + sum_by f (x ∷ []) ≡ sum_by f (take n xs) + f x = omega (arith, one) in
+    ap (λ (k : ℕ). sum_by f (take k xs)) step ∙ ap (sum_by f) (take_next xs n x is) ∙ sum_by-append f (take n xs) (x ∷ []) ∙ last
+
+pub sum_most : {A : Type 0} (f : A → ℕ) (xs : List A) (n : ℕ) → sum_by f (take n xs) ≤ sum_by f xs
+sum_most f xs n = sum_by-take-le f xs n
+
+pub sum_longer : {A : Type 0} (f : A → ℕ) (xs : List A) (n m : ℕ) → n ≤ m → sum_by f (take n xs) ≤ sum_by f (take m xs)
+sum_longer f [] zero zero le = omega arith
+sum_longer f [] zero (suc m) le = omega arith
+sum_longer f [] (suc n) zero le = absurd (omega (arith, le))
+sum_longer f [] (suc n) (suc m) le = omega arith
+sum_longer f (x ∷ xs) zero m le = omega arith
+sum_longer f (x ∷ xs) (suc n) zero le = absurd (omega (arith, le))
+sum_longer f (x ∷ xs) (suc n) (suc m) le =
+    let one : sum_by f (x ∷ take n xs) ≡ f x + sum_by f (take n xs) = sum_by-cons f x (take n xs) in
+    let two : sum_by f (x ∷ take m xs) ≡ f x + sum_by f (take m xs) = sum_by-cons f x (take m xs) in
+    let more : sum_by f (take n xs) ≤ sum_by f (take m xs) = sum_longer f xs n m (omega (arith, le)) in
+    omega (arith, one, two, more)
+
+-- lists of rows
+pub row_at : (marks : List (Vec Bool Global)) (n : ℕ) (row : Vec Bool Global) → n < length marks → row ≡ get_or marks n row → get_or (rows_of marks) n [] ≡ row.items
+row_at marks n row below is = lists.get_or-map (λ (v : Vec Bool Global). v.items) marks n row [] below ∙ ap (λ (v : Vec Bool Global). v.items) (sym is)
+
+pub rows_many : (marks : List (Vec Bool Global)) → length (rows_of marks) ≡ length marks
+rows_many marks = lists.length-map marks (λ (v : Vec Bool Global). v.items)
+
+pub rows_next : (marks : List (Vec Bool Global)) (row : Vec Bool Global) → rows_of (marks ++ row ∷ []) ≡ rows_of marks ++ row.items ∷ []
+rows_next marks row = lists.map-append (λ (v : Vec Bool Global). v.items) marks (row ∷ [])
+
+pub map_set : {A B : Type 0} (f : A → B) (xs : List A) (n : ℕ) (x : A) → map f (set xs n x) ≡ set (map f xs) n (f x)
+map_set f [] zero x = refl
+map_set f [] (suc n) x = refl
+map_set f (y ∷ xs) zero x = refl
+map_set f (y ∷ xs) (suc n) x = ap (λ (l : List _). f y ∷ l) (map_set f xs n x)
+
+-- the machine with the journal at a place
+pub track_at : (js : List Journal) (n : ℕ) (j : Journal) → slice_get js n ≡ Some j → slice_get (tracks_of js) n ≡ Some (track_of j)
+track_at js n j is = map_at track_of js n j is
+
+pub tracks_many : (js : List Journal) → length (tracks_of js) ≡ length js
+tracks_many js = lists.length-map js track_of
+
+pub lt-or-le : (n m : ℕ) → (n < m) ⊎ (m ≤ n)
+lt-or-le zero zero = inr (omega arith)
+lt-or-le zero (suc m) = inl (omega arith)
+lt-or-le (suc n) zero = inr (omega arith)
+lt-or-le (suc n) (suc m) = elim (lt-or-le n m) [
+  | inl below ↦ inl (omega (arith, below))
+  | inr past ↦ inr (omega (arith, past))
+]

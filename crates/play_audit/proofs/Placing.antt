@@ -1,0 +1,190 @@
+-- Private: no public contract cites this. A script's way along a journal, one reply further.
+use Rattle.std.proofs.Common.{◌≡◌, ℕ, zero, suc, ◌+◌, ◌-◌, ◌<◌, ◌≤◌, List, [], ◌∷◌, ◌++◌, get_or, length, Option, Some, None, Ok, Err, refl, sym, ap, subst, ◌∙◌, arith}
+use Rattle.std.specs.List.{AllByRecursion}
+use Rattle.std.proofs.lemmas.Option.{get_or_from_slice_get}
+use Rattle.std.specs.Prelude.{slice_get, IfNone, IfOk, IfSome, Result}
+use Rattle.history_model.specs.declared.entries.Author.{Author}
+use Rattle.history_model.specs.declared.entries.Placed.{Placed}
+use Rattle.request_model.specs.declared.requests.Request.{Request}
+use Rattle.request_model.specs.declared.requests.Request.TheVariants.{Segment}
+use Rattle.track_model.specs.Replies.{machine_of}
+use Rattle.journal_walk.specs.Laws.{StaysAlong}
+use Rattle.journal_walk.specs.Walks.{Walked, GoesOn, coming}
+use Rattle.play_model.specs.Replies.{Adds, Tells}
+use Rattle.request_model.specs.declared.replies.Reply.{Reply}
+use Rattle.journal_lines.specs.Lines.{HasLine}
+use Rattle.play_model.proofs.Replies.{added-step}
+use Rattle.play_audit.specs.Places.{IsBehind, IsBy, IsSound}
+use Rattle.play_audit.specs.Replies.{HasNone, IsNext}
+use Rattle.play_audit.proofs.Walking.{grown_length, some_at as some_at_place}
+
+-- a walk may go on to what is named
+pub may_go : (machine : List ℕ) (history : List Placed) (known step : ℕ) (w : Walked) → IsBy machine history known w → known ≤ step → step ≤ length history
+    → IsBy w.track.machine w.history step w
+may_go machine history known step w by since within = record {
+  along = by.along;
+  same = refl;
+  machine_is = refl;
+  behind = omega (arith, by.behind, since);
+  within = subst (λ (h : List Placed). step ≤ length h) (sym by.same) within;
+}
+
+pub its_sound : (machine : List ℕ) (history : List Placed) (known : ℕ) (w : Walked) → IsBy machine history known w → IsSound history → IsSound w.history
+its_sound machine history known w by sound = subst IsSound (sym by.same) sound
+
+-- and is then behind it
+pub has_gone : (machine : List ℕ) (history : List Placed) (known step : ℕ) (w v : Walked) → IsBy machine history known w → IsBehind w.track.machine w.history step v
+    → IsBehind machine history step v
+has_gone machine history known step w v by b = record {
+  by = record {
+    along = b.by.along;
+    same = b.by.same ∙ by.same;
+    machine_is = b.by.machine_is ∙ by.machine_is;
+    behind = b.by.behind;
+    within = subst (λ (h : List Placed). step ≤ length h) by.same b.by.within;
+  };
+  there = b.there;
+}
+
+-- what was told behind it
+module _ (machine : List ℕ) (history : List Placed) (known step : ℕ) (w : Walked) (b : IsBehind machine history step w) (text : List ℕ) where
+  pub told_there : (q : Request) (len : ℕ) → IsNext (Tells w.history known q) text (length w.track.history) len → IsNext (Tells history known q) text step len
+  told_there q len next =
+      subst (λ (n : ℕ). IsNext (Tells history known q) text n len) b.there
+      (subst (λ (h : List Placed). IsNext (Tells h known q) text (length w.track.history) len) b.by.same next)
+
+  pub told_nowhere : (q : Request) → HasNone (Tells w.history known q) text (length w.track.history) → HasNone (Tells history known q) text step
+  told_nowhere q none =
+      subst (λ (n : ℕ). HasNone (Tells history known q) text n) b.there
+      (subst (λ (h : List Placed). HasNone (Tells h known q) text (length w.track.history)) b.by.same none)
+
+  pub added_there : (author : Author) (q : Request) (len : ℕ) → IsNext (Adds author w.history known q) text (length w.track.history + 1) len
+      → IsNext (Adds author history known q) text (step + 1) len
+  added_there author q len next =
+      subst (λ (n : ℕ). IsNext (Adds author history known q) text (n + 1) len) b.there
+      (subst (λ (h : List Placed). IsNext (Adds author h known q) text (length w.track.history + 1) len) b.by.same next)
+
+  pub added_nowhere : (author : Author) (q : Request) → HasNone (Adds author w.history known q) text (length w.track.history + 1) → HasNone (Adds author history known q) text (step + 1)
+  added_nowhere author q none =
+      subst (λ (n : ℕ). HasNone (Adds author history known q) text (n + 1)) b.there
+      (subst (λ (h : List Placed). HasNone (Adds author h known q) text (length w.track.history + 1)) b.by.same none)
+
+  -- the entry that comes next
+  pub comes_next : (p : Placed) → slice_get history step ≡ Some p → coming w ≡ Some p
+  comes_next p is = ap (λ (h : List Placed). slice_get h (length w.track.history)) b.by.same ∙ ap (slice_get history) b.there ∙ is
+
+  pub one_further : StaysAlong → (v : Walked) → GoesOn w v → step + 1 ≤ length history → IsBy machine history (step + 1) v
+  one_further stays v g within = record {
+    along = stays w v b.by.along g;
+    same = g.same ∙ b.by.same;
+    machine_is = g.machine ∙ b.by.machine_is;
+    behind = (let grown = grown_length w v g in let there = b.there in omega (arith, grown, there));
+    within = within;
+  }
+
+  pub told_ok : {E : Type 0} (q : Request) (found : Result (Option ℕ) E) → IfOk found (λ o. IfSome o (IsNext (Tells w.history known q) text (length w.track.history)))
+      → IfOk found (λ o. IfSome o (IsNext (Tells history known q) text step))
+  told_ok q (Ok (Some len)) next = told_there q len next
+  told_ok q (Ok None) next = tt
+  told_ok q (Err e) next = tt
+
+  pub told_ok_none : {E : Type 0} (q : Request) (found : Result (Option ℕ) E) → IfOk found (λ o. IfNone o (HasNone (Tells w.history known q) text (length w.track.history)))
+      → IfOk found (λ o. IfNone o (HasNone (Tells history known q) text step))
+  told_ok_none q (Ok (Some len)) none = tt
+  told_ok_none q (Ok None) none = told_nowhere q none
+  told_ok_none q (Err e) none = tt
+
+  pub stays_ok : {E : Type 0} (v : Walked) (found : Result (Option ℕ) E) → IfOk found (λ o. IfSome o (λ len. v ≡ w)) → IfOk found (λ o. IfSome o (λ len. IsBy machine history step v))
+  stays_ok v (Ok (Some len)) same = subst (IsBy machine history step) (sym same) b.by
+  stays_ok v (Ok None) same = tt
+  stays_ok v (Err e) same = tt
+
+  pub added_ok : {E : Type 0} (author by_ : Author) (q : Request) (next-step : ℕ) (found : Result (Option ℕ) E) → by_ ≡ author → step + 1 ≡ next-step
+      → IfOk found (λ o. IfSome o (IsNext (Adds by_ w.history known q) text (length w.track.history + 1))) → IfOk found (λ o. IfSome o (IsNext (Adds author history known q) text next-step))
+  added_ok author by_ q next-step (Ok (Some len)) same is next =
+      subst (λ (n : ℕ). IsNext (Adds author history known q) text n len) is (subst (λ (a : Author). IsNext (Adds a history known q) text (step + 1) len) same (added_there by_ q len next))
+  added_ok author by_ q next-step (Ok None) same is next = tt
+  added_ok author by_ q next-step (Err e) same is next = tt
+
+  pub added_ok_none : {E : Type 0} (author by_ : Author) (q : Request) (next-step : ℕ) (found : Result (Option ℕ) E) → by_ ≡ author → step + 1 ≡ next-step
+      → IfOk found (λ o. IfNone o (HasNone (Adds by_ w.history known q) text (length w.track.history + 1))) → IfOk found (λ o. IfNone o (HasNone (Adds author history known q) text next-step))
+  added_ok_none author by_ q next-step (Ok (Some len)) same is none = tt
+  added_ok_none author by_ q next-step (Ok None) same is none =
+      subst (λ (n : ℕ). HasNone (Adds author history known q) text n) is (subst (λ (a : Author). HasNone (Adds a history known q) text (step + 1)) same (added_nowhere by_ q none))
+  added_ok_none author by_ q next-step (Err e) same is none = tt
+
+  pub goes_ok : {E : Type 0} → StaysAlong → (v : Walked) (next-step : ℕ) (found : Result (Option ℕ) E) → step + 1 ≡ next-step → next-step ≤ length history
+      → IfOk found (λ o. IfSome o (λ len. GoesOn w v)) → IfOk found (λ o. IfSome o (λ len. IsBy machine history next-step v))
+  goes_ok stays v next-step (Ok (Some len)) is within goes =
+      subst (λ (n : ℕ). IsBy machine history n v) is (one_further stays v goes (omega (arith, is, within)))
+  goes_ok stays v next-step (Ok None) is within goes = tt
+  goes_ok stays v next-step (Err e) is within goes = tt
+
+-- ---- behind a walk, of any request
+
+-- a request for a segmentation of a walk's machine
+pub its_segment : (q : Request) (machine test metric : List ℕ) (w : Walked) → q ≡ Segment machine test metric → machine_of q ≡ w.track.machine → q ≡ Segment w.track.machine test metric
+its_segment q machine test metric w is asked = is ∙ ap (λ (m : List ℕ). Segment m test metric) (sym (ap machine_of is) ∙ asked)
+
+pub tells_of : {E : Type 0} (found : Result (Option ℕ) E) (w : Walked) (known : ℕ) (q r : Request) (text : List ℕ) → r ≡ q
+    → IfOk found (λ o. IfSome o (IsNext (Tells w.history known q) text (length w.track.history)))
+    → IfOk found (λ o. IfSome o (IsNext (Tells w.history known r) text (length w.track.history)))
+tells_of found w known q r text same some = subst (λ (x : Request). IfOk found (λ o. IfSome o (IsNext (Tells w.history known x) text (length w.track.history)))) (sym same) some
+
+pub tells_none_of : {E : Type 0} (found : Result (Option ℕ) E) (w : Walked) (known : ℕ) (q r : Request) (text : List ℕ) → r ≡ q
+    → IfOk found (λ o. IfNone o (HasNone (Tells w.history known q) text (length w.track.history)))
+    → IfOk found (λ o. IfNone o (HasNone (Tells w.history known r) text (length w.track.history)))
+tells_none_of found w known q r text same none = subst (λ (x : Request). IfOk found (λ o. IfNone o (HasNone (Tells w.history known x) text (length w.track.history)))) (sym same) none
+
+pub adds_of : {E : Type 0} (found : Result (Option ℕ) E) (a : Author) (w : Walked) (known : ℕ) (q r : Request) (text : List ℕ) → r ≡ q
+    → IfOk found (λ o. IfSome o (IsNext (Adds a w.history known q) text (length w.track.history + 1)))
+    → IfOk found (λ o. IfSome o (IsNext (Adds a w.history known r) text (length w.track.history + 1)))
+adds_of found a w known q r text same some = subst (λ (x : Request). IfOk found (λ o. IfSome o (IsNext (Adds a w.history known x) text (length w.track.history + 1)))) (sym same) some
+
+pub adds_none_of : {E : Type 0} (found : Result (Option ℕ) E) (a : Author) (w : Walked) (known : ℕ) (q r : Request) (text : List ℕ) → r ≡ q
+    → IfOk found (λ o. IfNone o (HasNone (Adds a w.history known q) text (length w.track.history + 1)))
+    → IfOk found (λ o. IfNone o (HasNone (Adds a w.history known r) text (length w.track.history + 1)))
+adds_none_of found a w known q r text same none = subst (λ (x : Request). IfOk found (λ o. IfNone o (HasNone (Adds a w.history known x) text (length w.track.history + 1)))) (sym same) none
+
+-- what holds whatever was known holds of what was
+pub some_at : {E : Type 0} (found : Result (Option ℕ) E) (P : ℕ → ℕ → Type 0) (most known : ℕ) → known ≤ most
+    → IfOk found (λ o. IfSome o (λ len. (k : ℕ) → k ≤ most → P k len)) → IfOk found (λ o. IfSome o (P known))
+some_at (Ok (Some len)) P most known since some = some known since
+some_at (Ok None) P most known since some = tt
+some_at (Err e) P most known since some = tt
+
+pub none_at : {E : Type 0} (found : Result (Option ℕ) E) (P : ℕ → Type 0) (most known : ℕ) → known ≤ most
+    → IfOk found (λ o. IfNone o ((k : ℕ) → k ≤ most → P k)) → IfOk found (λ o. IfNone o (P known))
+none_at (Ok (Some len)) P most known since none = tt
+none_at (Ok None) P most known since none = none known since
+none_at (Err e) P most known since none = tt
+
+-- ---- the entry of a step
+
+pub placed_at : (xs : List Placed) (k : ℕ) (x : Placed) → k < length xs → x ≡ get_or xs k x → slice_get xs k ≡ Some x
+placed_at xs k x below is =
+    let s = some_at_place xs k below in
+    let same : x ≡ s.0 = is ∙ get_or_from_slice_get xs k s.0 x s.1 in
+    s.1 ∙ ap Some (sym same)
+
+pub line_at_place : (xs : List Placed) (k : ℕ) (x : Placed) → AllByRecursion HasLine xs → slice_get xs k ≡ Some x → HasLine x
+line_at_place [] zero x each is = absurd (cc)
+line_at_place [] (suc k) x each is = absurd (cc)
+line_at_place (y ∷ xs) zero x each is = let same : y ≡ x = cc in subst HasLine same each.0
+line_at_place (y ∷ xs) (suc k) x each is = line_at_place xs k x each.1 is
+
+pub not_new : (author : Author) (j : List Placed) (known step : ℕ) (q : Request) (r : Reply) → step ≡ known → Adds author j known q r → r.step ≡ step → ⊥
+not_new author j known step q r same a its =
+    let one : r.step ≡ a.count + 1 = added-step author j known q r a in
+    let since = a.comes.since in
+    omega (arith, one, since, same, its)
+
+pub not_its_own : (author : Author) (j : List Placed) (known step : ℕ) (q : Request) (r : Reply) (p : Placed) → slice_get j (step - 1) ≡ Some p → (p.author ≡ author → ⊥)
+    → Adds author j known q r → r.step ≡ step → ⊥
+not_its_own author j known step q r p there other a its =
+    let one : r.step ≡ a.count + 1 = added-step author j known q r a in
+    let count : a.count ≡ step - 1 = omega (arith, one, its) in
+    let x : Placed = record { author = author; entry = a.entry } in
+    let both : Some p ≡ Some x = sym there ∙ ap (slice_get j) (sym count) ∙ a.stands in
+    let same : p ≡ x = cc in
+    other (ap (λ (y : Placed). y.author) same)

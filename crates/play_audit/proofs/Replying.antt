@@ -1,0 +1,193 @@
+-- Private: no public contract cites this. A reply behind the entries of a walk, by what its request came to there.
+use Rattle.std.proofs.Common.{◌≡◌, ◌≢◌, inl, inr, ℕ, ◌^◌, ◌+◌, ◌<◌, ◌≤◌, Bool, false, List, [], ◌∷◌, ◌++◌, length, drop, Option, Some, None, refl, sym, ap, subst, ◌∙◌, arith, length-append}
+use Rattle.std.specs.Prelude.{slice_get, IfNone, IfSome}
+use Rattle.std.proofs.lemmas.List.{map-append}
+use Rattle.history_model.specs.declared.entries.Author.{Author}
+use Rattle.history_model.specs.declared.entries.Author.TheVariants as author
+use Rattle.history_model.specs.declared.entries.Entry.{Entry}
+use Rattle.history_model.specs.declared.entries.Placed.{Placed}
+use Rattle.history_model.specs.Entries.{entries_of}
+use Rattle.request_model.specs.declared.requests.Request.{Request}
+use Rattle.request_model.specs.declared.replies.Reply.{Reply}
+use Rattle.reply_text.specs.Replies.{text_of}
+use Rattle.track_model.specs.Counts.{is_segment}
+use Rattle.track_model.specs.Outcomes.{Outcome}
+use Rattle.track_model.specs.Replies.{reply_of}
+use Rattle.track_model.specs.Tracks.{ComesTo, IsStep, Track, with_added}
+use Rattle.play_model.specs.Laws.{RepliesNameEntries}
+use Rattle.play_model.specs.Replies.{Adds, Tells, stands_alone}
+use Rattle.reply_laws.specs.Laws.{OneAdds, OneBeside, OneTells, PlainBeside, RepliesAreNamed}
+use Rattle.journal_walk.specs.Walks.{Walked, GoesOn, IsAlong, added, coming}
+use Rattle.audit_model.proofs.Exchanges.{at_end}
+use Rattle.play_audit.specs.Places.{IsBehind}
+use Rattle.play_audit.specs.Replies.{HasNone, IsNext}
+use Rattle.play_audit.specs.Texts.{BeginsWith, HasEntry}
+use Rattle.play_audit.proofs.Answering.{none_added, one_added, plain_tells, plain_adds, tells_same, adds_same, tells_next, tells_no_text, adds_next, adds_no_text}
+use Rattle.play_audit.proofs.Walking.{entries_length}
+
+-- a walk is behind its own entries
+pub here_behind : (w : Walked) → IsAlong w → IsBehind w.track.machine w.history (length w.track.history) w
+here_behind w along = record {
+  by = record { along = along; same = refl; machine_is = refl; behind = omega arith; within = along.within };
+  there = refl;
+}
+
+same-walk : (w v : Walked) → v.history ≡ w.history → v.track ≡ w.track → v ≡ w
+same-walk w v one two =
+    ap (λ (h : List Placed). let x : Walked = record { history = h; track = v.track } in x) one
+    ∙ ap (λ (t : Track). let x : Walked = record { history = w.history; track = t } in x) two
+
+none-with : (a : Author) (t : Track) (o : Option Entry) → o ≡ None → with_added a t o ≡ t
+none-with a t None is = refl
+none-with a t (Some e) is = absurd (cc)
+
+one-with : (a : Author) (t : Track) (o : Option Entry) (e : Entry) → o ≡ Some e → (with_added a t o).history ≡ t.history ++ record { author = a; entry = e } ∷ []
+one-with a t None e is = absurd (cc)
+one-with a t (Some x) e is = let same : x ≡ e = cc in ap (λ (y : Entry). t.history ++ record { author = a; entry = y } ∷ []) same
+
+machine-with : (a : Author) (t : Track) (o : Option Entry) → (with_added a t o).machine ≡ t.machine
+machine-with a t None = refl
+machine-with a t (Some e) = refl
+
+step-told : (w : Walked) (o : Outcome) (r : Reply) → r ≡ reply_of (added w) o → o.adds ≡ None → r.step ≡ length w.track.history
+step-told w o r told none =
+    let step : (reply_of (added w) o).step ≡ length (added w) = rw none refl in
+    ap (λ (x : Reply). x.step) told ∙ step ∙ entries_length w.track.history
+
+pub step_added : (w : Walked) (o : Outcome) (r : Reply) (e : Entry) → r ≡ reply_of (added w) o → o.adds ≡ Some e → r.step ≡ length w.track.history + 1
+step_added w o r e told adds =
+    let step : (reply_of (added w) o).step ≡ length (added w) + 1 = rw adds refl in
+    ap (λ (x : Reply). x.step) told ∙ step ∙ ap (λ (n : ℕ). n + 1) (entries_length w.track.history)
+
+pub entry_of : (p : Placed) (a : Author) (e : Entry) → Some p ≡ Some (record { author = a; entry = e }) → p.entry ≡ e
+entry_of p a e is =
+    let x : Placed = record { author = a; entry = e } in
+    let same : p ≡ x = cc in
+    ap (λ (y : Placed). y.entry) same
+
+its-record : (p : Placed) (a : Author) (e : Entry) → a ≡ p.author → e ≡ p.entry → p ≡ record { author = a; entry = e }
+its-record p a e one two =
+    ap (λ (x : Author). let y : Placed = record { author = x; entry = p.entry } in y) (sym one) ∙ ap (λ (x : Entry). let y : Placed = record { author = a; entry = x } in y) (sym two)
+
+-- ---- by the text
+
+pub begins_of : (transcript text : List ℕ) (r : Reply) (len : ℕ) → text ≡ text_of r → len ≡ length text → transcript ≡ text ++ drop len transcript → BeginsWith transcript r len
+begins_of transcript text r len is size split = record {
+  text = split ∙ ap (λ (l : List ℕ). l ++ drop len transcript) is;
+  whole = size ∙ ap length is;
+}
+
+pub begins_not : (transcript text : List ℕ) (r : Reply) → text ≡ text_of r → ((rest : List ℕ) → transcript ≢ text ++ rest) → (rest : List ℕ) → transcript ≢ text_of r ++ rest
+begins_not transcript text r is none rest other = none rest (other ∙ ap (λ (l : List ℕ). l ++ rest) (sym is))
+
+-- the request came to this behind the walk
+module _ (names : RepliesAreNamed) (numbers : RepliesNameEntries) (alone : PlainBeside) (beside : OneBeside) (w v : Walked) (q : Request) (text : List ℕ) (o : Outcome) (r : Reply)
+    (along : IsAlong w) (few : length w.history < 2 ^ 64) (plain : is_segment q ≡ false) (shared : stands_alone q ≡ false) (comes : ComesTo (added w) 0 q o)
+    (step : IsStep w.track author.Kept o v.track r) where
+  here : IsBehind w.track.machine w.history (length w.track.history) w
+  here = here_behind w along
+
+  -- nothing was added
+  module _ (once : OneTells) (still : length v.track.history ≡ length w.track.history) where
+    none-of : o.adds ≡ None
+    none-of = none_added author.Kept w.track o.adds (sym (ap (λ (t : Track). length t.history) step.track) ∙ still)
+
+    pub still_there : v.history ≡ w.history → v ≡ w
+    still_there same = same-walk w v same (step.track ∙ none-with author.Kept w.track o.adds none-of)
+
+    tells-it : (known : ℕ) → known ≤ length w.track.history → Tells w.history known q r
+    tells-it known since = plain_tells w.track.machine w.history known (length w.track.history) q w o r here since along.within plain comes step.told alone shared none-of
+
+    pub told_next : (len : ℕ) → BeginsWith text r len → (known : ℕ) → known ≤ length w.track.history → IsNext (Tells w.history known q) text (length w.track.history) len
+    told_next len begins known since =
+        tells_next w.history known q text few names numbers once plain r len (length w.track.history) (tells-it known since) (step-told w o r step.told none-of) begins
+
+    pub told_none : ((rest : List ℕ) → text ≢ text_of r ++ rest) → (known : ℕ) → known ≤ length w.track.history → HasNone (Tells w.history known q) text (length w.track.history)
+    told_none none known since =
+        tells_no_text w.history known q text few once plain r (length w.track.history) (tells-it known since) (step-told w o r step.told none-of) none
+
+    pub told_front : (front : List ℕ) → front ≡ text_of r → (found : Option ℕ) → IfSome found (λ len. (len ≡ length front) × (text ≡ front ++ drop len text))
+        → IfSome found (λ len. (known : ℕ) → known ≤ length w.track.history → IsNext (Tells w.history known q) text (length w.track.history) len)
+    told_front front is (Some len) p = told_next len (begins_of text front r len is p.0 p.1)
+    told_front front is None p = tt
+
+    pub told_front_none : (front : List ℕ) → front ≡ text_of r → (found : Option ℕ) → IfNone found ((rest : List ℕ) → text ≢ front ++ rest)
+        → IfNone found ((known : ℕ) → known ≤ length w.track.history → HasNone (Tells w.history known q) text (length w.track.history))
+    told_front_none front is (Some len) p = tt
+    told_front_none front is None p = told_none (begins_not text front r is p)
+
+    pub still_front : v.history ≡ w.history → (found : Option ℕ) → IfSome found (λ len. v ≡ w)
+    still_front same (Some len) = still_there same
+    still_front same None = tt
+
+  -- something was
+  pub told_other : length v.track.history ≢ length w.track.history → (known : ℕ) → known ≤ length w.track.history
+      → HasNone (Tells w.history known q) text (length w.track.history)
+  told_other other known since s rest tells its is =
+      let none : o.adds ≡ None =
+      tells_same w.track.machine w.history known (length w.track.history) q w o r here since along.within plain comes step.told beside alone shared s tells its in
+      other (ap (λ (t : Track). length t.history) (step.track ∙ none-with author.Kept w.track o.adds none))
+
+  -- the journal's next entry
+  module _ (once : OneAdds) (p : Placed) (next : coming w ≡ Some p) where
+    its-entry : (known : ℕ) → known ≤ length w.track.history → (s : Reply) → Adds p.author w.history known q s → s.step ≡ length w.track.history + 1 → o.adds ≡ Some p.entry
+    its-entry known since s adds its =
+        let same = adds_same w.track.machine w.history known (length w.track.history) q w o r here since along.within plain comes step.told beside alone shared p.author s adds its in
+        let entries : p.entry ≡ same.0 = entry_of p p.author same.0 (sym next ∙ same.2) in
+        same.1 ∙ ap Some (sym entries)
+
+    -- it was another
+    pub added_not : (HasEntry v (length w.track.history) p.entry → ⊥) → (known : ℕ) → known ≤ length w.track.history
+        → HasNone (Adds p.author w.history known q) text (length w.track.history + 1)
+    added_not other known since s rest adds its is =
+        let grown : v.track.history ≡ w.track.history ++ record { author = author.Kept; entry = p.entry } ∷ [] =
+        ap (λ (t : Track). t.history) step.track ∙ one-with author.Kept w.track o.adds p.entry (its-entry known since s adds its) in
+        other (record {
+          placed = record { author = author.Kept; entry = p.entry };
+          there = ap (λ (l : List Placed). slice_get l (length w.track.history)) grown ∙ at_end w.track.history (record { author = author.Kept; entry = p.entry });
+          same = refl;
+        })
+
+    -- it was this entry
+    module _ (x : Placed) (there : slice_get v.track.history (length w.track.history) ≡ Some x) (same : x.entry ≡ p.entry) where
+      adds-entry : o.adds ≡ Some p.entry
+      adds-entry = one_added author.Kept w.track o.adds x (ap (λ (t : Track). slice_get t.history (length w.track.history)) (sym step.track) ∙ there) ∙ ap Some same
+
+      adds-it : (known : ℕ) → known ≤ length w.track.history → Adds p.author w.history known q r
+      adds-it known since =
+          plain_adds w.track.machine w.history known (length w.track.history) q w o r here since along.within plain comes step.told alone shared p.author p.entry adds-entry next
+
+      pub added_next : (len : ℕ) → BeginsWith text r len → (known : ℕ) → known ≤ length w.track.history
+          → IsNext (Adds p.author w.history known q) text (length w.track.history + 1) len
+      added_next len begins known since =
+          adds_next w.history known q text few names numbers once p.author r len (length w.track.history + 1) (adds-it known since) (step_added w o r p.entry step.told adds-entry) begins
+
+      pub added_no_text : ((rest : List ℕ) → text ≢ text_of r ++ rest) → (known : ℕ) → known ≤ length w.track.history
+          → HasNone (Adds p.author w.history known q) text (length w.track.history + 1)
+      added_no_text none known since =
+          adds_no_text w.history known q text few once p.author r (length w.track.history + 1) (adds-it known since) (step_added w o r p.entry step.told adds-entry) none
+
+      pub added_goes : v.history ≡ w.history → GoesOn w v
+      added_goes same-history = record {
+        same = same-history;
+        machine = ap (λ (t : Track). t.machine) step.track ∙ machine-with author.Kept w.track o.adds;
+        entry = p;
+        next = next;
+        grown = ap (λ (t : Track). entries_of t.history) step.track
+            ∙ ap entries_of (one-with author.Kept w.track o.adds p.entry adds-entry)
+            ∙ map-append (λ (y : Placed). y.entry) w.track.history (record { author = author.Kept; entry = p.entry } ∷ []);
+      }
+
+      pub added_front : (front : List ℕ) → front ≡ text_of r → (found : Option ℕ) → IfSome found (λ len. (len ≡ length front) × (text ≡ front ++ drop len text))
+          → IfSome found (λ len. (known : ℕ) → known ≤ length w.track.history → IsNext (Adds p.author w.history known q) text (length w.track.history + 1) len)
+      added_front front is (Some len) f = added_next len (begins_of text front r len is f.0 f.1)
+      added_front front is None f = tt
+
+      pub added_front_none : (front : List ℕ) → front ≡ text_of r → (found : Option ℕ) → IfNone found ((rest : List ℕ) → text ≢ front ++ rest)
+          → IfNone found ((known : ℕ) → known ≤ length w.track.history → HasNone (Adds p.author w.history known q) text (length w.track.history + 1))
+      added_front_none front is (Some len) f = tt
+      added_front_none front is None f = added_no_text (begins_not text front r is f)
+
+      pub goes_front : v.history ≡ w.history → (found : Option ℕ) → IfSome found (λ len. GoesOn w v)
+      goes_front same-history (Some len) = added_goes same-history
+      goes_front same-history None = tt

@@ -1,0 +1,74 @@
+-- Private: no public contract cites this. A walk along a sound journal.
+use Rattle.std.proofs.Common.{◌≡◌, ◌⊎◌, inl, inr, ℕ, zero, suc, ◌+◌, ◌<◌, ◌≤◌, List, [], ◌∷◌, ◌++◌, length, map, take, Option, Some, None, refl, sym, ap, subst, ◌∙◌, arith, append_assoc, append-nil, length-append}
+use Rattle.std.specs.Prelude.{slice_get}
+use Rattle.std.proofs.lemmas.List.{length-map}
+use Rattle.std.proofs.lemmas.Option.{slice_get_past}
+use Rattle.history_model.specs.declared.entries.Entry.{Entry}
+use Rattle.history_model.specs.declared.entries.Placed.{Placed}
+use Rattle.history_model.specs.Allowed.{Allowed, AllowedAfter, Legal}
+use Rattle.history_model.specs.Entries.{entries_of}
+use Rattle.play_model.specs.Replies.{first_of}
+use Rattle.journal_walk.specs.Laws.{StaysAlong}
+use Rattle.journal_walk.specs.Walks.{Walked, GoesOn, IsAlong, IsStuck, added, coming}
+use Rattle.play_audit.specs.Places.{IsBehind, IsBy}
+
+allowed_in : (before es : List Entry) (n : ℕ) (e : Entry) → AllowedAfter before es → slice_get es n ≡ Some e → Allowed (before ++ take n es) e
+allowed_in before [] zero e all is = absurd (cc)
+allowed_in before [] (suc n) e all is = absurd (cc)
+allowed_in before (x ∷ es) zero e all is = let same : x ≡ e = cc in rw (append-nil before) (subst (Allowed before) same all.0)
+allowed_in before (x ∷ es) (suc n) e all is =
+    subst (λ (h : List Entry). Allowed h e) (append_assoc before (x ∷ []) (take n es)) (allowed_in (before ++ x ∷ []) es n e all.1 is)
+
+entry_at : (j : List Placed) (n : ℕ) (p : Placed) → slice_get j n ≡ Some p → slice_get (entries_of j) n ≡ Some p.entry
+entry_at [] zero p is = absurd (cc)
+entry_at [] (suc n) p is = absurd (cc)
+entry_at (x ∷ j) zero p is = let same : x ≡ p = cc in ap (λ (y : Placed). Some y.entry) same
+entry_at (x ∷ j) (suc n) p is = entry_at j n p is
+
+pub take_entries : (n : ℕ) (j : List Placed) → entries_of (take n j) ≡ take n (entries_of j)
+take_entries zero j = refl
+take_entries (suc n) [] = refl
+take_entries (suc n) (p ∷ j) = ap (λ (l : List Entry). p.entry ∷ l) (take_entries n j)
+
+pub some_at : {A : Type 0} (xs : List A) (k : ℕ) → k < length xs → (x : A) × (slice_get xs k ≡ Some x)
+some_at [] k below = absurd (omega (arith, below))
+some_at (x ∷ xs) zero below = (x, refl)
+some_at (x ∷ xs) (suc k) below = some_at xs k (omega (arith, below))
+
+pub entries_length : (j : List Placed) → length (entries_of j) ≡ length j
+entries_length j = length-map j (λ (p : Placed). p.entry)
+
+-- an entry of a sound journal is allowed where the walk stands
+pub next_allowed : (w : Walked) (p : Placed) → IsAlong w → Legal (entries_of w.history) → coming w ≡ Some p → Allowed (added w) p.entry
+next_allowed w p along legal is =
+    let n : ℕ = length w.track.history in
+    subst (λ (h : List Entry). Allowed h p.entry) (sym (along.first ∙ take_entries n w.history))
+    (allowed_in [] (entries_of w.history) n p.entry legal (entry_at w.history n p is))
+
+pub not_stuck : (w : Walked) → IsAlong w → Legal (entries_of w.history) → length w.track.history < length w.history → IsStuck w → ⊥
+not_stuck w along legal below (inl none) =
+    let some = some_at w.history (length w.track.history) below in
+    let no : Some some.0 ≡ None = sym some.1 ∙ none in
+    absurd (cc)
+not_stuck w along legal below (inr s) = s.2 (next_allowed w s.0 along legal s.1)
+
+pub grown_length : (w v : Walked) → GoesOn w v → length v.track.history ≡ length w.track.history + 1
+grown_length w v g =
+    sym (entries_length v.track.history) ∙ ap length g.grown ∙ length-append (added w) (g.entry.entry ∷ []) ∙ ap (λ n. n + 1) (entries_length w.track.history)
+
+pub goes_by : StaysAlong → (machine : List ℕ) (history : List Placed) (count : ℕ) (w v : Walked) → IsBy machine history count w → length w.track.history < count → GoesOn w v
+    → IsBy machine history count v
+goes_by stays machine history count w v by below g =
+    let more : length v.track.history ≡ length w.track.history + 1 = grown_length w v g in
+    record {
+      along = stays w v by.along g;
+      same = g.same ∙ by.same;
+      machine_is = g.machine ∙ by.machine_is;
+      behind = omega (arith, below, more);
+      within = by.within;
+    }
+
+-- the entries of a walk behind so many are the first ones
+pub first_behind : (machine : List ℕ) (history : List Placed) (count : ℕ) (w : Walked) → IsBehind machine history count w → added w ≡ first_of count history
+first_behind machine history count w b =
+    b.by.along.first ∙ ap (λ (n : ℕ). entries_of (take n w.history)) b.there ∙ ap (λ (h : List Placed). entries_of (take count h)) b.by.same

@@ -1,0 +1,31 @@
+-- Private: no public contract cites this. A script's way along the journal of a machine.
+use Rattle.std.specs.Prelude.{◌≡◌, ◌≤◌, ℕ, List, length}
+use Rattle.std.specs.List.{AllByRecursion}
+use Rattle.history_model.specs.declared.entries.Placed.{Placed}
+use Rattle.history_model.specs.Allowed.{Legal}
+use Rattle.history_model.specs.Entries.{entries_of}
+use Rattle.journal_lines.specs.Lines.{HasLine}
+use Rattle.journal_walk.specs.Walks.{Walked, IsAlong}
+use Rattle.play_audit.specs.declared.place.Place.{Place}
+
+-- a history that lines say, each entry allowed behind those before it
+pub record IsSound (history : List Placed) : Type 0 where
+  pub legal : Legal (entries_of history)
+  pub lines : AllByRecursion HasLine history
+
+-- a walk stands along a history of a machine, no further than so many entries
+pub record IsBy (machine : List ℕ) (history : List Placed) (count : ℕ) (w : Walked) : Type 0 where
+  pub along : IsAlong w
+  pub same : w.history ≡ history
+  pub machine_is : w.track.machine ≡ machine
+  pub behind : length w.track.history ≤ count
+  pub within : count ≤ length history
+
+-- and exactly behind so many
+pub record IsBehind (machine : List ℕ) (history : List Placed) (count : ℕ) (w : Walked) : Type 0 where
+  pub by : IsBy machine history count w
+  pub there : length w.track.history ≡ count
+
+-- a script's way: it knows so many entries, and its walk went no further
+abbrev pub IsPlace : List ℕ → List Placed → Place → Type 0
+IsPlace machine history place = IsBy machine history place.known place.walk
