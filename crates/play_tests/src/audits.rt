@@ -34,8 +34,59 @@ const SECOND: Verdict = Verdict::Request {
     request: 2,
 };
 
-const AUDITS: [Audited<'static>; 10] = [
+// The files of `examples/play`: two scripts, and a worker that bisects.
+const JOURNAL: &str =
+    "machine bot steps 12\n1 s1 commit 417 7d20aa\n2 s1 accept night-6 417 1 example.com/parse#Tokens-8 ns/op 4110000\n3 s1 commit 418 e01c44\n4 s1 accept night-7 418 1 example.com/parse#Tokens-8 ns/op 4090000\n5 s2 commit 404 30d6fb\n6 s2 commit 405 b81c5e\n7 s2 commit 406 4f9a02\n8 s2 commit 407 c66d38\n9 s2 commit 408 09e7b4\n10 s2 begin 404 408\n11 b1 answer 1 2 0\n12 b1 answer 1 3 1\n";
+
+const NIGHTLY: &str =
+    "# Two nights of the machine `bot`: each brings a commit, and a run of one benchmark at it.\ncommit bot 417 7d20aa\nsubmit go bot 7d20aa night-6 77\ngoos: linux\npkg: example.com/parse\nBenchmarkTokens-8 \t 3059 \t 411 ns/op\nPASS\ncommit bot 418 e01c44\nsubmit go bot e01c44 night-7 77\ngoos: linux\npkg: example.com/parse\nBenchmarkTokens-8 \t 3059 \t 409 ns/op\nPASS\nruns bot\n";
+
+const NIGHTLY_OUT: &str =
+    "@1 commit 417 7d20aa\n@2 accepted night-6 samples 1 ignored 0\n@3 commit 418 e01c44\n@4 accepted night-7 samples 1 ignored 0\n@4 runs lines 2\nnight-6 7d20aa 1 live\nnight-7 e01c44 1 live\n";
+
+const BISECT: &str =
+    "# A change that was found last week lies between the first and the last of these commits. The bisection is answered by\n# the workers of the run.\ncommit bot 404 30d6fb\ncommit bot 405 b81c5e\ncommit bot 406 4f9a02\ncommit bot 407 c66d38\ncommit bot 408 09e7b4\nbisect bot 30d6fb 09e7b4\n";
+
+const BISECT_OUT: &str =
+    "@5 commit 404 30d6fb\n@6 commit 405 b81c5e\n@7 commit 406 4f9a02\n@8 commit 407 c66d38\n@9 commit 408 09e7b4\n@10 job 1 range 4 questions 0 asks 4f9a02\n";
+
+const FEWER_RUNS: &str =
+    "@1 commit 417 7d20aa\n@2 accepted night-6 samples 1 ignored 0\n@3 commit 418 e01c44\n@4 accepted night-7 samples 1 ignored 0\n@4 runs lines 1\nnight-6 7d20aa 1 live\n";
+
+const FIFTH: Verdict = Verdict::Request {
+    script: 1,
+    request: 5,
+};
+
+const AUDITS: [Audited<'static>; 12] = [
     SHOWN,
+    Audited {
+        words: &["audit", "journal", "nightly", "bisect"],
+        files: &[
+            ("journal", JOURNAL),
+            ("nightly", NIGHTLY),
+            ("nightly.out", NIGHTLY_OUT),
+            ("bisect", BISECT),
+            ("bisect.out", BISECT_OUT),
+        ],
+        out: "audited machines 1 steps 12 requests 11\n",
+        ..SHOWN
+    },
+    // One run less was listed than there are.
+    Audited {
+        words: &["audit", "journal", "nightly", "bisect"],
+        files: &[
+            ("journal", JOURNAL),
+            ("nightly", NIGHTLY),
+            ("nightly.out", FEWER_RUNS),
+            ("bisect", BISECT),
+            ("bisect.out", BISECT_OUT),
+        ],
+        status: Status::Differs(FIFTH),
+        out: "",
+        err: "differs: nightly request 5\n",
+        ..SHOWN
+    },
     // No machine was declared, and nothing was asked.
     Audited {
         files: &[("j", ""), ("s1", ""), ("s1.out", "")],
