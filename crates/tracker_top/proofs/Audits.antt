@@ -1,5 +1,5 @@
 -- How an audit ends, and the names of its files.
-use Rattle.std.proofs.Common.{◌≡◌, ◌∙◌, ℕ, ◌-◌, ◌≤◌, zero, suc, inl, inr, List, [], ◌∷◌, ◌++◌, codes, Option, Some, None, Result, Ok, Err, OnOk, OnErr, slice_get, refl, sym, ap, subst, arith}
+use Rattle.std.proofs.Common.{◌≡◌, ℕ, ◌-◌, ◌≤◌, zero, suc, inl, inr, List, ◌∷◌, Result, Ok, Err, OnOk, OnErr, slice_get, sym, ap, subst, arith}
 use Rattle.track_outside.specs.Calls.{Took, FailedIn}
 use Rattle.track_outside.specs.declared.sink.Sink as sink
 use Rattle.audit_command.specs.declared.end.AuditEnd.{AuditEnd}
@@ -9,7 +9,7 @@ use Rattle.command_words.specs.Plans.{Files}
 use Rattle.tracker_top.specs.declared.status.Status.{Status}
 use Rattle.tracker_top.specs.declared.status.Status.TheVariants.{BadWords}
 use Rattle.tracker_top.specs.Audits.{IsToldOf, audit_line, audit_status_of}
-use Rattle.tracker_top.specs.Plays.{long_line, script_name}
+use Rattle.tracker_top.specs.Plays.{script_name}
 
 -- an audit never ends as bad words do
 pub never-bad-audit : (why : AuditEnd) → audit_status_of why ≡ BadWords → ⊥

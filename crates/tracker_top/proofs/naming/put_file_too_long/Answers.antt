@@ -1,8 +1,7 @@
-use Rattle.std.proofs.Common.{◌≡◌, ℕ, List, Option, sym, subst, arith, OnOk, OnErr, ap}
+use Rattle.std.proofs.Common.{ℕ, List, Option, sym, subst, arith, OnOk, OnErr}
 use Rattle.command_words.specs.Texts.{shown}
 use Rattle.track_outside.specs.Calls.{Took, FailedIn}
-use Rattle.tracker_top.specs.Plays.{long_line, script_name}
-use Rattle.audit_command.specs.Opening.{names_of}
+use Rattle.tracker_top.specs.Plays.{long_line}
 use Rattle.tracker_top.proofs.Audits.{behind-journal}
 use Rattle.tracker_top.proofs.naming.put_file_too_long.Goals as goal
 
