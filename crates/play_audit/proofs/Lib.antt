@@ -18,3 +18,4 @@ mod Apart
 mod Named
 mod Sound
 mod Scripts
+mod Judging

@@ -64,7 +64,7 @@ set_else (z ∷ xs) zero (suc b) x y other is = is
 set_else (z ∷ xs) (suc a) zero x y other is = is
 set_else (z ∷ xs) (suc a) (suc b) x y other is = set_else xs a b x y (λ same. other (ap suc same)) is
 
-same-or : (a b : ℕ) → (a ≡ b) ⊎ (a ≡ b → ⊥)
+pub same-or : (a b : ℕ) → (a ≡ b) ⊎ (a ≡ b → ⊥)
 same-or zero zero = inl refl
 same-or zero (suc b) = inr (λ same. absurd (omega (arith, same)))
 same-or (suc a) zero = inr (λ same. absurd (omega (arith, same)))

@@ -1,53 +1,122 @@
--- Private: no public contract cites this. What scripts ask, one script more.
-use Rattle.std.proofs.Common.{◌≡◌, ◌⊎◌, inl, inr, ℕ, zero, suc, ◌+◌, ◌-◌, ◌<◌, ◌≤◌, true, false, List, [], ◌∷◌, ◌++◌, length, Some, refl, sym, ap, subst, ◌∙◌, arith}
-use Rattle.std.specs.Prelude.{slice_get, Vec}
-use Rattle.std.specs.declared.alloc.Global.{Global}
+-- Private: no public contract cites this. What scripts ask, script by script.
+use Rattle.std.proofs.Common.{◌≡◌, inl, inr, ℕ, zero, suc, ◌+◌, ◌-◌, ◌<◌, ◌≤◌, Bool, true, false, List, [], ◌∷◌, ◌++◌, length, take, drop, Some, Vec, Global, refl, sym, ap, subst, ◌∙◌, arith, length-append}
+use Rattle.std.specs.Prelude.{slice_get}
+use Rattle.std.proofs.lemmas.List as lists
+use Rattle.std.proofs.lemmas.Option.{slice_get_within}
 use Rattle.request_words.specs.Bodies.{Item}
 use Rattle.request_reader.specs.Reading.{OneReading}
-use Rattle.request_reader.specs.Scripts.{IsScript, Ending, end, cut_off}
-use Rattle.audit_model.specs.Verdicts.{IsCutOff}
+use Rattle.request_reader.specs.Scripts.{ArePiecesOf, Ending, Ends, IsScript, Piece, Reads, cut_off, end, inside, input_limit, last, long, more, text_of}
+use Rattle.request_words.specs.Items.{Gives}
 use Rattle.audit_model.specs.declared.heard.Heard.{Heard}
-use Rattle.play_audit.proofs.Listed.{some_at, same_at}
+use Rattle.audit_model.specs.Verdicts.{IsCutOff}
+use Rattle.audit_model.proofs.Exchanges.{snoc_at}
+use Rattle.play_audit.specs.Heard.{AskThese}
+use Rattle.play_audit.proofs.Listed.{same_at, some_at}
 
--- bytes have one ending
-one-ending : OneReading → (bytes : List ℕ) (items others : List Item) (ending other : Ending) → IsScript bytes items ending → IsScript bytes others other → ending ≡ other
-one-ending once bytes items others ending other (inl one) (inl more) = (once true 0 bytes items others ending other one.1 more.1).1
-one-ending once bytes items others ending other (inl one) (inr more) = (let fits = one.0 in let past = more.0 in absurd (omega (arith, fits, past)))
-one-ending once bytes items others ending other (inr one) (inl more) = (let fits = more.0 in let past = one.0 in absurd (omega (arith, fits, past)))
-one-ending once bytes items others ending other (inr one) (inr more) = (once false 0 _ items others ending other one.1 more.1).1
+-- what is left of a list
+pub left_some : {A : Type 0} (xs : List A) (n : ℕ) (x : A) (rest : List A) → x ∷ rest ≡ drop n xs → (slice_get xs n ≡ Some x) × (rest ≡ drop (n + 1) xs)
+left_some [] zero x rest is = absurd (cc)
+left_some [] (suc n) x rest is = absurd (cc)
+left_some (y ∷ xs) zero x rest is = let one : y ≡ x = cc in let two : rest ≡ xs = cc in (ap (λ (z : _). Some z) one, two)
+left_some (y ∷ xs) (suc n) x rest is =
+    let both = left_some xs n x rest is in
+    let step : suc (n + 1) ≡ suc n + 1 = omega arith in
+    (both.0, both.1 ∙ ap (λ (k : ℕ). drop k (y ∷ xs)) step)
 
--- what is at a place of a list with one item more
-one-more : {A : Type 0} (xs : List A) (v : A) (i : ℕ) (y : A) → slice_get (xs ++ v ∷ []) i ≡ Some y → (slice_get xs i ≡ Some y) ⊎ ((i ≡ length xs) × (v ≡ y))
-one-more [] v zero y is = inr (refl, let same : v ≡ y = cc in same)
-one-more [] v (suc i) y is = absurd (cc)
-one-more (x ∷ xs) v zero y is = inl is
-one-more (x ∷ xs) v (suc i) y is = elim (one-more xs v i y is) [
-  | inl there ↦ inl there
-  | inr last ↦ inr (ap suc last.0, last.1)
+-- a script is read one way
+pub one_script : OneReading → (bytes : List ℕ) (items others : List Item) (ending other : Ending) → IsScript bytes items ending → IsScript bytes others other → (items ≡ others) × (ending ≡ other)
+one_script law bytes items others ending other one two = elim one [
+  | inl within ↦ elim two [
+    | inl also ↦ law true 0 bytes items others ending other within.1 also.1
+    | inr past ↦ absurd (omega (arith, within.0, past.0))
+  ]
+  | inr past ↦ elim two [
+    | inl within ↦ absurd (omega (arith, within.0, past.0))
+    | inr also ↦ law false 0 (take (input_limit - 0) bytes) items others ending other past.1 also.1
+  ]
 ]
 
-abbrev pub Each : List Heard → List (Vec Item Global) → Type 0
-Each heard asked = (i : ℕ) (x : Heard) (items : Vec Item Global) → slice_get heard i ≡ Some x → slice_get asked i ≡ Some items → IsScript x.script items.items end
-
-pub each_more : (heard : List Heard) (asked : List (Vec Item Global)) (one : Heard) (new : Vec Item Global) (n : ℕ) → Each heard asked → length asked ≡ n
-    → slice_get heard n ≡ Some one → IsScript one.script new.items end → Each heard (asked ++ new ∷ [])
-each_more heard asked one new n each many here reads i x items at there = elim (one-more asked new i items there) [
-  | inl before ↦ each i x items at before
-  | inr last ↦
-      let place : i ≡ n = last.0 ∙ many in
-      let same : one ≡ x = same_at heard n one x here (subst (λ (k : ℕ). slice_get heard k ≡ Some x) place at) in
-      subst (λ (h : Heard). IsScript h.script items.items end) same (subst (λ (v : Vec Item Global). IsScript one.script v.items end) last.1 reads)
+-- a script asks no more than it has bytes, and one thing
+gives-one : (line body : List ℕ) (items : List Item) → Gives line body items → length items ≤ 1
+gives-one line body items gives = elim gives [
+  | inl skipped ↦ let none : length items ≡ 0 = ap length skipped.1 in omega (arith, none)
+  | inr asks ↦ let one : length items ≡ 1 = ap length asks.3 in omega (arith, one)
 ]
 
-pub first_cut : (heard : List Heard) (asked : List (Vec Item Global)) (one : Heard) (n script offset : ℕ) → OneReading → Each heard asked → length asked ≡ n
-    → slice_get heard n ≡ Some one → script ≡ n + 1 → (items : List Item) × IsScript one.script items (cut_off offset) → IsCutOff heard script offset
-first_cut heard asked one n script offset once each many here number cut = record {
-  some = omega (arith, number);
-  cut = one;
-  here = (let before : script - 1 ≡ n = omega (arith, number) in ap (slice_get heard) before ∙ here);
-  items = cut.0;
-  reads = cut.1;
-  first = λ i x below at others place reads.
-      let whole = some_at asked i (omega (arith, below, number, many)) in
-      let no : end ≡ cut_off place = one-ending once x.script whole.0.items others end (cut_off place) (each i x whole.0 at whole.1) reads in absurd (cc);
+pieces-short : (ps : List Piece) (bytes : List ℕ) (items : List Item) → ArePiecesOf ps bytes items → length items ≤ length bytes
+pieces-short [] bytes items are = let none : length items ≡ 0 = ap length are.1 in omega (arith, none)
+pieces-short (p ∷ ps) bytes items are =
+    let front : length bytes ≡ length (text_of p) + length are.0 = ap length are.2 ∙ length-append (text_of p) are.0 in
+    let line : length (text_of p) ≡ length p.line + (1 + length p.body) = length-append p.line (10 ∷ p.body) ∙ (omega arith) in
+    let asked : length items ≡ length p.asks + length are.1 = ap length are.3 ∙ length-append p.asks are.1 in
+    let one : length p.asks ≤ 1 = gives-one p.line p.body p.asks are.4.gives in
+    let rest : length are.1 ≤ length are.0 = pieces-short ps are.0 are.1 are.5 in
+    omega (arith, front, line, asked, one, rest)
+
+ends-one : (all : Bool) (at : ℕ) (bytes : List ℕ) (items : List Item) (ending : Ending) → Ends all at bytes items ending → length items ≤ 1
+ends-one all at bytes items ending (long so none is) = let size : length items ≡ 0 = ap length none in omega (arith, size)
+ends-one all at bytes items ending (last whole line counts gives is) = gives-one bytes [] items gives
+ends-one all at bytes items ending (inside whole so none is) = let size : length items ≡ 0 = ap length none in omega (arith, size)
+ends-one all at bytes items ending (more part so none is) = let size : length items ≡ 0 = ap length none in omega (arith, size)
+
+reads-short : (all : Bool) (at : ℕ) (bytes : List ℕ) (items : List Item) (ending : Ending) → Reads all at bytes items ending → length items ≤ length bytes + 1
+reads-short all at bytes items ending r =
+    let split : length bytes ≡ length r.front + length r.back = ap length r.split ∙ length-append r.front r.back in
+    let told : length items ≡ length r.asked + length r.last = ap length r.told ∙ length-append r.asked r.last in
+    let front : length r.asked ≤ length r.front = pieces-short r.pieces.0 r.front r.asked r.pieces.1 in
+    let back : length r.last ≤ 1 = ends-one all (at + length r.front) r.back r.last ending r.ends in
+    omega (arith, split, told, front, back)
+
+pub script_short : (bytes : List ℕ) (items : List Item) → IsScript bytes items end → length items ≤ 1_073_741_825
+script_short bytes items reads = elim reads [
+  | inl within ↦
+      let size : 0 + length bytes ≤ 1_073_741_824 = within.0 in
+      let short : length items ≤ length bytes + 1 = reads-short true 0 bytes items end within.1 in
+      omega (arith, size, short)
+  | inr past ↦
+      let beyond : 1_073_741_824 < 0 + length bytes = past.0 in
+      let size : length (take (input_limit - 0) bytes) ≡ 1_073_741_824 = lists.length-take-le 1_073_741_824 bytes (omega (arith, beyond)) in
+      let short : length items ≤ length (take (input_limit - 0) bytes) + 1 = reads-short false 0 (take (input_limit - 0) bytes) items end past.1 in
+      omega (arith, size, short)
+]
+
+-- the first scripts, so many, ask these
+pub record HaveRead (heard : List Heard) (n : ℕ) (asked : List (Vec Item Global)) : Type 0 where
+  pub many : length asked ≡ n
+  pub each : (i : ℕ) (x : Heard) (items : Vec Item Global) → slice_get heard i ≡ Some x → slice_get asked i ≡ Some items → IsScript x.script items.items end
+
+pub none_read : (heard : List Heard) → HaveRead heard 0 []
+none_read heard = record {
+  many = refl;
+  each = λ i x items here there. absurd (omega (arith, slice_get_within {A = Vec Item Global} [] i items there));
+}
+
+pub next_read : (heard : List Heard) (n : ℕ) (asked : List (Vec Item Global)) (x : Heard) (items : Vec Item Global) → HaveRead heard n asked → slice_get heard n ≡ Some x
+    → IsScript x.script items.items end → HaveRead heard (n + 1) (asked ++ items ∷ [])
+next_read heard n asked x items read here reads = record {
+  many = length-append asked (items ∷ []) ∙ ap (λ (k : ℕ). k + 1) read.many;
+  each = λ i y others at there. elim (snoc_at asked items others i there) [
+    | inl front ↦ read.each i y others at front.1
+    | inr back ↦
+        let same : x ≡ y = same_at heard n x y here (subst (λ (k : ℕ). slice_get heard k ≡ Some y) (back.0 ∙ read.many) at) in
+        subst (λ (v : Vec Item Global). IsScript y.script v.items end) (sym back.1) (subst (λ (z : Heard). IsScript z.script items.items end) same reads)
+  ];
+}
+
+pub all_read : (heard : List Heard) (n : ℕ) (asked : List (Vec Item Global)) → HaveRead heard n asked → n ≡ length heard → AskThese heard asked
+all_read heard n asked read all = record { many = read.many ∙ all; each = read.each }
+
+-- the next is cut off
+pub first_cut : OneReading → (heard : List Heard) (n : ℕ) (asked : List (Vec Item Global)) (x : Heard) (items : List Item) (offset : ℕ) → HaveRead heard n asked → slice_get heard n ≡ Some x
+    → IsScript x.script items (cut_off offset) → IsCutOff heard (n + 1) offset
+first_cut law heard n asked x items offset read here reads = record {
+  some = omega arith;
+  cut = x;
+  here = (let back : n ≡ n + 1 - 1 = omega arith in subst (λ (k : ℕ). slice_get heard k ≡ Some x) back here);
+  items = items;
+  reads = reads;
+  first = λ i y below at others place is.
+      let its = some_at asked i (omega (arith, below, read.many)) in
+      let both : end ≡ cut_off place = (one_script law y.script its.0.items others end (cut_off place) (read.each i y its.0 at its.1) is).1 in
+      absurd (cc);
 }

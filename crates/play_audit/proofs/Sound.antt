@@ -1,5 +1,5 @@
 -- Private: no public contract cites this. Journals, read from their text.
-use Rattle.std.proofs.Common.{◌≡◌, ℕ, zero, suc, ◌+◌, ◌<◌, ◌≤◌, List, [], ◌∷◌, ◌++◌, length, Some, refl, sym, ap, subst, ◌∙◌, arith, length-append}
+use Rattle.std.proofs.Common.{◌≡◌, ℕ, zero, suc, ◌+◌, ◌≤◌, List, [], ◌∷◌, ◌++◌, length, Some, refl, subst, arith, length-append}
 use Rattle.std.specs.Prelude.{slice_get, codes, decimal}
 use Rattle.std.specs.List.{AllByRecursion}
 use Rattle.std.proofs.lemmas.List.Sums.{sum_by-cons}
@@ -8,7 +8,7 @@ use Rattle.history_model.specs.declared.entries.Placed.{Placed}
 use Rattle.track_entry.specs.Texts.{entry_text}
 use Rattle.track_model.specs.Tracks.{Track}
 use Rattle.journal_lines.specs.Texts.{author_word, head_line, entry_line, lines_from, text_of, texts_of}
-use Rattle.journal_reader.specs.Journals.{Journal, AreJournals, IsJournal, IsTextOf}
+use Rattle.journal_reader.specs.Journals.{Journal, IsJournal, IsTextOf}
 use Rattle.audit_model.specs.Verdicts.{track_of}
 use Rattle.play_audit.specs.Known.{AreSound, lines_in, tracks_of}
 use Rattle.play_audit.specs.Places.{IsSound}

@@ -1,11 +1,11 @@
-use Rattle.std.proofs.Common.{◌≡◌, ◌+◌, ◌<◌, ◌≤◌, ◌^◌, ℕ, All, Err, IfOk, length, sum_by, ◌-◌, ◌*◌}
-use Rattle.audit_model.specs.Verdicts.{IsVerdict, IsCutOff}
-use Rattle.audit_model.specs.declared.heard.Heard.{Heard as AHeard}
-use Rattle.audit_model.specs.declared.verdict.AuditStop.TheVariants as stop
-use Rattle.track_model.specs.Tracks.{Track}
-use Rattle.play_audit.specs.Known.{AreSound, lines_in, tracks_of}
-use Rattle.play_audit.specs.Heard.{AskThese, IsVerdictBy}
+use Rattle.std.proofs.Common.{◌≡◌, ◌*◌, ◌≤◌, drop}
+use Rattle.play_audit.specs.Marks.{rows_of}
+use Rattle.play_audit.proofs.Judging.{AreFirstHeard}
 use Rattle.play_audit.proofs.auditing.hear_all.Given as goal
 
 abbrev pub invariant-loop-one : goal.invariant-loop-one
-invariant-loop-one l = ?
+invariant-loop-one l =
+    AreFirstHeard l.journals l.heard l.one-index l.requests (rows_of l.marks.items)
+    × (l.script ≡ l.one-index)
+    × (l.rest.rest.items ≡ drop l.one-index l.fn.asked.items)
+    × (l.requests ≤ l.one-index * 1_152_921_504_606_846_976)

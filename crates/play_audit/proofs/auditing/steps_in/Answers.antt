@@ -1,8 +1,8 @@
-use Rattle.std.proofs.Common.{◌≡◌, ◌+◌, ◌≤◌, ℕ, List, ap, sym, ◌∙◌, arith, length, take, Some}
-use Rattle.std.specs.Prelude.{slice_get, sum_by}
+use Rattle.std.proofs.Common.{◌≡◌, ◌+◌, ℕ, ap, ◌∙◌, arith, length, take}
+use Rattle.std.specs.Prelude.{sum_by}
 use Rattle.track_model.specs.Tracks.{Track}
 use Rattle.audit_model.specs.Verdicts.{track_of}
-use Rattle.play_audit.specs.Known.{lines_in, tracks_of}
+use Rattle.play_audit.specs.Known.{tracks_of}
 use Rattle.play_audit.proofs.Listed.{read_at, sum_most, sum_next, track_at, tracks_many}
 use Rattle.play_audit.proofs.Opened.{steps_fit}
 use Rattle.std.proofs.lemmas.List.{take_all}
