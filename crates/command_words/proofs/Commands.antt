@@ -6,7 +6,7 @@ use Rattle.line_text.proofs.SignedWords.{one_number}
 use Rattle.clap.specs.Words.{Row, is_simple_and_free}
 use Rattle.command_words.specs.Kinds.{name_of, app_for}
 use Rattle.command_words.specs.Simple.{Gives, HasFlag, value_in}
-use Rattle.command_words.specs.Plans.{Plan}
+use Rattle.command_words.specs.Plans.{Plan, Files}
 use Rattle.command_words.specs.Texts.{Finds, texts}
 use Rattle.command_words.specs.Commands.{kind_of, IsSaid, IsSpelled, AreNoCommand, AreOneCommand}
 use Rattle.command_words.specs.declared.kind.Kind.{Kind}
@@ -15,7 +15,7 @@ use Rattle.command_words.specs.declared.command.CutPlan.{CutPlan}
 use Rattle.command_words.specs.declared.command.PathPlan.{PathPlan}
 use Rattle.command_words.specs.declared.command.HuntPlan.{HuntPlan}
 use Rattle.command_words.specs.declared.command.Command.{Command}
-use Rattle.command_words.specs.declared.command.Command.TheVariants.{Cut, Apply, Gen, Trial, Play, Path, Hunt}
+use Rattle.command_words.specs.declared.command.Command.TheVariants.{Cut, Apply, Gen, Trial, Play, Path, Hunt, Audit}
 use Rattle.command_words.proofs.Plans.{plan_once, number_once}
 
 -- ---- the kinds
@@ -26,7 +26,7 @@ kind_by name =
     if bytes_eq name (codes "cut") then kind.Cut else (if bytes_eq name (codes "apply") then kind.Apply
     else (if bytes_eq name (codes "gen") then kind.Gen else (if bytes_eq name (codes "trial") then kind.Trial
     else (if bytes_eq name (codes "play") then kind.Play else (if bytes_eq name (codes "path") then kind.Path
-    else kind.Hunt)))))
+    else (if bytes_eq name (codes "hunt") then kind.Hunt else kind.Audit))))))
 
 kind_back : (k : Kind) → kind_by (name_of k) ≡ k
 kind_back kind.Cut = refl
@@ -36,6 +36,7 @@ kind_back kind.Trial = refl
 kind_back kind.Play = refl
 kind_back kind.Path = refl
 kind_back kind.Hunt = refl
+kind_back kind.Audit = refl
 
 -- no two have one name
 pub same_kind : (j k : Kind) → name_of j ≡ name_of k → j ≡ k
@@ -49,6 +50,7 @@ free kind.Trial = refl
 free kind.Play = refl
 free kind.Path = refl
 free kind.Hunt = refl
+free kind.Audit = refl
 
 -- ---- what the command of a kind has
 
@@ -60,6 +62,7 @@ Content kind.Trial = ℕ
 Content kind.Play = Plan
 Content kind.Path = PathPlan
 Content kind.Hunt = HuntPlan
+Content kind.Audit = Files
 
 abbrev pub made : (k : Kind) → Content k → Command
 made kind.Cut x = Cut x
@@ -69,6 +72,7 @@ made kind.Trial x = Trial x
 made kind.Play x = Play x
 made kind.Path x = Path x
 made kind.Hunt x = Hunt x
+made kind.Audit x = Audit x
 
 is_made : (c : Command) → (x : Content (kind_of c)) × (made (kind_of c) x ≡ c)
 is_made (Cut x) = (x, refl)
@@ -78,6 +82,7 @@ is_made (Trial x) = (x, refl)
 is_made (Play x) = (x, refl)
 is_made (Path x) = (x, refl)
 is_made (Hunt x) = (x, refl)
+is_made (Audit x) = (x, refl)
 
 -- a command of this kind that is said
 abbrev pub IsSaidOf : List Row → Kind → Command → Type 0
@@ -124,6 +129,10 @@ once given kind.Hunt x y is its =
     let width = number_same x.width y.width _ (omega (arith, is.1.1)) (omega (arith, its.1.1)) is.0.0 its.0.0 in
     let test = some_same x.test y.test _ is.0.1 its.0.1 in
     λ i. record { width = width i; test = test i }
+once given kind.Audit x y is its =
+    let journal = some_same x.journal y.journal _ is.0.0 its.0.0 in
+    let scripts = sym is.0.1 ∙ its.0.1 in
+    λ i. record { journal = journal i; scripts = scripts i }
 
 -- commands of one kind that are said are one
 one_said : (given : List Row) (j k : Kind) → j ≡ k → (x : Content j) (y : Content k) → IsSaid given (made j x) → IsSaid given (made k y) → made j x ≡ made k y

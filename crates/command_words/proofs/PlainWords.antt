@@ -1,5 +1,5 @@
 -- The plain words of a command are it.
-use Rattle.std.proofs.Common.{◌≡◌, ◌==◌, ◌↔◌, ℕ, ◌<◌, ◌^◌, List, [], ◌∷◌, ◌++◌, Bool, true, false, Option, Some, None, codes, decimal, refl, sym, subst, arith, ne_eqb, if◌then◌else◌, nat_lt, inl, inr}
+use Rattle.std.proofs.Common.{◌≡◌, ◌==◌, ◌↔◌, ℕ, ◌<◌, ◌≤◌, ◌^◌, length, List, [], ◌∷◌, ◌++◌, Bool, true, false, Option, Some, None, codes, decimal, refl, sym, subst, arith, ne_eqb, if◌then◌else◌, nat_lt, inl, inr}
 use Rattle.std.proofs.lemmas.Bool.{cases_Bool, ltb-false}
 use Rattle.std.specs.Prelude.{IsTrue}
 use Rattle.std.specs.Char.{digit_value}
@@ -12,9 +12,9 @@ use Rattle.command_words.specs.declared.kind.Kind.{Kind}
 use Rattle.command_words.specs.declared.kind.Kind.TheVariants as kind
 use Rattle.command_words.specs.declared.command.CutPlan.{CutPlan}
 use Rattle.command_words.specs.declared.command.Command.{Command}
-use Rattle.command_words.specs.declared.command.Command.TheVariants.{Cut, Apply, Gen, Trial, Play, Path, Hunt}
+use Rattle.command_words.specs.declared.command.Command.TheVariants.{Cut, Apply, Gen, Trial, Play, Path, Hunt, Audit}
 use Rattle.command_words.specs.Kinds.{app_for, name_of}
-use Rattle.command_words.specs.Simple.{HasFlag, IsNumberOr, value_in}
+use Rattle.command_words.specs.Simple.{HasFlag, IsNumberOr, value_in, values_in}
 use Rattle.command_words.specs.Commands.{kind_of, Says, IsInRange, IsSpelled, PlainWordsAreCommands, plain_flag}
 
 -- what words give the command of a kind
@@ -122,6 +122,26 @@ no_store : (fault_of (app_for kind.Apply) [] ≡ []) × (value_in (given_by kind
 unfolding clap_on_literals
 no_store = (refl, refl)
 
+-- ---- behind `--` the names are those of the journals and of 1 to 8 scripts
+
+abbrev AuditGives : List ℕ → List (List ℕ) → Type 0
+AuditGives journal scripts = (fault_of (app_for kind.Audit) (codes "--" ∷ journal ∷ scripts) ≡ [])
+    × (value_in (given_by kind.Audit (codes "--" ∷ journal ∷ scripts)) (codes "JOURNAL") ≡ Some journal)
+    × (values_in (given_by kind.Audit (codes "--" ∷ journal ∷ scripts)) (codes "SCRIPT") ≡ scripts)
+
+audit_gives : (journal : List ℕ) (scripts : List (List ℕ)) → 0 < length scripts → length scripts ≤ 8 → AuditGives journal scripts
+unfolding clap_on_literals
+audit_gives journal [] some few = absurd (omega (arith, some))
+audit_gives journal (a ∷ []) some few = (refl, refl, refl)
+audit_gives journal (a ∷ b ∷ []) some few = (refl, refl, refl)
+audit_gives journal (a ∷ b ∷ c ∷ []) some few = (refl, refl, refl)
+audit_gives journal (a ∷ b ∷ c ∷ d ∷ []) some few = (refl, refl, refl)
+audit_gives journal (a ∷ b ∷ c ∷ d ∷ e ∷ []) some few = (refl, refl, refl)
+audit_gives journal (a ∷ b ∷ c ∷ d ∷ e ∷ f ∷ []) some few = (refl, refl, refl)
+audit_gives journal (a ∷ b ∷ c ∷ d ∷ e ∷ f ∷ g ∷ []) some few = (refl, refl, refl)
+audit_gives journal (a ∷ b ∷ c ∷ d ∷ e ∷ f ∷ g ∷ h ∷ []) some few = (refl, refl, refl)
+audit_gives journal (a ∷ b ∷ c ∷ d ∷ e ∷ f ∷ g ∷ h ∷ k ∷ more) some few = absurd (omega (arith, few))
+
 -- ---- the digits of a number begin with no `-`
 
 -- a word with a plain beginning
@@ -190,3 +210,6 @@ plain_words_are (Path path) within =
 plain_words_are (Hunt hunt) within =
     let told = hunt_words (decimal hunt.width) hunt.test (number_plain hunt.width (omega (arith, within.1))) in
     spelled (Hunt hunt) (decimal hunt.width ∷ (codes "--test=" ++ hunt.test) ∷ []) told.0 (told.1, told.2) within
+plain_words_are (Audit audit) within =
+    let told = audit_gives audit.journal audit.scripts within.0.some within.0.few in
+    spelled (Audit audit) (codes "--" ∷ audit.journal ∷ audit.scripts) told.0 (told.1, told.2) within

@@ -1,13 +1,13 @@
 -- Which words are a command.
 use Rattle.std.specs.Prelude.{◌≡◌, ℕ, ◌^◌, ◌<◌, ◌≤◌, ◌↔◌, List, [], ◌∷◌, ◌++◌, length, codes, decimal, IsTrue, Bool, nat_lt, if◌then◌else◌, Option, Some, None, IfSome}
 use Rattle.clap.specs.Words.{Row}
-use Rattle.command_words.specs.Simple.{Gives, HasFlag, IsNumberOr, value_in}
+use Rattle.command_words.specs.Simple.{Gives, HasFlag, IsNumberOr, value_in, values_in}
 use Rattle.command_words.specs.Kinds.{name_of, app_for}
-use Rattle.command_words.specs.Plans.{AsksFor, IsWithinLimits}
+use Rattle.command_words.specs.Plans.{AsksFor, IsWithinLimits, AreScripts, AreApart}
 use Rattle.command_words.specs.declared.kind.Kind.{Kind}
 use Rattle.command_words.specs.declared.kind.Kind.TheVariants as kind
 use Rattle.command_words.specs.declared.command.Command.{Command}
-use Rattle.command_words.specs.declared.command.Command.TheVariants.{Cut, Apply, Gen, Trial, Play, Path, Hunt}
+use Rattle.command_words.specs.declared.command.Command.TheVariants.{Cut, Apply, Gen, Trial, Play, Path, Hunt, Audit}
 
 -- which command it is
 abbrev pub kind_of : Command → Kind
@@ -18,6 +18,7 @@ kind_of (Trial number) = kind.Trial
 kind_of (Play plan) = kind.Play
 kind_of (Path path) = kind.Path
 kind_of (Hunt hunt) = kind.Hunt
+kind_of (Audit audit) = kind.Audit
 
 -- the argument has a value, which is the number in decimal digits
 abbrev pub IsNumber : List Row → List ℕ → ℕ → Type 0
@@ -37,6 +38,9 @@ Says given (Path path) =
     IsNumber given (codes "LOW") path.low × IsNumber given (codes "HIGH") path.high
 Says given (Hunt hunt) =
     IsNumber given (codes "K") hunt.width × (value_in given (codes "test") ≡ Some hunt.test)
+Says given (Audit audit) =
+    (value_in given (codes "JOURNAL") ≡ Some audit.journal)
+    × (values_in given (codes "SCRIPT") ≡ audit.scripts)
 
 -- the command's numbers are within their limits, and its names as they must be
 abbrev pub IsInRange : Command → Type 0
@@ -47,6 +51,7 @@ IsInRange (Trial number) = number < 2 ^ 64
 IsInRange (Play plan) = IsWithinLimits plan
 IsInRange (Path path) = (path.low ≤ path.high) × (path.high ≤ 10 ^ 36)
 IsInRange (Hunt hunt) = (1 ≤ hunt.width) × (hunt.width ≤ 8) × (0 < length hunt.test)
+IsInRange (Audit audit) = AreScripts audit.scripts × AreApart audit
 
 -- it is what the words say, and within its limits
 abbrev pub IsSaid : List Row → Command → Type 0
@@ -79,7 +84,7 @@ abbrev pub plain_flag : Bool → List (List ℕ)
 plain_flag absolute = if absolute then codes "--absolute" ∷ [] else []
 
 -- the plain words of a command other than `play`: its name, then its numbers in decimal digits, its
--- options with `=` before their values, and its flag
+-- options with `=` before their values, and its flag; the names of `audit` stand behind `--`
 abbrev pub plain_words : Command → Option (List (List ℕ))
 plain_words (Cut cut) =
     Some (codes "cut" ∷ decimal cut.penalty ∷ plain_least cut.least ++ plain_flag cut.absolute)
@@ -91,6 +96,7 @@ plain_words (Play plan) = None
 plain_words (Path path) = Some (codes "path" ∷ decimal path.low ∷ decimal path.high ∷ [])
 plain_words (Hunt hunt) =
     Some (codes "hunt" ∷ decimal hunt.width ∷ (codes "--test=" ++ hunt.test) ∷ [])
+plain_words (Audit audit) = Some (codes "audit" ∷ codes "--" ∷ audit.journal ∷ audit.scripts)
 
 -- the plain words of each command that is within its limits are it
 abbrev pub PlainWordsAreCommands : Type 0

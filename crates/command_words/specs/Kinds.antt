@@ -15,6 +15,7 @@ name_of kind.Trial = codes "trial"
 name_of kind.Play = codes "play"
 name_of kind.Path = codes "path"
 name_of kind.Hunt = codes "hunt"
+name_of kind.Audit = codes "audit"
 
 -- its arguments
 abbrev pub arguments_of : Kind → List Rule
@@ -28,6 +29,7 @@ arguments_of kind.Play =
     ∷ option_rule (codes "bisect") ∷ option_rule (codes "test") ∷ values_rule (codes "SCRIPT") ∷ []
 arguments_of kind.Path = value_rule (codes "LOW") ∷ value_rule (codes "HIGH") ∷ []
 arguments_of kind.Hunt = value_rule (codes "K") ∷ option_rule (codes "test") ∷ []
+arguments_of kind.Audit = value_rule (codes "JOURNAL") ∷ values_rule (codes "SCRIPT") ∷ []
 
 -- the simple command that reads the words behind its name
 abbrev pub app_for : Kind → App

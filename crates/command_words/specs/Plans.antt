@@ -1,4 +1,4 @@
--- What `play` is asked for.
+-- What `play` and `audit` are asked for.
 use Rattle.std.specs.Prelude.{◌≡◌, ◌≢◌, ℕ, ◌<◌, ◌≤◌, List, [], ◌++◌, length, All, AllPairs, Contains, codes, Option, Some, None, IfSome, IsSome, ◌==◌, Bool}
 use Rattle.std.specs.List.{slice_split, AllZip}
 use Rattle.line_text.specs.Names.{Spells}
@@ -13,6 +13,11 @@ pub record Plan : Type 0 where
   pub recompute : ℕ
   pub bisect : ℕ
   pub test : Option (List ℕ)
+  pub scripts : List (List ℕ)
+
+-- the name of the file with the journals, and the names of the scripts
+pub record Files : Type 0 where
+  pub journal : List ℕ
   pub scripts : List (List ℕ)
 
 -- the name of a script's transcript
@@ -41,6 +46,12 @@ pub record IsWithinLimits (plan : Plan) : Type 0 where
   pub test : IfSome plan.test (λ word. 0 < length word)
   pub tested : 0 < plan.bisect → IsSome plan.test
   pub scripts : AreScripts plan.scripts
+
+-- the journals' name isn't empty, and is neither a script's nor a transcript's
+pub record AreApart (audit : Files) : Type 0 where
+  pub named : 0 < length audit.journal
+  pub other : ¬ Contains audit.scripts audit.journal
+  pub own : All (λ script. transcript_of script ≢ audit.journal) audit.scripts
 
 -- a comma
 abbrev pub is_comma : ℕ → Bool

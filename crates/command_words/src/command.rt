@@ -5,6 +5,7 @@ ghost use Rattle.command_words.specs.Texts.{Finds, texts};
 ghost use Rattle.command_words.specs.declared.command.Command.TheVariants.{Cut, Apply, Path, Hunt};
 
 use crate::NoMemory;
+use crate::audit::{AuditPlan, audit_said};
 use crate::given::{Given, given_by};
 use crate::kind::{Kind, kind_named};
 use crate::numbers::{count_in, count_or, number_in};
@@ -89,6 +90,8 @@ pub enum Command<'a> {
     Path(PathPlan),
     /// Reads names of commits, and searches the first bad one by rounds of tests.
     Hunt(HuntPlan<'a>),
+    /// Reads journals, scripts and transcripts, and says whether they fit together.
+    Audit(AuditPlan<'a>),
 }
 
 /// The command that the words are, if they are one: a command's name, and words that its simple command takes, which say
@@ -161,6 +164,12 @@ fn said_by<'a>(
                 return Ok(None);
             };
             Ok(Some(Command::Hunt(hunt)))
+        }
+        Kind::Audit => {
+            let Some(audit) = audit_said(alloc, given)? else {
+                return Ok(None);
+            };
+            Ok(Some(Command::Audit(audit)))
         }
     }
 }

@@ -13,6 +13,7 @@ pub enum Kind {
     Play,
     Path,
     Hunt,
+    Audit,
 }
 
 // The command of this name.
@@ -39,6 +40,9 @@ pub(crate) fn kind_named(name: &str) -> Option<Kind>
     }
     if name == "hunt" {
         return Some(Kind::Hunt);
+    }
+    if name == "audit" {
+        return Some(Kind::Audit);
     }
     None
 }

@@ -11,6 +11,7 @@
 //! stands on `clap`, which reads the words, and on the names and numbers of `line_text`.
 #![tactic(auto)]
 
+mod audit;
 mod command;
 mod given;
 mod kind;
@@ -19,6 +20,7 @@ mod plan;
 mod simple;
 mod texts;
 
+pub use audit::AuditPlan;
 pub use command::{
     Command, CutPlan, HuntPlan, PathPlan, Word, command_of, one_command_law, plain_words_law,
 };

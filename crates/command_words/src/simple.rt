@@ -22,6 +22,7 @@ pub(crate) fn command_for<'a>(alloc: Global, kind: Kind) -> Result<Command<'a>, 
         Kind::Play => play_command(alloc),
         Kind::Path => path_command(alloc),
         Kind::Hunt => hunt_command(alloc),
+        Kind::Audit => audit_command(alloc),
     }
 }
 
@@ -56,6 +57,13 @@ fn hunt_command<'a>(alloc: Global) -> Result<Command<'a>, NoMemory>
 {
     let command = with_value(alloc, named(alloc, "hunt"), "K")?;
     with_option(alloc, command, "test")
+}
+
+fn audit_command<'a>(alloc: Global) -> Result<Command<'a>, NoMemory>
+    ensures { IfOk result (λ c. app_of c ≡ app_for kinds.Audit) }
+{
+    let command = with_value(alloc, named(alloc, "audit"), "JOURNAL")?;
+    with_values(alloc, command, "SCRIPT")
 }
 
 // The command of this name, with no argument yet.

@@ -1,5 +1,7 @@
 //! Words that are a command, and words that are none, with ample memory.
-use command_words::{Command, CutPlan, HuntPlan, NoMemory, PathPlan, PlayPlan, command_of};
+use command_words::{
+    AuditPlan, Command, CutPlan, HuntPlan, NoMemory, PathPlan, PlayPlan, command_of,
+};
 use std::alloc::Global;
 
 // Words, and how the command that they are is told.
@@ -266,6 +268,39 @@ fn words_of_hunt_ask_for_a_search(rt: HostRuntime) {
     }
 }
 
+const AUDITS: [Row; 17] = [
+    (&["audit", "j", "s1"], "audit j s1"),
+    (&["audit", "j", "s1", "s2"], "audit j s1 s2"),
+    (&["audit", "--", "-j", "--s"], "audit -j --s"),
+    (&["audit", "j.out", "s1", "--"], "audit j.out s1"),
+    (&["audit", "s1.out.out", "s1"], "audit s1.out.out s1"),
+    (
+        &["audit", "j", "1", "2", "3", "4", "5", "6", "7", "8"],
+        "audit j 1 2 3 4 5 6 7 8",
+    ),
+    (
+        &["audit", "j", "1", "2", "3", "4", "5", "6", "7", "8", "9"],
+        "none",
+    ),
+    (&["audit"], "none"),
+    (&["audit", "j"], "none"),
+    (&["audit", "", "s1"], "none"),
+    (&["audit", "j", ""], "none"),
+    (&["audit", "s1", "s1"], "none"),
+    (&["audit", "s2.out", "s1", "s2"], "none"),
+    (&["audit", "j", "s1", "s1"], "none"),
+    (&["audit", "j", "s1.out", "s1"], "none"),
+    (&["audit", "--store", "t", "j", "s1"], "none"),
+    (&["audit", "--help"], "none"),
+];
+
+#[test]
+fn words_of_audit_name_files(rt: HostRuntime) {
+    for row in &AUDITS {
+        assert!(rt; are_told(rt.alloc(), row.0, row.1), "{}", row.1);
+    }
+}
+
 // Whether the words are the command that is told so.
 fn are_told(alloc: Global, words: &[&str], told: &str) -> bool {
     let Ok(texts) = strings(alloc, words) else {
@@ -301,6 +336,7 @@ fn is_told(alloc: Global, command: &Command<'_>, told: &str) -> bool {
         Command::Play(plan) => is_text(told, "play ", plan_text(alloc, plan)),
         Command::Path(path) => is_text(told, "path ", path_text(alloc, path)),
         Command::Hunt(hunt) => is_text(told, "hunt ", hunt_text(alloc, hunt)),
+        Command::Audit(audit) => is_text(told, "audit ", audit_text(alloc, audit)),
     }
 }
 
@@ -329,6 +365,16 @@ fn path_text(alloc: Global, path: &PathPlan) -> Result<String, NoMemory> {
 fn hunt_text(alloc: Global, hunt: &HuntPlan<'_>) -> Result<String, NoMemory> {
     let (width, test) = (hunt.width, hunt.test.as_str());
     format!(in alloc; "{width} {test}")
+}
+
+// The file with the journals, and the scripts.
+fn audit_text(alloc: Global, audit: &AuditPlan<'_>) -> Result<String, NoMemory> {
+    let mut text = String::from_str(alloc, audit.journal())?;
+    for script in audit.scripts() {
+        text.push_str(" ")?;
+        text.push_str(script)?;
+    }
+    Ok(text)
 }
 
 // The machines with a comma behind each, the store, the numbers of workers, the word of the test, and the scripts.

@@ -6,7 +6,7 @@ use std::alloc::{AllocError, Global};
 use std::sync::Wait;
 use std::thread::Threads;
 use track_outside::{Failed, Files, MemKeeper, OpenGate, OutError, Sink, SureSource};
-use tracker_top::{Status, asks_play, play};
+use tracker_top::{Status, asks_audit, asks_play, audit, play};
 
 // Takes all, keeps none of it, and counts it.
 #[derive(Drop)]
@@ -176,6 +176,39 @@ fn what_is_opened_is_closed(rt: HostRuntime) {
     for (fails, status, opened) in &ROWS {
         let mut files = Counted::new(*fails);
         assert!(rt; status_of(&rt, rt.alloc(), &mut files) == Some(*status));
+        assert!(rt; files.opened == *opened && files.closed == *opened);
+    }
+}
+
+// The status of an audit of a script on these files.
+fn audit_status(alloc: Global, files: &mut Counted) -> Option<Status> {
+    let Ok(texts) = texts_of(alloc, &["audit", "j", "s1"]) else {
+        return None;
+    };
+    let Ok(mut out) = Bin::new(alloc, "") else {
+        return None;
+    };
+    let Ok(mut err) = Bin::new(alloc, "") else {
+        return None;
+    };
+    if !asks_audit(&texts) {
+        return None;
+    }
+    Some(audit(alloc, &texts, &mut out, &mut err, files))
+}
+
+const AUDITS: [(u64, Status, u64); 4] = [
+    (1, Status::ReadFault, 0),
+    (2, Status::ReadFault, 1),
+    (3, Status::ReadFault, 2),
+    (4, Status::Done, 3),
+];
+
+#[test]
+fn what_an_audit_opens_is_closed(rt: HostRuntime) {
+    for (fails, status, opened) in &AUDITS {
+        let mut files = Counted::new(*fails);
+        assert!(rt; audit_status(rt.alloc(), &mut files) == Some(*status));
         assert!(rt; files.opened == *opened && files.closed == *opened);
     }
 }

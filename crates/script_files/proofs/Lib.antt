@@ -1,5 +1,5 @@
 mod Asked
-mod Calls
+pub mod Calls
 mod Counted
 mod FromStart
 mod Names

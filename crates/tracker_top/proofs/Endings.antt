@@ -24,14 +24,14 @@ use Rattle.path_command.specs.Endings.{EndsPath as PutsPath, HasCause as HasPath
 use Rattle.path_command.specs.declared.end.PathEnd.{PathEnd}
 use Rattle.path_command.specs.declared.end.PathEnd.TheVariants as path
 use Rattle.tracker_top.specs.Paths.{path_status_of}
-use Rattle.command_words.specs.declared.command.Command.TheVariants.{Cut, Apply, Gen, Trial, Play, Path, Hunt}
+use Rattle.command_words.specs.declared.command.Command.TheVariants.{Cut, Apply, Gen, Trial, Play, Path, Hunt, Audit}
 use Rattle.tracker_top.specs.declared.status.Status.{Status}
-use Rattle.tracker_top.specs.declared.status.Status.TheVariants.{Done, BadWords, ReadFault, WriteFault, StoreFault, BadStore, CutOff, NoMemory, InputTooLong, BadLine, Full, TooFew}
+use Rattle.tracker_top.specs.declared.status.Status.TheVariants.{Done, BadWords, ReadFault, WriteFault, StoreFault, BadStore, CutOff, NoMemory, InputTooLong, BadLine, Full, Differs, TooFew}
 use Rattle.command_words.specs.Commands.{AreNoCommand, IsSpelled, AreOneCommand}
 use Rattle.script_session.specs.Counts.{RoseByRedone}
-use Rattle.tracker_top.specs.Statuses.{AsksHunt, AsksPlay, status_of, script_status_of, script_status, ended, CutShows, PathShows, ScriptShows, Shows, IsDue, OneStatusIsDue}
+use Rattle.tracker_top.specs.Statuses.{AsksAudit, AsksHunt, AsksPlay, status_of, script_status_of, script_status, ended, CutShows, PathShows, ScriptShows, Shows, IsDue, OneStatusIsDue}
 use Rattle.tracker_top.specs.Text.{line_of}
-use Rattle.tracker_top.specs.Endings.{HasCause, EndsOutput, AnswersScript, Begins, WasStarted, Keeps, Prints, AppendCause, LoadCause, EndsSo, EndsScript, EndsApply, IsOfOutput, HasAsked, IsAlone, Ends, IsTold}
+use Rattle.tracker_top.specs.Endings.{HasCause, EndsOutput, AnswersScript, Begins, WasStarted, Keeps, Prints, AppendCause, LoadCause, EndsSo, EndsScript, EndsApply, IsOfOutput, HasAsked, IsPlain, Ends, IsTold}
 use Rattle.tracker_top.specs.Answers.{IsCertificateText, state_of}
 use Rattle.track_outside.specs.Kept.{with_more}
 use Rattle.keep_rows.specs.Kept.{AreKept}
@@ -99,6 +99,7 @@ module _ {I O K : Type 0} (g : source.Ghosts I) (h : sink.Ghosts O) (k : keeper.
     cut_comes Answers BadWords cause output = absurd cause
     cut_comes Answers StoreFault cause output = absurd cause
     cut_comes Answers (BadStore row) cause output = absurd cause
+    cut_comes Answers (Differs verdict) cause output = absurd cause
     cut_comes Answers (TooFew count) cause output = absurd cause
     cut_comes Answers other cause output = cut_shown other cause
 
@@ -212,16 +213,18 @@ module _ {I O K : Type 0} (g : source.Ghosts I) (h : sink.Ghosts O) (k : keeper.
       subst (DueComes (k.kept first)) (sym ends.0.told) (path_comes (k.kept first) plan spelled ends.0.why ends.0.input.cause ends.0.output)
   comes (Play plan) result spelled ends = absurd ends
   comes (Hunt plan) result spelled ends = absurd ends
+  comes (Audit named) result spelled ends = absurd ends
 
--- words that ask for neither `play` nor `hunt` spell a command of one thread
-pub is-alone : (words : List (List ℕ)) (command : Command) → IsSpelled words command → ¬ AsksPlay words → ¬ AsksHunt words → IsAlone command
-is-alone words (Cut cut) spelled other another = tt
-is-alone words (Apply store) spelled other another = tt
-is-alone words (Gen number) spelled other another = tt
-is-alone words (Trial number) spelled other another = tt
-is-alone words (Path path) spelled other another = tt
-is-alone words (Play plan) spelled other another = absurd (other (spelled.rest, spelled.named))
-is-alone words (Hunt plan) spelled other another = absurd (another (spelled.rest, spelled.named))
+-- words that ask for none of `play`, `hunt` and `audit` spell a command that opens no file and runs no threads
+pub is-plain : (words : List (List ℕ)) (command : Command) → IsSpelled words command → ¬ AsksPlay words → ¬ AsksHunt words → ¬ AsksAudit words → IsPlain command
+is-plain words (Cut cut) spelled play hunt audit = tt
+is-plain words (Apply store) spelled play hunt audit = tt
+is-plain words (Gen number) spelled play hunt audit = tt
+is-plain words (Trial number) spelled play hunt audit = tt
+is-plain words (Path path) spelled play hunt audit = tt
+is-plain words (Play plan) spelled play hunt audit = absurd (play (spelled.rest, spelled.named))
+is-plain words (Hunt plan) spelled play hunt audit = absurd (hunt (spelled.rest, spelled.named))
+is-plain words (Audit named) spelled play hunt audit = absurd (audit (spelled.rest, spelled.named))
 
 -- ---- how `apply` ends
 not_done : (stop : ScriptStop) → script_status_of stop ≢ Done

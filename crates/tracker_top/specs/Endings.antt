@@ -28,9 +28,9 @@ use Rattle.script_desk.specs.Sessions.{State, AnswersFor, AnswersSome}
 use Rattle.series_gen.specs.Script.{script as script_of}
 use Rattle.command_words.specs.declared.command.Command.{Command}
 use Rattle.command_words.specs.declared.command.CutPlan.{CutPlan}
-use Rattle.command_words.specs.declared.command.Command.TheVariants.{Cut, Apply, Gen, Trial, Play, Path, Hunt}
+use Rattle.command_words.specs.declared.command.Command.TheVariants.{Cut, Apply, Gen, Trial, Play, Path, Hunt, Audit}
 use Rattle.tracker_top.specs.declared.status.Status.{Status}
-use Rattle.tracker_top.specs.declared.status.Status.TheVariants.{Done, BadWords, ReadFault, WriteFault, StoreFault, BadStore, NoMemory, TooFew}
+use Rattle.tracker_top.specs.declared.status.Status.TheVariants.{Done, BadWords, ReadFault, WriteFault, StoreFault, BadStore, NoMemory, Differs, TooFew}
 use Rattle.tracker_top.specs.Answers.{IsCertificateText, state_of, new_state, AllPublishWell, AllBisectWell}
 use Rattle.tracker_top.specs.Statuses.{CutShows, script_status, script_status_of}
 use Rattle.tracker_top.specs.Paths.{EndsPath}
@@ -49,6 +49,7 @@ HasCause g old new NoMemory = Unit {0}
 HasCause g old new BadWords = ⊥
 HasCause g old new StoreFault = ⊥
 HasCause g old new (BadStore row) = ⊥
+HasCause g old new (Differs verdict) = ⊥
 HasCause g old new (TooFew count) = ⊥
 HasCause g old new status = IfSome (g.left old) (λ bytes. CutShows bytes status)
 
@@ -280,12 +281,14 @@ Ends g h k (Path path) old new before after first last from to status =
     EndsPath g h path old new before after status × (last ≡ first) × (to ≡ from)
 Ends g h k (Play plan) old new before after first last from to status = ⊥
 Ends g h k (Hunt hunt) old new before after first last from to status = ⊥
+Ends g h k (Audit audit) old new before after first last from to status = ⊥
 
--- the command is one of one thread
-abbrev pub IsAlone : Command → Type 0
-IsAlone (Play plan) = ⊥
-IsAlone (Hunt hunt) = ⊥
-IsAlone command = Unit {0}
+-- the command runs no threads and opens no file
+abbrev pub IsPlain : Command → Type 0
+IsPlain (Play plan) = ⊥
+IsPlain (Hunt hunt) = ⊥
+IsPlain (Audit audit) = ⊥
+IsPlain command = Unit {0}
 
 -- memory was wanting to read the words, so no command was begun: nothing was read, written, kept or
 -- counted

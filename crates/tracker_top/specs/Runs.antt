@@ -1,25 +1,27 @@
--- How the program runs: a command of one thread, scripts that run at once, or a hunt.
+-- How the program runs: a command of one thread, an audit, scripts that run at once, or a hunt.
 use Rattle.std.specs.Prelude.{◌≡◌, ◌≢◌, ◌⊎◌, ℕ, List, length, Option, IfSome}
 use Rattle.track_outside.specs.Counts.{Rose}
+use Rattle.track_outside.specs.declared.files.Files as files
 use Rattle.track_outside.specs.declared.source.Source as source
 use Rattle.track_outside.specs.declared.sink.Sink as sink
 use Rattle.track_outside.specs.declared.keeper.Keeper as keeper
 use Rattle.track_outside.specs.declared.runner.Runner as runner
 use Rattle.command_words.specs.declared.command.Command.{Command}
 use Rattle.command_words.specs.declared.command.HuntPlan.{HuntPlan}
-use Rattle.command_words.specs.declared.command.Command.TheVariants.{Play, Hunt}
+use Rattle.command_words.specs.declared.command.Command.TheVariants.{Play, Hunt, Audit}
 use Rattle.command_words.specs.Commands.{AreNoCommand, IsSpelled}
-use Rattle.command_words.specs.Plans.{Plan}
+use Rattle.command_words.specs.Plans.{Files, Plan}
 use Rattle.shared_run.specs.Crews.{asked_by}
 use Rattle.shared_run.specs.Endings.{Objects, Told}
 use Rattle.tracker_top.specs.declared.status.Status.{Status}
 use Rattle.tracker_top.specs.declared.status.Status.TheVariants.{BadWords, NoMemory}
+use Rattle.tracker_top.specs.Audits.{AreFilesIn, EndsAudit, IsToldOf}
 use Rattle.tracker_top.specs.Endings.{Ends, EndsUnbegun, IsTold}
 use Rattle.tracker_top.specs.Hunts.{AreAsBefore, EndsHunt, HuntsAsDue}
 use Rattle.tracker_top.specs.Plays.{AreNamesIn, AreUntouched, EndsPlay, IsToldIn, PlaysAsDue}
 use Rattle.tracker_top.specs.Statuses.{IsDue}
 
--- a command of one thread was run, or its words are none: it opens and creates no file
+-- a command of one thread was run that opens and creates no file, or its words are none
 pub record RunsAlone {F I O K : Type 0} (g : source.Ghosts I) (h : sink.Ghosts O) (k : keeper.Ghosts K)
     (words : List (List ℕ)) (old new : I) (before after : O) (told_to telling : O) (files files' : F)
     (first last : K) (from to : ℕ) (status : Status) : Type 0 where
@@ -65,3 +67,14 @@ pub record RunsHunt {I O N : Type 0} (g : source.Ghosts I) (h : sink.Ghosts O) (
       × EndsHunt g h n plan old new before after runners runners' status)
   pub complete : HuntsAsDue g h words old new before after status
   pub told : IsTold h told_to telling status
+
+-- an audit was made of files, or the words are no command
+pub record RunsAudit {F I O P : Type 0} (g : files.Ghosts F I O) (h : sink.Ghosts P)
+    (words : List (List ℕ)) (before after : F) (old new told_to telling : P) (status : Status)
+    : Type 0 where
+  pub bad_words : status ≡ BadWords → AreNoCommand words
+  pub untouched : status ≡ BadWords → (after ≡ before) × (new ≡ old)
+  pub command : status ≢ BadWords
+      → ((status ≡ NoMemory) × (after ≡ before) × (new ≡ old))
+      ⊎ ((named : Files) × IsSpelled words (Audit named) × EndsAudit g h named before after old new status)
+  pub told : (named : Files) → AreFilesIn words named → IsToldOf h named told_to telling status

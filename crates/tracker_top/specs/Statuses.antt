@@ -16,9 +16,9 @@ use Rattle.store_rows.specs.declared.load.LoadFault.{LoadFault}
 use Rattle.store_rows.specs.declared.load.LoadFault.TheVariants as load
 use Rattle.keep_rows.specs.Loading.{Stored, LeadTo, IsFirstBad}
 use Rattle.command_words.specs.declared.command.Command.{Command}
-use Rattle.command_words.specs.declared.command.Command.TheVariants.{Cut, Apply, Gen, Trial, Play, Path, Hunt}
+use Rattle.command_words.specs.declared.command.Command.TheVariants.{Cut, Apply, Gen, Trial, Play, Path, Hunt, Audit}
 use Rattle.tracker_top.specs.declared.status.Status.{Status}
-use Rattle.tracker_top.specs.declared.status.Status.TheVariants.{Done, BadWords, ReadFault, WriteFault, StoreFault, BadStore, CutOff, NoMemory, InputTooLong, BadLine, Full, TooFew}
+use Rattle.tracker_top.specs.declared.status.Status.TheVariants.{Done, BadWords, ReadFault, WriteFault, StoreFault, BadStore, CutOff, NoMemory, InputTooLong, BadLine, Full, Differs, TooFew}
 use Rattle.command_words.specs.Commands.{IsSpelled, AreNoCommand}
 
 -- the status at which a command ends where reading of its cut lines stops
@@ -97,9 +97,13 @@ AsksPlay words = Asks (codes "play") words
 abbrev pub AsksHunt : List (List ℕ) → Type 0
 AsksHunt words = Asks (codes "hunt") words
 
+-- the first word is `audit`, which opens files
+abbrev pub AsksAudit : List (List ℕ) → Type 0
+AsksAudit words = Asks (codes "audit") words
+
 -- the rows of the keeper, where it tells them, and the input's bytes show this status of the
 -- command; a number shows that all is done; they never show a fault or want of memory, nor how
--- a command ends that runs threads
+-- a command ends that runs threads or opens files
 abbrev pub Shows : Command → Option (List (List ℕ)) → List ℕ → Status → Type 0
 Shows (Cut cut) rows bytes status = CutShows bytes status
 Shows (Apply None) rows bytes status = ScriptShows bytes status
@@ -109,6 +113,7 @@ Shows (Trial number) rows bytes status = status ≡ Done
 Shows (Path path) rows bytes status = PathShows bytes status
 Shows (Play plan) rows bytes status = ⊥
 Shows (Hunt hunt) rows bytes status = ⊥
+Shows (Audit audit) rows bytes status = ⊥
 
 -- the words, the rows and the bytes show this status: the words are no command, or one of which the
 -- others show it
@@ -136,4 +141,5 @@ number_of NoMemory = 8
 number_of (InputTooLong script) = 9
 number_of (BadLine k) = 10
 number_of (Full k) = 11
+number_of (Differs verdict) = 13
 number_of (TooFew count) = 14

@@ -102,5 +102,6 @@ fn hunt_in(alloc: Global, words: &[String]) -> Result<Option<HuntPlan<'_>>, NoMe
         Command::Trial(_) => unreachable!(),
         Command::Play(_) => unreachable!(),
         Command::Path(_) => unreachable!(),
+        Command::Audit(_) => unreachable!(),
     }
 }

@@ -117,5 +117,6 @@ fn plan_in(alloc: Global, words: &[String]) -> Result<Option<PlayPlan<'_>>, NoMe
         Command::Trial(_) => unreachable!(),
         Command::Path(_) => unreachable!(),
         Command::Hunt(_) => unreachable!(),
+        Command::Audit(_) => unreachable!(),
     }
 }

@@ -25,6 +25,7 @@ pub fn put_status<O: Sink>(err: &mut O, status: Status) -> Result<(), Failed>
         Status::InputTooLong(_) => put_all(err, b"input too long: input\n"),
         Status::BadLine(line) => put_numbered(err, b"bad line: ", line),
         Status::Full(line) => put_numbered(err, b"full: ", line),
+        Status::Differs(_) => put_all(err, b"differs\n"),
         Status::TooFew(count) => put_numbered(err, b"too few commits: ", count),
     }
 }

@@ -2,13 +2,13 @@
 ghost use Rattle.std.specs.Prelude.{◌≡◌, ◌≤◌, All, length};
 ghost use Rattle.command_words.specs.Texts.{texts};
 ghost use Rattle.tracker_top.specs.Plays.{IsNewRunner};
-ghost use Rattle.tracker_top.specs.Runs.{RunsAlone, RunsHunt, RunsPlay};
-ghost use Rattle.tracker_top.specs.Statuses.{AsksHunt, AsksPlay};
+ghost use Rattle.tracker_top.specs.Runs.{RunsAlone, RunsAudit, RunsHunt, RunsPlay};
+ghost use Rattle.tracker_top.specs.Statuses.{AsksAudit, AsksHunt, AsksPlay};
 
 use crate::hunting::hunt;
+use crate::one_thread::alone;
 use crate::playing::play;
 use crate::status::Status;
-use crate::top::alone;
 use crate::words::{asks_hunt, asks_play};
 use pelt_core::Steps;
 use std::alloc::Global;
@@ -53,8 +53,15 @@ pub fn run<R: Threads + Wait + Sync, F: Files, K: Keeper, N: Runner + Send, G: G
     ensures unopened { AsksHunt (texts words.now)
         → (files.new ≡ files.old) × (keeper.new ≡ keeper.old) × (steps.new ≡ steps.old) }
 
-    // The others take no runner.
-    ensures alone { ¬ AsksPlay (texts words.now) → ¬ AsksHunt (texts words.now) → RunsAlone
+    // `audit` reads the files that its words name, calls no keeper and counts no steps.
+    ensures audit { AsksAudit (texts words.now) → RunsAudit F.Files F.Output.Sink
+        (texts words.now) files.old files.new out.old out.new err.old err.new result }
+    ensures unkept { AsksAudit (texts words.now)
+        → (input.new ≡ input.old) × (keeper.new ≡ keeper.old) × (steps.new ≡ steps.old) }
+
+    // The others open no file. All but `play` and `hunt` take no runner.
+    ensures alone { ¬ AsksPlay (texts words.now) → ¬ AsksHunt (texts words.now)
+        → ¬ AsksAudit (texts words.now) → RunsAlone
         F.Input.Source F.Output.Sink K.Keeper (texts words.now)
         input.old input.new out.old out.new err.old err.new files.old files.new
         keeper.old keeper.new steps.old steps.new result }

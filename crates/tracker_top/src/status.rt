@@ -2,11 +2,13 @@
 ghost use Rattle.std.specs.Prelude.{◌≡◌};
 ghost use Rattle.std.specs.Process.{exit_status};
 ghost use Rattle.tracker_top.specs.Statuses.{append_status_of, load_status_of, number_of, script_status_of, status_of};
+ghost use Rattle.tracker_top.specs.Audits.{audit_status_of};
 ghost use Rattle.tracker_top.specs.Hunts.{hunt_status_of};
 ghost use Rattle.tracker_top.specs.Paths.{path_status_of};
 ghost use Rattle.tracker_top.specs.Plays.{run_status_of, stopped_status_of};
 ghost use Rattle.tracker_top.specs.declared.status.Status.{Status};
 
+use audit_command::{AuditEnd, Verdict};
 use cut_lines::{Refusal, Stop as CutStop};
 use hunt_command::HuntEnd;
 use keep_rows::{AppendFault, LoadFault};
@@ -17,7 +19,7 @@ use std::alloc::AllocError;
 use std::process::ExitCode;
 
 /// How a command ends. A line is named by its number, from 1, and an input by its script's number, where standard
-/// input is 0.
+/// input is 0; in `audit` by its file's place in the order of opening.
 #[derive(Clone, Copy, Debug, PartialEq, Eq)]
 pub enum Status {
     /// The input was read to its end, and all was written.
@@ -42,6 +44,8 @@ pub enum Status {
     BadLine(u64),
     /// This line would pass a limit of a series, or of commits.
     Full(u64),
+    /// The files of a shared run don't fit together, by this verdict.
+    Differs(Verdict),
     /// There are only so many commits, fewer than two.
     TooFew(u64),
 }
@@ -63,6 +67,7 @@ impl Status {
             Status::InputTooLong(_) => 9,
             Status::BadLine(_) => 10,
             Status::Full(_) => 11,
+            Status::Differs(_) => 13,
             Status::TooFew(_) => 14,
         }
     }
@@ -129,6 +134,23 @@ impl From<HuntEnd> for Status {
             HuntEnd::BadLine(line) => Status::BadLine(line),
             HuntEnd::Full(line) => Status::Full(line),
             HuntEnd::TooFew(count) => Status::TooFew(count),
+        }
+    }
+}
+
+/// How `audit` ends.
+impl From<AuditEnd> for Status {
+    ghost from_gives = { λ end status. status ≡ audit_status_of end };
+
+    fn from(end: AuditEnd) -> Status {
+        match end {
+            AuditEnd::Done => Status::Done,
+            AuditEnd::Differs(verdict) => Status::Differs(verdict),
+            AuditEnd::ReadFault => Status::ReadFault,
+            AuditEnd::WriteFault => Status::WriteFault,
+            AuditEnd::CutOff(script, offset) => Status::CutOff(script, offset),
+            AuditEnd::TooLong(place) => Status::InputTooLong(place),
+            AuditEnd::NoMemory => Status::NoMemory,
         }
     }
 }

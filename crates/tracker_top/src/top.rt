@@ -1,4 +1,4 @@
-//! The top call: it runs the command that the words are.
+//! The commands that run no threads and open no file.
 ghost use Rattle.std.specs.Prelude.{◌≡◌, ◌≢◌, ℕ, ◌^◌, ◌≤◌, ◌⊎◌, List, [], IfOk, IfSome, Result, Some};
 ghost use Rattle.track_outside.specs.Counts.{Rose};
 ghost use Rattle.script_desk.specs.Sessions.{State};
@@ -8,9 +8,9 @@ ghost use Rattle.command_words.specs.declared.command.Command.TheVariants.{Cut, 
 ghost use Rattle.command_words.specs.Commands.{IsSpelled, IsInRange, AreNoCommand};
 ghost use Rattle.command_words.specs.Texts.{texts};
 ghost use Rattle.tracker_top.specs.Paths.{EndsPath};
-ghost use Rattle.tracker_top.specs.Statuses.{script_status, AsksHunt, AsksPlay, IsDue, OneStatusIsDue};
+ghost use Rattle.tracker_top.specs.Statuses.{script_status, AsksAudit, AsksHunt, AsksPlay, IsDue, OneStatusIsDue};
 ghost use Rattle.tracker_top.specs.Answers.{IsCertificateText, IsTextOf, StandsBy, state_of, AllBisectWell};
-ghost use Rattle.tracker_top.specs.Endings.{EndsInput, EndsOutput, AnswersScript, EndsApply, EndsWell, RefusesNone, IsOfOutput, RunsScript, IsAlone, Ends, EndsUnbegun, IsTold};
+ghost use Rattle.tracker_top.specs.Endings.{EndsInput, EndsOutput, AnswersScript, EndsApply, EndsWell, RefusesNone, IsOfOutput, RunsScript, IsPlain, Ends, EndsUnbegun, IsTold};
 ghost use Rattle.series_gen.specs.Script.{script as script_of};
 
 use crate::printing::put_status;
@@ -31,7 +31,7 @@ use series_gen::put_script;
 use std::alloc::Global;
 use std::mem::forget;
 use std::sync::ledger::Ledger;
-use track_outside::{Files, Keeper, NoMemory, Sink, Source, SureSource, put_all};
+use track_outside::{Keeper, NoMemory, Sink, Source, SureSource, put_all};
 use trial_script::{accepted_law, script_law};
 
 /// No words, rows of a store and bytes of an input have two statuses, but for those that the outside or the memory give.
@@ -45,42 +45,19 @@ pub fn one_status_law()
     rows_law();
 }
 
-/// Runs the command that the words are, those behind the program's name, and answers how it ends.
-///
-/// `cut PENALTY`, with a number of at most 10^36, reads cut lines from the input, an order and a value each, and writes
-/// the certificate of the best segmentation of their points to `out`, in seven lines; with `--least L`, a number from 1 to
-/// 64, each segment has at least L positions where there are several; above 1 the text has a line more. With `--absolute`
-/// a segment costs the least sum of distances from a whole number, and not of their squares. `path LOW HIGH`, with two such
-/// numbers, reads cut lines of 1,024 positions at most, and writes the best segmentations of their points at all penalties
-/// from one to the other, by squares and with the least length 1, in stretches of one list. `apply` reads the
-/// requests of a script from the input, answers one after another on the machines that it declares, and writes the
-/// replies to `out`. `apply --store NAME` begins with the machines that the keeper's rows of that name lead to, and adds
-/// the new rows at the end of the script, all or none. `gen NUMBER`, with a number of 64 bits, reads nothing and writes
-/// the script of the number to `out`; `trial NUMBER` answers that script and writes the replies about segmentations
-/// alone: the part of what `apply` answers it. That script is whole and none of its requests is refused, so only the
-/// output and want of memory stop a trial. The words are read as those of command lines (`command_words`), which takes
-/// memory; where it is wanting, nothing else is touched but the status' line.
-/// `apply` and `trial` count their steps: one for each position that a segmentation looks at anew. `play` and `hunt`,
-/// which run threads, are no commands of one.
-/// The status' line goes to `err`; where that fails the status stands. At most 2^30 bytes of an input are read, and one
-/// more to see that there are no more. The texts are those of docs/FORMATS.md, the statuses those of docs/COMMANDS.md.
-///
-/// Linear in the bytes read. `cut` is quadratic in the positions, and linear in the values for each position; its memory
-/// is linear in the values. By distances each cost that it asks for is linear in the segment's values besides. `path` makes
-/// three such tables at most for each stretch, of which there are no more than positions. `apply` takes what each request and each kept entry takes of its machine's state
-/// (`track_step::step`, `track_replay::replay`), and keeps the histories, one line and one body.
-pub fn alone<F: Files, K: Keeper, L: Ledger>(
+/// Runs the command that the words are, which runs no threads and opens no file, and answers how it ends.
+pub(crate) fn run_streams<I: Source, O: Sink, K: Keeper, L: Ledger>(
     alloc: Global,
     words: &[String],
-    input: &mut F::Input,
-    out: &mut F::Output,
-    err: &mut F::Output,
-    files: &mut F,
+    input: &mut I,
+    out: &mut O,
+    err: &mut O,
     keeper: &mut K,
     steps: &mut Steps<L>,
 ) -> Status
     requires play { ¬ AsksPlay (texts words.now) }
     requires hunt { ¬ AsksHunt (texts words.now) }
+    requires audit { ¬ AsksAudit (texts words.now) }
 
     // Bad words are no command, and then nothing is read, written, kept or counted but the status' line.
     ensures bad_words { result ≡ Status.BadWords → AreNoCommand (texts words.now) }
@@ -88,28 +65,25 @@ pub fn alone<F: Files, K: Keeper, L: Ledger>(
         → (input.new ≡ input.old) × (out.new ≡ out.old) × (keeper.new ≡ keeper.old)
         × (steps.new ≡ steps.old) }
 
-    // No command opens or creates a file.
-    ensures files { files.new ≡ files.old }
-
     // Else memory was wanting to read them, or they are a command, which ends so on the input, the output, the keeper and
     // the steps, as `Ends` says of each.
     ensures command { result ≢ Status.BadWords
         → EndsUnbegun input.old input.new out.old out.new keeper.old keeper.new
         steps.old steps.new result
         ⊎ ((command : Command) × IsSpelled (texts words.now) command
-        × Ends F.Input.Source F.Output.Sink K.Keeper command
+        × Ends I.Source O.Sink K.Keeper command
         input.old input.new out.old out.new keeper.old keeper.new steps.old steps.new result) }
 
     // What is due comes, unless an object fails or memory is wanting. So good words, rows and input are Done.
-    ensures complete { IfSome (F.Input.left input.old) (λ bytes. (status : Status)
+    ensures complete { IfSome (I.left input.old) (λ bytes. (status : Status)
         → IsDue (texts words.now) (K.kept keeper.old) bytes status
         → (result ≡ status) ⊎ (result ≡ Status.NoMemory)
-        ⊎ Rose (F.Input.faults input.old) (F.Input.faults input.new)
-        ⊎ Rose (F.Output.faults out.old) (F.Output.faults out.new)
+        ⊎ Rose (I.faults input.old) (I.faults input.new)
+        ⊎ Rose (O.faults out.old) (O.faults out.new)
         ⊎ Rose (K.faults keeper.old) (K.faults keeper.new)) }
 
     // The status is told.
-    ensures told { IsTold F.Output.Sink err.old err.new result }
+    ensures told { IsTold O.Sink err.old err.new result }
 {
     one_status_law();
     one_command_law();
@@ -137,7 +111,7 @@ fn run_command<I: Source, O: Sink, K: Keeper, L: Ledger>(
     steps: &mut Steps<L>,
 ) -> Status
     requires range { IsInRange command.now }
-    requires alone { IsAlone command.now }
+    requires plain { IsPlain command.now }
     ensures { Ends I.Source O.Sink K.Keeper command.now
         input.old input.new out.old out.new keeper.old keeper.new steps.old steps.new result }
 {
@@ -149,6 +123,7 @@ fn run_command<I: Source, O: Sink, K: Keeper, L: Ledger>(
         Command::Path(plan) => path(alloc, plan, input, out),
         Command::Play(_) => unreachable!(),
         Command::Hunt(_) => unreachable!(),
+        Command::Audit(_) => unreachable!(),
     }
 }
 

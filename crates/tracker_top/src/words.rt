@@ -1,7 +1,7 @@
 //! The program's words, those behind its name.
 ghost use Rattle.std.specs.Prelude.{◌≡◌, ◌↔◌, ◌⊎◌, true, Err, IsUtf8, string_bytes, IfOk, IfErr, IsTrue};
 ghost use Rattle.command_words.specs.Texts.{texts};
-ghost use Rattle.tracker_top.specs.Statuses.{Asks, AsksHunt, AsksPlay};
+ghost use Rattle.tracker_top.specs.Statuses.{Asks, AsksAudit, AsksHunt, AsksPlay};
 ghost use Rattle.tracker_top.specs.declared.status.Status.{Status};
 
 use crate::status::Status;
@@ -40,6 +40,13 @@ pub fn asks_hunt(words: &[String]) -> bool
     ensures { result ≡ true ↔ AsksHunt (texts words.now) }
 {
     asks(words, "hunt")
+}
+
+/// Whether the first word is `audit`.
+pub fn asks_audit(words: &[String]) -> bool
+    ensures { result ≡ true ↔ AsksAudit (texts words.now) }
+{
+    asks(words, "audit")
 }
 
 // Whether the first word is this name.

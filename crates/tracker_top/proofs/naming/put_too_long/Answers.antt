@@ -1,4 +1,4 @@
-use Rattle.std.proofs.Common.{ℕ, List, [], ◌∷◌, ◌++◌, codes, decimal, subst, ap}
+use Rattle.std.proofs.Common.{◌++◌, codes, subst}
 use Rattle.std.proofs.lemmas.Result.{MatchResult-weaker}
 use Rattle.track_outside.specs.Calls.{Took, FailedIn}
 use Rattle.track_outside.proofs.InParts.{took_more, failed_first, failed_more}
@@ -7,26 +7,26 @@ use Rattle.tracker_top.proofs.naming.put_too_long.Goals as goal
 
 pub returns-in_err-put_all-clause-err : goal.returns-in_err-put_all-clause-err
 returns-in_err-put_all-clause-err g c =
-    any-err c.from_residual.result (failed_first g.O.Sink c.args.err.now c.put_all.new.sink (codes "input too long: ") (c.args.name.now ++ 10 ∷ []) c.in_err-put_all.ensures.err)
+    any-err c.from_residual.result (failed_first g.O.Sink c.args.err.now c.put_all.new.sink (codes "input too long: ") (c.args.name.now ++ c.args.rest.now) c.in_err-put_all.ensures.err)
 
 pub returns-in_err-put_all-2-clause-err : goal.returns-in_err-put_all-2-clause-err
 returns-in_err-put_all-2-clause-err g c =
     let name = subst (FailedIn g.O.Sink c.put_all.new.sink c.put_all-2.new.sink) c.as_bytes.ensures.value c.in_err-put_all-2.ensures.err in
     any-err c.from_residual-in_err-put_all-2.result
-    (failed_more g.O.Sink c.args.err.now c.put_all.new.sink c.put_all-2.new.sink (codes "input too long: ") (c.args.name.now ++ 10 ∷ []) c.in_ok-put_all.ensures.ok
-    (failed_first g.O.Sink c.put_all.new.sink c.put_all-2.new.sink c.args.name.now (10 ∷ []) name))
+    (failed_more g.O.Sink c.args.err.now c.put_all.new.sink c.put_all-2.new.sink (codes "input too long: ") (c.args.name.now ++ c.args.rest.now) c.in_ok-put_all.ensures.ok
+    (failed_first g.O.Sink c.put_all.new.sink c.put_all-2.new.sink c.args.name.now c.args.rest.now name))
 
 pub returns-clause-ok : goal.returns-clause-ok
 returns-clause-ok g c =
     let name = subst (Took g.O.Sink c.put_all.new.sink c.put_all-2.new.sink) c.as_bytes.ensures.value c.in_ok-put_all-2.ensures.ok in
     MatchResult-weaker c.put_all-3.result c.put_all-3.ensures.ok
-    (λ done took. took_more g.O.Sink c.args.err.now c.put_all.new.sink c.put_all-3.new.sink (codes "input too long: ") (c.args.name.now ++ 10 ∷ []) c.in_ok-put_all.ensures.ok
-    (took_more g.O.Sink c.put_all.new.sink c.put_all-2.new.sink c.put_all-3.new.sink c.args.name.now (10 ∷ []) name took))
+    (λ done took. took_more g.O.Sink c.args.err.now c.put_all.new.sink c.put_all-3.new.sink (codes "input too long: ") (c.args.name.now ++ c.args.rest.now) c.in_ok-put_all.ensures.ok
+    (took_more g.O.Sink c.put_all.new.sink c.put_all-2.new.sink c.put_all-3.new.sink c.args.name.now c.args.rest.now name took))
     (λ failed told. told)
 
 pub returns-clause-err : goal.returns-clause-err
 returns-clause-err g c =
     let name = subst (Took g.O.Sink c.put_all.new.sink c.put_all-2.new.sink) c.as_bytes.ensures.value c.in_ok-put_all-2.ensures.ok in
     MatchResult-weaker c.put_all-3.result c.put_all-3.ensures.err (λ done told. told)
-    (λ failed part. failed_more g.O.Sink c.args.err.now c.put_all.new.sink c.put_all-3.new.sink (codes "input too long: ") (c.args.name.now ++ 10 ∷ []) c.in_ok-put_all.ensures.ok
-    (failed_more g.O.Sink c.put_all.new.sink c.put_all-2.new.sink c.put_all-3.new.sink c.args.name.now (10 ∷ []) name part))
+    (λ failed part. failed_more g.O.Sink c.args.err.now c.put_all.new.sink c.put_all-3.new.sink (codes "input too long: ") (c.args.name.now ++ c.args.rest.now) c.in_ok-put_all.ensures.ok
+    (failed_more g.O.Sink c.put_all.new.sink c.put_all-2.new.sink c.put_all-3.new.sink c.args.name.now c.args.rest.now name part))

@@ -18,3 +18,9 @@ returns-in-TooFew-clause-ok g c = rw (c.in-TooFew.is, append-nil (decimal c.in-T
 
 pub returns-in-TooFew-clause-err : goal.returns-in-TooFew-clause-err
 returns-in-TooFew-clause-err g c = rw (c.in-TooFew.is, append-nil (decimal c.in-TooFew.count)) c.put_numbered-in-TooFew.ensures.err
+
+pub returns-in-Differs-clause-ok : goal.returns-in-Differs-clause-ok
+returns-in-Differs-clause-ok g c = rw c.in-Differs.is c.put_all-in-Differs.ensures.ok
+
+pub returns-in-Differs-clause-err : goal.returns-in-Differs-clause-err
+returns-in-Differs-clause-err g c = rw c.in-Differs.is c.put_all-in-Differs.ensures.err

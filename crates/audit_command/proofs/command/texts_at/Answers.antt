@@ -1,0 +1,32 @@
+use Rattle.std.proofs.Common.{◌≡◌, ◌∙◌, ◌^◌, ℕ, List, ◌++◌, length, sym, subst, ap}
+use Rattle.std.specs.List.{AllZip}
+use Rattle.std.specs.Vec.Iter.{into_iter_items}
+use Rattle.command_words.specs.Texts.{texts}
+use Rattle.audit_command.specs.Opening.{IsOpen}
+use Rattle.audit_command.specs.Reading.{ReadsAll, StopsAll}
+use Rattle.audit_command.proofs.Gathered.{have_all}
+use Rattle.audit_command.proofs.Ends.{ends_unread}
+use Rattle.audit_command.proofs.command.texts_at.Goals as goal
+
+pub returns-in-Ok-clause-have : goal.returns-in-Ok-clause-have
+returns-in-Ok-clause-have g c =
+    let told = g.F.Files.contents c.args.files.now in
+    let names = texts c.args.names.now in
+    let more = c.in_default.ensures.open in
+    let grown : c.open_all.new.inputs.items ≡ more.more = more.grown ∙ ap (λ l. l ++ more.more) c.new-inputs.ensures.items in
+    let opened : AllZip (IsOpen g.F.Input.Source told) names (into_iter_items c.into_iter-2.result) =
+    subst (λ l. AllZip (IsOpen g.F.Input.Source told) names l) (sym (c.into_iter-2.ensures.rest ∙ grown)) more.are_open in
+    let reads = subst (λ (l : List (List ℕ)). ReadsAll g.F.Input.Source (into_iter_items c.into_iter-2.result) (2 ^ 30) l c.read_all.new.texts.items) c.new-found.ensures.items c.in-Ok.ensures.read in
+    have_all g.F.Input.Source told names (into_iter_items c.into_iter-2.result) c.read_all.new.texts.items opened reads
+
+pub returns-in-Err-read_all-clause-stop : goal.returns-in-Err-read_all-clause-stop
+returns-in-Err-read_all-clause-stop g c =
+    let told = g.F.Files.contents c.args.files.now in
+    let names = texts c.args.names.now in
+    let more = c.in_default.ensures.open in
+    let grown : c.open_all.new.inputs.items ≡ more.more = more.grown ∙ ap (λ l. l ++ more.more) c.new-inputs.ensures.items in
+    let opened : AllZip (IsOpen g.F.Input.Source told) names (into_iter_items c.into_iter-2.result) =
+    subst (λ l. AllZip (IsOpen g.F.Input.Source told) names l) (sym (c.into_iter-2.ensures.rest ∙ grown)) more.are_open in
+    let stops = subst (λ (l : List (List ℕ)). StopsAll g.F.Files g.F.Input.Source (into_iter_items c.into_iter-2.result) (2 ^ 30) (length l) c.open_all.new.files c.read_all.new.files c.in-Err-read_all.stop) c.new-found.ensures.items c.in-Err-read_all.ensures.stop in
+    ends_unread g.F.Files g.F.Input.Source names c.args.files.now c.open_all.new.files c.read_all.new.files (into_iter_items c.into_iter-2.result) c.in-Err-read_all.stop
+    c.in_default.ensures.asks opened c.in_default.ensures.kept stops c.read_all.ensures.kept c.read_all.ensures.noted

@@ -1,0 +1,5 @@
+pub mod Text
+pub mod Stops
+pub mod Opening
+pub mod Reading
+pub mod Endings

@@ -1,0 +1,44 @@
+-- How an audit ends, and the names of its files.
+use Rattle.std.proofs.Common.{◌≡◌, ℕ, ◌-◌, ◌≤◌, zero, suc, inl, inr, List, ◌∷◌, Result, Ok, Err, OnOk, OnErr, slice_get, sym, ap, subst, arith}
+use Rattle.track_outside.specs.Calls.{Took, FailedIn}
+use Rattle.track_outside.specs.declared.sink.Sink as sink
+use Rattle.audit_command.specs.declared.end.AuditEnd.{AuditEnd}
+use Rattle.audit_command.specs.declared.end.AuditEnd.TheVariants as audit
+use Rattle.audit_command.specs.Opening.{files_of, names_of}
+use Rattle.command_words.specs.Plans.{Files}
+use Rattle.tracker_top.specs.declared.status.Status.{Status}
+use Rattle.tracker_top.specs.declared.status.Status.TheVariants.{BadWords}
+use Rattle.tracker_top.specs.Audits.{IsToldOf, audit_line, audit_status_of}
+use Rattle.tracker_top.specs.Plays.{script_name}
+
+-- an audit never ends as bad words do
+pub never-bad-audit : (why : AuditEnd) → audit_status_of why ≡ BadWords → ⊥
+never-bad-audit audit.Done is = cc
+never-bad-audit (audit.Differs verdict) is = cc
+never-bad-audit audit.ReadFault is = cc
+never-bad-audit audit.WriteFault is = cc
+never-bad-audit (audit.CutOff script offset) is = cc
+never-bad-audit (audit.TooLong place) is = cc
+never-bad-audit audit.NoMemory is = cc
+
+-- the line is told by a call that was given these names
+pub is-told-of : {E O : Type 0} (h : sink.Ghosts O) (named given : Files) (old new : O) (status : Status) (r : Result (Unit {0}) E) → named ≡ given
+    → OnOk r (Took h old new (audit_line given status)) → OnErr r (FailedIn h old new (audit_line given status)) → IsToldOf h named old new status
+is-told-of h named given old new status (Ok done) is took failed = inl (subst (λ f. Took h old new (audit_line f status)) (sym is) took)
+is-told-of h named given old new status (Err why) is took failed = inr (subst (λ f. FailedIn h old new (audit_line f status)) (sym is) failed)
+
+-- ---- the file at a place
+
+-- behind the first two
+pub at-two : {X : Type 0} (a b : X) (xs : List X) (place : ℕ) → 2 ≤ place → slice_get (a ∷ b ∷ xs) place ≡ slice_get xs (place - 2)
+at-two a b xs zero more = absurd (omega (arith, more))
+at-two a b xs (suc zero) more = absurd (omega (arith, more))
+at-two a b xs (suc (suc k)) more =
+    let same : suc (suc k) - 2 ≡ k = omega arith in ap (slice_get xs) (sym same)
+
+-- behind the journals
+pub behind-journal : (journal : List ℕ) (scripts : List (List ℕ)) (place : ℕ) → 2 ≤ place → script_name (names_of journal scripts) place ≡ slice_get (files_of scripts) (place - 2)
+behind-journal journal scripts zero more = absurd (omega (arith, more))
+behind-journal journal scripts (suc zero) more = absurd (omega (arith, more))
+behind-journal journal scripts (suc (suc k)) more =
+    let same : suc (suc k) - 2 ≡ k = omega arith in ap (slice_get (files_of scripts)) (sym same)

@@ -1,0 +1,66 @@
+-- How `audit` ends, on its objects, and the line that tells its status.
+use Rattle.std.specs.Prelude.{◌≡◌, ◌⊎◌, ℕ, List, [], ◌∷◌, ◌++◌, codes, decimal, Option, Some, None}
+use Rattle.track_outside.specs.Calls.{Took, FailedIn}
+use Rattle.track_outside.specs.declared.files.Files as files
+use Rattle.track_outside.specs.declared.sink.Sink as sink
+use Rattle.audit_model.specs.declared.verdict.Verdict.TheVariants as verdict
+use Rattle.audit_command.specs.declared.end.AuditEnd.{AuditEnd}
+use Rattle.audit_command.specs.declared.end.AuditEnd.TheVariants as audit
+use Rattle.audit_command.specs.Endings.{EndsFiles, EndsAudit as PutsAudit}
+use Rattle.audit_command.specs.Opening.{names_of}
+use Rattle.command_words.specs.declared.command.Command.TheVariants.{Audit}
+use Rattle.command_words.specs.Commands.{IsSpelled}
+use Rattle.command_words.specs.Plans.{Files}
+use Rattle.tracker_top.specs.declared.status.Status.{Status}
+use Rattle.tracker_top.specs.declared.status.Status.TheVariants.{Done, ReadFault, WriteFault, CutOff, NoMemory, InputTooLong, Differs}
+use Rattle.tracker_top.specs.Plays.{cut_line, long_line, script_name}
+use Rattle.tracker_top.specs.Text.{line_of}
+
+-- ---- how it ends
+
+-- the status at which `audit` ends so
+abbrev pub audit_status_of : AuditEnd → Status
+audit_status_of audit.Done = Done
+audit_status_of (audit.Differs verdict) = Differs verdict
+audit_status_of audit.ReadFault = ReadFault
+audit_status_of audit.WriteFault = WriteFault
+audit_status_of (audit.CutOff script offset) = CutOff script offset
+audit_status_of (audit.TooLong place) = InputTooLong place
+audit_status_of audit.NoMemory = NoMemory
+
+-- the files and the output, at this status of `audit`: why it ended, which files were opened, what
+-- they have, and what was written
+pub record EndsAudit {F I O P : Type 0} (g : files.Ghosts F I O) (h : sink.Ghosts P) (named : Files)
+    (before after : F) (old new : P) (status : Status) : Type 0 where
+  pub why : AuditEnd
+  pub told : status ≡ audit_status_of why
+  pub files : EndsFiles g (names_of named.journal named.scripts) before after why
+  pub output : PutsAudit h (g.contents before) named.journal named.scripts old new why
+
+-- ---- its line
+
+-- where the replies to a script of this name differ
+abbrev pub reply_line : Option (List ℕ) → ℕ → ℕ → List ℕ
+reply_line None script request = line_of (Differs (verdict.Request script request))
+reply_line (Some name) script request =
+    codes "differs: " ++ (name ++ (codes " request " ++ decimal request ++ 10 ∷ []))
+
+-- the line that tells a status, where the files have these names
+abbrev pub audit_line : Files → Status → List ℕ
+audit_line named (Differs (verdict.JournalLine line)) =
+    codes "differs: " ++ (named.journal ++ (codes " line " ++ decimal line ++ 10 ∷ []))
+audit_line named (Differs (verdict.Request script request)) =
+    reply_line (script_name named.scripts script) script request
+audit_line named (CutOff script offset) = cut_line (script_name named.scripts script) offset
+audit_line named (InputTooLong place) =
+    long_line (script_name (names_of named.journal named.scripts) place)
+audit_line named status = line_of status
+
+-- these are the files' names, where the words are `audit` of some
+abbrev pub AreFilesIn : List (List ℕ) → Files → Type 0
+AreFilesIn words named = (files : Files) → IsSpelled words (Audit files) → named ≡ files
+
+-- the status' line was written, or a first part of it where that failed
+abbrev pub IsToldOf : {O : Type 0} → sink.Ghosts O → Files → O → O → Status → Type 0
+IsToldOf h named old new status =
+    Took h old new (audit_line named status) ⊎ FailedIn h old new (audit_line named status)
