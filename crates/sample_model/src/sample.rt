@@ -3,7 +3,7 @@ ghost use Rattle.std.specs.Prelude.{◌≡◌, IfOk};
 ghost use Rattle.sample_model.specs.Samples.{IsSample};
 
 use crate::NoMemory;
-use line_text::Name;
+use line_text::{Duplicate, Name};
 use std::alloc::Global;
 use std::marker::Model;
 
@@ -50,5 +50,11 @@ impl Sample {
             metric: self.metric.copy(alloc)?,
             value: self.value,
         })
+    }
+}
+
+impl Duplicate for Sample {
+    fn duplicate(&self, alloc: Global) -> Result<Sample, NoMemory> {
+        self.copy(alloc)
     }
 }

@@ -7,6 +7,7 @@ ghost use Rattle.sample_model.specs.Samples.{AreSamples};
 
 use crate::NoMemory;
 use crate::sample::Sample;
+use line_text::Duplicate;
 use std::alloc::Global;
 use std::marker::Model;
 use std::sync::Arc;
@@ -79,7 +80,7 @@ impl Samples {
         match &mut self.items {
             Items::Own(own) => own.push(item)?,
             Items::Shared(shared) => {
-                let mut own = copy_of(*shared.allocator(), shared)?;
+                let mut own = Sample::duplicates(*shared.allocator(), shared)?;
                 own.push(item)?;
                 self.items = Items::Own(own);
             }
@@ -137,20 +138,9 @@ impl Samples {
         ensures { IfOk result (λ made. made ≡ self.now) }
     {
         let items = match &self.items {
-            Items::Own(own) => Items::Own(copy_of(alloc, own)?),
+            Items::Own(own) => Items::Own(Sample::duplicates(alloc, own)?),
             Items::Shared(shared) => Items::Shared(shared.clone()?),
         };
         Ok(Samples { items })
     }
-}
-
-// An equal list.
-fn copy_of(alloc: Global, items: &[Sample]) -> Result<Vec<Sample>, NoMemory>
-    ensures { IfOk result (λ made. made.items ≡ items.now) }
-{
-    let mut made = Vec::with_capacity(alloc, items.len())?;
-    for item in items {
-        made.push(item.copy(alloc)?)?;
-    }
-    Ok(made)
 }
