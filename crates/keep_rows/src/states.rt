@@ -18,7 +18,7 @@ use metric_table::Limit;
 use std::alloc::Global;
 use std::marker::Model;
 use store_rows::{Restored, RowFault, read_row, rows_law};
-use track_entry::{EntryFault, entries_law, entries_v1_law, read_entry_v1, read_entry_with};
+use track_entry::{EntryFault, entries_law, entries_v1_law, read_entry_v1_with, read_entry_with};
 use track_replay::replay;
 
 // How many names are kept, so that they are shared where they come again.
@@ -171,7 +171,7 @@ fn read_in(alloc: Global, names: &mut Names, version: u8, text: &[u8]) -> Result
     ensures none { result ≡ Err fault.NotEntry → (e : AnEntry) → ¬ SpellsIn version text.now e }
 {
     if version < 2 {
-        return read_entry_v1(alloc, names, text);
+        return read_entry_v1_with(alloc, names, text);
     }
     read_entry_with(alloc, names, text)
 }

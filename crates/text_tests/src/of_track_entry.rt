@@ -1,5 +1,4 @@
 //! Texts that are entries, and texts that are none.
-use line_text::Names;
 use std::alloc::Global;
 use track_entry::{Entry, EntryFault, put_entry, read_entry, read_entry_v1};
 
@@ -119,7 +118,7 @@ const FIRST: [(&str, Option<&str>); 8] = [
 
 // Whether the text is read so in version 1.
 fn is_first(alloc: Global, text: &[u8], told: Option<&str>) -> bool {
-    match read_entry_v1(alloc, &mut Names::new(alloc, 8), text) {
+    match read_entry_v1(alloc, text) {
         Ok(entry) => match told {
             Some(wanted) => is_spelt(alloc, &entry, wanted.as_bytes()),
             None => false,

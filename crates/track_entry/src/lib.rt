@@ -20,4 +20,4 @@ pub use history_model::{Author, Entry, Placed, Publication};
 pub use put::put_entry;
 pub use read::{entries_law, read_entry, read_entry_with};
 pub use std::alloc::AllocError as NoMemory;
-pub use versions::{entries_v1_law, read_entry_v1};
+pub use versions::{entries_v1_law, read_entry_v1, read_entry_v1_with};

@@ -11,10 +11,23 @@ use line_text::Names;
 use std::alloc::Global;
 
 /// The entry that the text spells in version 1, in which a setting has no least length, which is 1 then; `NotEntry` exactly
-/// where it spells none. Names that are kept are shared.
+/// where it spells none.
 ///
-/// Linear in the text, and takes memory in proportion to it.
-pub fn read_entry_v1(alloc: Global, names: &mut Names, text: &[u8]) -> Result<Entry, EntryFault>
+/// Linear in the text, and takes memory in proportion to it. Who reads many shares their names by
+/// [`read_entry_v1_with`].
+pub fn read_entry_v1(alloc: Global, text: &[u8]) -> Result<Entry, EntryFault>
+    ensures spelt { IfOk result (λ entry. SpellsV1 text.now entry) }
+    ensures none { result ≡ Err EntryFault.NotEntry → (e : AnEntry) → ¬ SpellsV1 text.now e }
+{
+    read_entry_v1_with(alloc, &mut Names::new(alloc, 8), text)
+}
+
+/// As [`read_entry_v1`], but names that are kept are shared.
+pub fn read_entry_v1_with(
+    alloc: Global,
+    names: &mut Names,
+    text: &[u8],
+) -> Result<Entry, EntryFault>
     ensures spelt { IfOk result (λ entry. SpellsV1 text.now entry) }
     ensures none { result ≡ Err EntryFault.NotEntry → (e : AnEntry) → ¬ SpellsV1 text.now e }
 {

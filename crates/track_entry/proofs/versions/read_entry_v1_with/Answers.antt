@@ -6,7 +6,7 @@ use Rattle.track_entry.specs.declared.fault.EntryFault.TheVariants.{NotEntry}
 use Rattle.track_entry.specs.Texts.{SpellsEntry}
 use Rattle.track_entry.specs.Versions.{SpellsV1}
 use Rattle.track_entry.proofs.OlderTexts.{spells-longer, spells-shorter, spells-same, same-spells, of-v1}
-use Rattle.track_entry.proofs.versions.read_entry_v1.Goals as goal
+use Rattle.track_entry.proofs.versions.read_entry_v1_with.Goals as goal
 
 ok-same : {E : Type 0} (text : List ℕ) (r : Result Entry E) → ((e : Entry) → SpellsEntry text e → SpellsV1 text e) → IfOk r (SpellsEntry text) → IfOk r (SpellsV1 text)
 ok-same text (Ok e) same is = same e is
