@@ -1,6 +1,7 @@
-mod Lists
+pub mod Lists
 mod Sorting
 mod Leading
 mod Refusing
 mod Heads
-mod Unique
+pub mod Unique
+mod OneRefusal
