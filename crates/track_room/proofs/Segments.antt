@@ -1,17 +1,13 @@
 -- A segmentation in two visits, as one reply.
-use Rattle.std.proofs.Common.{◌≡◌, false, ℕ, ℤ, List, [], ◌∷◌, ◌++◌, append_assoc, length, take, sym, ap, subst, ◌∙◌, arith, inl, inr}
-use Rattle.std.proofs.lemmas.List.{length-map, map-append, take_all}
-use Rattle.segment_model.specs.Segments.{Position}
-use Rattle.segment_cost.specs.Certificate.{StandsFor}
+use Rattle.std.proofs.Common.{◌≡◌, false, ℕ, List, [], ◌∷◌, ◌++◌, append_assoc, length, take, sym, ap, subst, ◌∙◌, arith, inl, inr}
+use Rattle.std.proofs.lemmas.List.{length-map, map-append}
 use Rattle.segment_cost.specs.declared.done.Done.{Done}
 use Rattle.history_lock.specs.declared.view.Marked.{Marked}
-use Rattle.history_lock.specs.Marks.{AreByOthers, Follows, entries}
+use Rattle.history_lock.specs.Marks.{AreByOthers, entries}
 use Rattle.history_model.specs.declared.entries.Author.{Author}
 use Rattle.history_model.specs.declared.entries.Entry.{Entry}
 use Rattle.history_model.specs.declared.entries.Placed.{Placed}
 use Rattle.history_model.specs.Entries.{entries_of}
-use Rattle.history_model.specs.Penalties.{penalty_of}
-use Rattle.history_model.specs.Positions.{positions}
 use Rattle.history_model.specs.Runs.{Series, is_known}
 use Rattle.publication_index.specs.Kept.{series_of}
 use Rattle.request_model.specs.declared.requests.Request.TheVariants as request
@@ -32,28 +28,24 @@ use Rattle.track_state.proofs.Snapped.{bare-taken, entries-taken}
 use Rattle.track_state.specs.Work.{Work, bare, history_of}
 use Rattle.machine_state.proofs.Told.{unknown}
 use Rattle.history_model.specs.Laws.{LastStands, VersionsStay}
-use Rattle.history_lock.specs.declared.lock.Pass.{Pass}
-use Rattle.history_lock.specs.Passes as passes
-use Rattle.track_room.specs.declared.guarded.Owner.{Owner}
 use Rattle.track_room.specs.Asked.{IsReplied}
-use Rattle.track_room.specs.Sights.{Sight, SeesMore, Visits, own_marks, seeing, track_of}
-use Rattle.track_room.specs.Visits.{Begins, Finishes, Stays}
+use Rattle.track_room.specs.Sights.{Sight, SeesMore, Visits, own_marks, seeing}
+use Rattle.track_room.specs.Taking.{seen_of}
+use Rattle.track_room.specs.Visits.{Begins, Finishes, IsFound, Stays}
 use Rattle.track_room.proofs.Replying.{replied, seen-entries, sees-long, step-seen}
 use Rattle.track_room.proofs.Visiting.{bare-finished, entries-append, stays-sees, visits-as}
 
 -- the history that a pass finds is what it has seen, and then entries of others
-pub found-parts : {S : Type 0} (p p1 : Pass S Placed Owner) (t : Track) → (more : Follows (passes.own_marks p) (passes.seen p) (passes.seen p1)) → t.history ≡ entries (passes.seen p1)
-    → entries_of t.history ≡ entries_of (entries (passes.seen p)) ++ entries_of (entries more.0)
-found-parts p p1 t more was =
-    ap (λ (ps : List Placed). entries_of ps) (was ∙ ap (λ (log : List (Marked Placed)). entries log) more.1 ∙ entries-append (passes.seen p) more.0)
-    ∙ map-append (λ (x : Placed). x.entry) (entries (passes.seen p)) (entries more.0)
+pub found-parts : (pass : Sight) (w : Work) → (is : IsFound pass w) → history_of w ≡ seen_of pass ++ entries_of (entries is.sees.0)
+found-parts pass w is =
+    seen-entries is.found w is.was ∙ ap (λ (s : Sight). entries_of (entries s.seen)) is.sees.2
+    ∙ ap (λ (ps : List Placed). entries_of ps) (entries-append pass.seen is.sees.0)
+    ∙ map-append (λ (x : Placed). x.entry) (entries pass.seen) (entries is.sees.0)
 
 -- what was made from what a pass has seen was made from what it finds
-pub made-still : {S : Type 0} → VersionsStay → (p p1 : Pass S Placed Owner) (t : Track) (done : Done) → Follows (passes.own_marks p) (passes.seen p) (passes.seen p1)
-    → t.history ≡ entries (passes.seen p1) → IsMadeFrom (entries_of (entries (passes.seen p))) done → IsMadeFrom (entries_of t.history) done
-made-still stay p p1 t done more was made =
-    let parts = found-parts p p1 t more was in
-    subst (λ (h : List Entry). IsMadeFrom h done) (sym parts) (made-later stay (entries_of (entries (passes.seen p))) (entries_of (entries more.0)) done made)
+pub made-still : VersionsStay → (pass : Sight) (w : Work) (done : Done) → IsFound pass w → IsMadeFrom (seen_of pass) done → IsMadeFrom (history_of w) done
+made-still stay pass w done is made =
+    subst (λ (h : List Entry). IsMadeFrom h done) (sym (found-parts pass w is)) (made-later stay (seen_of pass) (entries_of (entries is.sees.0)) done made)
 
 -- ---- a pass that has seen more, twice
 others-append : (marks : List ℕ) (xs ys : List (Marked Placed)) → AreByOthers marks xs → AreByOthers marks ys → AreByOthers marks (xs ++ ys)

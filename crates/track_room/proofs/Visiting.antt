@@ -1,6 +1,5 @@
 -- A pass that enters a lock and leaves it, as what it knows of the machine.
-use Rattle.std.proofs.Common.{◌≡◌, ℕ, ◌⊎◌, inl, inr, List, [], ◌∷◌, ◌++◌, length, refl, sym, ap, subst, ◌∙◌, Option, Some, None, arith}
-use Rattle.std.specs.FinSet as set
+use Rattle.std.proofs.Common.{◌≡◌, ℕ, inl, inr, List, [], ◌∷◌, ◌++◌, length, refl, sym, ap, subst, ◌∙◌, Option, Some, None, arith}
 use Rattle.std.specs.Prelude.{IfOk, OnErr, OnOk, Result, Ok, Err}
 use Rattle.std.proofs.lemmas.List.{length-append}
 use Rattle.atomic_table.specs.Seated.{TableId}
@@ -34,20 +33,13 @@ use Rattle.track_series.specs.declared.publishing.Published.{Published}
 use Rattle.track_follow.specs.Settling.{IsPut, IsSettled, entry_said}
 use Rattle.track_follow.specs.Settling as settling
 use Rattle.track_follow.specs.declared.settling.Settled.{Settled}
-use Rattle.track_room.specs.Visits.{Stays}
+use Rattle.track_room.specs.Visits.{DoesOrStays, Grows, IsFound, Stays}
 use Rattle.track_room.specs.declared.guarded.Owner.{Owner}
 use Rattle.track_room.specs.Inside.{owner_of, sight_of}
 use Rattle.track_room.specs.Sights.{Sight, AddsOneAtMost, SeesMore, Visits, seeing, track_of}
 use Rattle.track_room.proofs.Known.{made, track_at}
 
 -- ---- a machine that grows by one entry at most
-
-abbrev pub one_more : Track → Placed → Track
-one_more t e = record { machine = t.machine; kept = t.kept; history = t.history ++ e ∷ []; home = set.empty }
-
--- by its history, whatever tables are home
-abbrev pub Grows : Track → Track → Type 0
-Grows t u = (bare u ≡ bare t) ⊎ ((e : Placed) × (bare u ≡ one_more t e))
 
 pub bare-added : (author : Author) (t : Track) (a : Option Entry) → bare (with_added author t a) ≡ with_added author (bare t) a
 bare-added author t None = refl
@@ -71,7 +63,7 @@ bare-finished author s t o = by o.adds o.answer
 pub finish-grows : (t u : Track) (author : Author) (s : Series) (o : Outcome) (reply : Reply) → IsFinishStep t author s o u reply → Grows t u
 finish-grows t u author s o reply is = added-grows t u author o.adds (ap bare is.track ∙ bare-finished author s t o)
 
-pub result-grows : {A E : Type 0} (t u : Track) (P : A → Type 0) (r : Result A E) → ((x : A) → P x → Grows t u) → IfOk r P → OnErr r (bare u ≡ bare t) → Grows t u
+result-grows : {A E : Type 0} (t u : Track) (P : A → Type 0) (r : Result A E) → ((x : A) → P x → Grows t u) → IfOk r P → OnErr r (bare u ≡ bare t) → Grows t u
 result-grows t u P (Ok x) to is err = to x is
 result-grows t u P (Err e) to is err = inl err
 
@@ -82,10 +74,6 @@ if-ok P Q (Err e) to is = is
 pub on-err : {A E : Type 0} (P Q : Type 0) (r : Result A E) → (P → Q) → OnErr r P → OnErr r Q
 on-err P Q (Ok x) to is = is
 on-err P Q (Err e) to is = to is
-
-pub always-err : {A E : Type 0} (P : Type 0) (r : Result A E) → P → OnErr r P
-always-err P (Ok x) is = tt
-always-err P (Err e) is = is
 
 pub both-ok : {A E : Type 0} (P : A → Type 0) (Q : Type 0) (R : A → Type 0) (r : Result A E) → ((x : A) → P x → Q → R x) → IfOk r P → OnOk r Q → IfOk r R
 both-ok P Q R (Ok x) to is on = to x is on
@@ -133,6 +121,28 @@ visits-as Does Do to old new v = record {
   adds = v.adds;
 }
 
+-- what is done where there is memory, and what is left where there is none
+module _ {A E : Type 0} (w u : Work) (Does : A → Work → Work → Type 0) (told : Result A E) where
+  pub does-or-stays : {N : Type 0} → IfOk told (λ x. Does x w u) → (N → Stays w u) → OnErr told N → DoesOrStays Does told w u
+  does-or-stays {N} does or none = (does, on-err N (Stays w u) told or none)
+
+  pub does-grows : ((x : A) → Does x w u → Grows w.track u.track) → DoesOrStays Does told w u → Grows w.track u.track
+  does-grows to is = result-grows w.track u.track (λ x. Does x w u) told to is.0 is.1
+
+-- and by a visit
+module _ {A E : Type 0} (Does : A → Work → Work → Type 0) (old new : Sight) where
+  pub visits-ok : (told : Result A E) → Visits (DoesOrStays Does told) old new → IfOk told (λ x. Visits (Does x) old new)
+  visits-ok (Ok x) v = visits-as (DoesOrStays {E = E} Does (Ok x)) (Does x) (λ w u does. does.0) old new v
+  visits-ok (Err e) v = tt
+
+  pub visits-err : (told : Result A E) → Visits (DoesOrStays Does told) old new → OnErr told (SeesMore old new)
+  visits-err (Ok x) v = tt
+  visits-err (Err e) v = stays-sees old new (visits-as (DoesOrStays {E = E} Does (Err e)) Stays (λ w u does. does.1) old new v)
+
+-- it is done to a machine that the pass has seen
+pub found-machine : (pass : Sight) (w : Work) → IsFound pass w → w.track.machine ≡ pass.home.machine
+found-machine pass w is = ap (λ (t : Track). t.machine) is.was ∙ ap (λ (s : Sight). s.home.machine) is.sees.2
+
 module _ {S : Type 0} (p p1 p2 : Pass S Placed Owner) (t u : Track) where
   pub may-leave : Grows t u → t.history ≡ entries (passes.seen p1) → passes.MayLeave u.history p1
   may-leave (inl same) is = inl (ap (λ (v : Track). v.history) same ∙ is)
@@ -141,6 +151,20 @@ module _ {S : Type 0} (p p1 p2 : Pass S Placed Owner) (t u : Track) where
   -- what the pass knows once it has entered
   abbrev found : Sight
   found = seeing (sight_of p) (passes.seen p1)
+
+  -- the machine that it finds
+  found-at : t.history ≡ entries (passes.seen p1) → passes.label p ≡ Some (owner_of t) → track_of found ≡ bare t
+  unfolding track_at
+  found-at was labelled =
+      ap (λ (l : Option Owner). track_at l (entries (passes.seen p1))) labelled ∙ ap (λ (h : List Placed). track_at (Some (owner_of t)) h) (sym was)
+
+  pub is-found : (before : Work) → before.track ≡ t → Follows (passes.own_marks p) (passes.seen p) (passes.seen p1) → t.history ≡ entries (passes.seen p1)
+      → passes.label p ≡ Some (owner_of t) → IsFound (sight_of p) before
+  is-found before before_is more was labelled = record {
+    found = found;
+    sees = (more.0, more.2, ap (λ (log : List (Marked Placed)). seeing (sight_of p) log) more.1);
+    was = ap bare before_is ∙ sym (found-at was labelled);
+  }
 
   left-is : passes.IsSame p p1 → passes.IsSame p1 p2 → sight_of p2 ≡ seeing (sight_of p) (passes.seen p2)
   unfolding made
@@ -157,19 +181,17 @@ module _ {S : Type 0} (p p1 p2 : Pass S Placed Owner) (t u : Track) where
       → t.history ≡ entries (passes.seen p1) → passes.label p ≡ Some (owner_of t)
       → passes.IsSame p1 p2 → passes.AddsOneAtMost p1 p2 → u.history ≡ entries (passes.seen p2) → Grows t u → Does before after → Visits Does (sight_of p) (sight_of p2)
   unfolding track_at
-  visited before after before_is after_is Does one more was labelled two adds is grows does =
+  visited before after before_is after_is Does one more was labelled two adds ends grows does =
       let left : sight_of p2 ≡ seeing (sight_of p) (passes.seen p2) = left-is one two in
-      let at : track_of found ≡ bare t =
-      ap (λ (l : Option Owner). track_at l (entries (passes.seen p1))) labelled ∙ ap (λ (h : List Placed). track_at (Some (owner_of t)) h) (sym was) in
       let then : track_of (sight_of p2) ≡ bare u =
       ap (λ (s : Sight). track_of s) left ∙ ap (λ (l : Option Owner). track_at l (entries (passes.seen p2))) (labelled ∙ ap Some (sym (same-owner t u grows)))
-      ∙ ap (λ (h : List Placed). track_at (Some (owner_of u)) h) (sym is) in
+      ∙ ap (λ (h : List Placed). track_at (Some (owner_of u)) h) (sym ends) in
       record {
         found = found;
         sees = (more.0, more.2, ap (λ (log : List (Marked Placed)). seeing (sight_of p) log) more.1);
         before = before;
         after = after;
-        was = ap bare before_is ∙ sym at;
+        was = ap bare before_is ∙ sym (found-at was labelled);
         left = ap bare after_is ∙ sym then;
         does = does;
         adds = elim adds [

@@ -1,17 +1,20 @@
 -- Private: no public contract cites this. What is done to a machine between entering its lock and leaving it.
-use Rattle.std.specs.Prelude.{◌≡◌}
+use Rattle.std.specs.FinSet as set
+use Rattle.std.specs.Prelude.{◌≡◌, ◌⊎◌, ◌++◌, ◌∷◌, [], IfOk, OnErr, Result}
 use Rattle.history_model.specs.declared.entries.Author.{Author}
+use Rattle.history_model.specs.declared.entries.Placed.{Placed}
 use Rattle.history_model.specs.Allowed.{Legal}
 use Rattle.history_model.specs.Runs.{Series}
 use Rattle.request_model.specs.declared.requests.Request.{Request}
 use Rattle.request_model.specs.declared.replies.Reply.{Reply}
 use Rattle.segment_cost.specs.declared.done.Done.{Done}
 use Rattle.track_model.specs.Outcomes.{Outcome}
-use Rattle.track_model.specs.Tracks.{ComesTo, IsStep}
+use Rattle.track_model.specs.Tracks.{ComesTo, IsStep, Track}
 use Rattle.track_series.specs.Beside.{IsBegun}
 use Rattle.track_series.specs.declared.beside.Begun.{Begun}
 use Rattle.track_state.specs.Taking as taking
 use Rattle.track_state.specs.Work.{Work, bare, history_of}
+use Rattle.track_room.specs.Sights.{Sight, SeesMore, track_of}
 
 -- a request is answered
 abbrev pub Answers : Author → Request → Reply → Work → Work → Type 0
@@ -28,3 +31,23 @@ Finishes author done reply w u = taking.Finishes w author done u reply
 -- nothing is seen
 abbrev pub Stays : Work → Work → Type 0
 Stays w u = bare u.track ≡ bare w.track
+
+-- where there is memory this is done, and else nothing is seen
+abbrev pub DoesOrStays : {A E : Type 0} → (A → Work → Work → Type 0) → Result A E → Work → Work → Type 0
+DoesOrStays Does told w u = IfOk told (λ x. Does x w u) × OnErr told (Stays w u)
+
+-- ---- what may be done under a lock
+
+-- one entry more, whatever tables are home
+abbrev pub one_more : Track → Placed → Track
+one_more t e = record { machine = t.machine; kept = t.kept; history = t.history ++ e ∷ []; home = set.empty }
+
+-- a machine grows by one entry at most
+abbrev pub Grows : Track → Track → Type 0
+Grows t u = (bare u ≡ bare t) ⊎ ((e : Placed) × (bare u ≡ one_more t e))
+
+-- a pass finds this state when it enters: what it has seen, and then entries of others
+pub record IsFound (pass : Sight) (w : Work) : Type 0 where
+  pub found : Sight
+  pub sees : SeesMore pass found
+  pub was : bare w.track ≡ track_of found

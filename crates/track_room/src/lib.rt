@@ -14,6 +14,7 @@
 //! of it, and on `play_model` for what a reply beside others is.
 #![tactic(auto)]
 
+mod act;
 mod asking;
 mod claim;
 mod closing;

@@ -1,9 +1,12 @@
 //! One machine's lock, and the passes of it.
 ghost use Rattle.std.specs.Prelude.{◌≡◌, ◌≢◌, ◌≤◌, ◌-◌, ◌^◌, ◌↔◌, IfOk, IfErr, OnOk, OnErr, IsErr, IsOkAnd, bytes_eq};
 ghost use Rattle.history_lock.specs.Marks.{HaveMarksUpTo};
-ghost use Rattle.track_room.specs.Sights.{IsFirstOf, IsWholeSight, Ends, EndsWhole, Joins, splitting, split_off};
+ghost use Rattle.track_state.specs.Work.{Work};
+ghost use Rattle.track_room.specs.Sights.{IsFirstOf, IsWholeSight, Ends, EndsWhole, Joins, Visits, splitting, split_off};
+ghost use Rattle.track_room.specs.Visits.{IsFound};
 
 use crate::NoMemory;
+use crate::act::Act;
 use crate::guarded::Guarded;
 use history_lock::{HistoryLock, InUse, Pass};
 use line_text::Name;
@@ -95,6 +98,19 @@ impl MachineLock {
     {
         let MachinePass { pass: other } = other;
         self.lock.join(&mut pass.pass, other);
+    }
+
+    // Enters the lock, does this to the state that is found there, and leaves the lock again.
+    pub(crate) fn visit<R: Wait, A: Act>(&self, rt: &R, pass: &mut MachinePass, act: A) -> A::Told
+        requires lock { pass.old.home ≡ self.now }
+        requires needs { (w : Work) → IsFound pass.old w → A.needs act w }
+        ensures { Visits (A.does act result) pass.old pass.new }
+    {
+        let seat = &mut pass.pass;
+        let mut state = self.lock.enter(rt, seat);
+        let told = act.act(&mut state.work);
+        self.lock.leave(seat, state);
+        told
     }
 
     // Ends the lock, and gives the machine.

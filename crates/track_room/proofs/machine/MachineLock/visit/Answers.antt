@@ -1,0 +1,40 @@
+use Rattle.std.proofs.Common.{sym, ap, subst, ◌∙◌, Some, refl}
+use Rattle.history_lock.specs.declared.lock.Pass.{Pass}
+use Rattle.history_model.specs.declared.entries.Placed.{Placed}
+use Rattle.track_state.specs.Work.{Work}
+use Rattle.track_room.specs.declared.guarded.Guarded.{Guarded}
+use Rattle.track_room.specs.declared.guarded.Owner.{Owner}
+use Rattle.track_room.specs.Inside.{sight_of}
+use Rattle.track_room.specs.Sights.{Sight, Visits}
+use Rattle.track_room.specs.Visits.{IsFound}
+use Rattle.track_room.proofs.Visiting.{is-found, may-leave, same-owner, visited}
+use Rattle.track_room.proofs.machine.MachineLock.visit.Goals as goal
+
+pub act-told-requires : goal.act-told-requires
+act-told-requires g c =
+    let p : Pass Guarded Placed Owner = c.pass.inside.pass in
+    let w : Work = c.enter-state.result.work in
+    c.requires.needs w (subst (λ (s : Sight). IsFound s w) c.pass.view_is
+    (is-found p c.enter-state.new.pass c.enter-state.new.pass w.track w.track w refl c.enter-state.ensures.seen c.enter-state.ensures.state.0 c.enter-state.ensures.state.1))
+
+pub leave-requires-clause-label : goal.leave-requires-clause-label
+leave-requires-clause-label g c κs =
+    c.enter-state.ensures.pass.0.6 ∙ c.enter-state.ensures.state.1
+    ∙ ap Some (sym (same-owner c.enter-state.result.work.track c.act-told.new.state.track c.act-told.ensures.grows))
+
+pub leave-requires-clause-history : goal.leave-requires-clause-history
+leave-requires-clause-history g c κs =
+    let p : Pass Guarded Placed Owner = c.pass.inside.pass in
+    let p1 : Pass Guarded Placed Owner = c.enter-state.new.pass in
+    may-leave p p1 p1 c.enter-state.result.work.track c.act-told.new.state.track c.act-told.ensures.grows c.enter-state.ensures.state.0
+
+pub returns : goal.returns
+returns g c =
+    let p : Pass Guarded Placed Owner = c.pass.inside.pass in
+    let p1 : Pass Guarded Placed Owner = c.enter-state.new.pass in
+    let p2 : Pass Guarded Placed Owner = c.leave.new.pass in
+    let w : Work = c.enter-state.result.work in
+    let u : Work = c.act-told.new.state in
+    subst (λ (s : Sight). Visits (g.A.Act.does c.args.act c.act-told.result) s (sight_of p2)) c.pass.view_is
+    (visited p p1 p2 w.track u.track w u refl refl (g.A.Act.does c.args.act c.act-told.result) c.enter-state.ensures.pass.0 c.enter-state.ensures.seen c.enter-state.ensures.state.0 c.enter-state.ensures.state.1
+    c.leave.ensures.pass.0 c.leave.ensures.seen c.leave.ensures.state c.act-told.ensures.grows c.act-told.ensures.does)
