@@ -1,11 +1,13 @@
 //! The calls of the program, named once with their types: see the crate `stated_calls`. Each is
 //! called under its own conditions.
-ghost use Rattle.std.specs.Prelude.{◌≤◌, All, length};
+ghost use Rattle.std.specs.Prelude.{◌<◌, ◌≤◌, ◌^◌, All, length};
+ghost use Rattle.audit_model.specs.declared.heard.Heard.{Heard as AHeard};
 ghost use Rattle.command_words.specs.Texts.{texts};
 ghost use Rattle.tracker_top.specs.Plays.{IsNewRunner};
 ghost use Rattle.tracker_top.specs.Statuses.{AsksHunt, AsksPlay};
 
 use pelt_core::Steps;
+use play_audit::{AuditStop, Bytes, Heard, Verdict, audit};
 use std::alloc::Global;
 use std::sync::Wait;
 use std::sync::ledger::Ledger;
@@ -82,6 +84,55 @@ fn hunts<W: Threads + Wait + Sync, F: Files, N: Runner + Send>(
     requires unasked { All (IsNewRunner N.Runner) runners.old.items }
 {
     hunt::<W, F, N>(rt, alloc, words, input, out, err, runners)
+}
+
+fn audits(alloc: Global, journal: &[u8], heard: &[Heard]) -> Result<Verdict, AuditStop>
+    requires some { 0 < length heard.now }
+    requires few { length heard.now ≤ 8 }
+    requires short { All (λ (h : AHeard). length h.script ≤ 2 ^ 30) heard.now }
+{
+    audit(alloc, journal, heard)
+}
+
+fn heard(script: Bytes, transcript: Bytes) -> Heard {
+    Heard { script, transcript }
+}
+
+fn statuses() {
+    let _: [Status; 13] = [
+        Status::Done,
+        Status::BadWords,
+        Status::ReadFault,
+        Status::WriteFault,
+        Status::StoreFault,
+        Status::BadStore(1),
+        Status::CutOff(1, 0),
+        Status::NoMemory,
+        Status::InputTooLong(1),
+        Status::BadLine(1),
+        Status::Full(1),
+        Status::Differs(Verdict::JournalLine(1)),
+        Status::TooFew(1),
+    ];
+    let _: [Verdict; 3] = [
+        Verdict::Shown {
+            machines: 1,
+            steps: 1,
+            requests: 1,
+        },
+        Verdict::JournalLine(1),
+        Verdict::Request {
+            script: 1,
+            request: 1,
+        },
+    ];
+    let _: [AuditStop; 2] = [
+        AuditStop::CutOff {
+            script: 1,
+            offset: 0,
+        },
+        AuditStop::NoMemory,
+    ];
 }
 
 fn number(status: &Status) -> u8 {

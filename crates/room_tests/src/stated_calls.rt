@@ -8,12 +8,15 @@ ghost use Rattle.track_room.specs.Claims.{IsOf};
 ghost use Rattle.track_room.specs.Rooms as rooms;
 ghost use Rattle.track_room.specs.Taking.{HasJob, OfSeen};
 
+use bisect_core::Outcome;
 use bisect_workers::{bisect, bisect_last};
 use history_lock::{Historied, HistoryLock, InUse, Pass};
 use keep_rows::{AppendFault, LoadFault, Loaded, append_all, load};
 use line_text::{Name, NoMemory};
 use machine_state::MachineState;
+use metric_table::Limit;
 use pelt_core::{Steps, Table};
+use point_list::FrozenPoints;
 use recompute_workers::{recompute, recompute_last};
 use segment_cost::{Done, Square};
 use std::alloc::Global;
@@ -53,6 +56,80 @@ fn states() {
         TrackState::settle;
     let _: fn(&TrackState) -> u64 = TrackState::len;
     let _: fn(&TrackState) -> bool = TrackState::was_kept;
+}
+
+fn told() {
+    let _: [Published; 3] = [
+        Published::Ok(1),
+        Published::Stale(1),
+        Published::Full(Limit::Cuts),
+    ];
+    let _: [Settled; 4] = [
+        Settled::Recorded(1),
+        Settled::NotAsked(1),
+        Settled::Closed(Outcome::Asks(1)),
+        Settled::Full,
+    ];
+    let _: [LoadFault; 3] = [
+        LoadFault::KeepFault,
+        LoadFault::BadRow(1),
+        LoadFault::NoMemory,
+    ];
+    let _: [AppendFault; 2] = [AppendFault::KeepFault, AppendFault::NoMemory];
+    let _: [CloseFault; 2] = [
+        CloseFault::InUse {
+            machine: 0,
+            ticket: 1,
+            serving: 0,
+        },
+        CloseFault::NoMemory,
+    ];
+    let _: InUse = InUse {
+        ticket: 1,
+        serving: 0,
+    };
+}
+
+fn snapshot(
+    snapshot: Snapshot,
+) -> (
+    Name,
+    Name,
+    u64,
+    i128,
+    u8,
+    u64,
+    FrozenPoints,
+    FrozenPoints,
+    Option<Table<Square>>,
+) {
+    (
+        snapshot.test,
+        snapshot.metric,
+        snapshot.version,
+        snapshot.penalty,
+        snapshot.length,
+        snapshot.base,
+        snapshot.points,
+        snapshot.old,
+        snapshot.table,
+    )
+}
+
+fn made(redone: Redone) -> (Done, Table<Square>) {
+    (redone.done, redone.table)
+}
+
+fn asks(question: Question) -> (u64, u64, Name) {
+    (question.job, question.place, question.commit)
+}
+
+fn taken(taken: TakenSeries) -> (Name, Name, Snapshot) {
+    (taken.key.test, taken.key.metric, taken.snapshot)
+}
+
+fn kept(loaded: Loaded) -> (Vec<MachineState>, u8) {
+    (loaded.states, loaded.version)
 }
 
 fn machine(state: &TrackState) -> &Name {

@@ -1,12 +1,11 @@
 //! What the program is handed.
 
-use keep_sqlite::SqliteKeeper;
 use line_text::NoMemory;
 use std::alloc::Global;
 use std::rt::HostRuntime;
 use track_outside::{
-    Failed, MemFiles, MemKeeper, MemRunner, MemSink, MemSource, RealFiles, RealRunner, RealSink,
-    RealSource, RepeatSource, Sink, SureSink, SureSource, put_all,
+    Failed, Gate, MemFiles, MemKeeper, MemRunner, MemSink, MemSource, OpenGate, OutError, Place,
+    RealFiles, RealRunner, RealSink, RealSource, RepeatSource, Sink, SureSink, SureSource, put_all,
 };
 
 fn in_memory() {
@@ -19,6 +18,18 @@ fn in_memory() {
     let _: fn(Global, &[u8], u64) -> Result<RepeatSource, NoMemory> = RepeatSource::new;
     let _: fn(Global, &[u8]) -> Result<SureSource, NoMemory> = SureSource::new;
     let _: fn() -> SureSink = SureSink::new;
+    let _: [OutError; 2] = [OutError::Failed, OutError::NoMemory];
+    let _: [Place; 5] = [
+        Place::Replied(1),
+        Place::SeriesTaken(1),
+        Place::SeriesDone(1),
+        Place::QuestionTaken(1),
+        Place::AnswerReady(1),
+    ];
+}
+
+fn passed(gate: &OpenGate, place: Place) {
+    gate.pass(place);
 }
 
 fn taken(sink: &MemSink) -> &[u8] {
@@ -49,8 +60,4 @@ fn files(rt: &HostRuntime) -> RealFiles<'_> {
 
 fn runner(rt: &HostRuntime) -> RealRunner<'_> {
     RealRunner::new(rt)
-}
-
-fn keeper(rt: &HostRuntime, alloc: Global) -> SqliteKeeper<'_> {
-    SqliteKeeper::new(rt, alloc)
 }

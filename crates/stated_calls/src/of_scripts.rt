@@ -14,6 +14,16 @@ use track_outside::Source;
 
 fn lines() {
     let _: fn(Global) -> Result<Lines, NoMemory> = Lines::new;
+    let _: [ReadStop; 4] = [
+        ReadStop::ReadFault,
+        ReadStop::CutOff(0),
+        ReadStop::InputTooLong,
+        ReadStop::NoMemory,
+    ];
+}
+
+fn asked(request: Request, refusal: Refusal) -> [Asked; 3] {
+    [Asked::Request(request), Asked::Refused(refusal), Asked::End]
 }
 
 fn read<S: Source>(alloc: Global, lines: &mut Lines, source: &mut S) -> Result<Asked, ReadStop>

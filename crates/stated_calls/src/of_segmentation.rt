@@ -1,14 +1,16 @@
 //! The segmentation of a series.
-ghost use Rattle.std.specs.Prelude.{◌≡◌, ◌≤◌, ◌^◌, ◌≤ℤ◌, [], ◌∷◌, ◌++◌, length, pos};
+ghost use Rattle.std.specs.Prelude.{◌≡◌, ◌<◌, ◌≤◌, ◌^◌, ◌≤ℤ◌, [], ◌∷◌, ◌++◌, length, pos};
 ghost use Rattle.segment_model.specs.Limits.{IsLength};
 ghost use Rattle.segment_model.specs.Values.{AreWithinLimits, values_by_position};
 
+use absolute_cost::Absolute;
 use change_list::{Change, ChangeItems, changes};
 use checkpoint_redo::redo;
 use cost_certificate::{check, put_cert};
 use line_text::{Name, NoMemory, Numbers};
 use part_core::part;
 use pelt_core::{Steps, Table};
+use penalty_path::{Stretch, Stretches, check_path, path};
 use point_list::{FrozenPoints, PointFault, Points, common_prefix};
 use prefix_sums::{PrefixSums, Sums};
 use segment_cost::{Cert, Cost, Costs, Done, Places, Square};
@@ -23,6 +25,17 @@ fn points() {
     let _: fn(&Points, usize) -> u64 = Points::commit;
     let _: fn(&Points, Global) -> Result<Points, NoMemory> = Points::copy;
     let _: fn(&FrozenPoints, &FrozenPoints) -> usize = common_prefix;
+    let _: [PointFault; 3] = [
+        PointFault::SamplesFull,
+        PointFault::PositionsFull,
+        PointFault::NoMemory,
+    ];
+}
+
+fn values(points: &Points) -> &[i64]
+    requires { 0 < length points.now }
+{
+    points.values(0)
 }
 
 fn sums() {
@@ -33,6 +46,10 @@ fn sums() {
     let _: fn(&PrefixSums, usize, usize) -> Sums = PrefixSums::part;
 }
 
+fn parts_of_sums(sums: Sums) -> (u64, i128, i128) {
+    (sums.count, sums.sum, sums.squares)
+}
+
 fn costs() {
     let _: fn(Global) -> Square = Square::fresh;
     let _: fn(&mut Square, usize) -> Result<(), NoMemory> = Square::reserve;
@@ -41,6 +58,26 @@ fn costs() {
     let _: fn(&Square) -> usize = Square::len;
     let _: fn(&Square, usize, usize) -> i128 = Square::cost;
     let _: fn(&Square, usize, usize) -> i64 = Square::centre;
+}
+
+fn distances() {
+    let _: fn(Global) -> Absolute = Absolute::fresh;
+    let _: fn(&mut Absolute, usize) -> Result<(), NoMemory> = Absolute::reserve;
+    let _: fn(&mut Absolute, &[i64]) = Absolute::push;
+    let _: fn(&mut Absolute, usize) = Absolute::cut_back;
+    let _: fn(&Absolute) -> usize = Absolute::len;
+    let _: fn(&Absolute, usize, usize) -> i128 = Absolute::cost;
+    let _: fn(&Absolute, usize, usize) -> i64 = Absolute::centre;
+}
+
+fn paths() {
+    let _: fn(Global, &Points, i128, i128) -> Result<Stretches, NoMemory> = path;
+    let _: fn(&Stretches, &Points, &Square, i128, i128) -> bool = check_path;
+    let _: fn(&Stretch, Global) -> Result<Stretch, NoMemory> = Stretch::copy;
+}
+
+fn stretch(stretch: Stretch) -> (i128, i128, Cert, Cert) {
+    (stretch.from, stretch.to, stretch.first, stretch.last)
 }
 
 fn certificates() {

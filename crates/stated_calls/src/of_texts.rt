@@ -59,6 +59,13 @@ fn numerals() {
     let _: fn(&[u8]) -> Option<Numeral> = Numeral::read;
     let _: fn(&Numeral, u8) -> Result<i64, OutOfRange> = scale;
     let _: fn(Global, &mut Vec<u8>, i64, u8) -> Result<(), NoMemory> = put_fixed;
+    let _: Numeral = Numeral {
+        negative: true,
+        digits: 1250,
+        exponent: -5,
+    };
+    let _: OutOfRange = OutOfRange;
+    let _: [NameError; 2] = [NameError::BadName, NameError::NoMemory];
 }
 
 fn metrics() {
