@@ -8,3 +8,4 @@ mod Going
 mod Judging
 mod Making
 mod Publishing
+mod Starting

@@ -148,3 +148,15 @@ module _ (old : Track) (done : Done) (new : Track) where
       of : (l : Option ℕ) → later done.version (last_publication (series_of done) (entries_of old.history)) ≡ l → IsTaken l old Kept done (published.Stale w) new → Refused
       of (Some v) at put = stale-of (Some v) at v refl put.1
       of None at put = absurd (not-added (passed (entries_of old.history) done) put)
+
+-- and it is the same where a table was taken since
+pub publishes-still : (old new after : Track) (p : Publication) (reply : Reply) → after.machine ≡ new.machine → after.history ≡ new.history → Publishes old p new reply
+    → Publishes old p after reply
+publishes-still old new after p reply machine history is = record {
+  machine = machine ∙ is.machine;
+  grown = ap entries_of history ∙ is.grown;
+  outcome = is.outcome;
+  comes = is.comes;
+  adds = is.adds;
+  told = is.told;
+}

@@ -12,6 +12,7 @@ ghost use Rattle.journal_walk.specs.Versions.{IsOf};
 
 use crate::NoMemory;
 use crate::ahead::Ahead;
+use crate::start::{Start, start_at};
 use crate::version::Version;
 use history_model::{Placed, Publication, Setting, publication_law};
 use line_text::Name;
@@ -22,15 +23,18 @@ use segment_model::{agreeing_costs_law, best_list_law, cost_law};
 use std::alloc::Global;
 use track_series::{Redone, Snapshot, compute_apart};
 
-// The best segmentation of a publication's series as it was at its version, as one that was redone from older positions.
+// The best segmentation of a publication's series as it was at its version, as one that was redone from older positions. A
+// table that was kept is redone, whichever it is.
 fn segmented(
     alloc: Global,
     p: &Publication,
     then: &Version,
     old: &FrozenPoints,
+    kept: Option<Start>,
 ) -> Result<Redone, NoMemory>
     ensures { IfOk result (IsSegmented p.now then.now old.now) }
 {
+    let start = start_at(alloc, kept, then.setting)?;
     let snapshot = Snapshot {
         test: p.test.copy(alloc)?,
         metric: p.metric.copy(alloc)?,
@@ -39,8 +43,8 @@ fn segmented(
         length: then.setting.length,
         base: 0,
         points: then.points.share()?,
-        old: FrozenPoints::none(alloc)?,
-        table: None,
+        old: start.points,
+        table: start.table,
     };
     let Redone { done, table } = compute_apart(alloc, snapshot)?;
     let redone = (then.points.len() - common_prefix(old, &then.points)) as u64;
@@ -104,7 +108,7 @@ fn base_points(
 }
 
 // Whether two settings are one.
-fn is_same_setting(one: Setting, other: Setting) -> bool
+pub fn is_same_setting(one: Setting, other: Setting) -> bool
     ensures { result ≡ is_setting one other }
 {
     one.penalty == other.penalty && one.length == other.length
@@ -117,13 +121,15 @@ fn is_said(done: &Done, p: &Publication) -> bool
     done.cert.total == p.total && done.cert.cuts.as_slice() == p.cuts.as_slice()
 }
 
-// The segmentation of the publication that comes next; none exactly where it doesn't stand behind the entries so far.
+// The segmentation of the publication that comes next; none exactly where it doesn't stand behind the entries so far. Redoes
+// a table that was kept.
 pub fn made_next(
     alloc: Global,
     track: &MachineState,
     history: &[Placed],
     ahead: &Ahead,
     p: &Publication,
+    kept: Option<Start>,
 ) -> Result<Option<Redone>, NoMemory>
     requires { IsReady (entries_of history.now) (entries_of track.now.history)
         ahead.now p.now }
@@ -142,7 +148,7 @@ pub fn made_next(
     let Some(old) = base_points(alloc, track, history, ahead, p, then)? else {
         return Ok(None);
     };
-    let made = segmented(alloc, p, then, &old)?;
+    let made = segmented(alloc, p, then, &old, kept)?;
     if !is_said(&made.done, p) {
         return Ok(None);
     }

@@ -11,6 +11,7 @@ ghost use Rattle.journal_walk.specs.Steps.{Publishes};
 use crate::NoMemory;
 use crate::ahead::Ahead;
 use crate::made::made_next;
+use crate::tables::Tables;
 use history_model::{Author, Placed, Publication};
 use machine_state::MachineState;
 use request_model::Reply;
@@ -36,11 +37,13 @@ fn publish(track: &mut MachineState, made: Redone) -> Result<Option<Reply>, NoMe
     }
 }
 
-// Adds the publication that comes next, and gives the reply to the request for it; none exactly where it isn't allowed.
+// Adds the publication that comes next, and gives the reply to the request for it; none exactly where it isn't allowed. Redoes
+// the table that is kept of its series, and keeps the new one, where there is memory for it.
 pub fn publish_next(
     history: &[Placed],
     track: &mut MachineState,
     ahead: &mut Ahead,
+    tables: &mut Tables,
     p: &Publication,
 ) -> Result<Option<Reply>, NoMemory>
     requires { IsReady (entries_of history.now) (entries_of track.old.history) ahead.old p.now }
@@ -52,12 +55,14 @@ pub fn publish_next(
     ensures same { OnErr result (track.new ≡ track.old) }
 {
     let place = track.len() as usize;
-    let Some(made) = made_next(track.alloc(), track, history, ahead, p)? else {
+    let kept = tables.take(p);
+    let Some(made) = made_next(track.alloc(), track, history, ahead, p, kept)? else {
         return Ok(None);
     };
     let Some(reply) = publish(track, made)? else {
         return Ok(None);
     };
     ahead.let_go(place);
+    let _kept = tables.keep(track, p);
     Ok(Some(reply))
 }

@@ -13,6 +13,7 @@ use crate::ahead::{Ahead, meet_needs};
 use crate::made::best_cuts;
 use crate::now::version_now;
 use crate::steps::publish_next;
+use crate::tables::Tables;
 use history_model::{Author, Entry, Placed};
 use line_text::Name;
 use machine_state::MachineState;
@@ -28,6 +29,8 @@ pub struct Walk<'a> {
     history: &'a [Placed],
     track: MachineState,
     ahead: Ahead,
+    // A segmentation begins with the table of its series' last one.
+    tables: Tables,
 }
 
 impl<'a> Model for Walk<'a> {
@@ -58,6 +61,7 @@ impl<'a> Walk<'a> {
             history,
             track,
             ahead,
+            tables: Tables::none(alloc),
         })
     }
 
@@ -99,7 +103,8 @@ impl<'a> Walk<'a> {
     }
 
     /// Adds the next entry of the history; false exactly where it isn't allowed behind those before it, or there is none, and
-    /// nothing is added then. Takes the time of the state's indexes, and for a publication that of its segmentation.
+    /// nothing is added then. Takes the time of the state's indexes, and for a publication that of its segmentation, which
+    /// begins with the table of its series' last one, where that has the same setting and there was memory to keep it.
     pub fn go_on(&mut self) -> Result<bool, NoMemory>
         requires { IsAlong self.old }
         ensures added { IfOk result (λ added. added ≡ true → GoesOn self.old self.new) }
@@ -114,7 +119,13 @@ impl<'a> Walk<'a> {
         };
         if let Entry::Publish { publication } = &next.entry {
             let p = publication.get();
-            let reply = publish_next(self.history, &mut self.track, &mut self.ahead, p)?;
+            let reply = publish_next(
+                self.history,
+                &mut self.track,
+                &mut self.ahead,
+                &mut self.tables,
+                p,
+            )?;
             return Ok(reply.is_some());
         }
         let entry = next.entry.copy(self.track.alloc())?;
@@ -124,7 +135,7 @@ impl<'a> Walk<'a> {
 
     /// Adds the next entry of the history, if it is a publication, and gives the reply to the request for it; none exactly
     /// where it is none, or isn't allowed behind those before it, and nothing is added then. Takes the time of a
-    /// segmentation.
+    /// segmentation, as [`Walk::go_on`] does.
     pub fn publish_next(&mut self) -> Result<Option<Reply>, NoMemory>
         requires { IsAlong self.old }
         ensures published { IfOk result (λ o. IfSome o (IsPublishedNext self.old self.new)) }
@@ -141,7 +152,13 @@ impl<'a> Walk<'a> {
             return Ok(None);
         };
         let p = publication.get();
-        let reply = publish_next(self.history, &mut self.track, &mut self.ahead, p)?;
+        let reply = publish_next(
+            self.history,
+            &mut self.track,
+            &mut self.ahead,
+            &mut self.tables,
+            p,
+        )?;
         Ok(reply)
     }
 

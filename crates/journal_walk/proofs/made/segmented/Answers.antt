@@ -1,10 +1,11 @@
-use Rattle.std.proofs.Common.{ℕ, ◌-◌, List, refl, ap₂, ◌∙◌, subst, arith}
+use Rattle.std.proofs.Common.{ℕ, ℤ, ◌-◌, List, refl, sym, ap₂, ◌∙◌, subst, arith}
 use Rattle.std.specs.Int.{w128}
 use Rattle.std.proofs.lemmas.Int.{to_z-of_z}
 use Rattle.segment_model.specs.Segments.{Position}
 use Rattle.segment_cost.specs.Certificate.{StandsFor}
 use Rattle.checkpoint_redo.proofs.Fronts.{common-within}
 use Rattle.history_model.specs.declared.setting.Setting.{Setting}
+use Rattle.track_series.specs.Begun.{Begins}
 use Rattle.journal_walk.proofs.Making.{fits}
 use Rattle.journal_walk.proofs.made.segmented.Goals as goal
 
@@ -12,6 +13,12 @@ pub overflow_sub-redone : goal.overflow_sub-redone
 overflow_sub-redone c =
     let within = common-within c.args.old.now c.args.then.now.points in
     omega (arith, c.len.ensures, c.common_prefix.ensures, within.1)
+
+pub invariant_of-snapshot-clause-begins : goal.invariant_of-snapshot-clause-begins
+invariant_of-snapshot-clause-begins c =
+    let x : Setting = c.args.then.now.setting in
+    subst (λ (z : ℤ). ∥ Begins 0 c.in_ok-start.start.points z x.length c.in_ok-start.start.table ∥₁) (sym (to_z-of_z w128 x.penalty (fits x c.args.then.now.fits)))
+    (subst (λ (y : Setting). ∥ Begins 0 c.in_ok-start.start.points y.penalty y.length c.in_ok-start.start.table ∥₁) c.in_ok-start.ensures c.in_ok-start.start.begins)
 
 pub returns : goal.returns
 returns c =

@@ -9,8 +9,9 @@ use Rattle.machine_state.specs.Made.{publication_from}
 use Rattle.journal_walk.specs.Ahead.{KeepsAhead}
 use Rattle.journal_walk.specs.Made.{IsMadeFor}
 use Rattle.journal_walk.specs.Steps.{Publishes}
-use Rattle.journal_walk.proofs.Adding.{gone, grown}
+use Rattle.journal_walk.proofs.Adding.{gone, grown, stays}
 use Rattle.journal_walk.proofs.Plans.{many}
+use Rattle.journal_walk.proofs.Publishing.{publishes-still}
 use Rattle.journal_walk.proofs.Ready.{of-bases, of-versions}
 use Rattle.journal_walk.proofs.steps.publish_next.Goals as goal
 
@@ -40,5 +41,14 @@ returns-clause-keeps c =
     let kept : KeepsAhead es h' c.args.ahead.now = grown es h h' e c.args.ahead.now c.requires.kept c.requires.all_met added.grown in
     let size : length (entries_of c.publish.new.track.history) ≡ length (entries_of c.args.track.now.history) + 1 =
     ap length added.grown ∙ length-append (entries_of c.args.track.now.history) (e ∷ []) in
-    gone es h' c.len-place.result c.args.ahead.now c.let_go.new.self kept (omega (arith, size, c.len-place.ensures, many c.args.track.now.history))
-    c.let_go.ensures.needs c.let_go.ensures.met c.let_go.ensures.bases c.let_go.ensures.versions c.let_go.ensures.firsts
+    stays es h' (entries_of c.keep-kept.new.track.history) c.let_go.new.self
+    (gone es h' c.len-place.result c.args.ahead.now c.let_go.new.self kept (omega (arith, size, c.len-place.ensures, many c.args.track.now.history))
+    c.let_go.ensures.needs c.let_go.ensures.met c.let_go.ensures.bases c.let_go.ensures.versions c.let_go.ensures.firsts)
+    (ap entries_of c.keep-kept.ensures.history)
+
+pub returns-clause-published : goal.returns-clause-published
+returns-clause-published c =
+    let made : IsMadeFor (entries_of c.args.track.now.history) c.args.p.now c.in-Some.made = rw c.in-Some.is at c.in_ok-made.ensures.some in
+    let added : Publishes c.args.track.now (publication_from c.in-Some.made.done) c.publish.new.track c.in-Some-2.reply = rw c.in-Some-2.is at c.in_ok-reply.ensures.published in
+    publishes-still c.args.track.now c.publish.new.track c.keep-kept.new.track c.args.p.now c.in-Some-2.reply c.keep-kept.ensures.machine c.keep-kept.ensures.history
+    (subst (λ (q : Publication). Publishes c.args.track.now q c.publish.new.track c.in-Some-2.reply) made.is added)
