@@ -76,3 +76,7 @@ pub record IsCutOff (heard : List Heard) (script offset : ℕ) : Type 0 where
   pub reads : IsScript cut.script items (cut_off offset)
   pub first : (i : ℕ) (x : Heard) → i + 1 < script → slice_get heard i ≡ Some x
       → (others : List Item) (at : ℕ) → ¬ IsScript x.script others (cut_off at)
+
+-- no script is
+pub record NoneCutOff (heard : List Heard) : Type 0 where
+  pub each : (i : ℕ) (x : Heard) → slice_get heard i ≡ Some x → (items : List Item) (offset : ℕ) → ¬ IsScript x.script items (cut_off offset)

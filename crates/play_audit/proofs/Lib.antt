@@ -19,3 +19,4 @@ mod Named
 mod Sound
 mod Scripts
 mod Judging
+mod OneVerdict

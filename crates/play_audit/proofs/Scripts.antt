@@ -8,7 +8,7 @@ use Rattle.request_reader.specs.Reading.{OneReading}
 use Rattle.request_reader.specs.Scripts.{ArePiecesOf, Ending, Ends, IsScript, Piece, Reads, cut_off, end, inside, input_limit, last, long, more, text_of}
 use Rattle.request_words.specs.Items.{Gives}
 use Rattle.audit_model.specs.declared.heard.Heard.{Heard}
-use Rattle.audit_model.specs.Verdicts.{IsCutOff}
+use Rattle.audit_model.specs.Verdicts.{IsCutOff, NoneCutOff}
 use Rattle.audit_model.proofs.Exchanges.{snoc_at}
 use Rattle.play_audit.specs.Heard.{AskThese}
 use Rattle.play_audit.proofs.Listed.{same_at, some_at}
@@ -118,5 +118,14 @@ first_cut law heard n asked x items offset read here reads = record {
   first = λ i y below at others place is.
       let its = some_at asked i (omega (arith, below, read.many)) in
       let both : end ≡ cut_off place = (one_script law y.script its.0.items others end (cut_off place) (read.each i y its.0 at its.1) is).1 in
+      absurd (cc);
+}
+
+-- none is
+pub none_cut : OneReading → (heard : List Heard) (asked : List (Vec Item Global)) → AskThese heard asked → NoneCutOff heard
+none_cut law heard asked these = record {
+  each = λ i x here items offset is.
+      let its = some_at asked i (omega (arith, slice_get_within heard i x here, these.many)) in
+      let both : end ≡ cut_off offset = (one_script law x.script its.0.items items end (cut_off offset) (these.each i x its.0 here its.1) is).1 in
       absurd (cc);
 }

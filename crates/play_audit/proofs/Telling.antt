@@ -23,12 +23,12 @@ all-of None is = refl
 all-of (Some y) is = absurd (cc)
 
 module _ (kinds : KindsAreTold) (author : Author) (j : List Placed) (known : ℕ) (q : Request) (r : Reply) where
-  kind_of_adds : Adds author j known q r → adds_none q r.answer ≡ false
+  pub kind_of_adds : Adds author j known q r → adds_none q r.answer ≡ false
   kind_of_adds a =
       ap (λ (x : Reply). adds_none q x.answer) a.told
       ∙ sym (kinds (first_of a.comes.version j) a.comes.base (first_of a.count j) q a.outcome a.comes.comes) ∙ none-of a.outcome.adds a.entry a.adds
 
-  kind_of_tells : Tells j known q r → adds_none q r.answer ≡ true
+  pub kind_of_tells : Tells j known q r → adds_none q r.answer ≡ true
   kind_of_tells t =
       ap (λ (x : Reply). adds_none q x.answer) t.told
       ∙ sym (kinds (first_of t.comes.version j) t.comes.base (first_of t.count j) q t.outcome t.comes.comes) ∙ all-of t.outcome.adds t.adds

@@ -6,3 +6,4 @@ pub mod Items
 pub mod Known
 pub mod Marks
 pub mod Heard
+pub mod Laws

@@ -1,6 +1,6 @@
 //! The audit.
-ghost use Rattle.std.specs.Prelude.{◌≡◌, ◌+◌, ◌<◌, ◌≤◌, ◌^◌, ℕ, All, Err, IfOk, length, sum_by};
-ghost use Rattle.audit_model.specs.Verdicts.{IsVerdict, IsCutOff};
+ghost use Rattle.std.specs.Prelude.{◌≡◌, ◌+◌, ◌<◌, ◌≤◌, ◌^◌, ℕ, All, Err, IfOk, OnOk, length, sum_by};
+ghost use Rattle.audit_model.specs.Verdicts.{IsCutOff, IsVerdict, NoneCutOff};
 ghost use Rattle.audit_model.specs.declared.heard.Heard.{Heard as AHeard};
 ghost use Rattle.audit_model.specs.declared.verdict.AuditStop.TheVariants as stop;
 ghost use Rattle.track_model.specs.Tracks.{Track};
@@ -27,6 +27,7 @@ pub fn audit(alloc: Global, journal: &[u8], heard: &[Heard]) -> Result<Verdict, 
     requires few { length heard.now ≤ 8 }
     requires short { All (λ (h : AHeard). length h.script ≤ 2 ^ 30) heard.now }
     ensures verdict { IfOk result (IsVerdict journal.now heard.now) }
+    ensures whole { OnOk result (NoneCutOff heard.now) }
     ensures cut_off { (script offset : ℕ) → result ≡ Err (stop.CutOff script offset)
         → IsCutOff heard.now script offset }
 {
@@ -44,6 +45,7 @@ fn read_scripts(alloc: Global, heard: &[Heard]) -> Result<Vec<Vec<Item>>, AuditS
     requires few { length heard.now ≤ 8 }
     requires short { All (λ (h : AHeard). length h.script ≤ 2 ^ 30) heard.now }
     ensures read { IfOk result (λ asked. AskThese heard.now asked.items) }
+    ensures whole { OnOk result (NoneCutOff heard.now) }
     ensures cut { (script offset : ℕ) → result ≡ Err (stop.CutOff script offset)
         → IsCutOff heard.now script offset }
 {

@@ -5,7 +5,7 @@ use Rattle.request_reader.specs.Scripts.{IsScript, cut_off, end}
 use Rattle.audit_model.specs.Verdicts.{IsCutOff}
 use Rattle.play_audit.specs.declared.items.ItemsFault.TheVariants as fault
 use Rattle.play_audit.proofs.Listed.{read_at}
-use Rattle.play_audit.proofs.Scripts.{HaveRead, all_read, first_cut, next_read, none_read}
+use Rattle.play_audit.proofs.Scripts.{HaveRead, all_read, first_cut, next_read, none_cut, none_read}
 use Rattle.play_audit.proofs.auditing.read_scripts.Goals as goal
 use Rattle.play_audit.proofs.auditing.read_scripts.Goals.{After-one-item}
 
@@ -44,3 +44,8 @@ loop-one-preserved c =
 
 pub returns-clause-read : goal.returns-clause-read
 returns-clause-read c = all_read c.args.heard.now c.loop-one.one-index c.loop-one.asked.items c.loop-one.invariant.0 (omega (arith, c.loop-one.auto.one-index-end, c.loop-one-test.false))
+
+pub returns-clause-whole : goal.returns-clause-whole
+returns-clause-whole c =
+    none_cut c.reading_law.ensures.one c.args.heard.now c.loop-one.asked.items
+    (all_read c.args.heard.now c.loop-one.one-index c.loop-one.asked.items c.loop-one.invariant.0 (omega (arith, c.loop-one.auto.one-index-end, c.loop-one-test.false)))
