@@ -4,6 +4,7 @@ use Rattle.std.specs.Prelude.{All, Result, IfErr, IfSome, IsSome, OnOk, sum_by, 
 use Rattle.std.specs.List.{AllZip}
 use Rattle.std.specs.Io.KnownBytes.{prepend_known, IsAtEnd}
 use Rattle.std.proofs.lemmas.List.Sums.{sum_by-cons}
+use Rattle.track_outside.specs.Calls.{GaveAtMost}
 use Rattle.track_outside.specs.Counts.{Rose}
 use Rattle.track_outside.specs.Named.{NamedBytes, bytes_at}
 use Rattle.track_outside.specs.declared.files.Files as files
@@ -58,12 +59,23 @@ module _ {I : Type 0} (i : source.Ghosts I) where
   stops_since first now new text room place (TooLong p) has stops = (stops.0, longer (i.left first) (i.left now) text room has.gave stops.1)
   stops_since first now new text room place NoMemory has stops = tt
 
-  -- more bytes came than there is room for
-  pub past_room : (old rest : Option (List ℕ)) (before piece : List ℕ) (room : ℕ) → old ≡ prepend_known piece rest → room < length before + length piece
-      → IfSome old (λ bytes. room < length before + length bytes)
-  past_room old None before piece room is more = subst (λ (o : Option (List ℕ)). IfSome o (λ bytes. room < length before + length bytes)) (sym is) tt
-  past_room old (Some rest) before piece room is more =
-      subst (λ (o : Option (List ℕ)). IfSome o (λ bytes. room < length before + length bytes)) (sym is) (omega (arith, more, length-append piece rest))
+  -- no more bytes were given than there is room for, and one
+  pub gave_nothing : (old new : I) (most : ℕ) → i.left new ≡ i.left old → GaveAtMost most (i.left old) (i.left new)
+  gave_nothing old new most same = record { given = []; gave = sym same ∙ prepend_none (i.left new); few = omega arith }
+
+  pub gave_text : (first now : I) (text : List ℕ) (room : ℕ) → HasRead i first now text room → GaveAtMost (room + 1) (i.left first) (i.left now)
+  gave_text first now text room has = let fits = has.fits in record { given = text; gave = has.gave; few = omega (arith, fits) }
+
+  pub gave_more : (first now new : I) (text : List ℕ) (room : ℕ) → HasRead i first now text room → GaveAtMost (room - length text + 1) (i.left now) (i.left new)
+      → GaveAtMost (room + 1) (i.left first) (i.left new)
+  gave_more first now new text room has more =
+      let fits = has.fits in
+      let few = more.few in
+      record {
+        given = text ++ more.given;
+        gave = has.gave ∙ ap (prepend_known text) more.gave ∙ prepend_more (i.left new) text more.given;
+        few = omega (arith, fits, few, length-append text more.given);
+      }
 
   -- ---- all files
 

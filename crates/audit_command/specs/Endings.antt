@@ -6,7 +6,7 @@ use Rattle.track_outside.specs.Counts.{Rose}
 use Rattle.track_outside.specs.Named.{NamedBytes, Call, bytes_at}
 use Rattle.track_outside.specs.declared.files.Files as files
 use Rattle.track_outside.specs.declared.sink.Sink as sink
-use Rattle.audit_model.specs.Verdicts.{IsVerdict, IsCutOff}
+use Rattle.audit_model.specs.Verdicts.{IsCutOff, IsVerdict, NoneCutOff}
 use Rattle.audit_model.specs.declared.heard.Heard.{Heard}
 use Rattle.audit_model.specs.declared.verdict.Verdict.{Verdict}
 use Rattle.audit_model.specs.declared.verdict.Verdict.TheVariants as verdict
@@ -78,18 +78,19 @@ IsOther (verdict.Shown machines steps requests) = ⊥
 IsOther other = Unit {0}
 
 -- the output, at this end, where these bytes and scripts were read: the line of files that fit, or a
--- first part of it where the output failed, and else nothing
+-- first part of it where the output failed, and else nothing; a verdict comes where no script is cut
+-- off
 abbrev pub EndsVerdict : {O : Type 0} → sink.Ghosts O → List ℕ → List Heard → O → O → AuditEnd → Type 0
 EndsVerdict h bytes heard old new Done =
-    (machines : ℕ) × (steps : ℕ) × (requests : ℕ)
+    (machines : ℕ) × (steps : ℕ) × (requests : ℕ) × NoneCutOff heard
     × IsVerdict bytes heard (verdict.Shown machines steps requests)
     × Took h old new (shown_text machines steps requests)
 EndsVerdict h bytes heard old new WriteFault =
-    (machines : ℕ) × (steps : ℕ) × (requests : ℕ)
+    (machines : ℕ) × (steps : ℕ) × (requests : ℕ) × NoneCutOff heard
     × IsVerdict bytes heard (verdict.Shown machines steps requests)
     × FailedIn h old new (shown_text machines steps requests)
 EndsVerdict h bytes heard old new (Differs other) =
-    IsOther other × IsVerdict bytes heard other × IsUntouched h old new
+    IsOther other × NoneCutOff heard × IsVerdict bytes heard other × IsUntouched h old new
 EndsVerdict h bytes heard old new (CutOff script offset) =
     IsCutOff heard script offset × IsUntouched h old new
 EndsVerdict h bytes heard old new NoMemory = IsUntouched h old new

@@ -1,6 +1,7 @@
 //! Reading the files of an audit.
-ghost use Rattle.std.specs.Prelude.{◌≡◌, ◌++◌, ◌<◌, ◌≤◌, List, length, IfOk, IfErr, OnOk};
+ghost use Rattle.std.specs.Prelude.{◌≡◌, ◌+◌, ◌-◌, ◌++◌, ◌<◌, ◌≤◌, List, length, IfOk, IfErr, OnOk};
 ghost use Rattle.std.specs.Vec.Iter.{into_iter_items};
+ghost use Rattle.track_outside.specs.Calls.{GaveAtMost};
 ghost use Rattle.audit_model.specs.declared.heard.Heard.{Heard as AHeard};
 ghost use Rattle.audit_command.specs.Opening.{IsKept};
 ghost use Rattle.audit_command.specs.Endings.{texts_of};
@@ -55,7 +56,7 @@ pub(crate) fn read_all<F: Files>(
     }
 }
 
-// The bytes of the file at a place, of which there may be so many.
+// The bytes of the file at a place, of which there may be so many. Reads no more, but one byte to see that there are none.
 fn read_one<I: Source>(
     alloc: Global,
     input: &mut I,
@@ -65,6 +66,7 @@ fn read_one<I: Source>(
     ensures text { IfOk result (IsTextOf I.Source input.old) }
     ensures fits { IfOk result (λ text. length text ≤ room) }
     ensures stop { IfErr result (StopsBehind I.Source input.old input.new 0 room place) }
+    ensures few { GaveAtMost (room + 1) (I.left input.old) (I.left input.new) }
     ensures counts { I.faults input.old ≤ I.faults input.new }
 {
     let Ok(mut buffer) = vec![in alloc; 0u8; PIECE] else {
@@ -82,7 +84,8 @@ fn read_one<I: Source>(
     }
 }
 
-// Reads more bytes behind the text, and answers how many: none at the end. The file may have so many.
+// Reads more bytes behind the text, and answers how many: none at the end. The file may have so many; one byte past them
+// shows that it has more.
 fn read_more<I: Source>(
     input: &mut I,
     buffer: &mut [u8],
@@ -96,6 +99,31 @@ fn read_more<I: Source>(
         text.old.items text.new.items room) }
     ensures stop { IfErr result (StopsBehind I.Source input.old input.new
         (length text.old.items) room place) }
+    ensures few { GaveAtMost (room - length text.old.items + 1)
+        (I.left input.old) (I.left input.new) }
+    ensures counts { I.faults input.old ≤ I.faults input.new }
+{
+    let len = (room - text.len()).min(buffer.len() - 1) + 1;
+    read_into(input, &mut buffer[..len], room, place, text)
+}
+
+// The same into a buffer of one byte more than there is room for, at most.
+fn read_into<I: Source>(
+    input: &mut I,
+    buffer: &mut [u8],
+    room: usize,
+    place: u64,
+    text: &mut Vec<u8>,
+) -> Result<usize, FileStop>
+    requires some { 0 < length buffer.old }
+    requires fits { length text.old.items ≤ room }
+    requires short { length buffer.old ≤ room - length text.old.items + 1 }
+    ensures more { IfOk result (ReadsMore I.Source input.old input.new
+        text.old.items text.new.items room) }
+    ensures stop { IfErr result (StopsBehind I.Source input.old input.new
+        (length text.old.items) room place) }
+    ensures few { GaveAtMost (room - length text.old.items + 1)
+        (I.left input.old) (I.left input.new) }
     ensures counts { I.faults input.old ≤ I.faults input.new }
 {
     let Ok(count) = input.read(buffer) else {

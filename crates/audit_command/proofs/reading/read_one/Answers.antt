@@ -1,7 +1,7 @@
-use Rattle.std.proofs.Common.{◌≡◌, ℕ, List, ◌++◌, length, take, drop, sym, subst, arith, length-append}
+use Rattle.std.proofs.Common.{refl, ◌+◌, ◌≡◌, ℕ, List, ◌++◌, length, take, drop, sym, subst, arith, length-append}
 use Rattle.std.proofs.lemmas.List.{length-take, length-drop}
 use Rattle.audit_command.specs.Reading.{HasRead, IsTextOf}
-use Rattle.audit_command.proofs.Gathered.{read_none, read_more, read_all, stops_since}
+use Rattle.audit_command.proofs.Gathered.{gave_more, gave_nothing, gave_text, read_none, read_more, read_all, stops_since}
 use Rattle.audit_command.proofs.reading.read_one.Goals as goal
 
 pub loop-count-init : goal.loop-count-init
@@ -31,3 +31,16 @@ pub returns-in-Err-clause-stop : goal.returns-in-Err-clause-stop
 returns-in-Err-clause-stop g c =
     stops_since g.I.Source c.args.input.now c.loop-count.input c.read_more.new.input c.loop-count.text.items c.args.room c.args.place c.in-Err.stop
     c.loop-count.invariant.0 c.in-Err.ensures.stop
+
+pub returns-in_default-clause-few : goal.returns-in_default-clause-few
+returns-in_default-clause-few g c = gave_nothing g.I.Source c.args.input.now c.args.input.now (c.args.room + 1) refl
+
+pub returns-then-count-eq0-clause-few : goal.returns-then-count-eq0-clause-few
+returns-then-count-eq0-clause-few g c =
+    gave_text g.I.Source c.args.input.now c.read_more.new.input c.read_more.new.text.items c.args.room
+    (read_more g.I.Source c.args.input.now c.loop-count.input c.read_more.new.input c.loop-count.text.items c.read_more.new.text.items c.args.room c.in-Ok-read_more.count
+    c.loop-count.invariant.0 c.in-Ok-read_more.ensures.more c.read_more.ensures.counts)
+
+pub returns-in-Err-clause-few : goal.returns-in-Err-clause-few
+returns-in-Err-clause-few g c =
+    gave_more g.I.Source c.args.input.now c.loop-count.input c.read_more.new.input c.loop-count.text.items c.args.room c.loop-count.invariant.0 c.read_more.ensures.few
