@@ -1,14 +1,16 @@
 -- How an audit ends, and the names of its files.
 use Rattle.std.proofs.Common.{◌≡◌, ℕ, ◌-◌, ◌≤◌, zero, suc, inl, inr, List, ◌∷◌, Result, Ok, Err, OnOk, OnErr, slice_get, sym, ap, subst, arith}
 use Rattle.track_outside.specs.Calls.{Took, FailedIn}
+use Rattle.track_outside.specs.declared.files.Files as files
 use Rattle.track_outside.specs.declared.sink.Sink as sink
 use Rattle.audit_command.specs.declared.end.AuditEnd.{AuditEnd}
 use Rattle.audit_command.specs.declared.end.AuditEnd.TheVariants as audit
+use Rattle.audit_command.specs.Endings.{EndsFiles, EndsAudit as PutsAudit}
 use Rattle.audit_command.specs.Opening.{files_of, names_of}
 use Rattle.command_words.specs.Plans.{Files}
 use Rattle.tracker_top.specs.declared.status.Status.{Status}
 use Rattle.tracker_top.specs.declared.status.Status.TheVariants.{BadWords}
-use Rattle.tracker_top.specs.Audits.{IsToldOf, audit_line, audit_status_of}
+use Rattle.tracker_top.specs.Audits.{EndsAudit, IsToldOf, audit_line, audit_status_of}
 use Rattle.tracker_top.specs.Plays.{script_name}
 
 -- an audit never ends as bad words do
@@ -26,6 +28,13 @@ pub is-told-of : {E O : Type 0} (h : sink.Ghosts O) (named given : Files) (old n
     → OnOk r (Took h old new (audit_line given status)) → OnErr r (FailedIn h old new (audit_line given status)) → IsToldOf h named old new status
 is-told-of h named given old new status (Ok done) is took failed = inl (subst (λ f. Took h old new (audit_line f status)) (sym is) took)
 is-told-of h named given old new status (Err why) is took failed = inr (subst (λ f. FailedIn h old new (audit_line f status)) (sym is) failed)
+
+-- it ended so by a call that was given these names
+pub named-ends : {F I O P : Type 0} (g : files.Ghosts F I O) (h : sink.Ghosts P) (named given : Files) (before after : F) (old new : P) (why : AuditEnd) (status : Status) → named ≡ given
+    → status ≡ audit_status_of why → EndsFiles g (names_of given.journal given.scripts) before after why → PutsAudit h (g.contents before) given.journal given.scripts old new why
+    → EndsAudit g h named before after old new status
+named-ends g h named given before after old new why status is told opened put =
+    subst (λ n. EndsAudit g h n before after old new status) (sym is) (record { why = why; told = told; files = opened; output = put })
 
 -- ---- the file at a place
 

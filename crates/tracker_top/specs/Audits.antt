@@ -1,18 +1,23 @@
 -- How `audit` ends, on its objects, and the line that tells its status.
-use Rattle.std.specs.Prelude.{◌≡◌, ◌⊎◌, ℕ, List, [], ◌∷◌, ◌++◌, codes, decimal, Option, Some, None}
+use Rattle.std.specs.Prelude.{◌≡◌, ◌⊎◌, ℕ, List, [], ◌∷◌, ◌++◌, codes, decimal, Option, Some, None, IfSome}
 use Rattle.track_outside.specs.Calls.{Took, FailedIn}
+use Rattle.track_outside.specs.Counts.{Rose}
+use Rattle.track_outside.specs.Named.{NamedBytes}
 use Rattle.track_outside.specs.declared.files.Files as files
 use Rattle.track_outside.specs.declared.sink.Sink as sink
+use Rattle.audit_model.specs.Verdicts.{IsCutOff, IsVerdict, NoneCutOff}
+use Rattle.audit_model.specs.declared.heard.Heard.{Heard}
+use Rattle.audit_model.specs.declared.verdict.Verdict.{Verdict}
 use Rattle.audit_model.specs.declared.verdict.Verdict.TheVariants as verdict
 use Rattle.audit_command.specs.declared.end.AuditEnd.{AuditEnd}
 use Rattle.audit_command.specs.declared.end.AuditEnd.TheVariants as audit
-use Rattle.audit_command.specs.Endings.{EndsFiles, EndsAudit as PutsAudit}
+use Rattle.audit_command.specs.Endings.{AreTexts, EndsFiles, EndsAudit as PutsAudit, IsPastAt}
 use Rattle.audit_command.specs.Opening.{names_of}
 use Rattle.command_words.specs.declared.command.Command.TheVariants.{Audit}
-use Rattle.command_words.specs.Commands.{IsSpelled}
+use Rattle.command_words.specs.Commands.{AreNoCommand, IsSpelled}
 use Rattle.command_words.specs.Plans.{Files}
 use Rattle.tracker_top.specs.declared.status.Status.{Status}
-use Rattle.tracker_top.specs.declared.status.Status.TheVariants.{Done, ReadFault, WriteFault, CutOff, NoMemory, InputTooLong, Differs}
+use Rattle.tracker_top.specs.declared.status.Status.TheVariants.{Done, BadWords, ReadFault, WriteFault, CutOff, NoMemory, InputTooLong, Differs}
 use Rattle.tracker_top.specs.Plays.{cut_line, long_line, script_name}
 use Rattle.tracker_top.specs.Text.{line_of}
 
@@ -36,6 +41,44 @@ pub record EndsAudit {F I O P : Type 0} (g : files.Ghosts F I O) (h : sink.Ghost
   pub told : status ≡ audit_status_of why
   pub files : EndsFiles g (names_of named.journal named.scripts) before after why
   pub output : PutsAudit h (g.contents before) named.journal named.scripts old new why
+
+-- ---- what is due
+
+-- the status at a verdict
+abbrev pub verdict_status : Verdict → Status
+verdict_status (verdict.Shown machines steps requests) = Done
+verdict_status other = Differs other
+
+-- bytes of journals, and scripts with their transcripts, show this status: a script is cut off, the
+-- first one there; or none is, and it is that of their verdict
+abbrev pub TextsShow : List ℕ → List Heard → Status → Type 0
+TextsShow bytes heard status =
+    ((script : ℕ) × (offset : ℕ) × IsCutOff heard script offset × (status ≡ CutOff script offset))
+    ⊎ (NoneCutOff heard × ((v : Verdict) × IsVerdict bytes heard v × (status ≡ verdict_status v)))
+
+-- the files show it: one is the first with which they have too many bytes, or they have bytes that
+-- show it
+abbrev pub FilesShow : List NamedBytes → Files → Status → Type 0
+FilesShow files named status =
+    ((place : ℕ) × IsPastAt files (names_of named.journal named.scripts) place
+    × (status ≡ InputTooLong place))
+    ⊎ ((bytes : List ℕ) × (heard : List Heard)
+    × AreTexts (Some files) named.journal named.scripts bytes heard × TextsShow bytes heard status)
+
+-- the words and the files show this status: the words are no command, or `audit` of files that show
+-- it
+abbrev pub IsAuditDue : List (List ℕ) → List NamedBytes → Status → Type 0
+IsAuditDue words files status =
+    ((status ≡ BadWords) × AreNoCommand words)
+    ⊎ ((named : Files) × IsSpelled words (Audit named) × FilesShow files named status)
+
+-- it ended as is due, where the files tell their bytes, or memory was wanting, or the files or the
+-- output failed
+abbrev pub AuditsAsDue : {F I O P : Type 0} → files.Ghosts F I O → sink.Ghosts P → List (List ℕ) → F → F
+    → P → P → Status → Type 0
+AuditsAsDue g h words before after old new status = IfSome (g.contents before) (λ files.
+    (due : Status) → IsAuditDue words files due → (status ≡ due) ⊎ (status ≡ NoMemory)
+    ⊎ Rose (g.read_faults before) (g.read_faults after) ⊎ Rose (h.faults old) (h.faults new))
 
 -- ---- its line
 

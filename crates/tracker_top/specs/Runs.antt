@@ -15,7 +15,7 @@ use Rattle.shared_run.specs.Crews.{asked_by}
 use Rattle.shared_run.specs.Endings.{Objects, Told}
 use Rattle.tracker_top.specs.declared.status.Status.{Status}
 use Rattle.tracker_top.specs.declared.status.Status.TheVariants.{BadWords, NoMemory}
-use Rattle.tracker_top.specs.Audits.{AreFilesIn, EndsAudit, IsToldOf}
+use Rattle.tracker_top.specs.Audits.{AreFilesIn, AuditsAsDue, EndsAudit, IsToldOf}
 use Rattle.tracker_top.specs.Endings.{Ends, EndsUnbegun, IsTold}
 use Rattle.tracker_top.specs.Hunts.{AreAsBefore, EndsHunt, HuntsAsDue}
 use Rattle.tracker_top.specs.Plays.{AreNamesIn, AreUntouched, EndsPlay, IsToldIn, PlaysAsDue}
@@ -77,4 +77,5 @@ pub record RunsAudit {F I O P : Type 0} (g : files.Ghosts F I O) (h : sink.Ghost
   pub command : status ≢ BadWords
       → ((status ≡ NoMemory) × (after ≡ before) × (new ≡ old))
       ⊎ ((named : Files) × IsSpelled words (Audit named) × EndsAudit g h named before after old new status)
+  pub complete : AuditsAsDue g h words before after old new status
   pub told : (named : Files) → AreFilesIn words named → IsToldOf h named told_to telling status

@@ -5,7 +5,7 @@ ghost use Rattle.command_words.specs.Commands.{AreNoCommand, IsSpelled};
 ghost use Rattle.command_words.specs.Plans.{Files as Named};
 ghost use Rattle.command_words.specs.Texts.{texts};
 ghost use Rattle.tracker_top.specs.declared.status.Status.{Status};
-ghost use Rattle.tracker_top.specs.Audits.{AreFilesIn, EndsAudit, IsToldOf};
+ghost use Rattle.tracker_top.specs.Audits.{AreFilesIn, AuditsAsDue, EndsAudit, IsToldOf};
 ghost use Rattle.tracker_top.specs.Statuses.{AsksAudit};
 
 use crate::naming::put_audit_status;
@@ -13,6 +13,7 @@ use crate::printing::put_status;
 use crate::status::Status;
 use audit_command::audit_files;
 use command_words::{AuditPlan, Command, command_of, one_command_law};
+use play_audit::one_verdict_law;
 use std::alloc::Global;
 use track_outside::{Files, NoMemory};
 
@@ -45,11 +46,17 @@ pub fn audit<F: Files>(
         ⊎ ((named : Named) × IsSpelled (texts words.now) (Audit named)
         × EndsAudit F.Files F.Output.Sink named files.old files.new out.old out.new result) }
 
+    // What is due comes, unless memory is wanting, a file can't be opened or read, or the output fails. So good words and
+    // files that fit together are Done, and a status tells another verdict exactly where files have it.
+    ensures complete { AuditsAsDue F.Files F.Output.Sink (texts words.now)
+        files.old files.new out.old out.new result }
+
     // The status is told, with the file's name as the words have it.
     ensures told { (named : Named) → AreFilesIn (texts words.now) named
         → IsToldOf F.Output.Sink named err.old err.new result }
 {
     one_command_law();
+    one_verdict_law();
     let Ok(told) = files_in(alloc, words) else {
         let _ = put_status(err, Status::NoMemory);
         return Status::NoMemory;

@@ -1,13 +1,12 @@
-use Rattle.std.proofs.Common.{◌≡◌, ◌∙◌, ℕ, List, length, ap, sym, subst, inr, arith, IfSome}
+use Rattle.std.proofs.Common.{◌≡◌, ◌∙◌, ℕ, List, length, ap, sym, subst, inr, arith, IfNone, IfSome}
 use Rattle.std.proofs.lemmas.List.{length-map}
 use Rattle.std.specs.Borrow.{Bor}
 use Rattle.command_words.specs.declared.command.Command.TheVariants.{Audit}
-use Rattle.command_words.specs.Commands.{IsSpelled}
+use Rattle.command_words.specs.Commands.{AreNoCommand, IsSpelled}
 use Rattle.command_words.specs.Plans.{Files}
 use Rattle.command_words.specs.Texts.{shown, texts}
-use Rattle.audit_command.specs.Endings.{EndsFiles, EndsAudit as PutsAudit}
-use Rattle.audit_command.specs.Opening.{names_of}
-use Rattle.tracker_top.proofs.Audits.{is-told-of, never-bad-audit}
+use Rattle.tracker_top.proofs.Audits.{is-told-of, named-ends, never-bad-audit}
+use Rattle.tracker_top.proofs.AuditsDue.{bad-audit-due, ends-due, wanting-audit-due}
 use Rattle.tracker_top.proofs.auditing.audit.Goals as goal
 
 pub audit_files-requires-clause-some : goal.audit_files-requires-clause-some
@@ -35,13 +34,34 @@ returns-clause-untouched g c = λ bad. absurd (never-bad-audit c.audit_files.res
 pub returns-clause-command : goal.returns-clause-command
 returns-clause-command g c =
     let spelled = subst (λ told. IfSome told (λ (named : Files). IsSpelled (texts c.args.words.now) (Audit named))) c.in-Some.is c.in-Ok.ensures.some in
-    let told = g.F.Files.contents c.args.files.now in
-    let named = c.in-Some.named in
-    let files = subst (λ (j : List ℕ). EndsFiles g.F.Files (names_of j named.scripts) c.args.files.now c.audit_files.new.files c.audit_files.result) c.journal-journal.ensures
-    (subst (λ ss. EndsFiles g.F.Files (names_of c.journal-journal.result.now ss) c.args.files.now c.audit_files.new.files c.audit_files.result) c.scripts-scripts.ensures c.audit_files.ensures.files) in
-    let output = subst (λ (j : List ℕ). PutsAudit g.F.Output.Sink told j named.scripts c.args.out.now c.audit_files.new.out c.audit_files.result) c.journal-journal.ensures
-    (subst (λ ss. PutsAudit g.F.Output.Sink told c.journal-journal.result.now ss c.args.out.now c.audit_files.new.out c.audit_files.result) c.scripts-scripts.ensures c.audit_files.ensures.audit) in
-    λ good. inr (named, spelled, record { why = c.audit_files.result; told = c.from-status.ensures; files = files; output = output })
+    let given : Files = record { journal = c.journal-journal.result.now; scripts = shown c.scripts-scripts.result.now } in
+    let same : c.in-Some.named ≡ given = λ i. record { journal = sym c.journal-journal.ensures i; scripts = sym c.scripts-scripts.ensures i } in
+    λ good. inr (
+      c.in-Some.named,
+      spelled,
+      named-ends g.F.Files g.F.Output.Sink c.in-Some.named given c.args.files.now c.audit_files.new.files c.args.out.now c.audit_files.new.out c.audit_files.result c.from-status.result same
+          c.from-status.ensures c.audit_files.ensures.files c.audit_files.ensures.audit,
+    )
+
+pub returns-in_default-clause-complete : goal.returns-in_default-clause-complete
+returns-in_default-clause-complete g c =
+    wanting-audit-due g.F.Files g.F.Output.Sink (texts c.args.words.now) c.args.files.now c.args.files.now c.args.out.now c.args.out.now
+
+pub returns-in_default-told-clause-complete : goal.returns-in_default-told-clause-complete
+returns-in_default-told-clause-complete g c =
+    let none : AreNoCommand (texts c.args.words.now) =
+    subst (λ told. IfNone told (AreNoCommand (texts c.args.words.now))) c.in_default-told.is c.in-Ok.ensures.none in
+    bad-audit-due g.F.Files g.F.Output.Sink (texts c.args.words.now) c.args.files.now c.args.files.now c.args.out.now c.args.out.now none
+
+pub returns-clause-complete : goal.returns-clause-complete
+returns-clause-complete g c =
+    let spelled = subst (λ told. IfSome told (λ (named : Files). IsSpelled (texts c.args.words.now) (Audit named))) c.in-Some.is c.in-Ok.ensures.some in
+    let given : Files = record { journal = c.journal-journal.result.now; scripts = shown c.scripts-scripts.result.now } in
+    let same : c.in-Some.named ≡ given = λ i. record { journal = sym c.journal-journal.ensures i; scripts = sym c.scripts-scripts.ensures i } in
+    ends-due c.one_verdict_law.ensures.verdict c.one_verdict_law.ensures.cut_off g.F.Files g.F.Output.Sink (texts c.args.words.now) c.args.files.now c.audit_files.new.files c.args.out.now c.audit_files.new.out
+    c.one_command_law.ensures c.in-Some.named spelled c.from-status.result
+    (named-ends g.F.Files g.F.Output.Sink c.in-Some.named given c.args.files.now c.audit_files.new.files c.args.out.now c.audit_files.new.out c.audit_files.result c.from-status.result same
+    c.from-status.ensures c.audit_files.ensures.files c.audit_files.ensures.audit)
 
 pub returns-clause-told : goal.returns-clause-told
 returns-clause-told g c =
