@@ -1,5 +1,5 @@
 -- Private: no public contract cites this. A transcript, heard reply by reply.
-use Rattle.std.proofs.Common.{◌≡◌, ◌⊎◌, inl, inr, ℕ, zero, suc, ◌+◌, ◌<◌, ◌≤◌, List, [], ◌∷◌, ◌++◌, length, map, take, Some, refl, sym, ap, subst, ◌∙◌, arith, append_assoc, append-nil, length-append}
+use Rattle.std.proofs.Common.{◌≡◌, inl, inr, ℕ, suc, ◌+◌, ◌<◌, List, [], ◌∷◌, ◌++◌, length, take, Some, refl, sym, ap, subst, ◌∙◌, arith, append_assoc, append-nil}
 use Rattle.std.specs.Prelude.{slice_get}
 use Rattle.std.proofs.lemmas.List.{take_all}
 use Rattle.std.proofs.lemmas.Option.{slice_get_within}
@@ -7,14 +7,12 @@ use Rattle.history_model.specs.declared.entries.Author.TheVariants as author
 use Rattle.track_model.specs.Tracks.{Track}
 use Rattle.request_model.specs.declared.replies.Reply.{Reply}
 use Rattle.request_words.specs.Bodies.{Item}
-use Rattle.request_reader.specs.Reading.{OneReading}
-use Rattle.request_reader.specs.Scripts.{Ending, IsScript, end}
+use Rattle.request_reader.specs.Scripts.{IsScript, end}
 use Rattle.reply_text.specs.Replies.{text_of}
 use Rattle.journal_lines.proofs.Lacking.{behind_same}
 use Rattle.play_fits.specs.Journals.{machines_of, history_in}
 use Rattle.play_fits.specs.Scripts.{Exchange, items_of, replies_text}
-use Rattle.audit_model.specs.declared.heard.Heard.{Heard}
-use Rattle.audit_model.specs.Heard.{AreGiven, BeginsWell, IsRefusedAt, IsTold, kept_count}
+use Rattle.audit_model.specs.Heard.{AreGiven, IsRefusedAt, IsTold, kept_count}
 use Rattle.audit_model.specs.Hearing.{Gives, HasHeard, HearsNext, HearsNone}
 use Rattle.audit_model.proofs.Exchanges.{take_next, text_more, items_more, Splits, split_last, given_none, given_more, given_front, given_last}
 

@@ -1,10 +1,9 @@
 -- Private: no public contract cites this. The journal of a machine among those of different ones, and a request about it.
-use Rattle.std.proofs.Common.{◌≡◌, ◌≢◌, inl, inr, ℕ, zero, suc, Bool, true, false, not, List, [], ◌∷◌, length, map, filter, Some, refl, sym, ap, subst, ◌∙◌}
+use Rattle.std.proofs.Common.{◌≡◌, inl, inr, ℕ, zero, suc, Bool, true, false, not, List, [], ◌∷◌, length, map, filter, Some, refl, sym, ap, subst, ◌∙◌}
 use Rattle.std.specs.Prelude.{slice_get, bytes_eq, if◌then◌else◌, ◌&&◌, ◌||◌}
 use Rattle.std.specs.List.{AllByRecursion, list_any}
 use Rattle.std.proofs.lemmas.Bool.{cases_Bool}
 use Rattle.std.proofs.lemmas.Slice.Eq.{bytes_eq-Decides}
-use Rattle.history_model.specs.declared.entries.Placed.{Placed}
 use Rattle.request_model.specs.declared.requests.Request.{Request}
 use Rattle.track_model.specs.Replies.{machine_of}
 use Rattle.track_model.specs.Tracks.{Track}

@@ -1,5 +1,5 @@
 -- What a script was told, by the journals: its transcript has the replies to its requests, and its entries are theirs.
-use Rattle.std.specs.Prelude.{◌≡◌, ◌⊎◌, ℕ, ◌+◌, ◌<◌, List, ◌++◌, filter, length, map, slice_get, sum_by, take, Bool, true, false, Contains, Some}
+use Rattle.std.specs.Prelude.{◌≡◌, ◌⊎◌, ℕ, ◌+◌, ◌<◌, List, ◌++◌, filter, length, map, slice_get, sum_by, take, Bool, true, false, Some}
 use Rattle.std.specs.FinSet as set
 use Rattle.history_model.specs.declared.entries.Author.{Author}
 use Rattle.history_model.specs.declared.entries.Author.TheVariants as author

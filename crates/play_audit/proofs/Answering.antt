@@ -1,5 +1,5 @@
 -- Private: no public contract cites this. What a request comes to behind a walk, as a reply by the journal.
-use Rattle.std.proofs.Common.{◌≡◌, ◌≢◌, inl, inr, ℕ, zero, suc, ◌^◌, ◌+◌, ◌<◌, ◌≤◌, Bool, false, List, [], ◌∷◌, ◌++◌, length, drop, Option, Some, None, refl, sym, ap, subst, ◌∙◌, arith, length-append}
+use Rattle.std.proofs.Common.{◌≡◌, ◌≢◌, inl, inr, ℕ, ◌^◌, ◌+◌, ◌<◌, ◌≤◌, false, List, [], ◌∷◌, ◌++◌, length, drop, Option, Some, None, refl, sym, ap, subst, ◌∙◌, arith, length-append}
 use Rattle.std.specs.Prelude.{slice_get}
 use Rattle.std.proofs.lemmas.Option.{slice_get_past}
 use Rattle.history_model.specs.declared.entries.Author.{Author}
@@ -12,8 +12,8 @@ use Rattle.reply_text.specs.Replies.{text_of}
 use Rattle.track_model.specs.Counts.{is_segment}
 use Rattle.track_model.specs.Outcomes.{Outcome}
 use Rattle.track_model.specs.Replies.{reply_of}
-use Rattle.track_model.specs.Tracks.{ComesTo, IsStep, Track, with_added}
-use Rattle.play_model.specs.Laws.{AddedIsNew, RepliesNameEntries}
+use Rattle.track_model.specs.Tracks.{ComesTo, Track, with_added}
+use Rattle.play_model.specs.Laws.{RepliesNameEntries}
 use Rattle.play_model.specs.Replies.{Adds, ComesToBeside, Tells, first_of, stands_alone}
 use Rattle.play_model.proofs.Replies.{added-step, told-step}
 use Rattle.reply_laws.specs.Kinds.{Names, tells_by_letter, tells_none}

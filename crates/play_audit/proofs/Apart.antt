@@ -1,5 +1,5 @@
 -- Private: no public contract cites this. Items that name no machine's history.
-use Rattle.std.proofs.Common.{◌≡◌, ◌≢◌, ◌⊎◌, inl, inr, ℕ, zero, suc, ◌+◌, ◌<◌, ◌≤◌, Bool, true, false, List, [], ◌∷◌, ◌++◌, length, map, drop, Option, Result, Ok, Err, Some, None, refl, sym, ap, subst, ◌∙◌, arith}
+use Rattle.std.proofs.Common.{◌≡◌, ◌≢◌, inl, ℕ, zero, suc, Bool, true, false, List, [], ◌∷◌, ◌++◌, Option, Result, Ok, Err, Some, None, refl, sym, ap, subst, ◌∙◌}
 use Rattle.std.specs.Prelude.{slice_get, if◌then◌else◌, IfOk, IfSome, IfNone}
 use Rattle.std.specs.List.{AllByRecursion}
 use Rattle.request_words.specs.Bodies.{Item}
@@ -24,7 +24,7 @@ use Rattle.audit_model.specs.Heard.{kept_count}
 use Rattle.audit_model.specs.Hearing.{Gives, HearsNone}
 use Rattle.audit_model.specs.Verdicts.{track_of}
 use Rattle.audit_model.proofs.Exchanges.{known_else}
-use Rattle.audit_model.proofs.Machines.{IsOtherTrack, alone, undeclared}
+use Rattle.audit_model.proofs.Machines.{alone, undeclared}
 use Rattle.play_audit.specs.Texts.{BeginsWith}
 use Rattle.play_audit.specs.Known.{AreKnown, tracks_of}
 use Rattle.play_audit.specs.Marks.{AreRows, IsAddedBy}

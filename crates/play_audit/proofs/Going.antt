@@ -1,16 +1,13 @@
 -- Private: no public contract cites this. A script, heard item by item.
-use Rattle.std.proofs.Common.{◌≡◌, ◌⊎◌, inl, inr, ℕ, zero, suc, ◌+◌, ◌<◌, ◌≤◌, Bool, true, false, List, [], ◌∷◌, ◌++◌, length, map, take, drop, get_or, Some, refl, sym, ap, subst, ◌∙◌, arith, append_assoc, append-nil, length-append}
+use Rattle.std.proofs.Common.{◌≡◌, ℕ, zero, suc, ◌+◌, ◌<◌, ◌≤◌, Bool, List, [], ◌∷◌, ◌++◌, length, drop, Some, refl, sym, ap, subst, ◌∙◌, arith, length-append}
 use Rattle.std.specs.Prelude.{slice_get}
 use Rattle.request_words.specs.Bodies.{Item}
-use Rattle.request_model.specs.declared.replies.Reply.{Reply}
-use Rattle.request_reader.specs.Scripts.{IsScript, end}
 use Rattle.reply_text.specs.Replies.{text_of}
-use Rattle.track_model.specs.Tracks.{Track}
 use Rattle.journal_reader.specs.Journals.{Journal}
 use Rattle.play_fits.specs.Scripts.{Exchange}
 use Rattle.audit_model.specs.Hearing.{HasHeard, HearsNext, HearsNone}
 use Rattle.play_audit.specs.Known.{AreKnown, tracks_of}
-use Rattle.play_audit.specs.Marks.{AreRows, MarksAll, MarksOne}
+use Rattle.play_audit.specs.Marks.{AreRows, MarksAll}
 use Rattle.play_audit.specs.Heard.{exchange, HearsAll, HearsItem, RefusesAt}
 use Rattle.std.proofs.Common.{length-drop}
 use Rattle.std.proofs.Math.ListN.{drop_of_length-le}

@@ -1,15 +1,11 @@
 -- Private: no public contract cites this. A script's ways along the journals.
-use Rattle.std.proofs.Common.{◌≡◌, ◌⊎◌, inl, inr, true, false, ℕ, zero, suc, ◌+◌, ◌<◌, ◌≤◌, List, [], ◌∷◌, ◌++◌, length, map, take, Some, refl, sym, ap, subst, ◌∙◌, arith}
+use Rattle.std.proofs.Common.{◌≡◌, inl, inr, ℕ, ◌+◌, ◌≤◌, List, [], ◌∷◌, ◌++◌, length, Some, None, refl, sym, ap, subst, ◌∙◌, arith}
 use Rattle.std.specs.Prelude.{slice_get}
 use Rattle.journal_reader.specs.Journals.{Journal}
 use Rattle.std.proofs.lemmas.Option.{slice_get_within}
 use Rattle.std.specs.List.{AllByRecursion}
-use Rattle.std.proofs.lemmas.List.{length-map}
 use Rattle.std.proofs.Common.{filter, length-append}
-use Rattle.history_model.specs.declared.entries.Placed.{Placed}
 use Rattle.journal_reader.specs.Journals.{AreDifferent, IsOther}
-use Rattle.journal_walk.specs.Laws.{BeginsAlong}
-use Rattle.track_model.specs.Tracks.{Track, new_track}
 use Rattle.audit_model.specs.Heard.{is_of_store, kept_count}
 use Rattle.audit_model.specs.Verdicts.{track_of}
 use Rattle.audit_model.proofs.Exchanges.{snoc_at}
@@ -43,22 +39,16 @@ pub none_known : (js : List Journal) → AreKnownFirst js 0 []
 none_known js = record { many = refl; each = λ a j p here there. absurd (omega (arith, slice_get_within {A = Place} [] a p there)) }
 
 -- one way more
-pub known_next : BeginsAlong → (js : List Journal) (n known : ℕ) (machine : List ℕ) (history : List Placed) (j : Journal) (places : List Place) → AreSound js → AreKnownFirst js n places
-    → slice_get js n ≡ Some j → machine ≡ j.machine → history ≡ j.history → known ≡ length (filter is_of_store j.history)
-    → AreKnownFirst js (n + 1) (places ++ record { walk = record { history = history; track = new_track machine true }; known = known } ∷ [])
-known_next begins js n known machine history j places sound first here name same counted =
-    let p : Place = record { walk = record { history = history; track = new_track machine true }; known = known } in
+pub known_next : (js : List Journal) (n known : ℕ) (j : Journal) (places : List Place) → AreSound js → AreKnownFirst js n places
+    → slice_get js n ≡ Some j → known ≡ length (filter is_of_store j.history) → AreKnownFirst js (n + 1) (places ++ record { walk = None; known = known } ∷ [])
+known_next js n known j places sound first here counted =
+    let p : Place = record { walk = None; known = known } in
     let kept : kept_count (tracks_of js) j.machine ≡ length (filter is_of_store j.history) =
     kept_at (tracks_of js) n (track_of j) (tracks_other js sound.different) (track_at js n j here) in
     let short : length (filter is_of_store j.history) ≤ length j.history = filter_short is_of_store j.history in
+    let within : known ≤ length j.history = omega (arith, counted, short) in
     let is : IsKnown js [] j p = record {
-      place = record {
-        along = begins machine history;
-        same = same;
-        machine_is = name;
-        behind = omega arith;
-        within = omega (arith, counted, short);
-      };
+      place = within;
       known = counted ∙ sym kept;
     } in
     record {

@@ -15,6 +15,7 @@ mod Knowing
 mod Opened
 mod Going
 mod Apart
+mod Beginning
 mod Named
 mod Sound
 mod Scripts

@@ -1,13 +1,10 @@
 -- Private: no public contract cites this. A request about one of the machines.
-use Rattle.std.proofs.Common.{◌≡◌, ◌≢◌, ◌⊎◌, inl, inr, ℕ, zero, suc, ◌+◌, ◌-◌, ◌<◌, ◌≤◌, Bool, true, false, List, [], ◌∷◌, ◌++◌, length, map, drop, set, get_or, Option, Result, Ok, Err, Some, None, refl, sym, ap, subst, ◌∙◌, arith}
+use Rattle.std.proofs.Common.{◌≡◌, ◌⊎◌, inl, inr, ℕ, zero, suc, ◌+◌, ◌-◌, ◌<◌, Bool, true, false, List, [], ◌∷◌, ◌++◌, length, set, get_or, Option, Result, Ok, Err, Some, None, refl, sym, ap, subst, ◌∙◌, arith}
 use Rattle.std.specs.Prelude.{slice_get, IfOk, IfSome, IfNone}
 use Rattle.std.proofs.lemmas.List as lists
-use Rattle.std.proofs.lemmas.Bool.{cases_Bool}
 use Rattle.std.proofs.lemmas.Option.{slice_get_within}
-use Rattle.request_words.specs.Bodies.{Item}
 use Rattle.request_model.specs.declared.replies.Reply.{Reply}
 use Rattle.request_model.specs.declared.requests.Request.{Request}
-use Rattle.reply_text.specs.Replies.{text_of}
 use Rattle.track_model.specs.Tracks.{Track}
 use Rattle.track_model.specs.Replies.{machine_of}
 use Rattle.history_model.specs.declared.entries.Author.TheVariants as author
@@ -15,7 +12,7 @@ use Rattle.history_model.specs.declared.entries.Placed.{Placed}
 use Rattle.journal_reader.specs.Journals.{Journal, AreDifferent}
 use Rattle.play_model.specs.Replies.{Adds, IsReplyOn, IsReplyWhere, is_of_history, stands_alone}
 use Rattle.play_fits.specs.Journals.{history_in, machines_of}
-use Rattle.play_fits.specs.Scripts.{Exchange, known_after, names_history}
+use Rattle.play_fits.specs.Scripts.{Exchange, known_after}
 use Rattle.audit_model.specs.Heard.{kept_count}
 use Rattle.audit_model.specs.Hearing.{Gives, HearsNone}
 use Rattle.audit_model.specs.Verdicts.{track_of}
@@ -28,7 +25,7 @@ use Rattle.play_audit.specs.Places.{IsPlace}
 use Rattle.play_audit.specs.Replies.{IsHeardNext, IsUnheard}
 use Rattle.play_audit.specs.declared.place.Place.{Place}
 use Rattle.play_audit.proofs.Knowing.{tracks_other}
-use Rattle.play_audit.proofs.Listed.{lt-or-le, map_back, same_at, track_at}
+use Rattle.play_audit.proofs.Listed.{map_back, same_at, track_at}
 use Rattle.play_audit.proofs.Apart.{other_at}
 use Rattle.play_audit.proofs.Walking.{entries_length}
 use Rattle.std.proofs.Common.{take}

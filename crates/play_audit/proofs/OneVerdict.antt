@@ -5,7 +5,6 @@ use Rattle.std.specs.List.{AllByRecursion}
 use Rattle.std.proofs.lemmas.Bool.{cases_Bool, cases_order}
 use Rattle.std.proofs.lemmas.Grind.{flat_map-append}
 use Rattle.std.proofs.lemmas.List.{take-append-drop, take_all, take-take}
-use Rattle.std.proofs.lemmas.Option.{slice_get_within}
 use Rattle.history_model.specs.declared.entries.Author.{Author}
 use Rattle.history_model.specs.declared.entries.Author.TheVariants as author
 use Rattle.history_model.specs.declared.entries.Entry.{Entry}
@@ -37,9 +36,9 @@ use Rattle.journal_reader.specs.Journals.{Journal, IsJournal, WasKept, crew_with
 use Rattle.journal_reader.specs.Laws.{NoneRefused, OneReading, OneRefusal}
 use Rattle.journal_reader.proofs.Lists.{all_at, map_take}
 use Rattle.journal_reader.proofs.Unique.{fits}
-use Rattle.audit_model.specs.Heard.{AreGiven, AreHeard, BeginsWell, IsRefusedAt, IsTold, IsUnasked, IsUnaskedAt, kept_count, line_at}
+use Rattle.audit_model.specs.Heard.{AreGiven, AreHeard, BeginsWell, IsRefusedAt, IsTold, IsUnasked, IsUnaskedAt, kept_count}
 use Rattle.audit_model.specs.Hearing.{Gives}
-use Rattle.audit_model.specs.Verdicts.{AreOf, AreShown, Asks, AskTogether, IsCutOff, IsRefusedRequest, IsUnaskedLine, IsVerdict, track_of}
+use Rattle.audit_model.specs.Verdicts.{AreOf, AreShown, Asks, AskTogether, IsRefusedRequest, IsUnaskedLine, IsVerdict, track_of}
 use Rattle.audit_model.specs.declared.heard.Heard.{Heard}
 use Rattle.audit_model.specs.declared.verdict.Verdict.{Verdict}
 use Rattle.audit_model.specs.declared.verdict.Verdict.TheVariants as verdict

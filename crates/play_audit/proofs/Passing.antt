@@ -1,12 +1,12 @@
 -- Private: no public contract cites this. How many cuts the segmentations of a journal's versions have.
-use Rattle.std.proofs.Common.{◌≡◌, ◌⊎◌, inl, inr, ℕ, ℤ, ◌+◌, ◌<◌, ◌≤◌, Bool, true, false, List, [], ◌∷◌, ◌++◌, length, map, filter, take, refl, sym, ap, subst, ◌∙◌, arith}
+use Rattle.std.proofs.Common.{◌≡◌, inl, inr, ℕ, ℤ, ◌<◌, ◌≤◌, Bool, true, false, List, [], ◌∷◌, ◌++◌, length, map, filter, take, refl, sym, ap, subst, ◌∙◌, arith}
 use Rattle.std.specs.Prelude.{◌||◌, nat_lt, if◌then◌else◌, IfOk, Result}
 use Rattle.std.specs.List.{list_any}
 use Rattle.std.proofs.lemmas.Bool.{cases_Bool, cases_lt, lt-ltb}
 use Rattle.sample_model.specs.Samples.{Measurement}
 use Rattle.segment_model.specs.Segments.{Position}
 use Rattle.segment_model.specs.Brought.{Brought, positions_of}
-use Rattle.segment_model.specs.Cuts.{IsCutList, RisesBetween}
+use Rattle.segment_model.specs.Cuts.{IsCutList}
 use Rattle.segment_cost.specs.Certificate.{OneCertificate, StandsFor}
 use Rattle.segment_cost.specs.declared.cert.Cert.{Cert}
 use Rattle.history_model.specs.declared.entries.Acceptance.{Acceptance}
@@ -14,7 +14,7 @@ use Rattle.history_model.specs.declared.entries.Entry.{Entry}
 use Rattle.history_model.specs.declared.entries.Placed.{Placed}
 use Rattle.history_model.specs.Penalties.{penalty_of, length_of}
 use Rattle.history_model.specs.Positions.{brought, brought_by, positions}
-use Rattle.history_model.specs.Runs.{Series, acceptances, is_known, is_of, live_runs, live_of, retractions}
+use Rattle.history_model.specs.Runs.{Series, acceptances, is_known, is_of}
 use Rattle.history_model.specs.Entries.{entries_of}
 use Rattle.journal_walk.specs.Laws.{StaysAlong}
 use Rattle.journal_walk.specs.Walks.{Walked, AreCutsNow, GoesOn, IsAlong, IsStuck, added}

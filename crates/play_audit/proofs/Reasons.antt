@@ -1,5 +1,5 @@
 -- Private: no public contract cites this. Why a request for a segmentation publishes nothing, as a reply by the journal.
-use Rattle.std.proofs.Common.{◌≡◌, ◌≢◌, ◌⊎◌, inl, inr, ℕ, ◌^◌, ◌+◌, ◌<◌, ◌≤◌, Bool, true, false, List, [], ◌∷◌, ◌++◌, get_or, length, take, Option, Some, None, codes, decimal, refl, sym, ap, subst, ◌∙◌, arith, append_assoc}
+use Rattle.std.proofs.Common.{◌≡◌, inl, inr, ℕ, ◌+◌, ◌<◌, ◌≤◌, Bool, true, false, List, [], ◌∷◌, ◌++◌, get_or, length, take, Option, Some, None, decimal, refl, sym, ap, subst, ◌∙◌, arith, append_assoc}
 use Rattle.std.specs.Prelude.{nat_lt, if◌then◌else◌}
 use Rattle.std.proofs.lemmas.Bool.{cases_Bool, cases_lt, lt-ltb, le-ltb, ltb-true}
 use Rattle.std.proofs.lemmas.List.{length-take-le, length-map, length-append}
@@ -27,7 +27,7 @@ use Rattle.track_model.specs.Publishing.{IsPublishedFrom, OfKnown, OfLatest, lat
 use Rattle.track_model.specs.Replies.{reply_of}
 use Rattle.play_model.specs.Replies.{Tells, first_of}
 use Rattle.journal_lines.proofs.Lacking.{behind_same}
-use Rattle.play_audit.specs.Segments.{IsFullBehind, IsReason, IsReasonOf}
+use Rattle.play_audit.specs.Segments.{IsFullBehind, IsReason}
 
 pub first_length : (j : List Placed) (count : ℕ) → count ≤ length j → length (first_of count j) ≡ count
 first_length j count le = length-map (take count j) (λ (p : Placed). p.entry) ∙ length-take-le count j le

@@ -1,16 +1,14 @@
 -- Private: no public contract cites this. The refusal of a segmentation that stands next in a transcript, behind a walk.
-use Rattle.std.proofs.Common.{◌≡◌, ◌≢◌, ◌⊎◌, inl, inr, ℕ, ◌^◌, ◌+◌, ◌-◌, ◌<◌, ◌≤◌, Bool, true, false, List, [], ◌∷◌, ◌++◌, length, drop, Option, Some, None, Ok, Err, refl, sym, ap, subst, ◌∙◌, arith}
+use Rattle.std.proofs.Common.{◌≡◌, ◌≢◌, inl, inr, ℕ, ◌^◌, ◌+◌, ◌<◌, ◌≤◌, Bool, true, false, List, ◌++◌, length, drop, Option, Some, None, Ok, Err, refl, sym, ap, subst, ◌∙◌, arith}
 use Rattle.std.specs.Prelude.{max, nat_lt, if◌then◌else◌, IfNone, IfOk, IfSome, Result}
 use Rattle.std.proofs.lemmas.Bool.{cases_Bool, cases_lt, lt-ltb, le-ltb, ltb-true}
 use Rattle.metric_table.specs.Limits.{most}
 use Rattle.metric_table.specs.declared.limits.Limit.{Limit}
 use Rattle.metric_table.specs.declared.limits.Limit.TheVariants.{Cuts, Steps}
 use Rattle.segment_cost.specs.Certificate.{StandsFor}
-use Rattle.segment_cost.specs.declared.cert.Cert.{Cert}
 use Rattle.history_model.specs.declared.entries.Author.TheVariants as author
 use Rattle.history_model.specs.declared.entries.Entry.{Entry}
 use Rattle.history_model.specs.declared.entries.Entry.TheVariants.{Publish}
-use Rattle.history_model.specs.declared.entries.Placed.{Placed}
 use Rattle.history_model.specs.declared.publication.Publication.{Publication}
 use Rattle.history_model.specs.Laws.{CutsGrow}
 use Rattle.history_model.specs.Penalties.{penalty_of, length_of}
@@ -18,7 +16,6 @@ use Rattle.history_model.specs.Positions.{positions}
 use Rattle.history_model.specs.Publications.{cut_count, last_publication}
 use Rattle.history_model.specs.Runs.{Series, is_known}
 use Rattle.request_model.specs.declared.requests.Request.TheVariants.{Segment}
-use Rattle.request_model.specs.declared.replies.Answer.TheVariants.{Refused}
 use Rattle.request_model.specs.declared.replies.Refusal.{Refusal}
 use Rattle.request_model.specs.declared.replies.Refusal.TheVariants.{Full, Stale, UnknownSeries}
 use Rattle.request_model.specs.declared.replies.Reply.{Reply}

@@ -1,5 +1,5 @@
 -- Private: no public contract cites this. What was heard of scripts by the journals.
-use Rattle.std.specs.Prelude.{◌≡◌, ◌+◌, ◌-◌, ◌<◌, ℕ, Bool, true, false, List, [], ◌∷◌, ◌++◌, drop, length, slice_get, sum_by, Some, Vec}
+use Rattle.std.specs.Prelude.{◌≡◌, ◌+◌, ◌-◌, ◌<◌, ℕ, Bool, List, [], ◌∷◌, ◌++◌, drop, length, slice_get, sum_by, Some, Vec}
 use Rattle.std.specs.declared.alloc.Global.{Global}
 use Rattle.request_model.specs.declared.replies.Reply.{Reply}
 use Rattle.request_words.specs.Bodies.{Item}

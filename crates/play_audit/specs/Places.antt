@@ -1,5 +1,5 @@
 -- Private: no public contract cites this. A script's way along the journal of a machine.
-use Rattle.std.specs.Prelude.{◌≡◌, ◌≤◌, ℕ, List, length}
+use Rattle.std.specs.Prelude.{◌≡◌, ◌≤◌, ℕ, List, length, Option, Some, None}
 use Rattle.std.specs.List.{AllByRecursion}
 use Rattle.history_model.specs.declared.entries.Placed.{Placed}
 use Rattle.history_model.specs.Allowed.{Legal}
@@ -26,6 +26,17 @@ pub record IsBehind (machine : List ℕ) (history : List Placed) (count : ℕ) (
   pub by : IsBy machine history count w
   pub there : length w.track.history ≡ count
 
--- a script's way: it knows so many entries, and its walk went no further
+-- a walk, if there is one, went no further than so many entries
+abbrev pub IsWay : List ℕ → List Placed → ℕ → Option Walked → Type 0
+IsWay machine history count None = count ≤ length history
+IsWay machine history count (Some w) = IsBy machine history count w
+
+-- a script's way: it knows so many entries, and its walk, if it has one, went no further
 abbrev pub IsPlace : List ℕ → List Placed → Place → Type 0
-IsPlace machine history place = IsBy machine history place.known place.walk
+IsPlace machine history place = IsWay machine history place.known place.walk
+
+-- and it has one
+pub record Walks (machine : List ℕ) (history : List Placed) (place : Place) : Type 0 where
+  pub walk : Walked
+  pub is : place.walk ≡ Some walk
+  pub by : IsBy machine history place.known walk

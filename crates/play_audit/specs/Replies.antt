@@ -5,7 +5,7 @@ use Rattle.history_model.specs.declared.entries.Placed.{Placed}
 use Rattle.request_model.specs.declared.requests.Request.{Request}
 use Rattle.request_model.specs.declared.replies.Reply.{Reply}
 use Rattle.reply_text.specs.Replies.{text_of}
-use Rattle.play_model.specs.Replies.{Adds, IsReplyOn, Tells}
+use Rattle.play_model.specs.Replies.{Adds, IsReplyOn}
 use Rattle.play_audit.specs.Texts.{BeginsWith}
 
 -- the replies that are meant, of which one of this step stands in front of the transcript

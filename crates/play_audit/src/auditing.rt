@@ -20,8 +20,8 @@ use std::alloc::Global;
 /// The verdict on the text of journals and scripts with their transcripts, 1 to 8: that they fit together, or the first line
 /// or request that doesn't fit. No verdict comes where a script is cut off; the first such is named.
 ///
-/// Goes once along the journals to read them, and once for each script; keeps what the scripts ask. Where a segmentation is
-/// said to have passed the limit on cuts, goes along its journal once more.
+/// Goes once along the journals to read them, and for each script once along those of the machines that it names; keeps what
+/// the scripts ask. Where a segmentation is said to have passed the limit on cuts, goes along its journal once more.
 pub fn audit(alloc: Global, journal: &[u8], heard: &[Heard]) -> Result<Verdict, AuditStop>
     requires some { 0 < length heard.now }
     requires few { length heard.now ≤ 8 }

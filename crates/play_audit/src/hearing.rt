@@ -18,7 +18,6 @@ use crate::place::Place;
 use crate::text::{apart, begins_with};
 use history_model::{Author, Placed};
 use journal_reader::Journal;
-use journal_walk::{Walk, along_law};
 use line_text::Name;
 use request_model::{Refusal, Request};
 use std::alloc::Global;
@@ -32,7 +31,8 @@ pub(crate) enum Told {
     Not(u64),
 }
 
-// What came of the transcript of the script of a number, which asks these items. Goes once along each journal.
+// What came of the transcript of the script of a number, which asks these items. Goes once along the journal of each
+// machine that it names.
 pub(crate) fn hear(
     alloc: Global,
     journals: &[Journal],
@@ -72,18 +72,15 @@ pub(crate) fn hear(
     Ok(Told::All)
 }
 
-// The beginnings of a script's ways along the journals.
+// The beginnings of a script's ways along the journals. None walks yet.
 fn places_of<'a>(alloc: Global, journals: &'a [Journal]) -> Result<Vec<Place<'a>>, NoMemory>
     requires { AreSound journals.now }
     ensures { IfOk result (λ places. AreKnown journals.now [] places.items) }
 {
-    along_law();
     let mut places = Vec::new(alloc);
     for journal in journals {
-        let machine = journal.machine.copy(alloc)?;
-        let walk = Walk::new(alloc, machine, &journal.history)?;
         let known = kept_count(&journal.history);
-        places.push(Place { walk, known })?;
+        places.push(Place { walk: None, known })?;
     }
     Ok(places)
 }
@@ -113,10 +110,10 @@ fn is_kept(placed: &Placed) -> bool
 
 // How long the reply is to what comes next in a script, where a transcript begins with one that the journals give.
 #[tactic(none)]
-fn hear_item(
+fn hear_item<'a>(
     alloc: Global,
-    journals: &[Journal],
-    places: &mut Vec<Place>,
+    journals: &'a [Journal],
+    places: &mut Vec<Place<'a>>,
     script: u8,
     item: Item,
     transcript: &[u8],
@@ -141,10 +138,10 @@ fn hear_item(
     }
 }
 
-fn hear_request(
+fn hear_request<'a>(
     alloc: Global,
-    journals: &[Journal],
-    places: &mut Vec<Place>,
+    journals: &'a [Journal],
+    places: &mut Vec<Place<'a>>,
     script: u8,
     request: &Request,
     transcript: &[u8],

@@ -3,7 +3,7 @@
 //! [`audit`] takes the text of the journals and each script with its transcript, and gives the verdict of `audit_model`:
 //! that they fit together, or the first line or request that doesn't fit. Each transcript is heard in its order: each reply
 //! is compared with the one that the journal of its machine gives behind as many entries as it names, by a walk along that
-//! journal that only goes forward. By [`one_verdict_law`] files have one verdict at most (`specs/Laws.antt`).
+//! journal that begins where the script first names the machine, and only goes forward. By [`one_verdict_law`] files have one verdict at most (`specs/Laws.antt`).
 //!
 //! Stands on `audit_model` for the verdicts, on `journal_reader` for the journals, on `journal_walk` for what a machine's
 //! state is behind so many entries and what a request comes to there, on `reply_laws` for what a reply's text tells, and on

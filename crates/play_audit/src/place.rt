@@ -6,15 +6,17 @@ ghost use Rattle.track_model.specs.Replies.{machine_of};
 ghost use Rattle.journal_walk.specs.Walks.{GoesOn, IsAlong, coming};
 ghost use Rattle.reply_laws.specs.Kinds.{Names, asks_only, tells_by_letter};
 ghost use Rattle.track_entry.specs.Texts.{IsEntry};
-ghost use Rattle.play_audit.specs.Places.{IsBehind, IsBy, IsPlace, IsSound};
+ghost use Rattle.play_audit.specs.Places.{IsBehind, IsBy, IsPlace, IsSound, Walks};
 ghost use Rattle.play_audit.specs.Replies.{HasNone, IsHeardNext, IsNext, IsUnheard};
 
 use crate::NoMemory;
 use crate::behind::{added_behind, told_behind};
+use crate::machine::machine_of;
 use crate::segment::{published_behind, unpublished};
 use crate::text::{Named, first_named, is_only_asked, tells_none};
 use history_model::{Author, Placed};
 use journal_walk::{Walk, along_law};
+use line_text::Name;
 use play_model::replies_law;
 use reply_laws::{kinds_law, texts_law};
 use request_model::Request;
@@ -23,19 +25,40 @@ use std::alloc::Global;
 // A script's way along the journal of a machine: what its last reply about it knew.
 #[derive(Drop)]
 pub(crate) struct Place<'a> {
-    pub(crate) walk: Walk<'a>,
+    // There is none before the script first names the machine.
+    pub(crate) walk: Option<Walk<'a>>,
     // So many entries were known.
     pub(crate) known: u64,
 }
 
 impl<'a> Place<'a> {
+    // Begins the walk along the history of a machine, where it didn't begin yet.
+    fn begin(
+        &mut self,
+        alloc: Global,
+        machine: &Name,
+        history: &'a [Placed],
+    ) -> Result<(), NoMemory>
+        requires place { IsPlace machine.now history.now self.old }
+        ensures walks { OnOk result (Walks machine.now history.now self.new) }
+        ensures known { self.new.known ≡ self.old.known }
+    {
+        along_law();
+        if self.walk.is_some() {
+            return Ok(());
+        }
+        let walk = Walk::new(alloc, machine.copy(alloc)?, history)?;
+        self.walk = Some(walk);
+        Ok(())
+    }
+
     // How long the reply to a request of the script of a number is that a transcript begins with, where the journal gives it;
     // the entry that it added, if it added one, is marked. None exactly where it begins with no such reply.
     pub(crate) fn hear(
         &mut self,
         alloc: Global,
         script: u8,
-        history: &[Placed],
+        history: &'a [Placed],
         request: &Request,
         transcript: &[u8],
         marks: &mut Vec<bool>,
@@ -63,8 +86,11 @@ impl<'a> Place<'a> {
                 if is_outside(named.step, known, count) {
                     return Ok(None);
                 }
+                self.begin(alloc, machine_of(request), history)?;
                 self.known = named.step;
-                let walk = &mut self.walk;
+                let Some(walk) = &mut self.walk else {
+                    unreachable!();
+                };
                 hear_named(
                     alloc, walk, known, script, history, request, named, transcript, marks,
                 )

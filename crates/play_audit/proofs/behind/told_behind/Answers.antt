@@ -1,4 +1,4 @@
-use Rattle.std.proofs.Common.{◌≡◌, ◌+◌, ◌<◌, ℕ, List, length, sym, ap, ◌∙◌, arith}
+use Rattle.std.proofs.Common.{sym, ◌∙◌}
 use Rattle.play_audit.proofs.Replying.{told_other, told_front, told_front_none, still_front}
 use Rattle.play_audit.proofs.behind.told_behind.Goals as goal
 

@@ -5,9 +5,9 @@ use Rattle.std.proofs.lemmas.Iterator.Consumers.{YieldsList-end, YieldsList-turn
 use Rattle.std.proofs.lemmas.List.{length_push, take_all}
 use Rattle.std.proofs.Common.{◌-◌, length-drop, take}
 use Rattle.audit_model.specs.Hearing.{HearsNone}
-use Rattle.play_audit.specs.Known.{AreKnown, AreSound, tracks_of}
-use Rattle.play_audit.specs.Marks.{AreRows, rows_of}
-use Rattle.play_audit.specs.Heard.{HearsAll, HearsItem, RefusesAt}
+use Rattle.play_audit.specs.Known.{tracks_of}
+use Rattle.play_audit.specs.Marks.{rows_of}
+use Rattle.play_audit.specs.Heard.{HearsItem, RefusesAt}
 use Rattle.play_audit.proofs.Listed.{read_at}
 use Rattle.play_audit.proofs.Going.{HasGone, begins_gone, more_gone, none_gone, past_gone, all_gone}
 use Rattle.play_audit.proofs.hearing.hear.Goals as goal

@@ -1,4 +1,4 @@
-use Rattle.std.proofs.Common.{◌≡◌, ◌≢◌, ◌++◌, ℕ, List, Ok, Err, Option, Result, sym, subst}
+use Rattle.std.proofs.Common.{List, Err, sym, subst}
 use Rattle.request_words.specs.Bodies.{Item}
 use Rattle.std.specs.Prelude.{IfOk, IfSome, IfNone}
 use Rattle.play_fits.specs.Scripts.{Exchange}

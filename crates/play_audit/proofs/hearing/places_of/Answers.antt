@@ -1,11 +1,9 @@
-use Rattle.std.proofs.Common.{◌≡◌, ◌+◌, ℕ, List, [], ◌∷◌, ◌++◌, ap, sym, subst, ◌∙◌, arith, length, filter}
+use Rattle.std.proofs.Common.{◌≡◌, ◌+◌, ℕ, List, ap, sym, subst, ◌∙◌, length, filter}
 use Rattle.audit_model.specs.Heard.{is_of_store}
 use Rattle.history_model.specs.declared.entries.Placed.{Placed}
 use Rattle.journal_reader.specs.Journals.{Journal}
 use Rattle.play_audit.proofs.Listed.{read_at}
 use Rattle.play_audit.proofs.Knowing.{AreKnownFirst, known_next}
-use Rattle.journal_walk.specs.Walks.{Walked}
-use Rattle.play_audit.specs.declared.place.Place.{Place}
 use Rattle.play_audit.proofs.hearing.places_of.Goals as goal
 
 pub loop-journal-preserved : goal.loop-journal-preserved
@@ -15,10 +13,6 @@ loop-journal-preserved c =
     let at = read_at js n c.journal-item.result c.loop-journal-test.true c.journal-item.is in
     let view = c.journal.view_is in
     let history : c.deref.result.now ≡ c.journal-item.result.history = c.deref.ensures.value ∙ ap (λ (j : Journal). j.history) view in
-    let other : c.deref-in-loop-journal.result.now ≡ c.journal-item.result.history = c.deref-in-loop-journal.ensures.value ∙ ap (λ (j : Journal). j.history) view in
-    let known = c.kept_count-known.ensures ∙ ap (λ (h : List Placed). length (filter is_of_store h)) other in
-    let name : c.in_ok-machine.machine ≡ c.journal-item.result.machine = c.in_ok-machine.ensures ∙ ap (λ (j : Journal). j.machine) view in
-    let grown = c.in_ok-push.ensures.items ∙ ap (λ (w : Walked). c.loop-journal.places.items ++ (let p : Place = record { walk = w; known = c.kept_count-known.result } in p) ∷ []) c.in_ok-walk.ensures in
-    subst (AreKnownFirst js (n + 1)) (sym grown)
-    (known_next c.along_law.ensures.begins js n c.kept_count-known.result c.in_ok-machine.machine c.deref.result.now c.journal-item.result c.loop-journal.places.items c.requires c.loop-journal.invariant at
-    name history known)
+    let known = c.kept_count-known.ensures ∙ ap (λ (h : List Placed). length (filter is_of_store h)) history in
+    subst (AreKnownFirst js (n + 1)) (sym c.in_ok-push.ensures.items)
+    (known_next js n c.kept_count-known.result c.journal-item.result c.loop-journal.places.items c.requires c.loop-journal.invariant at known)

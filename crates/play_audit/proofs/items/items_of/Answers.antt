@@ -1,4 +1,4 @@
-use Rattle.std.proofs.Common.{◌≡◌, true, false, Err, ap, sym, ◌∙◌}
+use Rattle.std.proofs.Common.{◌≡◌, Err, ap, sym, ◌∙◌}
 use Rattle.play_audit.specs.declared.items.ItemsFault.{ItemsFault}
 use Rattle.play_audit.specs.declared.items.ItemsFault.TheVariants.{CutOff}
 use Rattle.play_audit.proofs.Reading.{begins_going, goes_going, less_left}

@@ -1,5 +1,4 @@
-use Rattle.std.proofs.Common.{◌≡◌, ◌+◌, ◌≤◌, ℕ, List, ◌++◌, length, true, false, Some, subst, arith}
-use Rattle.request_words.specs.Bodies.{Item}
+use Rattle.std.proofs.Common.{◌≡◌, ◌+◌, ◌≤◌, ℕ, ◌++◌, length, Some, subst, arith}
 use Rattle.request_reader.specs.Next as next
 use Rattle.request_reader.specs.Next.{Takes, TakesWhole, TakesLast}
 use Rattle.request_reader.specs.declared.stop.ReadStop.{ReadStop}

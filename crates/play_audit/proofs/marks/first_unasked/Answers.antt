@@ -1,8 +1,7 @@
-use Rattle.std.proofs.Common.{◌≡◌, ◌+◌, ◌<◌, ◌≤◌, ℕ, Bool, List, [], Vec, Global, ap, sym, subst, ◌∙◌, arith, length, get_or}
+use Rattle.std.proofs.Common.{◌≡◌, ◌+◌, ◌<◌, ◌≤◌, ℕ, Bool, List, [], ap, sym, subst, ◌∙◌, arith, length, get_or}
 use Rattle.std.specs.Prelude.{slice_get, Some}
 use Rattle.history_model.specs.declared.entries.Placed.{Placed}
 use Rattle.journal_reader.specs.Journals.{Journal}
-use Rattle.track_model.specs.Tracks.{Track}
 use Rattle.audit_model.specs.Verdicts.{track_of}
 use Rattle.play_audit.specs.Known.{lines_in, tracks_of}
 use Rattle.play_audit.specs.Marks.{IsFirstIn, NoneIn, rows_of}

@@ -1,5 +1,4 @@
-use Rattle.std.proofs.Common.{◌≡◌, ◌+◌, ℕ, Bool, List, false, replicate, ap, sym, subst, ◌∙◌, arith, length}
-use Rattle.track_model.specs.Tracks.{Track}
+use Rattle.std.proofs.Common.{◌+◌, ℕ, false, replicate, ap, sym, subst, ◌∙◌, arith}
 use Rattle.audit_model.specs.Verdicts.{track_of}
 use Rattle.play_audit.specs.Known.{tracks_of}
 use Rattle.play_audit.specs.Marks.{rows_of}

@@ -1,6 +1,5 @@
-use Rattle.std.proofs.Common.{◌≡◌, ◌+◌, ◌<◌, ◌≤◌, ℕ, List, length, sym, ap, subst, ◌∙◌, arith}
+use Rattle.std.proofs.Common.{◌≡◌, ◌<◌, List, length, sym, ap, subst, arith}
 use Rattle.history_model.specs.declared.entries.Placed.{Placed}
-use Rattle.journal_walk.specs.Walks.{GoesOn}
 use Rattle.play_audit.specs.Places.{IsSound}
 use Rattle.play_audit.proofs.Walking.{goes_by, grown_length, not_stuck}
 use Rattle.play_audit.proofs.place.go_to.Goals as goal

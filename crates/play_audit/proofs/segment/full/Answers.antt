@@ -1,5 +1,5 @@
-use Rattle.std.proofs.Common.{◌≡◌, ◌≢◌, ◌+◌, ◌-◌, ◌<◌, ◌≤◌, ◌++◌, ℕ, List, true, false, length, Some, None, refl, sym, ap, subst, ◌∙◌, arith}
-use Rattle.std.specs.Prelude.{IfNone, IfOk, IfSome, Option}
+use Rattle.std.proofs.Common.{◌≢◌, ◌≤◌, ◌++◌, ℕ, List, length, subst, arith}
+use Rattle.std.specs.Prelude.{IfNone, IfOk, IfSome}
 use Rattle.metric_table.specs.Limits.{most}
 use Rattle.metric_table.specs.declared.limits.Limit.TheVariants.{Steps}
 use Rattle.request_model.specs.declared.replies.Refusal.TheVariants.{Full}

@@ -1,5 +1,5 @@
-use Rattle.std.proofs.Common.{◌≡◌, ◌≢◌, ◌+◌, ◌-◌, ◌≤◌, ◌++◌, ℕ, List, length, Some, None, sym, subst, arith}
-use Rattle.std.specs.Prelude.{max, IfNone, IfSome, Option}
+use Rattle.std.proofs.Common.{◌≡◌, ◌≢◌, ◌+◌, ◌-◌, ◌≤◌, ◌++◌, ℕ, List, length, sym, subst, arith}
+use Rattle.std.specs.Prelude.{IfNone, IfSome, Option}
 use Rattle.metric_table.specs.Limits.{most}
 use Rattle.metric_table.specs.declared.limits.Limit.TheVariants.{Cuts}
 use Rattle.history_model.specs.Publications.{cut_count}
@@ -8,7 +8,7 @@ use Rattle.request_model.specs.declared.replies.Refusal.TheVariants.{Full}
 use Rattle.track_model.specs.Outcomes.{refuses}
 use Rattle.track_model.specs.Replies.{reply_of}
 use Rattle.journal_walk.specs.Walks.{added}
-use Rattle.play_audit.specs.Segments.{HasFewCuts, PassesCuts}
+use Rattle.play_audit.specs.Segments.{PassesCuts}
 use Rattle.play_audit.specs.Texts.{BeginsWith}
 use Rattle.play_audit.proofs.Refusing.{cuts_not, cuts_fit, cuts_full}
 use Rattle.play_audit.proofs.segment.full_of_cuts.Goals as goal

@@ -1,4 +1,4 @@
-use Rattle.std.proofs.Common.{◌≡◌, ◌≢◌, ◌+◌, ◌-◌, ◌<◌, ◌≤◌, ◌++◌, ℕ, List, true, false, length, Some, None, refl, sym, ap, subst, ◌∙◌, arith}
+use Rattle.std.proofs.Common.{◌≢◌, ◌++◌, ℕ, List, subst}
 use Rattle.std.specs.Prelude.{IfNone, IfSome, Option}
 use Rattle.request_model.specs.declared.replies.Refusal.TheVariants.{Stale}
 use Rattle.reply_text.specs.Replies.{text_of}

@@ -1,5 +1,4 @@
-use Rattle.std.proofs.Common.{◌≡◌, ◌≢◌, ◌+◌, ◌-◌, ◌<◌, ◌≤◌, ◌++◌, ℕ, List, true, false, length, Some, None, refl, sym, ap, subst, ◌∙◌, arith}
-use Rattle.std.specs.Prelude.{IfNone, IfSome, Option}
+use Rattle.std.proofs.Common.{sym, ◌∙◌, arith}
 use Rattle.request_model.specs.declared.replies.Refusal.TheVariants.{UnknownSeries}
 use Rattle.play_audit.specs.Segments.{IsKnownAt}
 use Rattle.play_audit.proofs.Refusing.{unknown_reason, reason_front, unknown_front, full_next, full_none}

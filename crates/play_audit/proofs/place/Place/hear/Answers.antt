@@ -1,5 +1,7 @@
-use Rattle.std.proofs.Common.{length, arith}
+use Rattle.std.proofs.Common.{◌≡◌, ℕ, List, length, Some, None, sym, subst, ◌∙◌, arith}
 use Rattle.history_model.specs.declared.entries.Author.TheVariants.{Script}
+use Rattle.journal_walk.specs.Walks.{Walked}
+use Rattle.play_audit.specs.Places.{IsBy, IsPlace}
 use Rattle.play_audit.proofs.Telling.{names_nothing, out_of_range, outside_is}
 use Rattle.play_audit.proofs.place.Place.hear.Goals as goal
 
@@ -8,6 +10,26 @@ returns-then-is_outside-clause-none c =
     let outside = outside_is c.in-Some.named.step c.args.self.now.known c.count_of-count.result (length c.args.history.now) c.count_of-count.ensures.is (c.is_outside.ensures.outside c.if-is_outside.true) in
     out_of_range c.kinds_law.ensures c.texts_law.ensures c.replies_law.ensures.names (Script c.args.script) c.args.history.now c.args.self.now.known c.args.request.now c.args.transcript.now
     c.in-Some.named.step c.in-Some.named.letter c.count_of-count.ensures.few c.is_outside.ensures.few c.in-Some.ensures.some outside
+
+pub begin-requires : goal.begin-requires
+begin-requires c = record { place = subst (λ (m : List ℕ). IsPlace m c.args.history.now c.args.self.now) (sym c.machine_of.ensures) c.requires.place }
+
+pub unreachable-requires : goal.unreachable-requires
+unreachable-requires c =
+    let walks = c.in_ok-begin-in-Some.ensures.walks in
+    let is : c.begin.new.self.walk ≡ Some walks.walk = walks.is in
+    let none : c.begin.new.self.walk ≡ None = c.in_default.is in
+    let no : Some walks.walk ≡ None = sym is ∙ none in
+    absurd (cc)
+
+pub hear_named-requires-clause-by : goal.hear_named-requires-clause-by
+hear_named-requires-clause-by c =
+    let walks = c.in_ok-begin-in-Some.ensures.walks in
+    let both : Some walks.walk ≡ Some c.in-Some-walk.walk = sym walks.is ∙ c.in-Some-walk.is in
+    let same : walks.walk ≡ c.in-Some-walk.walk = cc in
+    subst (λ (m : List ℕ). IsBy m c.args.history.now c.args.self.now.known c.in-Some-walk.walk) c.machine_of.ensures
+    (subst (λ (n : ℕ). IsBy c.machine_of.result.now c.args.history.now n c.in-Some-walk.walk) c.begin.ensures.known
+    (subst (λ (w : Walked). IsBy c.machine_of.result.now c.args.history.now c.begin.new.self.known w) same walks.by))
 
 pub hear_named-requires-clause-since : goal.hear_named-requires-clause-since
 hear_named-requires-clause-since c = c.is_outside.ensures.since c.if-is_outside.false
@@ -22,15 +44,6 @@ hear_named-requires-clause-within c =
 
 pub hear_named-requires-clause-front : goal.hear_named-requires-clause-front
 hear_named-requires-clause-front c = c.in-Some.ensures.some
-
-pub returns-else-is_outside-clause-place : goal.returns-else-is_outside-clause-place
-returns-else-is_outside-clause-place c = c.hear_named.ensures.by
-
-pub returns-else-is_outside-clause-some : goal.returns-else-is_outside-clause-some
-returns-else-is_outside-clause-some c = c.hear_named.ensures.some
-
-pub returns-else-is_outside-clause-none : goal.returns-else-is_outside-clause-none
-returns-else-is_outside-clause-none c = c.hear_named.ensures.none
 
 pub returns-in-None-clause-none : goal.returns-in-None-clause-none
 returns-in-None-clause-none c =
