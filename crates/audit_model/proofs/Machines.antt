@@ -5,7 +5,7 @@ use Rattle.std.specs.List.{AllByRecursion, list_any}
 use Rattle.std.proofs.lemmas.Bool.{cases_Bool}
 use Rattle.std.proofs.lemmas.Slice.Eq.{bytes_eq-Decides}
 use Rattle.request_model.specs.declared.requests.Request.{Request}
-use Rattle.track_model.specs.Replies.{machine_of}
+use Rattle.request_model.specs.Requests.{machine_of}
 use Rattle.track_model.specs.Tracks.{Track}
 use Rattle.play_fits.specs.Journals.{history_in, machines_of}
 use Rattle.play_model.specs.Replies.{is_of_history, stands_alone}

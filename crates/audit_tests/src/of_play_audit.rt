@@ -6,7 +6,7 @@ ghost use Rattle.audit_model.specs.declared.heard.Heard.{Heard as AHeard};
 use crate::runs::{
     BISECTED, ONE_SCRIPT, PLAYED, PUBLISHED, Row, SEGMENTED, SEGMENTING, SEVERAL, heard_of,
 };
-use play_audit::{AuditStop, Heard, Verdict, audit};
+use play_audit::{AuditStop, Heard, Verdict, audit, plain_audit};
 use std::alloc::Global;
 use std::test::Fail;
 
@@ -624,7 +624,10 @@ fn holds(alloc: Global, row: &Row) -> bool {
 }
 
 fn answers(alloc: Global, row: &Row, heard: &[Heard]) -> bool {
-    are_some(heard) && are_short(heard) && audit(alloc, row.journal, heard) == row.verdict
+    are_some(heard)
+        && are_short(heard)
+        && audit(alloc, row.journal, heard) == row.verdict
+        && plain_audit(alloc, row.journal, heard) == row.verdict
 }
 
 // Whether there are 1 to 8 scripts.

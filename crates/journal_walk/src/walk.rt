@@ -5,7 +5,7 @@ ghost use Rattle.history_model.specs.declared.entries.Author.TheVariants as auth
 ghost use Rattle.journal_walk.specs.Walks.{AreCutsNow, GoesOn, IsAlong, IsPublishedNext, IsStuck, PublishesNothing, added};
 ghost use Rattle.track_model.specs.Counts.{is_segment};
 ghost use Rattle.track_model.specs.Outcomes.{Outcome};
-ghost use Rattle.track_model.specs.Replies.{machine_of};
+ghost use Rattle.request_model.specs.Requests.{machine_of};
 ghost use Rattle.track_model.specs.Tracks.{ComesTo, IsStep, new_track};
 
 use crate::NoMemory;

@@ -10,7 +10,8 @@ use Rattle.request_model.specs.declared.requests.Request.TheVariants as request
 use Rattle.reply_text.specs.Replies.{text_of}
 use Rattle.track_model.specs.Tracks.{Track}
 use Rattle.track_model.specs.Outcomes.{Outcome, refuses}
-use Rattle.track_model.specs.Replies.{apart, machine_of}
+use Rattle.track_model.specs.Replies.{apart}
+use Rattle.request_model.specs.Requests.{machine_of}
 use Rattle.history_model.specs.declared.entries.Author.TheVariants as author
 use Rattle.history_model.specs.declared.entries.Author.{Author}
 use Rattle.history_model.specs.declared.entries.Entry.{Entry}

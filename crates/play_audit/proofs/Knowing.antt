@@ -1,6 +1,6 @@
 -- Private: no public contract cites this. A script's ways along the journals.
 use Rattle.std.proofs.Common.{◌≡◌, inl, inr, ℕ, ◌+◌, ◌≤◌, List, [], ◌∷◌, ◌++◌, length, Some, None, refl, sym, ap, subst, ◌∙◌, arith}
-use Rattle.std.specs.Prelude.{slice_get}
+use Rattle.std.specs.Prelude.{Bool, slice_get}
 use Rattle.journal_reader.specs.Journals.{Journal}
 use Rattle.std.proofs.lemmas.Option.{slice_get_within}
 use Rattle.std.specs.List.{AllByRecursion}
@@ -39,10 +39,10 @@ pub none_known : (js : List Journal) → AreKnownFirst js 0 []
 none_known js = record { many = refl; each = λ a j p here there. absurd (omega (arith, slice_get_within {A = Place} [] a p there)) }
 
 -- one way more
-pub known_next : (js : List Journal) (n known : ℕ) (j : Journal) (places : List Place) → AreSound js → AreKnownFirst js n places
-    → slice_get js n ≡ Some j → known ≡ length (filter is_of_store j.history) → AreKnownFirst js (n + 1) (places ++ record { walk = None; known = known } ∷ [])
-known_next js n known j places sound first here counted =
-    let p : Place = record { walk = None; known = known } in
+pub known_next : (js : List Journal) (n known : ℕ) (anew : Bool) (j : Journal) (places : List Place) → AreSound js → AreKnownFirst js n places
+    → slice_get js n ≡ Some j → known ≡ length (filter is_of_store j.history) → AreKnownFirst js (n + 1) (places ++ record { walk = None; known = known; anew = anew } ∷ [])
+known_next js n known anew j places sound first here counted =
+    let p : Place = record { walk = None; known = known; anew = anew } in
     let kept : kept_count (tracks_of js) j.machine ≡ length (filter is_of_store j.history) =
     kept_at (tracks_of js) n (track_of j) (tracks_other js sound.different) (track_at js n j here) in
     let short : length (filter is_of_store j.history) ≤ length j.history = filter_short is_of_store j.history in

@@ -6,7 +6,7 @@ use Rattle.std.proofs.lemmas.Option.{slice_get_within}
 use Rattle.request_model.specs.declared.replies.Reply.{Reply}
 use Rattle.request_model.specs.declared.requests.Request.{Request}
 use Rattle.track_model.specs.Tracks.{Track}
-use Rattle.track_model.specs.Replies.{machine_of}
+use Rattle.request_model.specs.Requests.{machine_of}
 use Rattle.history_model.specs.declared.entries.Author.TheVariants as author
 use Rattle.history_model.specs.declared.entries.Placed.{Placed}
 use Rattle.journal_reader.specs.Journals.{Journal, AreDifferent}

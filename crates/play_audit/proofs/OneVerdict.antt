@@ -21,7 +21,8 @@ use Rattle.request_reader.specs.Scripts.{IsScript, cut_off, end}
 use Rattle.reply_text.specs.Replies.{text_of}
 use Rattle.track_model.specs.Counts.{is_segment}
 use Rattle.track_model.specs.Outcomes.{refuses}
-use Rattle.track_model.specs.Replies.{machine_of, reply_of}
+use Rattle.track_model.specs.Replies.{reply_of}
+use Rattle.request_model.specs.Requests.{machine_of}
 use Rattle.track_model.specs.Tracks.{Track}
 use Rattle.play_model.specs.Laws.{RepliesNameEntries}
 use Rattle.play_model.specs.Replies.{Adds, IsReplyOn, IsReplyWhere, Tells, first_of, is_of_history}

@@ -7,7 +7,7 @@ use Rattle.history_model.specs.declared.entries.Author.{Author}
 use Rattle.history_model.specs.declared.entries.Placed.{Placed}
 use Rattle.request_model.specs.declared.requests.Request.{Request}
 use Rattle.request_model.specs.declared.requests.Request.TheVariants.{Segment}
-use Rattle.track_model.specs.Replies.{machine_of}
+use Rattle.request_model.specs.Requests.{machine_of}
 use Rattle.journal_walk.specs.Laws.{StaysAlong}
 use Rattle.journal_walk.specs.Walks.{Walked, GoesOn, coming}
 use Rattle.play_model.specs.Replies.{Adds, Tells}

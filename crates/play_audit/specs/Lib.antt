@@ -7,3 +7,4 @@ pub mod Known
 pub mod Marks
 pub mod Heard
 pub mod Laws
+pub mod Audits

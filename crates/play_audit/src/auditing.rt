@@ -5,6 +5,7 @@ ghost use Rattle.audit_model.specs.declared.heard.Heard.{Heard as AHeard};
 ghost use Rattle.audit_model.specs.declared.verdict.AuditStop.TheVariants as stop;
 ghost use Rattle.track_model.specs.Tracks.{Track};
 ghost use Rattle.play_audit.specs.Known.{AreSound, lines_in, tracks_of};
+ghost use Rattle.play_audit.specs.Audits.{Audits, MayBeAudited};
 ghost use Rattle.play_audit.specs.Heard.{AskThese, IsVerdictBy};
 
 use crate::NoMemory;
@@ -31,13 +32,40 @@ pub fn audit(alloc: Global, journal: &[u8], heard: &[Heard]) -> Result<Verdict, 
     ensures cut_off { (script offset : ℕ) → result ≡ Err (stop.CutOff script offset)
         → IsCutOff heard.now script offset }
 {
+    audit_by(alloc, journal, heard, false)
+}
+
+/// The same, slowly: for each request it goes along the journal again, from its first entry. It is the plain reference that
+/// `audit` is compared with.
+///
+/// Takes O(requests · entries) steps along the journals, each publication's segmentation made anew as often.
+pub fn plain_audit(alloc: Global, journal: &[u8], heard: &[Heard]) -> Result<Verdict, AuditStop>
+    requires { MayBeAudited heard.now }
+    ensures { Audits journal.now heard.now result }
+{
+    audit_by(alloc, journal, heard, true)
+}
+
+// The verdict, by one walk along a journal for each script, or by one anew for each request.
+fn audit_by(
+    alloc: Global,
+    journal: &[u8],
+    heard: &[Heard],
+    anew: bool,
+) -> Result<Verdict, AuditStop>
+    requires { MayBeAudited heard.now }
+    ensures verdict { IfOk result (IsVerdict journal.now heard.now) }
+    ensures whole { OnOk result (NoneCutOff heard.now) }
+    ensures cut_off { (script offset : ℕ) → result ≡ Err (stop.CutOff script offset)
+        → IsCutOff heard.now script offset }
+{
     let asked = read_scripts(alloc, heard)?;
     let journals = match read_journals(alloc, &ByWalk, heard.len() as u8, journal) {
         Ok(journals) => journals,
         Err(Refused::Line(line)) => return Ok(Verdict::JournalLine(line)),
         Err(Refused::NoMemory) => return Err(AuditStop::NoMemory),
     };
-    Ok(hear_all(alloc, &journals, heard, asked)?)
+    Ok(hear_all(alloc, &journals, heard, asked, anew)?)
 }
 
 // What each script asks; else the first that is cut off.
@@ -73,6 +101,7 @@ fn hear_all(
     journals: &[Journal],
     heard: &[Heard],
     asked: Vec<Vec<Item>>,
+    anew: bool,
 ) -> Result<Verdict, NoMemory>
     requires sound { AreSound journals.now }
     requires fits { lines_in (tracks_of journals.now) + 1 < 2 ^ 64 }
@@ -92,7 +121,7 @@ fn hear_all(
         script += 1;
         let count = items.len() as u64;
         let transcript = one.transcript.as_slice();
-        match hear(alloc, journals, script, items, transcript, &mut marks)? {
+        match hear(alloc, journals, script, items, transcript, anew, &mut marks)? {
             Told::All => requests += count,
             Told::Not(request) => {
                 return Ok(Verdict::Request {

@@ -4,7 +4,7 @@ ghost use Rattle.journal_walk.specs.Walks.{GoesOn, IsAlong, coming};
 ghost use Rattle.play_model.specs.Replies.{Adds, Tells, stands_alone};
 ghost use Rattle.track_entry.specs.Texts.{IsEntry};
 ghost use Rattle.track_model.specs.Counts.{is_segment};
-ghost use Rattle.track_model.specs.Replies.{machine_of};
+ghost use Rattle.request_model.specs.Requests.{machine_of};
 ghost use Rattle.play_audit.specs.Replies.{HasNone, IsNext};
 ghost use Rattle.play_audit.specs.Texts.{HasEntry, IsAnswered};
 

@@ -13,7 +13,6 @@ ghost use Rattle.play_audit.specs.Heard.{HearsAll, HearsItem, RefusesAt};
 
 use crate::NoMemory;
 use crate::items::Item;
-use crate::machine::machine_of;
 use crate::place::Place;
 use crate::text::{apart, begins_with};
 use history_model::{Author, Placed};
@@ -32,13 +31,14 @@ pub(crate) enum Told {
 }
 
 // What came of the transcript of the script of a number, which asks these items. Goes once along the journal of each
-// machine that it names.
+// machine that it names, or anew for each request.
 pub(crate) fn hear(
     alloc: Global,
     journals: &[Journal],
     script: u8,
     items: Vec<Item>,
     transcript: &[u8],
+    anew: bool,
     marks: &mut Vec<Vec<bool>>,
 ) -> Result<Told, NoMemory>
     requires sound { AreSound journals.now }
@@ -48,7 +48,7 @@ pub(crate) fn hear(
     ensures refused { (request : ℕ) → result ≡ Ok (told.Not request)
         → RefusesAt journals.now script items.items transcript.now request }
 {
-    let mut places = places_of(alloc, journals)?;
+    let mut places = places_of(alloc, journals, anew)?;
     let mut at = 0;
     let mut request = 0;
     for item in items {
@@ -73,14 +73,22 @@ pub(crate) fn hear(
 }
 
 // The beginnings of a script's ways along the journals. None walks yet.
-fn places_of<'a>(alloc: Global, journals: &'a [Journal]) -> Result<Vec<Place<'a>>, NoMemory>
+fn places_of<'a>(
+    alloc: Global,
+    journals: &'a [Journal],
+    anew: bool,
+) -> Result<Vec<Place<'a>>, NoMemory>
     requires { AreSound journals.now }
     ensures { IfOk result (λ places. AreKnown journals.now [] places.items) }
 {
     let mut places = Vec::new(alloc);
     for journal in journals {
         let known = kept_count(&journal.history);
-        places.push(Place { walk: None, known })?;
+        places.push(Place {
+            walk: None,
+            known,
+            anew,
+        })?;
     }
     Ok(places)
 }
@@ -161,7 +169,7 @@ fn hear_request<'a>(
     if is_alone(request) {
         return begins_with(alloc, transcript, apart(Refusal::OnlyAlone));
     }
-    let Some(i) = journal_of(journals, machine_of(request)) else {
+    let Some(i) = journal_of(journals, request.machine()) else {
         return begins_with(alloc, transcript, apart(Refusal::UnknownMachine));
     };
     let journal = &journals[i];

@@ -3,7 +3,8 @@
 //! [`audit`] takes the text of the journals and each script with its transcript, and gives the verdict of `audit_model`:
 //! that they fit together, or the first line or request that doesn't fit. Each transcript is heard in its order: each reply
 //! is compared with the one that the journal of its machine gives behind as many entries as it names, by a walk along that
-//! journal that begins where the script first names the machine, and only goes forward. By [`one_verdict_law`] files have one verdict at most (`specs/Laws.antt`).
+//! journal that begins where the script first names the machine, and only goes forward. [`plain_audit`] begins one anew for
+//! each request, as the plain reference. By [`one_verdict_law`] files have one verdict at most (`specs/Laws.antt`).
 //!
 //! Stands on `audit_model` for the verdicts, on `journal_reader` for the journals, on `journal_walk` for what a machine's
 //! state is behind so many entries and what a request comes to there, on `reply_laws` for what a reply's text tells, and on
@@ -15,7 +16,6 @@ mod behind;
 mod hearing;
 mod items;
 mod laws;
-mod machine;
 mod marks;
 mod place;
 mod same;
@@ -23,5 +23,5 @@ mod segment;
 mod text;
 
 pub use audit_model::{AuditStop, Bytes, Heard, NoMemory, Verdict, fits_law};
-pub use auditing::audit;
+pub use auditing::{audit, plain_audit};
 pub use laws::one_verdict_law;

@@ -2,7 +2,7 @@
 ghost use Rattle.std.specs.Prelude.{◌≡◌, ◌≤◌, ◌<◌, ◌+◌, ◌-◌, ◌^◌, ◌↔◌, ◌⊎◌, ◌||◌, ℕ, set, Some, false, true, length, IfOk, IfSome, IfNone, IsTrue, OnOk};
 ghost use Rattle.history_model.specs.declared.entries.Author.TheVariants as made_by;
 ghost use Rattle.play_model.specs.Replies.{Adds, Tells, stands_alone};
-ghost use Rattle.track_model.specs.Replies.{machine_of};
+ghost use Rattle.request_model.specs.Requests.{machine_of};
 ghost use Rattle.journal_walk.specs.Walks.{GoesOn, IsAlong, coming};
 ghost use Rattle.reply_laws.specs.Kinds.{Names, asks_only, tells_by_letter};
 ghost use Rattle.track_entry.specs.Texts.{IsEntry};
@@ -11,7 +11,6 @@ ghost use Rattle.play_audit.specs.Replies.{HasNone, IsHeardNext, IsNext, IsUnhea
 
 use crate::NoMemory;
 use crate::behind::{added_behind, told_behind};
-use crate::machine::machine_of;
 use crate::segment::{published_behind, unpublished};
 use crate::text::{Named, first_named, is_only_asked, tells_none};
 use history_model::{Author, Placed};
@@ -29,10 +28,12 @@ pub(crate) struct Place<'a> {
     pub(crate) walk: Option<Walk<'a>>,
     // So many entries were known.
     pub(crate) known: u64,
+    // Whether each request has a walk of its own, which begins before the first entry.
+    pub(crate) anew: bool,
 }
 
 impl<'a> Place<'a> {
-    // Begins the walk along the history of a machine, where it didn't begin yet.
+    // Begins the walk along the history of a machine, where it didn't begin yet, or begins anew for each request.
     fn begin(
         &mut self,
         alloc: Global,
@@ -44,7 +45,7 @@ impl<'a> Place<'a> {
         ensures known { self.new.known ≡ self.old.known }
     {
         along_law();
-        if self.walk.is_some() {
+        if self.walk.is_some() && !self.anew {
             return Ok(());
         }
         let walk = Walk::new(alloc, machine.copy(alloc)?, history)?;
@@ -86,7 +87,7 @@ impl<'a> Place<'a> {
                 if is_outside(named.step, known, count) {
                     return Ok(None);
                 }
-                self.begin(alloc, machine_of(request), history)?;
+                self.begin(alloc, request.machine(), history)?;
                 self.known = named.step;
                 let Some(walk) = &mut self.walk else {
                     unreachable!();

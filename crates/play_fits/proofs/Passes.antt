@@ -12,7 +12,7 @@ use Rattle.history_model.specs.declared.entries.Placed.{Placed}
 use Rattle.request_model.specs.declared.requests.Request.{Request}
 use Rattle.request_model.specs.declared.replies.Reply.{Reply}
 use Rattle.request_words.specs.Bodies.{Item}
-use Rattle.track_model.specs.Replies.{machine_of}
+use Rattle.request_model.specs.Requests.{machine_of}
 use Rattle.play_model.specs.Replies.{is_of_history, IsReplyOn, IsReplyWhere, Adds, stands_alone}
 use Rattle.play_fits.specs.Scripts.{Exchange, is_about, names_history, last_from, known_after, IsAnswer, AreAnswered, IsAdded}
 use Rattle.play_fits.specs.Passes.{Waits, Sight, journal_of, count_of, IsMadeBy, SeesMore, AsksItem, AsksAll, IsSeenPart}

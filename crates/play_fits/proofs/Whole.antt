@@ -10,7 +10,7 @@ use Rattle.history_model.specs.declared.entries.Placed.{Placed}
 use Rattle.play_fits.specs.Passes.{Sight, journal_of, count_of, IsMadeBy, SeesMore, IsSeenPart}
 use Rattle.request_model.specs.declared.replies.Reply.{Reply}
 use Rattle.request_words.specs.Bodies.{Item}
-use Rattle.track_model.specs.Replies.{machine_of}
+use Rattle.request_model.specs.Requests.{machine_of}
 use Rattle.play_model.specs.Replies.{is_of_history, IsReplyWhere}
 use Rattle.play_model.proofs.Replies.{replies-stay, adds-stay}
 use Rattle.play_fits.specs.Scripts.{IsAnswer, Exchange, known_after, IsAdded}

@@ -8,7 +8,8 @@ use Rattle.request_model.specs.declared.requests.Request.{Request}
 use Rattle.request_model.specs.declared.replies.Reply.{Reply}
 use Rattle.request_words.specs.Bodies.{Item}
 use Rattle.track_model.specs.Outcomes.{refuses}
-use Rattle.track_model.specs.Replies.{machine_of, apart}
+use Rattle.track_model.specs.Replies.{apart}
+use Rattle.request_model.specs.Requests.{machine_of}
 use Rattle.play_model.specs.Replies.{IsReply, Adds}
 use Rattle.play_fits.specs.Scripts.{Exchange, IsAdded, AreAnswered}
 

@@ -10,7 +10,8 @@ use Rattle.request_words.specs.Bodies.{Item}
 use Rattle.request_reader.specs.Scripts.{Ending, IsScript, AsksFirst}
 use Rattle.reply_text.specs.Replies.{text_of}
 use Rattle.track_model.specs.Outcomes.{refuses}
-use Rattle.track_model.specs.Replies.{machine_of, apart}
+use Rattle.track_model.specs.Replies.{apart}
+use Rattle.request_model.specs.Requests.{machine_of}
 use Rattle.play_model.specs.Replies.{is_of_history, IsReply, Adds}
 
 -- a request of a script, or why it couldn't be read, with the reply

@@ -14,7 +14,8 @@ use Rattle.request_model.specs.declared.replies.Refusal.TheVariants as refusal
 use Rattle.request_model.specs.declared.replies.Reply.{Reply}
 use Rattle.track_model.specs.Outcomes.{Outcome, refuses}
 use Rattle.track_model.specs.Publishing.{SegmentComesFrom}
-use Rattle.track_model.specs.Replies.{machine_of, reply_of, apart}
+use Rattle.track_model.specs.Replies.{reply_of, apart}
+use Rattle.request_model.specs.Requests.{machine_of}
 use Rattle.track_model.specs.Tracks.{ComesTo}
 
 -- the first entries of a journal, so many, without their authors

@@ -12,7 +12,7 @@ use Rattle.history_model.specs.declared.entries.Author.{Author}
 use Rattle.history_model.specs.declared.entries.Placed.{Placed}
 use Rattle.request_model.specs.declared.requests.Request.{Request}
 use Rattle.request_model.specs.declared.replies.Reply.{Reply}
-use Rattle.track_model.specs.Replies.{machine_of}
+use Rattle.request_model.specs.Requests.{machine_of}
 use Rattle.play_model.specs.Replies.{is_of_history, IsReplyOn, IsReplyWhere, Adds}
 use Rattle.play_fits.specs.Passes as passes
 use Rattle.track_room.specs.Sights.{Home, Sight, SeesMore, AddsOne, own_marks, seeing, track_of}

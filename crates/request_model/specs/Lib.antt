@@ -1,2 +1,3 @@
 pub mod Factors
 pub mod Lines
+pub mod Requests

@@ -1,5 +1,6 @@
 //! Requests of a script, as they are once they were read.
 ghost use Rattle.std.specs.Prelude.{◌≡◌, IfOk};
+ghost use Rattle.request_model.specs.Requests.{machine_of};
 
 use line_text::{Name, NoMemory};
 use regression_state::State;
@@ -163,6 +164,31 @@ pub enum Request {
 }
 
 impl Request {
+    /// The machine that it is about.
+    pub fn machine(&self) -> &Name
+        ensures { result.now ≡ machine_of self.now }
+    {
+        match self {
+            Request::Machine { machine } => machine,
+            Request::Commit { machine, .. } => machine,
+            Request::Submit { machine, .. } => machine,
+            Request::Retract { machine, .. } => machine,
+            Request::Tune { machine, .. } => machine,
+            Request::Calibrate { machine, .. } => machine,
+            Request::Segment { machine, .. } => machine,
+            Request::Changes { machine, .. } => machine,
+            Request::Verify { machine, .. } => machine,
+            Request::Regress { machine, .. } => machine,
+            Request::SetState { machine, .. } => machine,
+            Request::Bisect { machine, .. } => machine,
+            Request::Answer { machine, .. } => machine,
+            Request::Resume { machine, .. } => machine,
+            Request::Job { machine, .. } => machine,
+            Request::Runs { machine } => machine,
+            Request::Report { machine, .. } => machine,
+        }
+    }
+
     /// An equal request of its own. Takes the time of [`Samples::copy`] for a run, else constant time.
     pub fn copy(&self, alloc: Global) -> Result<Request, NoMemory>
         ensures { IfOk result (λ made. made ≡ self.now) }

@@ -16,7 +16,8 @@ use Rattle.history_model.specs.declared.entries.Author.{Author}
 use Rattle.history_model.specs.declared.entries.Entry.{Entry}
 use Rattle.history_model.specs.declared.entries.Placed.{Placed}
 use Rattle.track_model.specs.Outcomes.{Outcome, tells, refuses}
-use Rattle.track_model.specs.Replies.{machine_of, apart}
+use Rattle.track_model.specs.Replies.{apart}
+use Rattle.request_model.specs.Requests.{machine_of}
 use Rattle.std.specs.FinSet as set
 use Rattle.history_model.specs.Runs.{Series}
 use Rattle.request_model.specs.declared.replies.Answer.{Answer}

@@ -13,7 +13,8 @@ use Rattle.history_model.specs.declared.entries.Author.{Author}
 use Rattle.history_model.specs.Allowed.{Legal}
 use Rattle.history_model.specs.Entries.{entries_of}
 use Rattle.track_model.specs.Outcomes.{Outcome, tells, refuses}
-use Rattle.track_model.specs.Replies.{machine_of, reply_of, apart}
+use Rattle.track_model.specs.Replies.{reply_of, apart}
+use Rattle.request_model.specs.Requests.{machine_of}
 use Rattle.track_model.specs.Tracks.{Track, ComesTo, IsSameButTables, base_asked, with_answered, new_track as empty_track}
 pub use Rattle.keep_rows.specs.Machines.{is_track, changed}
 

@@ -2,7 +2,6 @@
 ghost use Rattle.std.specs.Prelude.{◌≡◌, IfOk, OnErr};
 ghost use Rattle.std.specs.List.{AllZip};
 ghost use Rattle.track_model.specs.Counts.{Counts};
-ghost use Rattle.track_model.specs.Replies as replies;
 ghost use Rattle.track_model.specs.Tracks.{IsSameButTables};
 ghost use Rattle.script_desk.specs.Sessions.{added, unknown, Answers};
 
@@ -32,7 +31,7 @@ pub(crate) fn answer_request<L: Ledger>(
     ensures steps { IfOk result (λ reply. Counts request.now reply.answer steps.old steps.new) }
     ensures left { OnErr result (AllZip IsSameButTables machines.old.items machines.new.items) }
 {
-    if let Some(i) = place_of(machines, machine_of(request)) {
+    if let Some(i) = place_of(machines, request.machine()) {
         return answer(&mut machines[i], author, request, steps);
     }
     answer_unknown(alloc, machines, request)
@@ -74,31 +73,6 @@ fn add_machine(
     };
     machines.push(MachineState::new(alloc, machine.copy(alloc)?, false))?;
     Ok(apart(answer))
-}
-
-// The machine that a request is about.
-fn machine_of(request: &Request) -> &Name
-    ensures { result.now ≡ replies.machine_of request.now }
-{
-    match request {
-        Request::Machine { machine } => machine,
-        Request::Commit { machine, .. } => machine,
-        Request::Submit { machine, .. } => machine,
-        Request::Retract { machine, .. } => machine,
-        Request::Tune { machine, .. } => machine,
-        Request::Calibrate { machine, .. } => machine,
-        Request::Segment { machine, .. } => machine,
-        Request::Changes { machine, .. } => machine,
-        Request::Verify { machine, .. } => machine,
-        Request::Regress { machine, .. } => machine,
-        Request::SetState { machine, .. } => machine,
-        Request::Bisect { machine, .. } => machine,
-        Request::Answer { machine, .. } => machine,
-        Request::Resume { machine, .. } => machine,
-        Request::Job { machine, .. } => machine,
-        Request::Runs { machine } => machine,
-        Request::Report { machine, .. } => machine,
-    }
 }
 
 // An answer that names no history.

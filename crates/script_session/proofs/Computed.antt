@@ -15,7 +15,7 @@ use Rattle.history_model.specs.Entries.{entries_of}
 use Rattle.track_model.specs.Following as following
 use Rattle.track_model.specs.Forms as forms
 use Rattle.track_model.specs.Outcomes.{Outcome, tells, refuses}
-use Rattle.track_model.specs.Replies.{machine_of}
+use Rattle.request_model.specs.Requests.{machine_of}
 use Rattle.track_model.specs.Tracks.{Track, ComesTo, base_asked}
 use Rattle.script_desk.specs.Sessions.{Answered, is_track, untouched, unknown, stepped, AnswersAbout, State, AnswersFor}
 use Rattle.script_loop.specs.Folds.{AnswersItem, AreAnswers}

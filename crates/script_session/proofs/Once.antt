@@ -13,7 +13,7 @@ use Rattle.request_reader.specs.Reading.{OneReading, PiecesAreFirst}
 use Rattle.history_model.specs.declared.entries.Author.{Author}
 use Rattle.history_model.specs.Entries.{entries_of}
 use Rattle.track_model.specs.Laws.{OneOutcome}
-use Rattle.track_model.specs.Replies.{machine_of}
+use Rattle.request_model.specs.Requests.{machine_of}
 use Rattle.track_model.specs.Tracks.{Track, base_asked}
 use Rattle.script_desk.specs.Sessions.{Answered, is_track, stepped, AnswersAbout, Answers, State, RepliesTo, AnswersFor, is_of_segmentations, AnswersSome}
 use Rattle.script_loop.specs.Folds.{AnswersItem, AreAnswers}

@@ -2,7 +2,7 @@
 ghost use Rattle.std.specs.Prelude.{◌≡◌, IfOk, OnErr, OnOk, false};
 ghost use Rattle.track_model.specs.Counts.{is_segment};
 ghost use Rattle.track_model.specs.Outcomes.{Outcome};
-ghost use Rattle.track_model.specs.Replies.{machine_of};
+ghost use Rattle.request_model.specs.Requests.{machine_of};
 ghost use Rattle.track_model.specs.Tracks.{ComesTo, IsStep};
 ghost use Rattle.machine_state.specs.Made.{IsPlain};
 ghost use Rattle.track_replay.specs.Replays.{IsReplayed};

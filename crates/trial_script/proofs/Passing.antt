@@ -15,7 +15,8 @@ use Rattle.request_model.specs.declared.replies.Refusal.{Refusal}
 use Rattle.request_model.specs.declared.replies.Answer.TheVariants as answer
 use Rattle.request_model.specs.declared.replies.Reply.{Reply}
 use Rattle.track_model.specs.Outcomes.{Outcome}
-use Rattle.track_model.specs.Replies.{machine_of, reply_of}
+use Rattle.track_model.specs.Replies.{reply_of}
+use Rattle.request_model.specs.Requests.{machine_of}
 use Rattle.history_model.specs.Runs.{Series}
 use Rattle.request_model.specs.declared.replies.Answer.{Answer}
 use Rattle.track_model.specs.Tracks.{Track, new_track, with_added, with_answered, with_home, with_segmented, with_taken, base_of, base_asked, ComesTo}

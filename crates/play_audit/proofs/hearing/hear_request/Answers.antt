@@ -2,7 +2,8 @@ use Rattle.std.proofs.Common.{◌≡◌, ℕ, List, [], Ok, length, get_or, sym,
 use Rattle.std.specs.Prelude.{slice_get}
 use Rattle.request_model.specs.declared.replies.Refusal.TheVariants as refusal
 use Rattle.track_model.specs.Outcomes.{refuses}
-use Rattle.track_model.specs.Replies.{apart, machine_of}
+use Rattle.track_model.specs.Replies.{apart}
+use Rattle.request_model.specs.Requests.{machine_of}
 use Rattle.std.specs.Prelude.{Some}
 use Rattle.std.specs.List.{AllByRecursion}
 use Rattle.std.proofs.lemmas.Option.{slice_get_within}
@@ -37,7 +38,7 @@ returns-then-is_alone-clause-none c =
     c.args.places.now.items c.apart.result c.apart.ensures c.begins_with.result c.begins_with.ensures.none
 
 others : (c : After-begins_with-in_default) → AllByRecursion (IsOther (machine_of c.args.request.now)) c.args.journals.now
-others c = subst (λ (m : List ℕ). AllByRecursion (IsOther m) c.args.journals.now) c.machine_of.ensures c.in_default.ensures.none
+others c = subst (λ (m : List ℕ). AllByRecursion (IsOther m) c.args.journals.now) c.machine.ensures c.in_default.ensures.none
 
 pub returns-in_default-clause-some : goal.returns-in_default-clause-some
 returns-in_default-clause-some c =
@@ -73,7 +74,7 @@ here c =
 about : (c : After-deref) → c.index-journals-i.result.machine ≡ machine_of c.args.request.now
 about c =
     let s = c.in-Some.ensures.some in
-    ap (λ (j : Journal). j.machine) (same_at c.args.journals.now c.in-Some.i c.index-journals-i.result s.0 (here c) s.1) ∙ s.2 ∙ c.machine_of.ensures
+    ap (λ (j : Journal). j.machine) (same_at c.args.journals.now c.in-Some.i c.index-journals-i.result s.0 (here c) s.1) ∙ s.2 ∙ c.machine.ensures
 
 history : (c : After-deref) → c.deref.result.now ≡ c.index-journals-i.result.history
 history c = c.deref.ensures.value ∙ ap (λ (j : Journal). j.history) c.journal.view_is

@@ -15,4 +15,4 @@ loop-journal-preserved c =
     let history : c.deref.result.now ≡ c.journal-item.result.history = c.deref.ensures.value ∙ ap (λ (j : Journal). j.history) view in
     let known = c.kept_count-known.ensures ∙ ap (λ (h : List Placed). length (filter is_of_store h)) history in
     subst (AreKnownFirst js (n + 1)) (sym c.in_ok-push.ensures.items)
-    (known_next js n c.kept_count-known.result c.journal-item.result c.loop-journal.places.items c.requires c.loop-journal.invariant at known)
+    (known_next js n c.kept_count-known.result c.args.anew c.journal-item.result c.loop-journal.places.items c.requires c.loop-journal.invariant at known)

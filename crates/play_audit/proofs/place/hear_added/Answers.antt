@@ -1,7 +1,7 @@
 use Rattle.std.proofs.Common.{◌≡◌, true, false, ◌-◌, ◌<◌, List, length, sym, ap, subst, ◌∙◌, arith}
 use Rattle.history_model.specs.declared.entries.Author.TheVariants.{Script}
 use Rattle.history_model.specs.declared.entries.Placed.{Placed}
-use Rattle.track_model.specs.Replies.{machine_of}
+use Rattle.request_model.specs.Requests.{machine_of}
 use Rattle.play_audit.specs.Places.{IsSound}
 use Rattle.play_audit.proofs.Placing.{added_ok, added_ok_none, comes_next, goes_ok, has_gone, its_sound, line_at_place, may_go, not_its_own, not_new, placed_at}
 use Rattle.play_audit.proofs.place.hear_added.Goals as goal

@@ -2,7 +2,7 @@ use Rattle.std.proofs.Common.{◌-◌, ◌<◌, ℕ, Bool, true, List, length, s
 use Rattle.std.proofs.lemmas.List.{length-set}
 use Rattle.history_model.specs.declared.entries.Author.TheVariants.{Script}
 use Rattle.play_model.specs.Replies.{Adds, Tells}
-use Rattle.track_model.specs.Replies.{machine_of}
+use Rattle.request_model.specs.Requests.{machine_of}
 use Rattle.play_audit.specs.Places.{IsBy}
 use Rattle.play_audit.specs.Replies.{HasNone, IsHeardNext, IsNext, IsUnheard}
 use Rattle.play_audit.proofs.Telling.{at_none, at_some, heard_added, heard_told, none_by, some_by, unheard_added, unheard_told}

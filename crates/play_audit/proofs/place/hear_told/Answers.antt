@@ -1,6 +1,6 @@
 use Rattle.std.proofs.Common.{◌≡◌, List, length, sym, ap, subst, ◌∙◌, arith}
 use Rattle.history_model.specs.declared.entries.Placed.{Placed}
-use Rattle.track_model.specs.Replies.{machine_of}
+use Rattle.request_model.specs.Requests.{machine_of}
 use Rattle.play_audit.specs.Places.{IsSound}
 use Rattle.play_audit.proofs.Placing.{has_gone, its_sound, may_go, stays_ok, told_ok, told_ok_none}
 use Rattle.play_audit.proofs.place.hear_told.Goals as goal

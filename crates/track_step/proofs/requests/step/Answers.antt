@@ -9,7 +9,8 @@ use Rattle.track_model.specs.Forms as forms
 use Rattle.track_model.specs.Outcomes.{Outcome, tells}
 use Rattle.request_model.specs.declared.requests.Request.TheVariants as request
 use Rattle.track_model.specs.Following as following
-use Rattle.track_model.specs.Replies.{machine_of, reply_of}
+use Rattle.track_model.specs.Replies.{reply_of}
+use Rattle.request_model.specs.Requests.{machine_of}
 use Rattle.history_model.specs.declared.entries.Author.{Author}
 use Rattle.history_model.specs.Runs.{Series}
 use Rattle.track_model.specs.Publishing.{ChangesComeTo, VerifyComesTo}

@@ -2,8 +2,8 @@ use Rattle.std.proofs.Common.{refl, sym, ◌∙◌}
 use Rattle.play_audit.proofs.Beginning.{walks_new, walks_on}
 use Rattle.play_audit.proofs.place.Place.begin.Goals as goal
 
-pub returns-then-is_some-clause-walks : goal.returns-then-is_some-clause-walks
-returns-then-is_some-clause-walks c = walks_on c.args.machine.now c.args.history.now c.args.self.now (sym c.is_some.ensures ∙ c.if-is_some.true) c.requires.place
+pub returns-then-not-self-clause-walks : goal.returns-then-not-self-clause-walks
+returns-then-not-self-clause-walks c = walks_on c.args.machine.now c.args.history.now c.args.self.now (sym c.is_some.ensures ∙ c.if-is_some.true) c.requires.place
 
 pub returns-clause-walks : goal.returns-clause-walks
 returns-clause-walks c = record {

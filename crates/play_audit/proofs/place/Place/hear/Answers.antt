@@ -12,7 +12,7 @@ returns-then-is_outside-clause-none c =
     c.in-Some.named.step c.in-Some.named.letter c.count_of-count.ensures.few c.is_outside.ensures.few c.in-Some.ensures.some outside
 
 pub begin-requires : goal.begin-requires
-begin-requires c = record { place = subst (λ (m : List ℕ). IsPlace m c.args.history.now c.args.self.now) (sym c.machine_of.ensures) c.requires.place }
+begin-requires c = record { place = subst (λ (m : List ℕ). IsPlace m c.args.history.now c.args.self.now) (sym c.machine.ensures) c.requires.place }
 
 pub unreachable-requires : goal.unreachable-requires
 unreachable-requires c =
@@ -27,9 +27,9 @@ hear_named-requires-clause-by c =
     let walks = c.in_ok-begin-in-Some.ensures.walks in
     let both : Some walks.walk ≡ Some c.in-Some-walk.walk = sym walks.is ∙ c.in-Some-walk.is in
     let same : walks.walk ≡ c.in-Some-walk.walk = cc in
-    subst (λ (m : List ℕ). IsBy m c.args.history.now c.args.self.now.known c.in-Some-walk.walk) c.machine_of.ensures
-    (subst (λ (n : ℕ). IsBy c.machine_of.result.now c.args.history.now n c.in-Some-walk.walk) c.begin.ensures.known
-    (subst (λ (w : Walked). IsBy c.machine_of.result.now c.args.history.now c.begin.new.self.known w) same walks.by))
+    subst (λ (m : List ℕ). IsBy m c.args.history.now c.args.self.now.known c.in-Some-walk.walk) c.machine.ensures
+    (subst (λ (n : ℕ). IsBy c.machine.result.now c.args.history.now n c.in-Some-walk.walk) c.begin.ensures.known
+    (subst (λ (w : Walked). IsBy c.machine.result.now c.args.history.now c.begin.new.self.known w) same walks.by))
 
 pub hear_named-requires-clause-since : goal.hear_named-requires-clause-since
 hear_named-requires-clause-since c = c.is_outside.ensures.since c.if-is_outside.false

@@ -2,7 +2,7 @@ use Rattle.std.proofs.Common.{◌+◌, ◌<◌, ◌≤◌, ℕ, List, length, Er
 use Rattle.journal_reader.specs.Journals.{Journal}
 use Rattle.play_audit.specs.Known.{AreSound, lines_in, tracks_of}
 use Rattle.play_audit.proofs.Sound.{lines_bytes, sound_of}
-use Rattle.play_audit.proofs.auditing.audit.Goals as goal
+use Rattle.play_audit.proofs.auditing.audit_by.Goals as goal
 
 pub returns-in_err-asked-clause-cut_off : goal.returns-in_err-asked-clause-cut_off
 returns-in_err-asked-clause-cut_off c = λ script offset is.
