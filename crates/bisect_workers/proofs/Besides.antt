@@ -1,9 +1,9 @@
 -- What a worker's pass has made of the machines of a room, call after call.
-use Rattle.std.proofs.Common.{◌≡◌, ◌⊎◌, inl, inr, ℕ, zero, suc, ◌+◌, ◌-◌, ◌^◌, ◌≤◌, Bool, true, false, cond, List, [], ◌∷◌, ◌++◌, length, take, refl, sym, ap, ap₂, subst, ◌∙◌, Option, Some, None, arith, eq-eqb, ne_eqb}
-use Rattle.std.specs.Prelude.{All, ◌==◌, filter, map, min, option_map, option_to_list, slice_get, slice_set, unwrap_or}
+use Rattle.std.proofs.Common.{◌≡◌, ◌⊎◌, inl, inr, ℕ, zero, suc, ◌+◌, ◌≤◌, true, false, cond, List, [], ◌∷◌, ◌++◌, length, refl, sym, ap, ap₂, subst, ◌∙◌, Option, Some, None, arith, eq-eqb, ne_eqb}
+use Rattle.std.specs.Prelude.{All, ◌==◌, filter, map, option_map, option_to_list, slice_get, slice_set, unwrap_or}
 use Rattle.std.specs.List.{AllByRecursion, AllZip}
 use Rattle.std.proofs.lemmas.Bool.Decides.{eqb_tells}
-use Rattle.std.proofs.lemmas.List.{append-nil, append_assoc, length-append, length-map, map-append, take-append-le, take_all}
+use Rattle.std.proofs.lemmas.List.{append-nil, append_assoc, length-append, map-append, take_all}
 use Rattle.std.proofs.lemmas.List.Elements.{All-append, All-cons, All-nil, All-weaker, filter-append}
 use Rattle.track_outside.specs.Asked.{Ask, with_ask}
 use Rattle.bisect_core.specs.Bisections.{Bisection, answer_to, asked_by}
@@ -22,18 +22,16 @@ use Rattle.history_model.specs.Allowed.{first_passed}
 use Rattle.history_model.specs.Entries.{entries_of}
 use Rattle.history_model.specs.Followed.{JobsAreNamed}
 use Rattle.history_model.specs.Jobs.{job_in, jobs}
-use Rattle.track_follow.specs.Settling.{IsPut, IsSettled, IsTaken, entry_said}
+use Rattle.track_follow.specs.Settling.{IsPut, IsTaken, entry_said}
 use Rattle.track_follow.specs.declared.settling.Settled.{Settled}
-use Rattle.track_model.specs.Following.{asked_commit, named_by}
 use Rattle.track_model.specs.Tracks.{Track, with_entry}
-use Rattle.track_state.specs.Work.{Work, bare, history_of}
+use Rattle.track_state.specs.Work.{bare}
 use Rattle.track_state.specs.declared.questions.Question.{Question}
 use Rattle.track_room.specs.Asked.{ChangesAt}
-use Rattle.track_room.specs.Sights.{AddsOneAtMost, SeesMore, Sight, Visits, own_marks, seeing, track_of}
+use Rattle.track_room.specs.Sights.{SeesMore, Sight, Visits, own_marks, seeing, track_of}
 use Rattle.track_room.specs.Taking.{IsQuestion, OfSeen, Settles, seen_of}
-use Rattle.track_room.specs.Visits.{Stays}
-use Rattle.track_room.proofs.Visiting.{stays-sees, visits-as}
-use Rattle.bisect_workers.specs.Bisecting.{IsDue, IsSaidBy, RoseBy}
+use Rattle.track_room.proofs.Visiting.{stays-sees}
+use Rattle.bisect_workers.specs.Bisecting.{IsDue, RoseBy}
 use Rattle.bisect_workers.specs.Failures.{failures}
 use Rattle.worker_model.specs.Findings.{AsksCommit, Finding, asked_name, finding_of, named_asked}
 use Rattle.bisect_workers.specs.Beside.{BisectsAt, EachBisects, IsBisectedIn, IsByWorker, IsDueIn, Use, asks_of, findings_by, found_at, found_by, given_up, is_given_up, is_number}

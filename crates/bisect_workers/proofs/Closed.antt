@@ -1,5 +1,5 @@
 -- Private: no public contract cites this. Where no job asks, none is open.
-use Rattle.std.proofs.Common.{◌≡◌, ℕ, zero, suc, inl, false, List, [], ◌∷◌, refl, sym, ap, ◌∙◌, Option, Some, None}
+use Rattle.std.proofs.Common.{◌≡◌, ℕ, suc, inl, false, List, [], ◌∷◌, refl, sym, ap, ◌∙◌, Option, Some, None}
 use Rattle.std.specs.Prelude.{slice_get}
 use Rattle.bisect_core.specs.Bisections.{Bisection, asked_by, is_open}
 use Rattle.bisect_core.specs.declared.outcome.Outcome.{Outcome}

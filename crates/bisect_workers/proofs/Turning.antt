@@ -1,7 +1,7 @@
 -- One turn of a worker that bisects.
-use Rattle.std.proofs.Common.{◌≡◌, ℕ, ◌+◌, ◌≤◌, ◌<◌, Bool, true, false, cond, List, [], ◌∷◌, ◌++◌, length, take, refl, sym, ap, subst, ◌∙◌, Option, Some, None, arith, eq-eqb}
-use Rattle.std.specs.Prelude.{All, filter, min, option_map, option_to_list}
-use Rattle.std.proofs.lemmas.List.{append-nil, length-append, length-map, take-append-le, take_all}
+use Rattle.std.proofs.Common.{◌≡◌, ℕ, ◌≤◌, ◌<◌, Bool, true, false, cond, List, [], ◌∷◌, ◌++◌, length, refl, sym, ap, subst, ◌∙◌, Option, Some, None, arith, eq-eqb}
+use Rattle.std.specs.Prelude.{All, option_map, option_to_list}
+use Rattle.std.proofs.lemmas.List.{append-nil, length-append, take-append-le, take_all}
 use Rattle.std.proofs.lemmas.List.Elements.{All-nil, All-cons}
 use Rattle.metric_table.specs.Limits.{most}
 use Rattle.metric_table.specs.declared.limits.Limit.{Limit}
@@ -17,18 +17,17 @@ use Rattle.history_model.specs.declared.entries.Entry.{Entry}
 use Rattle.history_model.specs.declared.entries.Placed.{Placed}
 use Rattle.history_model.specs.Allowed.{first_passed}
 use Rattle.history_model.specs.Entries.{entries_of}
-use Rattle.history_model.specs.Jobs.{asked, job_in, jobs}
+use Rattle.history_model.specs.Jobs.{asked}
 use Rattle.history_model.specs.Laws.{FirstKept}
 use Rattle.track_follow.specs.Settling.{IsPut, IsSettled, IsTaken, entry_said}
 use Rattle.track_follow.specs.declared.settling.Settled.{Settled}
-use Rattle.track_model.specs.Following.{asked_commit, named_by}
 use Rattle.track_model.specs.Tracks.{Track, with_entry}
 use Rattle.track_state.specs.Questions.{IsQuestion, NoneIsAsked}
 use Rattle.track_state.specs.declared.questions.Question.{Question}
 use Rattle.bisect_workers.specs.Bisecting.{IsBisected, IsDue, IsSaidBy, RoseBy}
 use Rattle.bisect_workers.specs.Failures.{failures}
 use Rattle.worker_model.specs.Findings.{AsksCommit, Finding, asked_name, finding_of, named_asked}
-use Rattle.bisect_workers.specs.Findings.{Use, asks_of, found_of, give_ups}
+use Rattle.bisect_workers.specs.Findings.{asks_of, give_ups}
 use Rattle.bisect_workers.specs.Quiet.{NoneAsks}
 
 -- where no job is claimed and none is given, none asks

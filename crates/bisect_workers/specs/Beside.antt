@@ -1,5 +1,5 @@
 -- What the pass of a worker that bisects has seen more of the machines of a room, and what its runner was asked for it.
-use Rattle.std.specs.Prelude.{◌≡◌, ◌⊎◌, ◌+◌, ℕ, zero, suc, Bool, true, false, ◌==◌, ◌&&◌, if◌then◌else◌, is_none, is_some, List, [], ◌∷◌, ◌++◌, All, filter, length, map, option_map, option_to_list, slice_get, Option, Some, None}
+use Rattle.std.specs.Prelude.{◌≡◌, ◌⊎◌, ℕ, suc, Bool, false, ◌==◌, ◌&&◌, if◌then◌else◌, is_none, is_some, List, [], ◌∷◌, ◌++◌, All, filter, length, map, option_map, option_to_list, slice_get, Option, Some, None}
 use Rattle.std.specs.List.{AllByRecursion}
 use Rattle.track_outside.specs.Asked.{Ask}
 use Rattle.history_lock.specs.declared.view.Marked.{Marked}

@@ -15,5 +15,6 @@ mod worker;
 pub use last::recompute_last;
 pub use pace::{AtGate, Pace};
 pub use std::alloc::AllocError as NoMemory;
+pub use track_room::{leave_each, unclaimed};
 pub use track_state::TrackState;
 pub use worker::{recompute, recompute_by};

@@ -14,7 +14,8 @@ use request_words::{Head, item_of, read_head};
 use std::alloc::Global;
 use std::sync::Wait;
 use track_outside::{Keeper, MemKeeper, MemSink};
-use track_room::{Room, RoomPass};
+use track_room::{Room, RoomPass, leave_each, unclaimed};
+use track_state::TrackState;
 
 /// The rows of a machine of one commit.
 pub const DECLARED: &[&str] = &["machine m", "entry m commit 1 a"];
@@ -80,23 +81,60 @@ pub fn machine_of(alloc: Global, rows: &[&str]) -> Option<MachineState> {
     }
 }
 
+/// The machine of these rows, of which nothing is claimed.
+pub fn state_of(alloc: Global, rows: &[&str]) -> Option<TrackState> {
+    match machine_of(alloc, rows) {
+        Some(track) => Some(TrackState::of(track)),
+        None => None,
+    }
+}
+
 /// A room of the machine of these rows, and its first pass.
 pub fn room_of(alloc: Global, rows: &[&str]) -> Option<(Room, RoomPass)>
     ensures { IfSome result (λ made. IsPassOf made.0 made.1 × IsFirst made.1) }
 {
     match machines(alloc, rows) {
-        Some(states) => room_with(alloc, states),
+        Some(states) => room_of_machines(alloc, states),
         None => None,
     }
 }
 
-fn room_with(alloc: Global, states: Vec<MachineState>) -> Option<(Room, RoomPass)>
+fn room_of_machines(alloc: Global, machines: Vec<MachineState>) -> Option<(Room, RoomPass)>
+    requires { length machines.items ≤ most Machines }
+    ensures { IfSome result (λ made. IsPassOf made.0 made.1 × IsFirst made.1) }
+{
+    match unclaimed(alloc, machines) {
+        Ok(states) => room_with(alloc, states),
+        Err(_) => None,
+    }
+}
+
+fn room_with(alloc: Global, states: Vec<TrackState>) -> Option<(Room, RoomPass)>
     requires { length states.items ≤ most Machines }
     ensures { IfSome result (λ made. IsPassOf made.0 made.1 × IsFirst made.1) }
 {
     match Room::new(alloc, states) {
         Ok(made) => Some(made),
         Err(_) => None,
+    }
+}
+
+/// The machines of some states.
+pub fn left_by(alloc: Global, states: Vec<TrackState>) -> Option<Vec<MachineState>> {
+    match Vec::with_capacity(alloc, states.len()) {
+        Ok(mut left) => {
+            leave_each(states, &mut left);
+            Some(left)
+        }
+        Err(_) => None,
+    }
+}
+
+/// Whether the journals of these end so.
+pub fn states_end(alloc: Global, states: Vec<TrackState>, end: &str) -> bool {
+    match left_by(alloc, states) {
+        Some(left) => journals_end(alloc, &left, end),
+        None => false,
     }
 }
 
@@ -115,7 +153,7 @@ pub fn leaves(alloc: Global, room: Room, pass: RoomPass, end: &str) -> bool
     requires { IsPassOf room pass }
 {
     match room.close(alloc, pass) {
-        Ok(states) => journals_end(alloc, &states, end),
+        Ok(states) => states_end(alloc, states, end),
         Err(_) => false,
     }
 }

@@ -4,12 +4,12 @@ ghost use Rattle.track_room.specs.Rooms.{IsFirst, IsPassOf};
 
 use crate::made::{DECLARED, Kind, Told, asked, is_told, leaves, room_of};
 use history_model::Author;
-use machine_state::MachineState;
 use side_by_side::{Job, run_at_once};
 use std::alloc::Global;
 use std::sync::Wait;
 use std::thread::Threads;
 use track_room::{Room, RoomPass};
+use track_state::TrackState;
 
 // Two scripts that declare one commit, one after the other: the second is told that it is there. A machine that isn't in
 // the room is unknown, and none is declared.
@@ -260,7 +260,7 @@ fn agree(alloc: Global, room: Room, first: RoomPass, told: Option<(Tally, Tally)
 }
 
 // Whether the machine has what both scripts were told, behind the commit.
-fn has_both(states: &[MachineState], a: &Tally, b: &Tally) -> bool {
+fn has_both(states: &[TrackState], a: &Tally, b: &Tally) -> bool {
     match states {
         [state] => {
             has_all(state, Author::Script(1), a)
@@ -277,7 +277,7 @@ fn made(tally: &Tally) -> u64 {
 }
 
 // Whether a script was answered all it asked, and so many entries are its own.
-fn has_all(state: &MachineState, author: Author, tally: &Tally) -> bool {
+fn has_all(state: &TrackState, author: Author, tally: &Tally) -> bool {
     tally.accepted == 200
         && tally.published.wrapping_add(tally.stale) == 20
         && tally.rising
@@ -285,7 +285,7 @@ fn has_all(state: &MachineState, author: Author, tally: &Tally) -> bool {
 }
 
 // Counts the entries of an author.
-fn count_by(state: &MachineState, author: Author) -> u64 {
+fn count_by(state: &TrackState, author: Author) -> u64 {
     let mut count = 0u64;
     for k in 0..state.len() {
         if let Some(placed) = state.entry(k.wrapping_add(1)) {

@@ -1,9 +1,8 @@
 //! Workers alone at a room, once the scripts have ended, and what is left without one.
 ghost use Rattle.track_room.specs.Rooms.{IsPassOf};
 
-use crate::made::{BISECTED, MEASURED, journals_end, leaves, machine_of, room_of};
+use crate::made::{BISECTED, MEASURED, journals_end, leaves, room_of, state_of};
 use bisect_workers::{bisect, bisect_last};
-use machine_state::MachineState;
 use recompute_workers::{recompute, recompute_last};
 use std::alloc::Global;
 use std::sync::Wait;
@@ -78,28 +77,27 @@ const ANSWERED: &str = "\n5 b1 answer 1 1 1\n";
 const GIVEN_UP: &str = "\n5 b1 giveup 1 1\n";
 
 // Main publishes what is stale.
-fn recomputes_last(alloc: Global, track: MachineState) -> bool {
-    let mut work = TrackState::of(track);
-    let done = recompute_last(alloc, &mut work).is_ok();
-    journals_end(alloc, &[work.into_track()], PUBLISHED) && done
+fn recomputes_last(alloc: Global, mut state: TrackState) -> bool {
+    let done = recompute_last(alloc, &mut state).is_ok();
+    journals_end(alloc, &[state.into_track()], PUBLISHED) && done
 }
 
 // Main asks what is open.
-fn bisects_last<A: Runner>(alloc: Global, mut track: MachineState, runner: &mut A) -> bool {
-    let done = bisect_last(alloc, &mut track, "t", runner).is_ok();
-    journals_end(alloc, &[track], ANSWERED) && done
+fn bisects_last<A: Runner>(alloc: Global, mut state: TrackState, runner: &mut A) -> bool {
+    let done = bisect_last(alloc, &mut state, "t", runner).is_ok();
+    journals_end(alloc, &[state.into_track()], ANSWERED) && done
 }
 
 fn publishes_the_rest(alloc: Global) -> bool {
-    match machine_of(alloc, MEASURED) {
-        Some(track) => recomputes_last(alloc, track),
+    match state_of(alloc, MEASURED) {
+        Some(state) => recomputes_last(alloc, state),
         None => false,
     }
 }
 
 fn asks_by<A: Runner>(alloc: Global, runner: &mut A) -> bool {
-    match machine_of(alloc, BISECTED) {
-        Some(track) => bisects_last(alloc, track, runner),
+    match state_of(alloc, BISECTED) {
+        Some(state) => bisects_last(alloc, state, runner),
         None => false,
     }
 }

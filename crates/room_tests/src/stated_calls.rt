@@ -23,7 +23,7 @@ use std::alloc::Global;
 use std::sync::Wait;
 use std::sync::ledger::Ledger;
 use track_outside::{Gate, Keeper, Runner};
-use track_room::{CloseFault, Ended, Room, RoomPass, SeriesClaim};
+use track_room::{CloseFault, Ended, Room, RoomPass, SeriesClaim, leave_each, unclaimed};
 use track_series::compute;
 use track_state::{
     Answer, Author, Entry, NamedChange, Placed, Published, Question, RangePlace, Redone, Refusal,
@@ -204,10 +204,12 @@ fn closed<S: Historied>(lock: HistoryLock<S>, pass: Pass<S>) -> Result<S, InUse>
 }
 
 fn rooms() {
-    let _: fn(Global, Vec<MachineState>) -> Result<(Room, RoomPass), NoMemory> = Room::new;
+    let _: fn(Global, Vec<TrackState>) -> Result<(Room, RoomPass), NoMemory> = Room::new;
     let _: fn(&Room, Global, &mut RoomPass) -> Result<RoomPass, NoMemory> = Room::split;
     let _: fn(&Room, &mut RoomPass, RoomPass) = Room::join;
-    let _: fn(Room, Global, RoomPass) -> Result<Vec<MachineState>, CloseFault> = Room::close;
+    let _: fn(Room, Global, RoomPass) -> Result<Vec<TrackState>, CloseFault> = Room::close;
+    let _: fn(Global, Vec<MachineState>) -> Result<Vec<TrackState>, NoMemory> = unclaimed;
+    let _: fn(Vec<TrackState>, &mut Vec<MachineState>) = leave_each;
 }
 
 fn asked<R: Wait>(
@@ -323,7 +325,7 @@ fn bisects<R: Wait, N: Runner, G: Gate>(
 
 fn bisects_last<N: Runner>(
     alloc: Global,
-    state: &mut MachineState,
+    state: &mut TrackState,
     test: &str,
     runner: &mut N,
 ) -> Result<(), NoMemory> {

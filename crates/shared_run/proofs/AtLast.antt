@@ -1,15 +1,20 @@
 -- Private: no public contract cites this. What main does for workers of each kind, if there are some.
-use Rattle.std.proofs.Common.{arith, ◌≡◌, ◌≢◌, ℕ, zero, suc, Bool, true, false, List, [], ◌∷◌, length, refl, sym, ap, subst, ◌∙◌}
-use Rattle.std.specs.Prelude.{◌&&◌}
+use Rattle.std.proofs.Common.{arith, ◌≡◌, ◌≢◌, ℕ, zero, suc, Bool, true, false, List, [], ◌∷◌, ◌++◌, length, take, drop, Ok, Err, refl, sym, ap, subst, ◌∙◌}
+use Rattle.std.specs.Prelude.{◌&&◌, OnOk, Result, is_ok}
 use Rattle.std.specs.List.{AllByRecursion, AllZip}
+use Rattle.std.proofs.lemmas.List.{length-map}
+use Rattle.std.proofs.lemmas.Slice.Zip.{AllZip-long}
 use Rattle.track_outside.specs.declared.runner.Runner as runner
 use Rattle.command_words.specs.Plans.{Plan}
 use Rattle.history_model.specs.declared.entries.Author.TheVariants.{Recompute}
 use Rattle.track_model.specs.Tracks.{Track}
 use Rattle.worker_crew.specs.Recomputing.{AddsPublications}
+use Rattle.worker_crew.specs.Work.{Work}
 use Rattle.play_crew.specs.Fitting.{IsUnasked}
+use Rattle.play_crew.specs.Sights.{tracks_of}
 use Rattle.worker_crew.specs.Runs.{BisectsEach, BisectsLast, IsNew, RecomputesLast, Tally, runners_by}
 use Rattle.shared_run.specs.Crews.{Finishes}
+use Rattle.shared_run.proofs.Running.{whole-of}
 
 pub recomputes-none : (workers : ℕ) (old : List Track) → workers ≡ 0 → RecomputesLast workers old old
 recomputes-none workers old none = subst (λ (n : ℕ). RecomputesLast n old old) (sym none) refl
@@ -25,6 +30,11 @@ pub bisects-some : (workers : ℕ) (word : List ℕ) (old new : List Track) (t u
     → BisectsLast workers word old new (t ∷ before) (u ∷ after)
 bisects-some zero word old new t u before after some each same = absurd (some refl)
 bisects-some (suc n) word old new t u before after some each same = (each, same)
+
+-- what holds where there was memory for all of it
+pub when-ok : {E P : Type 0} (r : Result (Unit {0}) E) → OnOk r P → is_ok r ≡ true → P
+when-ok (Ok done) p is = p
+when-ok (Err why) p is = absurd cc
 
 -- runners that weren't asked before, and of which nothing was asked, are so still
 pub still-unasked : (tallies : List Tally) → AllByRecursion IsNew tallies → AllByRecursion IsUnasked (runners_by tallies tallies)
@@ -43,6 +53,10 @@ finishes-less r plan left journals worked ended done full so f = record {
 }
 
 -- as many machines are there then
+pub recomputes-long : (workers : ℕ) (olds news : List Track) → RecomputesLast workers olds news → length news ≡ length olds
+recomputes-long zero olds news is = ap length is
+recomputes-long (suc n) olds news is = AllZip-long (AddsPublications (Recompute 1)) olds news is
+
 each-long : (word : List ℕ) (olds news : List Track) (t u : Tally) → BisectsEach word olds news t u → length news ≡ length olds
 each-long word [] [] t u is = refl
 each-long word [] (n ∷ news) t u is = absurd is
@@ -54,6 +68,20 @@ bisects-long zero word olds news before after is = ap length is.0
 bisects-long (suc n) word olds news [] after is = absurd is
 bisects-long (suc n) word olds news (t ∷ before) [] is = absurd is
 bisects-long (suc n) word olds news (t ∷ before) (u ∷ after) is = each-long word olds news t u is.0
+
+-- so all of the states is what was written back of them last
+pub written-back : (len : ℕ) (new old : List Work) → len ≡ length old → length (tracks_of new) ≡ length (tracks_of old) → take len (new ++ drop (length new) old) ≡ new
+written-back len new old is same =
+    let one = length-map new (λ (w : Work). w.track) in
+    let two = length-map old (λ (w : Work). w.track) in
+    whole-of len new old is (omega (arith, one, two, same))
+
+pub both-back : (len : ℕ) (left made last : List Work) → len ≡ length left → length (tracks_of made) ≡ length (tracks_of left) → length (tracks_of last) ≡ length (tracks_of made)
+    → take len (last ++ drop (length last) (take len (made ++ drop (length made) left))) ≡ last
+both-back len left made last is one two =
+    let size = length-map left (λ (w : Work). w.track) in
+    let same = length-map made (λ (w : Work). w.track) in
+    rw (written-back len made left is one) (written-back len last made (omega (arith, is, one, size, same)) two)
 
 -- both of two tests that came out true
 pub first-true : (one other both : Bool) → both ≡ (one && other) → both ≡ true → one ≡ true

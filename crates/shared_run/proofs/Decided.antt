@@ -1,5 +1,5 @@
 -- Private: no public contract cites this. The three ways in which a run's end is decided.
-use Rattle.std.proofs.Common.{◌≡◌, ◌≢◌, ℕ, zero, suc, ◌<◌, ◌+◌, inl, inr, List, [], ◌∷◌, length, get_or, Some, None, Ok, Err, refl, sym, ap, subst, ◌∙◌, arith}
+use Rattle.std.proofs.Common.{◌≡◌, ◌≢◌, ℕ, zero, suc, ◌<◌, ◌+◌, inl, inr, List, [], ◌∷◌, length, get_or, Some, Ok, Err, refl, sym, arith}
 use Rattle.std.specs.Prelude.{◌⊎◌, slice_get, Contains, Result}
 use Rattle.std.specs.List.{AllByRecursion}
 use Rattle.script_loop.specs.declared.stop.Stop.{Stop}

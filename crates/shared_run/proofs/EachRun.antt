@@ -1,5 +1,5 @@
 -- Private: no public contract cites this. What each script of a run read and wrote: how it ended, and how often its files failed.
-use Rattle.std.proofs.Common.{◌≡◌, ◌≢◌, ℕ, zero, suc, ◌<◌, ◌≤◌, ◌+◌, inl, inr, Bool, true, false, cond, List, [], ◌∷◌, length, map, Option, Some, None, Ok, Err, refl, sym, ap, subst, ◌∙◌, arith}
+use Rattle.std.proofs.Common.{◌≡◌, ◌≢◌, ℕ, zero, suc, ◌<◌, ◌≤◌, ◌+◌, inl, inr, Bool, cond, List, [], ◌∷◌, length, map, Option, Some, None, Ok, Err, refl, sym, ap, subst, ◌∙◌, arith}
 use Rattle.std.proofs.lemmas.Bool.{lt-ltb}
 use Rattle.std.proofs.lemmas.List.{append_cancel_right}
 use Rattle.std.specs.Prelude.{◌⊎◌, slice_get, slice_index_or, AllPairs, Result, codes, not, count_by, nat_lt, if◌then◌else◌, option_and_then, IfSome}
@@ -50,12 +50,6 @@ pub there-at : {A : Type 0} (xs : List A) (k : ℕ) → k < length xs → (x : A
 there-at [] k less = absurd (omega (arith, less))
 there-at (x ∷ xs) zero less = (x, refl)
 there-at (x ∷ xs) (suc k) less = there-at xs k (omega (arith, less))
-
-pub zip-size : {A B : Type 0} (R : A → B → Type 0) (xs : List A) (ys : List B) → AllZip R xs ys → length ys ≡ length xs
-zip-size R [] [] all = refl
-zip-size R [] (y ∷ ys) all = absurd all
-zip-size R (x ∷ xs) [] all = absurd all
-zip-size R (x ∷ xs) (y ∷ ys) all = let rest = zip-size R xs ys all.1 in omega (arith, rest)
 
 -- ---- a script that was run
 module _ {I O : Type 0} (i : source.Ghosts I) (o : sink.Ghosts O) (told : Option (List NamedBytes)) where

@@ -1,9 +1,7 @@
 -- Private: no public contract cites this. How a run ends where its scripts weren't begun.
-use Rattle.std.proofs.Common.{◌≡◌, ◌≢◌, inl, inr, List, Option, None, Err, refl, sym, ap, subst, ◌∙◌}
-use Rattle.std.specs.Prelude.{◌⊎◌, Result}
+use Rattle.std.proofs.Common.{◌≡◌, ◌≢◌, inl, inr, List, Err, refl, sym, subst, ◌∙◌}
+use Rattle.std.specs.Prelude.{Result}
 use Rattle.std.specs.List.{AllByRecursion}
-use Rattle.track_outside.specs.declared.files.Files as files
-use Rattle.track_outside.specs.declared.keeper.Keeper as keeper
 use Rattle.command_words.specs.Plans.{Plan}
 use Rattle.play_fits.specs.Workers.{Asked}
 use Rattle.play_crew.specs.Fitting.{IsUnasked}

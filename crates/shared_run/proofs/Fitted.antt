@@ -1,11 +1,11 @@
 -- Private: no public contract cites this. The scripts that were run at a room fit the journals that it leaves.
-use Rattle.std.proofs.Common.{◌≤◌, ◌++◌, take, ap₂, ◌≡◌, ◌≢◌, ℕ, ◌<◌, ◌+◌, inl, inr, Bool, true, false, List, [], ◌∷◌, length, map, Option, Some, None, Ok, Err, refl, sym, ap, subst, ◌∙◌, arith}
+use Rattle.std.proofs.Common.{◌≤◌, ◌++◌, take, ap₂, ◌≡◌, ℕ, ◌+◌, inl, inr, Bool, true, false, List, [], ◌∷◌, length, map, Option, Some, None, refl, sym, ap, subst, ◌∙◌, arith}
 use Rattle.std.specs.Prelude.{◌⊎◌, zip, Result, option_and_then, IfSome}
 use Rattle.std.specs.List.{AllByRecursion, AllZip}
 use Rattle.std.proofs.lemmas.List.{length-map, length-take}
+use Rattle.std.proofs.lemmas.Slice.Zip.{AllZip-long}
 use Rattle.track_outside.specs.Named.{NamedBytes, bytes_at}
 use Rattle.track_outside.specs.declared.files.Files as files
-use Rattle.track_outside.specs.declared.keeper.Keeper as keeper
 use Rattle.track_outside.specs.declared.runner.Runner as runner
 use Rattle.track_outside.specs.declared.source.Source as source
 use Rattle.track_outside.specs.declared.sink.Sink as sink
@@ -13,11 +13,11 @@ use Rattle.command_words.specs.Plans.{Plan, AreScripts, transcript_of}
 use Rattle.track_model.specs.Tracks.{Track}
 use Rattle.script_files.specs.declared.open.OpenScript.{OpenScript}
 use Rattle.script_files.specs.Opening.{IsOpen}
-use Rattle.script_files.specs.Closing.{AreApart, HaveWritten}
+use Rattle.script_files.specs.Closing.{HaveWritten}
 use Rattle.script_loop.specs.declared.stop.Stop.{Stop}
 use Rattle.play_crew.specs.Rooms.{AreSame, IsPassOf, IsWhole}
 use Rattle.play_crew.specs.Sights.{EndsWhole, Home, IsFirstOf, Sight}
-use Rattle.play_fits.specs.Fits.{Fits, Play, Played}
+use Rattle.play_fits.specs.Fits.{Fits, Play}
 use Rattle.play_fits.specs.Scripts.{Exchange, IsWritten}
 use Rattle.play_fits.specs.Quiet.{IsQuiet}
 use Rattle.play_script.specs.Played.{in_full}
@@ -38,7 +38,7 @@ use Rattle.shared_run.specs.Endings as endings
 use Rattle.shared_run.specs.Endings.{Told}
 use Rattle.shared_run.specs.Crews.{AreNew, RanCrew, RanIn, asked_by, word_of}
 use Rattle.shared_run.specs.Ran.{Ran}
-use Rattle.shared_run.proofs.Running.{of-room, shorter, still-of-room, zip-long}
+use Rattle.shared_run.proofs.Running.{of-room, shorter, still-of-room}
 use Rattle.shared_run.proofs.EachRun.{all-run, script-told, transcripts-apart}
 
 -- ---- bytes that the files tell, or don't
@@ -138,7 +138,7 @@ module _ {I O : Type 0} (i : source.Ghosts I) (o : sink.Ghosts O) where
   scripts-seated f scripts room passes old new ends of r = record {
     same = seats-same room 1 r.opened passes r.played r.many r.plays;
     of_room = seats-of-room room r.played (still-of-room i o room (players_from room 1 passes r.opened) r.played r.plays (of-room room 1 passes r.opened of));
-    many = length-map r.played seat_of ∙ zip-long (Plays i o) (players_from room 1 passes r.opened) r.played r.plays ∙ shorter room 1 passes r.opened r.many;
+    many = length-map r.played seat_of ∙ AllZip-long (Plays i o) (players_from room 1 passes r.opened) r.played r.plays ∙ shorter room 1 passes r.opened r.many;
   }
 
 -- ---- the room's first pass, with workers
@@ -173,8 +173,8 @@ module _ {F I O A : Type 0} (f : files.Ghosts F I O) (i : source.Ghosts I) (o : 
 -- a room leaves as many machines as it was made of
 pub left-long : (room : List Home) (first last : List Sight) (tracks left : List Track) → IsPassOf room first → IsPassOf room last → AllZip IsFirstOf tracks first → AllZip EndsWhole last left → length left ≡ length tracks
 left-long room first last tracks left of whole starts closed =
-    let a = zip-long IsFirstOf tracks first starts in
-    let b = zip-long EndsWhole last left closed in
+    let a = AllZip-long IsFirstOf tracks first starts in
+    let b = AllZip-long EndsWhole last left closed in
     let c = length-map first (λ (s : Sight). s.home) in
     let d = length-map last (λ (s : Sight). s.home) in
     let e = ap length of in

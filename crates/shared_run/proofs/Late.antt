@@ -1,11 +1,11 @@
 -- Private: no public contract cites this. How a run ends behind its scripts, by which stop decides.
-use Rattle.std.proofs.Common.{◌≡◌, ◌≢◌, ℕ, zero, suc, ◌<◌, ◌≤◌, ◌+◌, ◌-◌, ◌^◌, inl, inr, Bool, true, false, cond, List, [], ◌∷◌, ◌++◌, length, map, Option, Some, None, Ok, Err, refl, sym, ap, subst, ◌∙◌, arith}
-use Rattle.std.specs.Prelude.{◌⊎◌, slice_get, slice_index_or, take, option_map, Contains, Result, count_by, not, IfSome, IsSome, OnOk}
+use Rattle.std.proofs.Common.{◌≡◌, ◌≢◌, ℕ, suc, ◌<◌, ◌≤◌, ◌+◌, ◌-◌, ◌^◌, inl, inr, Bool, true, false, List, [], ◌∷◌, ◌++◌, length, map, Option, Some, None, Ok, Err, refl, sym, ap, subst, ◌∙◌, arith}
+use Rattle.std.specs.Prelude.{◌⊎◌, slice_get, option_map, Contains, Result, count_by, not, IfSome, IsSome, OnOk}
 use Rattle.std.specs.List.{AllByRecursion, AllZip}
 use Rattle.std.proofs.lemmas.Bool.{cases_lt}
 use Rattle.std.proofs.lemmas.List.{length-map}
 use Rattle.std.proofs.lemmas.Option.{slice_get_within, get_or_from_slice_get}
-use Rattle.std.specs.Io.KnownBytes.{append_known}
+use Rattle.std.proofs.lemmas.Slice.Zip.{AllZip-long}
 use Rattle.track_outside.specs.Calls.{Took, FailedIn, TookPart}
 use Rattle.track_outside.specs.Counts.{Rose}
 use Rattle.track_outside.specs.Kept.{with_more}
@@ -41,12 +41,12 @@ use Rattle.shared_run.specs.Endings as endings
 use Rattle.shared_run.specs.Endings.{Objects, Told, EndsLate, EndsRun}
 use Rattle.shared_run.specs.Leaving.{WritesText}
 use Rattle.shared_run.specs.Crews.{AreNew, RanIn, asked_by}
-use Rattle.shared_run.specs.Stops.{Decides, IsFirstStop, NoneStopped, WantsMemory}
+use Rattle.shared_run.specs.Stops.{Decides, NoneStopped, WantsMemory}
 use Rattle.shared_run.proofs.Beginning.{first-different, first-kept, room-different, was-started}
 use Rattle.shared_run.proofs.Decided.{Decided, FirstDecides, LaterDecides, MemoryDecides, decided, not-in}
-use Rattle.shared_run.proofs.Fitted.{Laws, fulls, run-fits, run-quiet}
+use Rattle.shared_run.proofs.Fitted.{Laws, run-fits, run-quiet}
 use Rattle.shared_run.proofs.Taken.{failed-part, took-part}
-use Rattle.shared_run.proofs.EachRun.{WasRun, all-failed, all-run, input-counts, left-is, mapped-back, mapped-on, output-counts, rose-some, some-same, there-at, zip-at, zip-size}
+use Rattle.shared_run.proofs.EachRun.{WasRun, all-failed, all-run, input-counts, left-is, mapped-back, mapped-on, output-counts, rose-some, some-same, there-at, zip-at}
 
 -- ---- what the output took
 part-of : {O : Type 0} (o : sink.Ghosts O) (old new : O) (text : List ℕ) (later : Result (Unit {0}) RunStop) → WritesText o old new text later → TookPart o old new text
@@ -160,7 +160,7 @@ module _ {F I O K A : Type 0} (t : Told F I O K) (r : runner.Ghosts A) (plan : P
   same-ends = x.ran.ran.scripts.ended
 
   size : length played ≡ length plan.scripts
-  size = zip-size Run plan.scripts played were-run
+  size = AllZip-long Run plan.scripts played were-run
 
   each : length short ≡ length plan.scripts
   each = length-map (map end_of played) in_full ∙ length-map played end_of ∙ size
@@ -272,8 +272,20 @@ module _ {F I O K A : Type 0} (t : Told F I O K) (r : runner.Ghosts A) (plan : P
       no-well stop.NoMemory (sym at.2 ∙ get_or_from_slice_get ends at.0 there.0 (Err stop.NoMemory) there.1 ∙ none at.0 there.0 there.1)
 
   -- ---- the three ways
-  by-memory : MemoryDecides ends later result → EndsLate t plan asked before after (Err run.NoMemory)
-  by-memory m = record {
+  wrote-as : (now : Result (Unit {0}) RunStop) → later ≡ now → WritesText t.out before.out after.out (journals_text x.journals) now
+  wrote-as now is = subst (WritesText t.out before.out after.out (journals_text x.journals)) is x.wrote
+
+  -- what differs between ways to end
+  record Way (now : Result (Unit {0}) RunStop) : Type 0 where
+    sated : now ≢ Err run.NoMemory → WantsMemory ends later → ⊥
+    wrote : endings.Writes t plan x.journals before.out after.out now
+    in_full : now ≡ Ok tt → endings.unanswered t plan short ≡ 0
+    cause : endings.LateCause t plan before after now
+    first : endings.IsFirstStopped t plan before.files short now
+    keeps : Keeps t.keeper plan x.version x.journals before.keeper after.keeper now
+
+  by-way : (now : Result (Unit {0}) RunStop) → Way now → EndsLate t plan asked before after now
+  by-way now w = record {
     tracks = x.tracks;
     version = x.version;
     begins = x.begins;
@@ -284,37 +296,35 @@ module _ {F I O K A : Type 0} (t : Told F I O K) (r : runner.Ghosts A) (plan : P
     each = each;
     journals = x.journals;
     fits = fits;
-    quiet = λ differs. absurd (differs refl);
-    wrote = part-of t.out before.out after.out (journals_text x.journals) later x.wrote;
-    in_full = λ same. absurd (no-ok run.NoMemory same);
-    faults = λ differs. absurd (differs refl);
-    cause = tt;
-    first = tt;
+    quiet = λ differs. quiet (w.sated differs);
+    wrote = w.wrote;
+    in_full = w.in_full;
+    faults = λ differs. faults (λ at. w.sated differs (inr at));
+    cause = w.cause;
+    first = w.first;
     started = started;
-    keeps = same-rows (wants-stops m.wants);
+    keeps = w.keeps;
   }
 
+  by-memory : MemoryDecides ends later result → EndsLate t plan asked before after (Err run.NoMemory)
+  by-memory m = by-way (Err run.NoMemory) (record {
+    sated = λ differs. absurd (differs refl);
+    wrote = part-of t.out before.out after.out (journals_text x.journals) later x.wrote;
+    in_full = λ same. absurd (no-ok run.NoMemory same);
+    cause = tt;
+    first = tt;
+    keeps = same-rows (wants-stops m.wants);
+  })
+
   by-first : (f : FirstDecides ends later result) → EndsLate t plan asked before after (Err (run.Script (f.first.before + 1) f.first.stop))
-  by-first f = record {
-    tracks = x.tracks;
-    version = x.version;
-    begins = x.begins;
-    few = x.few;
-    calls = calls;
-    closed = closed;
-    fulls = short;
-    each = each;
-    journals = x.journals;
-    fits = fits;
-    quiet = λ differs. quiet f.quiet;
+  by-first f = by-way (Err (run.Script (f.first.before + 1) f.first.stop)) (record {
+    sated = λ differs. f.quiet;
     wrote = either-of t.out before.out after.out (journals_text x.journals) later (λ same. f.quiet (inl same)) x.wrote;
     in_full = λ same. absurd (no-ok (run.Script (f.first.before + 1) f.first.stop) same);
-    faults = λ differs. faults (λ at. f.quiet (inr at));
     cause = (f.first.before, refl, here.below, stop-cause f.first.before f.first.stop here some);
     first = λ place is k less. well-of k (f.first.is.first k (omega (arith, is, less)));
-    started = started;
     keeps = same-rows (λ ok none. no-well f.first.stop (none f.first.before (Err f.first.stop) f.first.is.here));
-  }
+  })
     where
       here : Here f.first.before (Err f.first.stop)
       here = here-of f.first.before (Err f.first.stop) f.first.is.here
@@ -327,73 +337,37 @@ module _ {F I O K A : Type 0} (t : Told F I O K) (r : runner.Ghosts A) (plan : P
       ))
 
   by-later : (l : LaterDecides ends later result) (now : Result (Unit {0}) RunStop) → later ≡ now → EndsLate t plan asked before after now
-  by-later l (Ok done) is = record {
-    tracks = x.tracks;
-    version = x.version;
-    begins = x.begins;
-    few = x.few;
-    calls = calls;
-    closed = closed;
-    fulls = short;
-    each = each;
-    journals = x.journals;
-    fits = fits;
-    quiet = λ differs. quiet l.quiet;
-    wrote = subst (WritesText t.out before.out after.out (journals_text x.journals)) is x.wrote;
+  by-later l (Ok done) is = by-way (Ok done) (record {
+    sated = λ differs. l.quiet;
+    wrote = wrote-as (Ok done) is;
     in_full = λ same. none-short (map end_of played) (subst NoneStopped same-ends l.none);
-    faults = λ differs. faults (λ at. l.quiet (inr at));
     cause = λ place less. (all-well l.none place less).0;
     first = all-well l.none;
-    started = started;
     keeps = λ named. subst (λ (w : Result (Unit {0}) RunStop). OnOk w (NoneStopped ends → IsSome plan.store → t.keeper.kept after.keeper ≡ with_more (t.keeper.kept x.loaded) (new_rows x.version x.journals))) is x.added l.none named
         ∙ ap (λ (r : Option (List (List ℕ))). with_more r (new_rows x.version x.journals)) x.rows;
-  }
+  })
   by-later l (Err run.NoMemory) is = absurd (l.quiet (inl is))
-  by-later l (Err run.StoreFault) is = record {
-    tracks = x.tracks;
-    version = x.version;
-    begins = x.begins;
-    few = x.few;
-    calls = calls;
-    closed = closed;
-    fulls = short;
-    each = each;
-    journals = x.journals;
-    fits = fits;
-    quiet = λ differs. quiet l.quiet;
-    wrote = subst (WritesText t.out before.out after.out (journals_text x.journals)) is x.wrote;
+  by-later l (Err run.StoreFault) is = by-way (Err run.StoreFault) (record {
+    sated = λ differs. l.quiet;
+    wrote = wrote-as (Err run.StoreFault) is;
     in_full = λ same. absurd (no-ok run.StoreFault same);
-    faults = λ differs. faults (λ at. l.quiet (inr at));
-    first = all-well l.none;
     cause = ((x.rose is).0, (let le = x.counts in let rose = (x.rose is).1 in omega (arith, le, rose)));
-    started = started;
-    keeps = same-rows (λ ok none. no-ok run.StoreFault (sym is ∙ ok));
-  }
-  by-later l (Err run.WriteFault) is = record {
-    tracks = x.tracks;
-    version = x.version;
-    begins = x.begins;
-    few = x.few;
-    calls = calls;
-    closed = closed;
-    fulls = short;
-    each = each;
-    journals = x.journals;
-    fits = fits;
-    quiet = λ differs. quiet l.quiet;
-    wrote = subst (WritesText t.out before.out after.out (journals_text x.journals)) is x.wrote;
-    in_full = λ same. absurd (no-ok run.WriteFault same);
-    faults = λ differs. faults (λ at. l.quiet (inr at));
-    cause = (subst (WritesText t.out before.out after.out (journals_text x.journals)) is x.wrote).rose;
     first = all-well l.none;
-    started = started;
+    keeps = same-rows (λ ok none. no-ok run.StoreFault (sym is ∙ ok));
+  })
+  by-later l (Err run.WriteFault) is = by-way (Err run.WriteFault) (record {
+    sated = λ differs. l.quiet;
+    wrote = wrote-as (Err run.WriteFault) is;
+    in_full = λ same. absurd (no-ok run.WriteFault same);
+    cause = (wrote-as (Err run.WriteFault) is).rose;
+    first = all-well l.none;
     keeps = same-rows (λ ok none. no-ok run.WriteFault (sym is ∙ ok));
-  }
-  by-later l (Err (run.BadStore row)) is = absurd (subst (WritesText t.out before.out after.out (journals_text x.journals)) is x.wrote)
-  by-later l (Err (run.Full place)) is = absurd (subst (WritesText t.out before.out after.out (journals_text x.journals)) is x.wrote)
-  by-later l (Err run.OpenFault) is = absurd (subst (WritesText t.out before.out after.out (journals_text x.journals)) is x.wrote)
-  by-later l (Err run.CreateFault) is = absurd (subst (WritesText t.out before.out after.out (journals_text x.journals)) is x.wrote)
-  by-later l (Err (run.Script number why)) is = absurd (subst (WritesText t.out before.out after.out (journals_text x.journals)) is x.wrote)
+  })
+  by-later l (Err (run.BadStore row)) is = absurd (wrote-as (Err (run.BadStore row)) is)
+  by-later l (Err (run.Full place)) is = absurd (wrote-as (Err (run.Full place)) is)
+  by-later l (Err run.OpenFault) is = absurd (wrote-as (Err run.OpenFault) is)
+  by-later l (Err run.CreateFault) is = absurd (wrote-as (Err run.CreateFault) is)
+  by-later l (Err (run.Script number why)) is = absurd (wrote-as (Err (run.Script number why)) is)
 
   by-any : Decided ends later result → EndsLate t plan asked before after result
   by-any (inl m) = subst (EndsLate t plan asked before after) (sym m.is) (by-memory m)

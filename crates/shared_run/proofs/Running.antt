@@ -1,9 +1,8 @@
 -- Private: no public contract cites this. Scripts that were opened, seated, played and closed.
 use Rattle.std.proofs.Common.{◌≡◌, ◌<◌, ◌+◌, ℕ, List, [], ◌∷◌, ◌++◌, length, map, take, drop, refl, sym, ap, subst, ◌∙◌, Option, Some, None, Ok, Err, arith, append-nil}
-use Rattle.std.specs.Prelude.{Result, option_map, IsSome, IfSome}
+use Rattle.std.specs.Prelude.{Result, option_map, IsSome, IfErr, IsErrAnd}
 use Rattle.std.specs.List.{AllByRecursion, AllZip}
 use Rattle.std.specs.Io.KnownBytes.{append_known}
-use Rattle.track_outside.specs.Calls.{Took, FailedIn, TookPart}
 use Rattle.track_outside.specs.Named.{Call, NamedBytes, bytes_at}
 use Rattle.track_outside.specs.declared.files.Files as files
 use Rattle.track_outside.specs.declared.source.Source as source
@@ -16,10 +15,11 @@ use Rattle.script_files.specs.Closing.{AreClosable, IsClosable}
 use Rattle.script_loop.specs.Endings.{HasWritten}
 use Rattle.script_loop.specs.declared.stop.Stop.{Stop}
 use Rattle.script_loop.specs.declared.stop.Stop.TheVariants as stop
-use Rattle.play_crew.specs.Rooms.{AreSame, IsPassOf, badge}
+use Rattle.play_crew.specs.Rooms.{IsPassOf, badge}
 use Rattle.play_crew.specs.Sights.{Home, Sight}
 use Rattle.play_crew.specs.Seats.{AreDifferent, IsSeated}
 use Rattle.play_crew.specs.Players.{CanPlay, IsOfRoom, Playing, Plays, open_of, players_from}
+use Rattle.shared_run.specs.declared.stop.RunStop.{RunStop}
 use Rattle.shared_run.specs.declared.stop.RunStop.TheVariants.{NoMemory}
 use Rattle.shared_run.specs.Causes.{open_stop}
 use Rattle.shared_run.specs.Ran.{NotBegun}
@@ -33,8 +33,11 @@ same-told : (told : Option (List Call)) → told ≡ option_map (λ made. made +
 same-told None = refl
 same-told (Some calls) = ap (λ (l : List Call). Some l) (sym (append-nil calls))
 
-pub none-made : {F I O : Type 0} (f : files.Ghosts F I O) (scripts : List (List ℕ)) (now : F) → 0 < length scripts → NotBegun f scripts now now NoMemory
-none-made f scripts now some = (0, calls-some scripts some, same-told (f.asked now))
+-- memory was wanting before the first file
+pub none-made : {F I O A : Type 0} (f : files.Ghosts F I O) (scripts : List (List ℕ)) (now : F) → 0 < length scripts → (result : Result A RunStop) → IsErrAnd result (λ why. why ≡ NoMemory)
+    → IfErr result (NotBegun f scripts now now)
+none-made f scripts now some (Ok left) is = tt
+none-made f scripts now some (Err why) is = subst (NotBegun f scripts now now) (sym is) (0, calls-some scripts some, same-told (f.asked now))
 
 pub not-open : {F I O : Type 0} (f : files.Ghosts F I O) (scripts : List (List ℕ)) (old new : F) (why : Fault) → Asks f scripts old new (Err why) → NotBegun f scripts old new (open_stop why)
 not-open f scripts old new fault.ReadFault asks = asks
@@ -48,12 +51,6 @@ whole [] [] same = refl
 whole [] (y ∷ old) same = absurd (omega (arith, same))
 whole (x ∷ new) [] same = absurd (omega (arith, same))
 whole {A = A} (x ∷ new) (y ∷ old) same = ap (λ (l : List A). x ∷ l) (whole new old (omega (arith, same)))
-
-pub zip-long : {A B : Type 0} (R : A → B → Type 0) (xs : List A) (ys : List B) → AllZip R xs ys → length ys ≡ length xs
-zip-long R [] [] all = refl
-zip-long R [] (y ∷ ys) all = absurd all
-zip-long R (x ∷ xs) [] all = absurd all
-zip-long R (x ∷ xs) (y ∷ ys) all = let rest = zip-long R xs ys all.1 in omega (arith, rest)
 
 pub shorter : {I O : Type 0} (room : List Home) (n : ℕ) (passes : List (List Sight)) (opened : List (OpenScript I O)) → length passes ≡ length opened → length (players_from room n passes opened) ≡ length passes
 shorter room n [] [] same = refl

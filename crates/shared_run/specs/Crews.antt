@@ -16,7 +16,6 @@ use Rattle.play_crew.specs.Shared.{JoinsAll, SplitsAll}
 use Rattle.play_crew.specs.Players as players
 use Rattle.worker_crew.specs.Runs.{BisectsLast, IsNew, RecomputesLast, runners_by}
 use Rattle.worker_crew.specs.Last.{HasQuietJobs, HasQuietSeries}
-use Rattle.worker_crew.specs.Seated.{tally_of}
 use Rattle.worker_crew.specs.Whole.{tallies}
 use Rattle.worker_crew.specs.Workers as workers
 use Rattle.worker_crew.specs.Workers.{Bisects, Recomputes, Working, workers_from}

@@ -1,5 +1,5 @@
 -- Which of several stops decides how a shared run ends.
-use Rattle.std.specs.Prelude.{◌≡◌, ◌≢◌, ◌⊎◌, ℕ, ◌+◌, ◌<◌, List, slice_get, Contains, Some, Result, Ok, Err}
+use Rattle.std.specs.Prelude.{◌≡◌, ◌⊎◌, ℕ, ◌+◌, ◌<◌, List, slice_get, Contains, Some, Result, Ok, Err}
 use Rattle.script_loop.specs.declared.stop.Stop.{Stop}
 use Rattle.script_loop.specs.declared.stop.Stop.TheVariants as script
 use Rattle.shared_run.specs.declared.stop.RunStop.{RunStop}

@@ -1,6 +1,7 @@
 //! What is left of the workers' work once the room is closed.
 ghost use Rattle.std.specs.Prelude.{◌≡◌, ◌≤◌, ◌&&◌, [], true, length, vec_capacity};
 ghost use Rattle.std.specs.List.{AllByRecursion};
+ghost use Rattle.play_crew.specs.Sights.{tracks_of};
 ghost use Rattle.worker_crew.specs.Runs.{BisectsLast, RecomputesLast};
 ghost use Rattle.worker_crew.specs.Last.{HasQuietJobs, HasQuietSeries};
 ghost use Rattle.worker_crew.specs.Whole.{tallies};
@@ -11,27 +12,27 @@ use command_words::PlayPlan;
 use machine_state::MachineState;
 use std::alloc::Global;
 use track_outside::Runner;
-use worker_crew::{bisect_each, recompute_each};
+use worker_crew::{TrackState, bisect_each, leave_each, recompute_each};
 
 // Does what the workers left of these machines, as the first worker of each kind, with the first runner, where there are workers
 // of the kind; says whether there was memory for all of it. The list must have room for the machines.
 pub(crate) fn finish<N: Runner>(
     alloc: Global,
     plan: &PlayPlan<'_>,
-    left: Vec<MachineState>,
-    published: Vec<MachineState>,
+    mut left: Vec<TrackState>,
+    mut journals: Vec<MachineState>,
     runners: &mut [N],
 ) -> (Vec<MachineState>, bool)
-    requires none { published.items ≡ [] }
-    requires room { length left.items ≤ vec_capacity published }
+    requires none { journals.items ≡ [] }
+    requires room { length left.items ≤ vec_capacity journals }
     requires enough { plan.now.bisect ≤ length runners.old }
-    ensures done { Finishes N.Runner plan.now left.items result.0.items
+    ensures done { Finishes N.Runner plan.now (tracks_of left.items) result.0.items
         runners.old runners.new result.1 }
     ensures as_many { length runners.new ≡ length runners.old }
 {
-    let series = finish_series(alloc, plan.recompute(), left, published);
-    let (mut journals, done) = series;
-    let over = finish_jobs(alloc, plan.bisect(), &mut journals, word_in(plan), runners);
+    let done = finish_series(alloc, plan.recompute(), &mut left);
+    let over = finish_jobs(alloc, plan.bisect(), &mut left, word_in(plan), runners);
+    leave_each(left, &mut journals);
     (journals, both(done, over))
 }
 
@@ -43,38 +44,30 @@ pub(crate) fn both(one: bool, other: bool) -> bool
 }
 
 // Publishes what is stale, where there are workers that recompute.
-fn finish_series(
-    alloc: Global,
-    workers: u8,
-    left: Vec<MachineState>,
-    mut published: Vec<MachineState>,
-) -> (Vec<MachineState>, bool)
-    requires none { published.items ≡ [] }
-    requires room { length left.items ≤ vec_capacity published }
-    ensures published { RecomputesLast workers left.items result.0.items }
-    ensures quiet { result.1 ≡ true → 1 ≤ workers → AllByRecursion HasQuietSeries result.0.items }
+fn finish_series(alloc: Global, workers: u8, states: &mut [TrackState]) -> bool
+    ensures published { RecomputesLast workers (tracks_of states.old) (tracks_of states.new) }
+    ensures quiet { result ≡ true → 1 ≤ workers
+        → AllByRecursion HasQuietSeries (tracks_of states.new) }
 {
     if workers == 0 {
-        return (left, true);
+        return true;
     }
-    match recompute_each(alloc, left, &mut published) {
-        Ok(()) => (published, true),
-        Err(_) => (published, false),
-    }
+    recompute_each(alloc, states).is_ok()
 }
 
 // Answers what is open, where there are workers that bisect.
 fn finish_jobs<N: Runner>(
     alloc: Global,
     workers: u8,
-    states: &mut [MachineState],
+    states: &mut [TrackState],
     test: &str,
     runners: &mut [N],
 ) -> bool
     requires enough { workers ≤ length runners.old }
-    ensures bisected { BisectsLast workers test.now states.old states.new
+    ensures bisected { BisectsLast workers test.now (tracks_of states.old) (tracks_of states.new)
         (tallies N.Runner runners.old) (tallies N.Runner runners.new) }
-    ensures quiet { result ≡ true → 1 ≤ workers → AllByRecursion HasQuietJobs states.new }
+    ensures quiet { result ≡ true → 1 ≤ workers
+        → AllByRecursion HasQuietJobs (tracks_of states.new) }
     ensures as_many { length runners.new ≡ length runners.old }
 {
     if workers == 0 {
@@ -83,8 +76,5 @@ fn finish_jobs<N: Runner>(
     let Some((runner, rest)) = runners.split_first_mut() else {
         unreachable!()
     };
-    match bisect_each(alloc, states, test, runner) {
-        Ok(()) => true,
-        Err(_) => false,
-    }
+    bisect_each(alloc, states, test, runner).is_ok()
 }

@@ -24,7 +24,7 @@ use std::alloc::Global;
 use std::sync::Wait;
 use std::thread::Threads;
 use track_outside::{Files, Gate, Keeper, Runner};
-use worker_crew::{crew_law, run_law};
+use worker_crew::{crew_law, run_law, unclaimed};
 
 /// Runs the plan's scripts at once, and beside them its workers, on the machines of its store and its list; then does what the
 /// workers left, as the first of each kind; writes the journals of the machines, and adds their new rows to the store, where
@@ -131,10 +131,13 @@ fn run_machines<R: Threads + Wait + Sync, F: Files, N: Runner + Send, G: Gate>(
     ensures unasked { OnErr result (runners.new ≡ runners.old) }
     ensures as_many { length runners.new ≡ length runners.old }
 {
-    let Ok(published) = Vec::with_capacity(alloc, machines.len()) else {
+    let Ok(journals) = Vec::with_capacity(alloc, machines.len()) else {
         return Err(RunStop::NoMemory);
     };
-    let Ok((room, mut pass)) = Room::new(alloc, machines) else {
+    let Ok(states) = unclaimed(alloc, machines) else {
+        return Err(RunStop::NoMemory);
+    };
+    let Ok((room, mut pass)) = Room::new(alloc, states) else {
         return Err(RunStop::NoMemory);
     };
     let flag = Ended::new();
@@ -149,7 +152,7 @@ fn run_machines<R: Threads + Wait + Sync, F: Files, N: Runner + Send, G: Gate>(
     let Ok(left) = room.close(alloc, pass) else {
         unreachable!()
     };
-    let done = finish(alloc, plan, left, published, runners);
+    let done = finish(alloc, plan, left, journals, runners);
     let (journals, full) = done;
     histories_law(&journals);
     Ok((ended, journals, both(full, !wanting)))

@@ -1,8 +1,10 @@
 -- The first machine that has something to take.
-use Rattle.std.proofs.Common.{◌≡◌, ℕ, zero, suc, ◌+◌, ◌≤◌, List, [], ◌∷◌, ◌++◌, length, take, drop, set, refl, sym, ap, subst, ◌∙◌, Option, Some, None, arith}
+use Rattle.std.proofs.Common.{◌≡◌, ℕ, zero, suc, ◌+◌, ◌<◌, ◌≤◌, List, [], ◌∷◌, ◌++◌, length, take, drop, set, get_or, refl, sym, ap, subst, ◌∙◌, Option, Some, None, arith}
 use Rattle.std.specs.Prelude.{IfSome, slice_get}
 use Rattle.std.specs.List.{AllZip}
-use Rattle.track_room.specs.Sights.{Sight, Visits}
+use Rattle.std.proofs.lemmas.List.{length-map}
+use Rattle.track_room.specs.Rooms.{AreSame, IsPassOf, badge}
+use Rattle.track_room.specs.Sights.{Home, Sight, SeesMore, Visits}
 use Rattle.history_model.specs.declared.entries.Entry.{Entry}
 use Rattle.history_model.specs.Allowed.{Legal}
 use Rattle.history_model.specs.Entries.{entries_of}
@@ -13,6 +15,7 @@ use Rattle.track_state.specs.declared.taking.TakenSeries.{TakenSeries}
 use Rattle.track_state.proofs.Snapped.{entries-taken}
 use Rattle.track_room.specs.Taking.{IsQuestion, IsTaken, OfSeen, TakesAt, TakesFirst, TakesJob, TakesSeries, seen_of}
 use Rattle.track_room.proofs.Places.{zip-push}
+use Rattle.track_room.proofs.Standing.{all-same, all-sees-set, get-at, same-map, sees-badge, set-at, still-of}
 
 -- ---- parts of a list
 get-drop : {A : Type 0} (xs : List A) (i : ℕ) → slice_get xs i ≡ slice_get (drop i xs) 0
@@ -46,7 +49,7 @@ pub record HaveNone (Nothing : Work → Work → Type 0) (i : ℕ) (old now : Li
   pub nothing : AllZip (Visits Nothing) (take i old) (take i now)
   pub rest : drop i now ≡ drop i old
 
-pub none-first : (Nothing : Work → Work → Type 0) (old : List Sight) → HaveNone Nothing 0 old old
+none-first : (Nothing : Work → Work → Type 0) (old : List Sight) → HaveNone Nothing 0 old old
 none-first Nothing old = record { nothing = tt; rest = refl }
 
 module _ (Nothing : Work → Work → Type 0) (old now : List Sight) (i : ℕ) (have : HaveNone Nothing i old now) (p new : Sight) (at : slice_get now i ≡ Some p)
@@ -60,7 +63,7 @@ module _ (Nothing : Work → Work → Type 0) (old now : List Sight) (i : ℕ) (
   plus : i + 1 ≡ suc i
   plus = omega arith
 
-  pub none-next : Visits Nothing p new → HaveNone Nothing (i + 1) old (set now i new)
+  none-next : Visits Nothing p new → HaveNone Nothing (i + 1) old (set now i new)
   none-next visit = subst (λ (n : ℕ). HaveNone Nothing n old (set now i new)) (sym plus)
       (record {
         nothing =
@@ -70,7 +73,7 @@ module _ (Nothing : Work → Work → Type 0) (old now : List Sight) (i : ℕ) (
         rest = rest-is;
       })
 
-  pub takes-at : (This : Work → Work → Type 0) → Visits This p new → TakesAt Nothing This i old (set now i new)
+  takes-at : (This : Work → Work → Type 0) → Visits This p new → TakesAt Nothing This i old (set now i new)
   takes-at This visit = record {
     nothing = subst (λ (ys : List Sight). AllZip (Visits Nothing) (take i old) ys) (sym (set-take now i new)) have.nothing;
     before = p;
@@ -87,10 +90,59 @@ take-whole zero (x ∷ xs) le = absurd (omega (arith, le))
 take-whole (suc n) [] le = refl
 take-whole (suc n) (x ∷ xs) le = ap (λ zs. x ∷ zs) (take-whole n xs (omega (arith, le)))
 
-pub none-all : (Nothing : Work → Work → Type 0) (old now : List Sight) (n : ℕ) → HaveNone Nothing n old now → length old ≤ n → length now ≤ n → AllZip (Visits Nothing) old now
+none-all : (Nothing : Work → Work → Type 0) (old now : List Sight) (n : ℕ) → HaveNone Nothing n old now → length old ≤ n → length now ≤ n → AllZip (Visits Nothing) old now
 none-all Nothing old now n have one two =
     subst (λ (xs : List Sight). AllZip (Visits Nothing) xs now) (take-whole n old one)
     (subst (λ (ys : List Sight). AllZip (Visits Nothing) (take n old) ys) (take-whole n now two) have.nothing)
+
+-- ---- a room's machines are entered, one after the other
+-- so many were entered, and had nothing to take
+abbrev pub Enters : (Work → Work → Type 0) → ℕ → List Home → List Sight → List Sight → Type 0
+Enters Nothing i room old now = AllZip SeesMore old now × IsPassOf room now × AreSame old now × HaveNone Nothing i old now
+
+pub enters-none : (Nothing : Work → Work → Type 0) (room : List Home) (old : List Sight) → IsPassOf room old → Enters Nothing 0 room old old
+enters-none Nothing room old locks = (all-same old, locks, refl, none-first Nothing old)
+
+long-of : (room : List Home) (pass : List Sight) → IsPassOf room pass → length pass ≡ length room
+long-of room pass locks = sym (length-map pass (λ (s : Sight). s.home)) ∙ ap (λ (hs : List Home). length hs) locks
+
+pub enters-all : (Nothing : Work → Work → Type 0) (n : ℕ) (room : List Home) (old now : List Sight) → IsPassOf room old → Enters Nothing n room old now → length room ≤ n
+    → AllZip (Visits Nothing) old now
+enters-all Nothing n room old now locks before all =
+    let one = long-of room old locks in
+    let two = long-of room now before.1 in
+    none-all Nothing old now n before.3 (omega (arith, one, all)) (omega (arith, two, all))
+
+-- one more is entered
+pub record EntersNext (Nothing : Work → Work → Type 0) (i : ℕ) (room : List Home) (old now : List Sight) (p new : Sight) : Type 0 where
+  pub before : Enters Nothing i room old now
+  pub within : i < length room
+  pub is : p ≡ get_or now i p
+  pub sees : SeesMore (get_or now i p) new
+
+module _ {Nothing : Work → Work → Type 0} {i : ℕ} {room : List Home} {old now : List Sight} {p new : Sight} (next : EntersNext Nothing i room old now p new) where
+  below : i < length now
+  below = let long = long-of room now next.before.1 in omega (arith, long, next.within)
+
+  stood : slice_get now i ≡ Some p
+  stood = get-at now i p below next.is
+
+  stands : slice_get (set now i new) i ≡ Some new
+  stands = set-at now i new below
+
+  pub entered : AllZip SeesMore old (set now i new) × IsPassOf room (set now i new) × AreSame old (set now i new)
+  entered =
+      let sees : SeesMore p new = subst (λ (s : Sight). SeesMore s new) (sym next.is) next.sees in
+      let same : badge new ≡ badge p = sees-badge p new sees in
+      (all-sees-set old now i p new next.before.0 stood sees, still-of room now i p new next.before.1 stood same, same-map badge now i p new stood same ∙ next.before.2)
+
+  pub enters-next : Visits Nothing (get_or now i p) new → Enters Nothing (i + 1) room old (set now i new)
+  enters-next visit =
+      let one : Visits Nothing p new = subst (λ (s : Sight). Visits Nothing s new) (sym next.is) visit in
+      (entered.0, entered.1, entered.2, none-next Nothing old now i next.before.3 p new stood stands one)
+
+  pub takes-next : (This : Work → Work → Type 0) → Visits This (get_or now i p) new → TakesAt Nothing This i old (set now i new)
+  takes-next This visit = takes-at Nothing old now i next.before.3 p new stood stands This (subst (λ (s : Sight). Visits This s new) (sym next.is) visit)
 
 -- ---- what the pass knows of what was taken
 pub known-series : (found : Option (ℕ × TakenSeries)) (old new : List Sight) → TakesFirst TakesSeries found old new → IfSome found (λ t. OfSeen t.0 new (λ h. IsTaken h t.1))

@@ -14,7 +14,8 @@ use Rattle.request_model.specs.declared.replies.Reply.{Reply}
 use Rattle.track_model.specs.Counts.{is_segment}
 use Rattle.track_model.specs.Outcomes.{Outcome}
 use Rattle.track_state.specs.Work.{Work, bare, history_of}
-use Rattle.track_model.specs.Replies.{machine_of, reply_of}
+use Rattle.track_model.specs.Replies.{reply_of}
+use Rattle.request_model.specs.Requests.{machine_of}
 use Rattle.track_model.specs.Tracks.{Track, ComesTo, IsStep, with_added}
 use Rattle.play_model.specs.Replies.{first_of, ComesBehind, ComesToBeside, Adds, Tells}
 use Rattle.track_room.specs.Sights.{Sight, AddsOne, AddsOneAtMost, SeesMore, track_of}

@@ -165,5 +165,11 @@ regressions_sync = search (sendable, crosses, maps.crosses, over.crosses) depth 
 track_sync : IsSync MachineState.the_row
 track_sync = search (name_sync, placed_sync, order_sync, store_sync, series_sync, published_sync, setting_sync, jobs_sync, regressions_sync, sendable, crosses) depth 60 fits 20000
 
+touch_sync : IsSync TouchIndex.the_row
+touch_sync = search (sendable, crosses, maps.crosses, over.crosses) depth 60 fits 20000
+
+work_sync : IsSync TrackState.the_row
+work_sync = search (track_sync, touch_sync, sendable, crosses) depth 60 fits 20000
+
 pub room_sync : IsSync Room.the_row
-room_sync = search (lock_sync, track_sync, sendable, crosses) depth 60 fits 20000
+room_sync = search (lock_sync, work_sync, sendable, crosses) depth 60 fits 20000

@@ -10,7 +10,7 @@ use Rattle.request_model.specs.declared.replies.Reply.{Reply}
 use Rattle.request_model.specs.declared.requests.Request.{Request}
 use Rattle.request_model.specs.declared.requests.Request.TheVariants as request
 use Rattle.request_model.specs.declared.replies.Refusal.TheVariants as refusal
-use Rattle.track_model.specs.Replies.{machine_of}
+use Rattle.request_model.specs.Requests.{machine_of}
 use Rattle.play_model.specs.Replies.{is_of_history, why_apart}
 use Rattle.track_room.specs.Asked.{Asks, AsksBy, IsReplied, names_of}
 use Rattle.track_room.specs.Rooms.{IsFirst, IsPassOf, badge}

@@ -4,7 +4,8 @@ use Rattle.history_model.specs.declared.entries.Author.{Author}
 use Rattle.request_model.specs.declared.requests.Request.{Request}
 use Rattle.request_model.specs.declared.replies.Reply.{Reply}
 use Rattle.track_model.specs.Outcomes.{refuses}
-use Rattle.track_model.specs.Replies.{machine_of, apart}
+use Rattle.track_model.specs.Replies.{apart}
+use Rattle.request_model.specs.Requests.{machine_of}
 use Rattle.play_model.specs.Replies.{Adds, Tells, is_of_history, why_apart}
 use Rattle.track_room.specs.Sights.{Home, Sight, SeesMore, AddsOne, track_of}
 

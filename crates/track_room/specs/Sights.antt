@@ -1,5 +1,5 @@
 -- What a pass of a room knows of a machine, and how it comes to know more.
-use Rattle.std.specs.Prelude.{◌≡◌, ℕ, ◌+◌, ◌<◌, ◌≤◌, ◌⊎◌, Bool, List, [], ◌∷◌, ◌++◌, Some}
+use Rattle.std.specs.Prelude.{◌≡◌, ℕ, ◌+◌, ◌<◌, ◌≤◌, ◌⊎◌, Bool, List, [], ◌∷◌, ◌++◌, Some, map}
 use Rattle.atomic_table.specs.Seated.{TableId}
 use Rattle.history_model.specs.declared.entries.Placed.{Placed}
 use Rattle.history_lock.specs.declared.view.Marked.{Marked}
@@ -26,6 +26,10 @@ pub record Sight : Type 0 where
 -- the machine with the history that was seen; a pass doesn't know which tables are home
 abbrev pub track_of : Sight → Track
 track_of s = record { machine = s.home.machine; kept = s.kept; history = entries s.seen; home = set.empty }
+
+-- the machines, whatever is claimed of them
+abbrev pub tracks_of : List Work → List Track
+tracks_of states = map (λ (w : Work). w.track) states
 
 -- the marks of the pass, and of those that were joined into it
 abbrev pub own_marks : Sight → List ℕ

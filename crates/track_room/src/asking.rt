@@ -1,7 +1,7 @@
 //! Requests, answered on one machine.
 ghost use Rattle.std.specs.Prelude.{◌≡◌, IfOk, OnErr};
 ghost use Rattle.request_model.specs.declared.requests.Request.TheVariants as request;
-ghost use Rattle.track_model.specs.Replies.{machine_of};
+ghost use Rattle.request_model.specs.Requests.{machine_of};
 ghost use Rattle.track_model.specs.Tracks.{IsAsked};
 ghost use Rattle.track_room.specs.Asked.{IsReplied};
 ghost use Rattle.track_room.specs.Sights.{SeesMore};

@@ -5,11 +5,11 @@ ghost use Rattle.metric_table.specs.Limits.{most};
 ghost use Rattle.metric_table.specs.declared.limits.Limit.TheVariants.{Machines};
 ghost use Rattle.track_room.specs.Closing.{IsCause};
 ghost use Rattle.track_room.specs.Rooms.{IsPassOf, IsWhole};
-ghost use Rattle.track_room.specs.Sights.{Ends, EndsWhole};
+ghost use Rattle.track_room.specs.Sights.{Ends, EndsWhole, tracks_of};
 
 use crate::machine::{MachineLock, MachinePass};
 use history_lock::InUse;
-use machine_state::MachineState;
+use track_state::TrackState;
 
 /// Why a room gives no machines when it ends.
 #[derive(Clone, Copy, Debug, PartialEq, Eq)]
@@ -31,16 +31,16 @@ pub enum CloseFault {
 pub(crate) fn close_each(
     machines: Vec<MachineLock>,
     passes: Vec<MachinePass>,
-    mut states: Vec<MachineState>,
-) -> Result<Vec<MachineState>, CloseFault>
+    mut states: Vec<TrackState>,
+) -> Result<Vec<TrackState>, CloseFault>
     requires locks { IsPassOf machines.items passes.items }
     requires few { length passes.items ≤ most Machines }
     requires none { states.items ≡ [] }
     requires room { length passes.items ≤ vec_capacity states }
-    ensures ok { IfOk result (λ states. AllZip Ends passes.items states.items) }
+    ensures ok { IfOk result (λ states. AllZip Ends passes.items (tracks_of states.items)) }
     ensures err { IfErr result (IsCause passes.items) }
     ensures whole { IsWhole passes.items →
-        IsOkAnd result (λ states. AllZip EndsWhole passes.items states.items) }
+        IsOkAnd result (λ states. AllZip EndsWhole passes.items (tracks_of states.items)) }
 {
     let mut locks = machines.into_iter();
     let mut machine = 0;

@@ -10,7 +10,6 @@ use crate::act::Act;
 use crate::guarded::Guarded;
 use history_lock::{HistoryLock, InUse, Pass};
 use line_text::Name;
-use machine_state::MachineState;
 use std::alloc::Global;
 use std::marker::Model;
 use std::sync::Wait;
@@ -55,12 +54,11 @@ impl MachineLock {
     // The machine under a lock of its own, and the lock's first pass.
     pub(crate) fn new(
         alloc: Global,
-        track: MachineState,
+        work: TrackState,
     ) -> Result<(MachineLock, MachinePass), NoMemory>
-        ensures { IfOk result (λ made. (made.1.home ≡ made.0) × IsFirstOf track made.1) }
+        ensures { IfOk result (λ made. (made.1.home ≡ made.0) × IsFirstOf work.track made.1) }
     {
-        let machine = track.machine().copy(alloc)?;
-        let work = TrackState::of(track);
+        let machine = work.machine().copy(alloc)?;
         let (lock, pass) = HistoryLock::new(alloc, Guarded { work })?;
         Ok((MachineLock { lock, machine }, MachinePass { pass }))
     }
@@ -114,17 +112,17 @@ impl MachineLock {
     }
 
     // Ends the lock, and gives the machine.
-    pub(crate) fn close(self, pass: MachinePass) -> Result<MachineState, InUse>
+    pub(crate) fn close(self, pass: MachinePass) -> Result<TrackState, InUse>
         requires lock { pass.home ≡ self }
-        ensures ok { IfOk result (Ends pass) }
+        ensures ok { IfOk result (λ work. Ends pass work.track) }
         ensures err { IfErr result (λ why. why.ticket ≢ why.serving) }
-        ensures whole { IsWholeSight pass → IsOkAnd result (EndsWhole pass) }
+        ensures whole { IsWholeSight pass → IsOkAnd result (λ work. EndsWhole pass work.track) }
     {
         let MachinePass { pass } = pass;
         let MachineLock { lock, machine } = self;
         drop(machine);
         match lock.close(pass) {
-            Ok(Guarded { work }) => Ok(work.into_track()),
+            Ok(Guarded { work }) => Ok(work),
             Err(why) => Err(why),
         }
     }

@@ -6,26 +6,26 @@ ghost use Rattle.metric_table.specs.declared.limits.Limit.TheVariants.{Machines}
 ghost use Rattle.track_room.specs.Asked.{Asks};
 ghost use Rattle.track_room.specs.Closing.{IsCause};
 ghost use Rattle.track_room.specs.Rooms.{AreSame, HaveGivenMarks, IsFirst, IsPassOf, IsSplitBack, IsWhole, JoinsEach};
-ghost use Rattle.track_room.specs.Sights.{Ends, EndsWhole, IsFirstOf, SeesMore, splitting, split_off};
+ghost use Rattle.track_room.specs.Sights.{Ends, EndsWhole, IsFirstOf, SeesMore, splitting, split_off, tracks_of};
 
 use crate::NoMemory;
 use crate::closing::{CloseFault, close_each};
 use crate::machine::{MachineLock, MachinePass};
 use crate::passes::{join_each, split_all};
-use crate::place::{machine_of, place_of};
+use crate::place::place_of;
 use history_model::Author;
-use machine_state::MachineState;
 use request_model::{Answer, Refusal, Reply, Request};
 use std::alloc::Global;
 use std::marker::Model;
 use std::sync::Wait;
+use track_state::TrackState;
 
 /// Machines, each under a lock of its own. Contracts see the locks, each with its machine's name, in order.
 #[derive(Drop)]
 pub struct Room {
     pub(crate) machines: Vec<MachineLock>,
     // Where the machines' states go when the room ends: it has room for them.
-    pub(crate) ended: Vec<MachineState>,
+    pub(crate) ended: Vec<TrackState>,
 }
 
 impl Model for Room {
@@ -60,10 +60,10 @@ impl Model for RoomPass {
 impl Room {
     /// A room of these machines, and its first pass, which has seen what they have. Without memory they are dropped. Linear
     /// in the machines.
-    pub fn new(alloc: Global, states: Vec<MachineState>) -> Result<(Room, RoomPass), NoMemory>
+    pub fn new(alloc: Global, states: Vec<TrackState>) -> Result<(Room, RoomPass), NoMemory>
         requires few { length states.items ≤ most Machines }
         ensures pass { IfOk result (λ made. IsPassOf made.0 made.1 × IsFirst made.1) }
-        ensures first { IfOk result (λ made. AllZip IsFirstOf states.items made.1) }
+        ensures first { IfOk result (λ made. AllZip IsFirstOf (tracks_of states.items) made.1) }
     {
         let ended = Vec::with_capacity(alloc, states.len())?;
         let mut machines = Vec::new(alloc);
@@ -107,12 +107,12 @@ impl Room {
 
     /// Ends the room, and gives its machines in order, each with all that was added. Takes no memory, and waits for nobody;
     /// where it refuses, the machines are dropped. With a whole pass it never refuses. Linear in the machines.
-    pub fn close(self, _alloc: Global, pass: RoomPass) -> Result<Vec<MachineState>, CloseFault>
+    pub fn close(self, _alloc: Global, pass: RoomPass) -> Result<Vec<TrackState>, CloseFault>
         requires room { IsPassOf self pass }
-        ensures ok { IfOk result (λ states. AllZip Ends pass states.items) }
+        ensures ok { IfOk result (λ states. AllZip Ends pass (tracks_of states.items)) }
         ensures err { IfErr result (IsCause pass) }
         ensures whole { IsWhole pass → IsOkAnd result (λ states.
-            AllZip EndsWhole pass states.items) }
+            AllZip EndsWhole pass (tracks_of states.items)) }
     {
         let Room { machines, ended } = self;
         let RoomPass { machines: passes } = pass;
@@ -141,7 +141,7 @@ impl Room {
         if let Request::Machine { .. } = request {
             return Ok(apart(Answer::Refused(Refusal::OnlyAlone)));
         }
-        let Some(i) = place_of(&self.machines, machine_of(request)) else {
+        let Some(i) = place_of(&self.machines, request.machine()) else {
             return Ok(apart(Answer::Refused(Refusal::UnknownMachine)));
         };
         self.machines[i].ask(rt, alloc, &mut pass.machines[i], author, request)

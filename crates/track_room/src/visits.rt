@@ -2,7 +2,7 @@
 ghost use Rattle.std.specs.Prelude.{◌≡◌, IfOk, OnErr, false};
 ghost use Rattle.publication_index.specs.Standing.{table_for};
 ghost use Rattle.track_model.specs.Counts.{is_segment};
-ghost use Rattle.track_model.specs.Replies.{machine_of};
+ghost use Rattle.request_model.specs.Requests.{machine_of};
 ghost use Rattle.machine_state.specs.Made.{IsMadeFrom};
 ghost use Rattle.track_room.specs.Sights.{SeesMore, Visits};
 ghost use Rattle.track_room.specs.Taking.{seen_of};
@@ -29,7 +29,7 @@ struct Answering<'a> {
 
 impl<'a> Act for Answering<'a> {
     ghost use Rattle.track_model.specs.Counts.{is_segment};
-    ghost use Rattle.track_model.specs.Replies.{machine_of};
+    ghost use Rattle.request_model.specs.Requests.{machine_of};
     ghost use Rattle.track_room.specs.Visits.{Answers, DoesOrStays};
 
     type Told = Result<Reply, NoMemory>;

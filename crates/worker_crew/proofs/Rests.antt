@@ -1,17 +1,14 @@
 -- Private: no public contract cites this. Machines that are bisected one after another, where memory is wanting.
-use Rattle.std.proofs.Common.{◌≡◌, ℕ, List, [], ◌∷◌, ◌++◌, refl, sym, ap, subst, ◌∙◌, Option, Some, None, Ok, Err, append-nil, append_assoc, arith}
-use Rattle.std.specs.Prelude.{◌≤◌, ◌+◌, ◌-◌, ◌^◌, min, option_map, OnOk, Result}
+use Rattle.std.proofs.Common.{◌≡◌, ℕ, List, [], ◌∷◌, ◌++◌, refl, sym, ap, Option, Some, None, append-nil, arith}
+use Rattle.std.specs.Prelude.{option_map}
 use Rattle.std.proofs.lemmas.List.Elements.{All-nil}
 use Rattle.track_outside.specs.Asked.{Ask}
 use Rattle.history_model.specs.declared.entries.Author.{Author}
 use Rattle.history_model.specs.declared.entries.Author.TheVariants as author
-use Rattle.history_model.specs.declared.entries.Placed.{Placed}
 use Rattle.std.specs.List.{AllZip}
 use Rattle.track_model.specs.Tracks.{Track}
 use Rattle.recompute_workers.specs.Recomputing.{AddsPublications, IsPublicationBy}
-use Rattle.worker_crew.specs.Last.{HasQuietSeries, PublishesMore}
 use Rattle.bisect_workers.specs.Bisecting.{IsBisected, IsDue, IsSaidBy}
-use Rattle.bisect_workers.specs.Findings.{Use, asks_of}
 use Rattle.worker_crew.specs.Runs.{BisectsEach, Tally}
 
 told-none : (o : Option (List Ask)) → option_map (λ (before : List Ask). before ++ []) o ≡ o
@@ -47,33 +44,5 @@ publishes-none [] = tt
 publishes-none (t ∷ ts) = (record { machine = refl; kept = refl; more = []; history = sym (append-nil t.history); each = All-nil (IsPublicationBy (author.Recompute 1)) }, publishes-none ts)
 
 -- something was published of the first, and those behind it are as they were
-pub publishes-first : {E : Type 0} (e : E) (states rest old mid new : List Track) (state before after given : Track) → states ≡ state ∷ rest → before ≡ state → AddsPublications (author.Recompute 1) before after → given ≡ after
-    → mid ≡ old ++ given ∷ [] → new ≡ mid ++ rest → PublishesMore states old new (Err e)
-publishes-first e states rest old mid new state before after given one from adds to pushed moved = record {
-  more = given ∷ rest;
-  behind = moved ∙ ap (λ (l : List Track). l ++ rest) pushed ∙ append_assoc old (given ∷ []) rest;
-  added =
-      subst (λ (l : List Track). AllZip (AddsPublications (author.Recompute 1)) l (given ∷ rest)) (sym one)
-      (subst (λ (t : Track). AddsPublications (author.Recompute 1) t given) from (subst (λ (t : Track). AddsPublications (author.Recompute 1) before t) (sym to) adds), publishes-none rest);
-  quiet = tt;
-}
-
-on-ok : {E P Q : Type 0} (r : Result (Unit {0}) E) → OnOk r P → (P → Q) → OnOk r Q
-on-ok (Ok done) p f = f p
-on-ok (Err e) p f = tt
-
-pub when-ok : {E P : Type 0} (r : Result (Unit {0}) E) → OnOk r P → r ≡ Ok tt → P
-when-ok (Ok done) p is = p
-when-ok (Err e) p is = absurd cc
-
--- something was published of the first, which is quiet now, and then of those behind it
-pub publishes-next : {E : Type 0} (r : Result (Unit {0}) E) (states rest old mid new : List Track) (state before after given : Track) → states ≡ state ∷ rest → before ≡ state → AddsPublications (author.Recompute 1) before after → given ≡ after
-    → HasQuietSeries after → mid ≡ old ++ given ∷ [] → PublishesMore rest mid new r → PublishesMore states old new r
-publishes-next r states rest old mid new state before after given one from adds to quiet pushed m = record {
-  more = given ∷ m.more;
-  behind = m.behind ∙ ap (λ (l : List Track). l ++ m.more) pushed ∙ append_assoc old (given ∷ []) m.more;
-  added =
-      subst (λ (l : List Track). AllZip (AddsPublications (author.Recompute 1)) l (given ∷ m.more)) (sym one)
-      (subst (λ (t : Track). AddsPublications (author.Recompute 1) t given) from (subst (λ (t : Track). AddsPublications (author.Recompute 1) before t) (sym to) adds), m.added);
-  quiet = on-ok r m.quiet (λ rest-quiet. (subst HasQuietSeries (sym to) quiet, rest-quiet));
-}
+pub publishes-first : (first new : Track) (rest : List Track) → AddsPublications (author.Recompute 1) first new → AllZip (AddsPublications (author.Recompute 1)) (first ∷ rest) (new ∷ rest)
+publishes-first first new rest one = (one, publishes-none rest)

@@ -5,7 +5,7 @@ use Rattle.bisect_workers.proofs.last.bisect_last.Given as goal
 
 -- the room that is left
 abbrev pub decreases-turns : goal.decreases-turns
-decreases-turns g l = 1_048_576 - length l.track.history
+decreases-turns g l = 1_048_576 - length l.state.track.history
 
 abbrev pub invariant-turns : goal.invariant-turns
-invariant-turns g l = IsBisected (Bisect 1) l.test l.fn.track l.track (g.R.Runner.asked l.fn.runner) (g.R.Runner.asked l.runner) (g.R.Runner.faults l.fn.runner) (g.R.Runner.faults l.runner)
+invariant-turns g l = IsBisected (Bisect 1) l.test l.fn.state.track l.state.track (g.R.Runner.asked l.fn.runner) (g.R.Runner.asked l.runner) (g.R.Runner.faults l.fn.runner) (g.R.Runner.faults l.runner)

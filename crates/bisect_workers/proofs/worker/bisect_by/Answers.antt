@@ -1,13 +1,7 @@
-use Rattle.std.proofs.Common.{◌≡◌, ℕ, List, subst, sym, ap, ◌∙◌, Option, Some, refl, arith}
-use Rattle.std.specs.Prelude.{IfSome, IsSome}
-use Rattle.std.specs.List.{AllZip}
+use Rattle.std.proofs.Common.{arith}
 use Rattle.history_model.specs.declared.entries.Author.{Author}
 use Rattle.history_model.specs.declared.entries.Author.TheVariants.{Bisect}
-use Rattle.track_room.specs.Sights.{SeesMore, Sight}
-use Rattle.track_room.specs.Taking.{IsQuestion, OfSeen}
-use Rattle.track_state.specs.declared.questions.Question.{Question}
-use Rattle.bisect_workers.specs.Beside.{IsBisectedIn}
-use Rattle.bisect_workers.proofs.Besides.{joined, nothing, sees-all, settled, unused}
+use Rattle.bisect_workers.proofs.Besides.{joined, nothing, sees-all}
 use Rattle.bisect_workers.proofs.worker.bisect_by.Goals as goal
 
 pub turns-init : goal.turns-init

@@ -1,13 +1,8 @@
-use Rattle.std.proofs.Common.{◌≡◌, ℕ, List, subst, sym, ap, ◌∙◌, Option, Some, refl, arith}
+use Rattle.std.proofs.Common.{subst, sym, ap}
 use Rattle.std.specs.Prelude.{is_some}
-use Rattle.std.specs.List.{AllZip}
-use Rattle.history_model.specs.declared.entries.Author.{Author}
 use Rattle.history_model.specs.declared.entries.Author.TheVariants.{Bisect}
-use Rattle.track_room.specs.Sights.{SeesMore, Sight}
-use Rattle.track_room.specs.Taking.{IsQuestion, OfSeen}
-use Rattle.track_state.specs.declared.questions.Question.{Question}
 use Rattle.bisect_workers.specs.Beside.{IsBisectedIn}
-use Rattle.bisect_workers.proofs.Besides.{joined, nothing, sees-all, settled, unused}
+use Rattle.bisect_workers.proofs.Besides.{nothing, sees-all, settled, unused}
 use Rattle.bisect_workers.proofs.worker.finish.Goals as goal
 
 pub returns-in_err-status-clause-bisected : goal.returns-in_err-status-clause-bisected

@@ -1,13 +1,11 @@
-use Rattle.std.proofs.Common.{◌≡◌, ℕ, List, subst, sym, ap, ◌∙◌, Option, Some, refl, arith}
-use Rattle.std.specs.Prelude.{IfSome, IsSome}
-use Rattle.std.specs.List.{AllZip}
+use Rattle.std.proofs.Common.{◌≡◌, ℕ, List, subst, Option, Some, arith}
+use Rattle.std.specs.Prelude.{IfSome}
 use Rattle.history_model.specs.declared.entries.Author.{Author}
 use Rattle.history_model.specs.declared.entries.Author.TheVariants.{Bisect}
-use Rattle.track_room.specs.Sights.{SeesMore, Sight}
+use Rattle.track_room.specs.Sights.{Sight}
 use Rattle.track_room.specs.Taking.{IsQuestion, OfSeen}
 use Rattle.track_state.specs.declared.questions.Question.{Question}
-use Rattle.bisect_workers.specs.Beside.{IsBisectedIn}
-use Rattle.bisect_workers.proofs.Besides.{joined, nothing, sees-all, settled, unused}
+use Rattle.bisect_workers.proofs.Besides.{joined, nothing}
 use Rattle.bisect_workers.proofs.worker.turn.Goals as goal
 
 pub returns-in_err-machine-clause-bisected : goal.returns-in_err-machine-clause-bisected

@@ -1,12 +1,10 @@
-use Rattle.std.proofs.Common.{◌≡◌, ◌++◌, ℕ, List, length, take, drop, sym, ap, subst, ◌∙◌, arith}
-use Rattle.std.specs.List.{AllByRecursion}
-use Rattle.track_model.specs.Tracks.{Track}
+use Rattle.std.proofs.Common.{◌≡◌, ℕ, List, ap, subst, ◌∙◌, arith}
 use Rattle.worker_crew.specs.Runs.{BisectsLast, RecomputesLast}
-use Rattle.worker_crew.specs.Last.{HasQuietJobs}
 use Rattle.worker_crew.specs.Whole.{tallies}
+use Rattle.worker_crew.specs.Work.{Work}
+use Rattle.play_crew.specs.Sights.{tracks_of}
 use Rattle.shared_run.specs.Crews.{word_of}
-use Rattle.shared_run.proofs.AtLast.{bisects-long, first-true, second-true}
-use Rattle.shared_run.proofs.Running.{whole-of}
+use Rattle.shared_run.proofs.AtLast.{bisects-long, both-back, first-true, recomputes-long, second-true, written-back}
 use Rattle.shared_run.proofs.finishing.finish.Goals as goal
 
 pub returns-clause-done : goal.returns-clause-done
@@ -14,20 +12,25 @@ returns-clause-done g c =
     let plan = c.args.plan.now in
     let began = tallies g.N.Runner c.args.runners.now in
     let ended = tallies g.N.Runner c.finish_jobs-over.new.runners in
-    let old : List Track = c.finish_series-series.result.0.items in
-    let new : List Track = c.finish_jobs-over.new.states in
-    let one : BisectsLast c.bisect.result c.word_in.result.now old new began ended =
-    subst (λ (l : List Track). BisectsLast c.bisect.result c.word_in.result.now l new began ended) c.deref_mut.ensures.value c.finish_jobs-over.ensures.bisected in
-    let two : BisectsLast plan.bisect c.word_in.result.now old new began ended = subst (λ (n : ℕ). BisectsLast n c.word_in.result.now old new began ended) c.bisect.ensures one in
-    let bisects : BisectsLast plan.bisect (word_of plan) old new began ended = subst (λ (w : List ℕ). BisectsLast plan.bisect w old new began ended) c.word_in.ensures two in
-    let size : length new ≡ length old = bisects-long plan.bisect (word_of plan) old new began ended bisects in
-    let is = whole-of c.finish_series-series.result.0.len new old c.finish_series-series.result.0.ok.0 size in
+    let left : List Work = c.args.left.items in
+    let made : List Work = c.finish_series-done.new.states in
+    let last : List Work = c.finish_jobs-over.new.states in
+    let recomputes : RecomputesLast plan.recompute (tracks_of left) (tracks_of made) =
+    rw c.deref_mut.ensures.value at (subst (λ (n : ℕ). RecomputesLast n (tracks_of c.deref_mut.result.now) (tracks_of made)) c.recompute.ensures c.finish_series-done.ensures.published) in
+    let one = recomputes-long plan.recompute (tracks_of left) (tracks_of made) recomputes in
+    let lent = c.deref_mut-2.ensures.value ∙ written-back c.args.left.len made left c.args.left.ok.0 one in
+    let asked : BisectsLast plan.bisect (word_of plan) (tracks_of c.deref_mut-2.result.now) (tracks_of last) began ended =
+    subst (λ (n : ℕ). BisectsLast n (word_of plan) (tracks_of c.deref_mut-2.result.now) (tracks_of last) began ended) c.bisect.ensures
+    (subst (λ (w : List ℕ). BisectsLast c.bisect.result w (tracks_of c.deref_mut-2.result.now) (tracks_of last) began ended) c.word_in.ensures c.finish_jobs-over.ensures.bisected) in
+    let bisects : BisectsLast plan.bisect (word_of plan) (tracks_of made) (tracks_of last) began ended = rw lent at asked in
+    let two = bisects-long plan.bisect (word_of plan) (tracks_of made) (tracks_of last) began ended bisects in
+    let journals : c.leave_each.new.left.items ≡ tracks_of last = c.leave_each.ensures ∙ ap tracks_of (both-back c.args.left.len left made last c.args.left.ok.0 one two) in
     let same = c.recompute.ensures in
     let alike = c.bisect.ensures in
     record {
-      published = old;
-      recomputes = subst (λ (n : ℕ). RecomputesLast n c.args.left.items old) c.recompute.ensures c.finish_series-series.ensures.published;
-      bisects = rw is bisects;
-      series = λ so many. c.finish_series-series.ensures.quiet (first-true c.finish_series-series.result.1 c.finish_jobs-over.result c.both.result c.both.ensures so) (omega (arith, many, same));
-      jobs = λ so many. rw is (c.finish_jobs-over.ensures.quiet (second-true c.finish_series-series.result.1 c.finish_jobs-over.result c.both.result c.both.ensures so) (omega (arith, many, alike)));
+      published = tracks_of made;
+      recomputes = recomputes;
+      bisects = rw journals bisects;
+      series = λ so many. c.finish_series-done.ensures.quiet (first-true c.finish_series-done.result c.finish_jobs-over.result c.both.result c.both.ensures so) (omega (arith, many, same));
+      jobs = λ so many. rw journals (c.finish_jobs-over.ensures.quiet (second-true c.finish_series-done.result c.finish_jobs-over.result c.both.result c.both.ensures so) (omega (arith, many, alike)));
     }

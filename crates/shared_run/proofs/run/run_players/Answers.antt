@@ -1,6 +1,7 @@
-use Rattle.std.proofs.Common.{◌≡◌, ◌++◌, [], ℕ, List, Ok, length, map, sym, subst, ap, ◌∙◌, arith}
+use Rattle.std.proofs.Common.{◌≡◌, ◌++◌, ℕ, List, Ok, length, map, sym, subst, ap, ◌∙◌, arith}
 use Rattle.std.proofs.lemmas.List.{length-map, length-take}
 use Rattle.std.proofs.lemmas.Result.{err_from_is_err_and}
+use Rattle.std.proofs.lemmas.Slice.Zip.{AllZip-long}
 use Rattle.std.specs.List.{AllByRecursion, AllZip}
 use Rattle.std.specs.Prelude.{Result, take, drop}
 use Rattle.command_words.specs.Texts.{shown}
@@ -12,45 +13,32 @@ use Rattle.side_by_side.specs.Runs.{AllWorked}
 use Rattle.play_crew.specs.Sights.{Sight}
 use Rattle.play_crew.specs.Players as players
 use Rattle.play_crew.specs.Players.{Playing, Plays, end_of, open_of, players_from}
-use Rattle.play_crew.specs.Shared.{JoinsAll}
 use Rattle.worker_crew.specs.Workers as workers
 use Rattle.worker_crew.specs.Workers.{Bisects, HaveWorked, IsOfRoom, Recomputes, Working, workers_from}
 use Rattle.shared_run.specs.Crews.{word_of}
-use Rattle.shared_run.proofs.Running.{can-play, closable-played, none-made, not-open, of-room, seated-all, shorter, still-of-room, zip-long}
+use Rattle.shared_run.proofs.Running.{can-play, closable-played, none-made, not-open, of-room, seated-all, shorter, still-of-room}
 use Rattle.shared_run.proofs.Workers.{all-seated, as-many, bisectors-there, others-at, recomputers-there, worked-at, workers-long}
 use Rattle.shared_run.proofs.run.run_players.Given.{Over}
 use Rattle.shared_run.proofs.run.run_players.Goals as goal
 use Rattle.shared_run.proofs.run.run_players.Goals.{After-run_crew}
 
 pub returns-in_err-split-clause-early : goal.returns-in_err-split-clause-early
-returns-in_err-split-clause-early g c =
-    let p = err_from_is_err_and c.from_residual.result c.from_residual.ensures.1 in
-    rw (p.1, p.2) (none-made g.F.Files c.args.plan.now.scripts c.args.files.now c.requires.scripts.some)
+returns-in_err-split-clause-early g c = none-made g.F.Files c.args.plan.now.scripts c.args.files.now c.requires.scripts.some c.from_residual.result c.from_residual.ensures.1
 
 pub returns-in_err-players-clause-early : goal.returns-in_err-players-clause-early
-returns-in_err-players-clause-early g c =
-    let p = err_from_is_err_and c.from_residual-in_err-players.result c.from_residual-in_err-players.ensures.1 in
-    rw (p.1, p.2) (none-made g.F.Files c.args.plan.now.scripts c.args.files.now c.requires.scripts.some)
+returns-in_err-players-clause-early g c = none-made g.F.Files c.args.plan.now.scripts c.args.files.now c.requires.scripts.some c.from_residual-in_err-players.result c.from_residual-in_err-players.ensures.1
 
 pub returns-in_err-recomputers-clause-early : goal.returns-in_err-recomputers-clause-early
-returns-in_err-recomputers-clause-early g c =
-    let p = err_from_is_err_and c.from_residual-in_err-recomputers.result c.from_residual-in_err-recomputers.ensures.1 in
-    rw (p.1, p.2) (none-made g.F.Files c.args.plan.now.scripts c.args.files.now c.requires.scripts.some)
+returns-in_err-recomputers-clause-early g c = none-made g.F.Files c.args.plan.now.scripts c.args.files.now c.requires.scripts.some c.from_residual-in_err-recomputers.result c.from_residual-in_err-recomputers.ensures.1
 
 pub returns-in_err-bisectors-clause-early : goal.returns-in_err-bisectors-clause-early
-returns-in_err-bisectors-clause-early g c =
-    let p = err_from_is_err_and c.from_residual-in_err-bisectors.result c.from_residual-in_err-bisectors.ensures.1 in
-    rw (p.1, p.2) (none-made g.F.Files c.args.plan.now.scripts c.args.files.now c.requires.scripts.some)
+returns-in_err-bisectors-clause-early g c = none-made g.F.Files c.args.plan.now.scripts c.args.files.now c.requires.scripts.some c.from_residual-in_err-bisectors.result c.from_residual-in_err-bisectors.ensures.1
 
 pub returns-in_err-ended-clause-early : goal.returns-in_err-ended-clause-early
-returns-in_err-ended-clause-early g c =
-    let p = err_from_is_err_and c.from_residual-in_err-ended.result c.from_residual-in_err-ended.ensures.1 in
-    rw (p.1, p.2) (none-made g.F.Files c.args.plan.now.scripts c.args.files.now c.requires.scripts.some)
+returns-in_err-ended-clause-early g c = none-made g.F.Files c.args.plan.now.scripts c.args.files.now c.requires.scripts.some c.from_residual-in_err-ended.result c.from_residual-in_err-ended.ensures.1
 
 pub returns-in_err-left-clause-early : goal.returns-in_err-left-clause-early
-returns-in_err-left-clause-early g c =
-    let p = err_from_is_err_and c.from_residual-in_err-left.result c.from_residual-in_err-left.ensures.1 in
-    rw (p.1, p.2) (none-made g.F.Files c.args.plan.now.scripts c.args.files.now c.requires.scripts.some)
+returns-in_err-left-clause-early g c = none-made g.F.Files c.args.plan.now.scripts c.args.files.now c.requires.scripts.some c.from_residual-in_err-left.result c.from_residual-in_err-left.ensures.1
 
 pub open_scripts-requires-clause-own : goal.open_scripts-requires-clause-own
 open_scripts-requires-clause-own g c κs within = rw c.scripts.ensures c.requires.scripts.own
@@ -63,7 +51,7 @@ returns-in_err-opened-clause-early g c =
 pub seat_scripts-requires-clause-paired : goal.seat_scripts-requires-clause-paired
 seat_scripts-requires-clause-paired g c =
     let i = g.F.Input.Source in
-    let opened = zip-long (IsOpen i g.F.Output.Sink (g.F.Files.contents c.args.files.now)) (shown c.scripts.result.now) c.in_ok-opened.opened.items c.in_ok-opened.ensures.open in
+    let opened = AllZip-long (IsOpen i g.F.Output.Sink (g.F.Files.contents c.args.files.now)) (shown c.scripts.result.now) c.in_ok-opened.opened.items c.in_ok-opened.ensures.open in
     let one = length-map c.scripts.result.now (λ s. s.now) in
     let two = length-map c.scripts-count.result.now (λ s. s.now) in
     let a = ap length c.scripts.ensures in
@@ -95,14 +83,14 @@ module _ (g : Over) (c : After-run_crew g) where
 
   pair : length passes ≡ length opened
   pair =
-      let long = zip-long (IsOpen g.F.Input.Source g.F.Output.Sink (g.F.Files.contents c.args.files.now)) (shown c.scripts.result.now) opened c.in_ok-opened.ensures.open in
+      let long = AllZip-long (IsOpen g.F.Input.Source g.F.Output.Sink (g.F.Files.contents c.args.files.now)) (shown c.scripts.result.now) opened c.in_ok-opened.ensures.open in
       let one = length-map c.scripts.result.now (λ s. s.now) in
       let is = ap length c.scripts.ensures in
       let many = c.in_ok-split.ensures.ok.of_scripts.many in
       omega (arith, long, one, is, many)
 
   size : length played ≡ length passes
-  size = zip-long (Plays g.F.Input.Source g.F.Output.Sink) (players_from c.args.room.now 1 passes opened) played plays ∙ shorter c.args.room.now 1 passes opened pair
+  size = AllZip-long (Plays g.F.Input.Source g.F.Output.Sink) (players_from c.args.room.now 1 passes opened) played plays ∙ shorter c.args.room.now 1 passes opened pair
 
   still : AllByRecursion (players.IsOfRoom c.args.room.now) played
   still = still-of-room g.F.Input.Source g.F.Output.Sink c.args.room.now (players_from c.args.room.now 1 passes opened) played plays (of-room c.args.room.now 1 passes opened c.in_ok-split.ensures.ok.of_scripts.of_room)

@@ -1,4 +1,4 @@
-use Rattle.std.proofs.Common.{◌≡◌, Ok, Err, ◌≤◌, inl, List, length, refl, sym, subst}
+use Rattle.std.proofs.Common.{Err, ◌≤◌, inl, length, refl, sym, subst}
 use Rattle.std.specs.List.{AllByRecursion}
 use Rattle.metric_table.specs.Limits.{most}
 use Rattle.metric_table.specs.declared.limits.Limit.TheVariants.{Machines}

@@ -1,4 +1,4 @@
-use Rattle.std.proofs.Common.{◌≡◌, ◌↔◌, List, ◌∷◌, Bool, true, false, Err, refl, sym, subst}
+use Rattle.std.proofs.Common.{◌≡◌, ◌↔◌, List, true, Err, refl, sym, subst}
 use Rattle.std.specs.Prelude.{Contains, IsTrue, Result}
 use Rattle.script_loop.specs.declared.stop.Stop.{Stop}
 use Rattle.script_loop.specs.declared.stop.Stop.TheVariants as script

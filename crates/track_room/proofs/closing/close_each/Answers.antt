@@ -1,8 +1,11 @@
-use Rattle.std.proofs.Common.{◌≡◌, ◌<◌, List, length, get_or, ◌∙◌, arith}
+use Rattle.std.proofs.Common.{◌≡◌, ◌<◌, List, [], ◌∷◌, ◌++◌, length, get_or, sym, subst, ◌∙◌, arith}
+use Rattle.std.specs.List.{AllZip}
 use Rattle.std.proofs.lemmas.Iterator.Adapters.{YieldsList-from_vec}
 use Rattle.std.proofs.lemmas.Iterator.Consumers.{YieldsList-turn}
-use Rattle.std.proofs.lemmas.List.{length_push}
-use Rattle.track_room.specs.Sights.{Sight, Ends, EndsWhole, IsWholeSight}
+use Rattle.std.proofs.lemmas.List.{length-map, length_push, map_push}
+use Rattle.track_model.specs.Tracks.{Track}
+use Rattle.track_state.specs.Work.{Work}
+use Rattle.track_room.specs.Sights.{Sight, Ends, EndsWhole, IsWholeSight, tracks_of}
 use Rattle.track_room.proofs.Places.{all-at, moved-on, next-is, zip-long, zip-push}
 use Rattle.track_room.proofs.closing.close_each.Goals as goal
 use Rattle.track_room.proofs.closing.close_each.Goals.{In-Some-next}
@@ -26,15 +29,21 @@ push_reserved-requires c =
     let t = turn (goal.at.push_reserved-requires c).In-Some-next in
     let wide = before.6 in
     let within = t.0 in
-    let same = zip-long Ends c.loop-pass.yielded c.loop-pass.states.items before.4 in
+    let same = zip-long Ends c.loop-pass.yielded (tracks_of c.loop-pass.states.items) before.4 in
+    let many = length-map c.loop-pass.states.items (λ (w : Work). w.track) in
     let len = c.loop-pass.states.ok.0 in
-    omega (arith, wide, within, same, len)
+    omega (arith, wide, within, same, many, len)
 
 pub returns-in-Err-clause-whole : goal.returns-in-Err-clause-whole
 returns-in-Err-clause-whole c whole =
     let t = turn (goal.at.returns-in-Err-clause-whole c).In-Some-next in
     let p : IsWholeSight c.in-Some.pass = all-at IsWholeSight c.args.passes.items (length c.loop-pass.yielded) c.in-Some.pass whole t.0 t.1 in
     c.in-Err.ensures.whole p
+
+-- one more machine behind those that were given
+more : (E : Sight → Track → Type 0) (given : List Sight) (states : List Work) (p : Sight) (w : Work) → AllZip E given (tracks_of states) → E p w.track → AllZip E (given ++ p ∷ []) (tracks_of (states ++ w ∷ []))
+more E given states p w all one =
+    subst (λ (ts : List Track). AllZip E (given ++ p ∷ []) ts) (sym (map_push (λ (v : Work). v.track) states w)) (zip-push E given (tracks_of states) p w.track all one)
 
 pub loop-pass-preserved : goal.loop-pass-preserved
 loop-pass-preserved c =
@@ -47,7 +56,7 @@ loop-pass-preserved c =
       tt,
       omega (arith, before.2, length_push given p),
       moved-on (λ (s : Sight). s.home) given c.args.machines.items c.loop-pass.locks.rest.items c.next-in-loop-pass.new.self.rest.items p c.in-Some-next.lock before.3 c.in-Some-next.ensures.items (home-is here),
-      rw c.push_reserved.ensures.items (zip-push Ends given c.loop-pass.states.items p c.in-Ok.state before.4 c.in-Ok.ensures.ok),
-      λ whole. rw c.push_reserved.ensures.items (zip-push EndsWhole given c.loop-pass.states.items p c.in-Ok.state (before.5 whole) (c.in-Ok.ensures.whole (all-at IsWholeSight c.args.passes.items (length given) p whole t.0 t.1))),
+      rw c.push_reserved.ensures.items (more Ends given c.loop-pass.states.items p c.in-Ok.state before.4 c.in-Ok.ensures.ok),
+      λ whole. rw c.push_reserved.ensures.items (more EndsWhole given c.loop-pass.states.items p c.in-Ok.state (before.5 whole) (c.in-Ok.ensures.whole (all-at IsWholeSight c.args.passes.items (length given) p whole t.0 t.1))),
       (let wide = before.6 in let kept = c.push_reserved.ensures.capacity in omega (arith, wide, kept)),
     )

@@ -1,99 +1,52 @@
-use Rattle.std.proofs.Common.{◌∙◌, refl, ◌≡◌, ℕ, ◌<◌, List, length, set, get_or, sym, ap, subst, Option, Some, None, arith}
-use Rattle.std.specs.Prelude.{slice_get}
-use Rattle.std.specs.List.{AllZip}
-use Rattle.std.proofs.lemmas.List.{length-map}
+use Rattle.std.proofs.Common.{set, get_or, subst, Option, Some, None, arith}
 use Rattle.track_state.specs.declared.taking.TakenSeries.{TakenSeries}
-use Rattle.track_room.specs.Rooms.{AreSame, IsPassOf, badge}
-use Rattle.track_room.specs.Sights.{Home, Sight, SeesMore, Visits}
+use Rattle.track_room.specs.Sights.{Visits}
 use Rattle.track_room.specs.Taking.{TakesSeries}
-use Rattle.track_room.proofs.Firsts.{known-series, none-all, none-first, none-next, takes-at}
-use Rattle.track_room.proofs.Standing.{all-same, all-sees-set, get-at, same-map, sees-badge, set-at, still-of}
+use Rattle.track_room.proofs.Firsts.{EntersNext, enters-all, enters-next, enters-none, entered, known-series, takes-next}
 use Rattle.track_room.proofs.work.first_series.Given.{Over}
 use Rattle.track_room.proofs.work.first_series.Goals as goal
 use Rattle.track_room.proofs.work.first_series.Goals.{After-take_series}
 
--- the place lies within the passes
-below : (g : Over) (c : After-take_series g) → c.loop-i.i < length c.loop-i.passes
-below g c =
-    let long = length-map c.args.passes.now (λ (s : Sight). s.home) in
-    let same = ap (λ (hs : List Home). length hs) c.requires.locks in
-    omega (arith, c.loop-i-test.true, c.loop-i.auto.passes, long, same)
-
--- one machine's pass has seen more
-gone : (g : Over) (c : After-take_series g) → AllZip SeesMore c.args.passes.now (set c.loop-i.passes c.loop-i.i c.take_series.new.pass)
-    × IsPassOf c.args.machines.now (set c.loop-i.passes c.loop-i.i c.take_series.new.pass)
-    × AreSame c.args.passes.now (set c.loop-i.passes c.loop-i.i c.take_series.new.pass)
-gone g c =
-    let now : List Sight = c.loop-i.passes in
-    let i : ℕ = c.loop-i.i in
-    let p : Sight = c.index-passes-i.result in
-    let new : Sight = c.take_series.new.pass in
-    let at : slice_get now i ≡ Some p = get-at now i p (below g c) c.index-passes-i.is in
-    let sees : SeesMore p new = subst (λ (s : Sight). SeesMore s new) (sym c.index-passes-i.is) c.take_series.ensures.sees in
-    (all-sees-set c.args.passes.now now i p new c.loop-i.invariant.0 at sees, still-of c.args.machines.now now i p new c.loop-i.invariant.1 at (sees-badge p new sees), same-map badge now i p new at (sees-badge p new sees) ∙ c.loop-i.invariant.2)
-
 pub loop-i-init : goal.loop-i-init
-loop-i-init g c = (all-same c.args.passes.now, c.requires.locks, refl, none-first (TakesSeries None) c.args.passes.now)
+loop-i-init g c = enters-none (TakesSeries None) c.args.machines.now c.args.passes.now c.requires.locks
 
--- the pass stands at the place, before and after
-stands : (g : Over) (c : After-take_series g) → (slice_get c.loop-i.passes c.loop-i.i ≡ Some c.index-passes-i.result) × (slice_get (set c.loop-i.passes c.loop-i.i c.take_series.new.pass) c.loop-i.i ≡ Some c.take_series.new.pass)
-stands g c =
-    (get-at c.loop-i.passes c.loop-i.i c.index-passes-i.result (below g c) c.index-passes-i.is, set-at c.loop-i.passes c.loop-i.i c.take_series.new.pass (below g c))
+-- the next machine is entered
+next : (g : Over) (c : After-take_series g) → EntersNext (TakesSeries None) c.loop-i.i c.args.machines.now c.args.passes.now c.loop-i.passes c.index-passes-i.result c.take_series.new.pass
+next g c = record { before = c.loop-i.invariant; within = c.loop-i-test.true; is = c.index-passes-i.is; sees = c.take_series.ensures.sees }
 
 pub loop-i-preserved : goal.loop-i-preserved
 loop-i-preserved g c =
-    let k = (goal.at.loop-i-preserved g c).After-take_series in
-    let v : Visits (TakesSeries None) (get_or c.loop-i.passes c.loop-i.i c.index-passes-i.result) c.take_series.new.pass =
-    subst (λ (o : Option TakenSeries). Visits (TakesSeries o) (get_or c.loop-i.passes c.loop-i.i c.index-passes-i.result) c.take_series.new.pass) c.in_default.is c.in_ok-taken.ensures.taken in
-    let all = gone g k in
-    let at = stands g k in (
-      all.0,
-      all.1,
-      all.2,
-      none-next (TakesSeries None) c.args.passes.now c.loop-i.passes c.loop-i.i c.loop-i.invariant.3 c.index-passes-i.result c.take_series.new.pass at.0 at.1
-          (subst (λ (s : Sight). Visits (TakesSeries None) s c.take_series.new.pass) (sym c.index-passes-i.is) v),
-    )
+    enters-next (next g (goal.at.loop-i-preserved g c).After-take_series)
+    (subst (λ (o : Option TakenSeries). Visits (TakesSeries o) (get_or c.loop-i.passes c.loop-i.i c.index-passes-i.result) c.take_series.new.pass) c.in_default.is c.in_ok-taken.ensures.taken)
 
 pub returns-in_err-taken-clause-sees : goal.returns-in_err-taken-clause-sees
-returns-in_err-taken-clause-sees g c = (gone g (goal.at.returns-in_err-taken-clause-sees g c).After-take_series).0
-
-pub returns-in_err-taken-clause-locks : goal.returns-in_err-taken-clause-locks
-returns-in_err-taken-clause-locks g c = (gone g (goal.at.returns-in_err-taken-clause-locks g c).After-take_series).1
+returns-in_err-taken-clause-sees g c = (entered (next g (goal.at.returns-in_err-taken-clause-sees g c).After-take_series)).0
 
 pub returns-in-Some-clause-sees : goal.returns-in-Some-clause-sees
-returns-in-Some-clause-sees g c = (gone g (goal.at.returns-in-Some-clause-sees g c).After-take_series).0
+returns-in-Some-clause-sees g c = (entered (next g (goal.at.returns-in-Some-clause-sees g c).After-take_series)).0
+
+pub returns-in_err-taken-clause-locks : goal.returns-in_err-taken-clause-locks
+returns-in_err-taken-clause-locks g c = (entered (next g (goal.at.returns-in_err-taken-clause-locks g c).After-take_series)).1
 
 pub returns-in-Some-clause-locks : goal.returns-in-Some-clause-locks
-returns-in-Some-clause-locks g c = (gone g (goal.at.returns-in-Some-clause-locks g c).After-take_series).1
+returns-in-Some-clause-locks g c = (entered (next g (goal.at.returns-in-Some-clause-locks g c).After-take_series)).1
+
+pub returns-in_err-taken-clause-same : goal.returns-in_err-taken-clause-same
+returns-in_err-taken-clause-same g c = (entered (next g (goal.at.returns-in_err-taken-clause-same g c).After-take_series)).2
+
+pub returns-in-Some-clause-same : goal.returns-in-Some-clause-same
+returns-in-Some-clause-same g c = (entered (next g (goal.at.returns-in-Some-clause-same g c).After-take_series)).2
 
 pub returns-in-Some-clause-taken : goal.returns-in-Some-clause-taken
 returns-in-Some-clause-taken g c =
-    let k = (goal.at.returns-in-Some-clause-taken g c).After-take_series in
-    let v : Visits (TakesSeries (Some c.in-Some.taken)) (get_or c.loop-i.passes c.loop-i.i c.index-passes-i.result) c.take_series.new.pass =
-    subst (λ (o : Option TakenSeries). Visits (TakesSeries o) (get_or c.loop-i.passes c.loop-i.i c.index-passes-i.result) c.take_series.new.pass) c.in-Some.is c.in_ok-taken.ensures.taken in
-    let at = stands g k in
-    takes-at (TakesSeries None) c.args.passes.now c.loop-i.passes c.loop-i.i c.loop-i.invariant.3 c.index-passes-i.result c.take_series.new.pass at.0 at.1 (TakesSeries (Some c.in-Some.taken))
-    (subst (λ (s : Sight). Visits (TakesSeries (Some c.in-Some.taken)) s c.take_series.new.pass) (sym c.index-passes-i.is) v)
+    takes-next (next g (goal.at.returns-in-Some-clause-taken g c).After-take_series) (TakesSeries (Some c.in-Some.taken))
+    (subst (λ (o : Option TakenSeries). Visits (TakesSeries o) (get_or c.loop-i.passes c.loop-i.i c.index-passes-i.result) c.take_series.new.pass) c.in-Some.is c.in_ok-taken.ensures.taken)
 
 pub returns-in-Some-clause-known : goal.returns-in-Some-clause-known
 returns-in-Some-clause-known g c =
-    let k = (goal.at.returns-in-Some-clause-known g c).After-take_series in
-    let v : Visits (TakesSeries (Some c.in-Some.taken)) (get_or c.loop-i.passes c.loop-i.i c.index-passes-i.result) c.take_series.new.pass =
-    subst (λ (o : Option TakenSeries). Visits (TakesSeries o) (get_or c.loop-i.passes c.loop-i.i c.index-passes-i.result) c.take_series.new.pass) c.in-Some.is c.in_ok-taken.ensures.taken in
-    let at = stands g k in
     known-series (Some (c.loop-i.i, c.in-Some.taken)) c.args.passes.now (set c.loop-i.passes c.loop-i.i c.take_series.new.pass)
-    (takes-at (TakesSeries None) c.args.passes.now c.loop-i.passes c.loop-i.i c.loop-i.invariant.3 c.index-passes-i.result c.take_series.new.pass at.0 at.1 (TakesSeries (Some c.in-Some.taken))
-    (subst (λ (s : Sight). Visits (TakesSeries (Some c.in-Some.taken)) s c.take_series.new.pass) (sym c.index-passes-i.is) v))
+    (takes-next (next g (goal.at.returns-in-Some-clause-known g c).After-take_series) (TakesSeries (Some c.in-Some.taken))
+    (subst (λ (o : Option TakenSeries). Visits (TakesSeries o) (get_or c.loop-i.passes c.loop-i.i c.index-passes-i.result) c.take_series.new.pass) c.in-Some.is c.in_ok-taken.ensures.taken))
 
 pub returns-clause-taken : goal.returns-clause-taken
-returns-clause-taken g c =
-    let long = length-map c.args.passes.now (λ (s : Sight). s.home) in
-    let same = ap (λ (hs : List Home). length hs) c.requires.locks in
-    let size = c.loop-i.auto.passes in
-    none-all (TakesSeries None) c.args.passes.now c.loop-i.passes c.loop-i.i c.loop-i.invariant.3 (omega (arith, c.loop-i-test.false, long, same)) (omega (arith, c.loop-i-test.false, long, same, size))
-
-pub returns-in_err-taken-clause-same : goal.returns-in_err-taken-clause-same
-returns-in_err-taken-clause-same g c = (gone g (goal.at.returns-in_err-taken-clause-same g c).After-take_series).2
-
-pub returns-in-Some-clause-same : goal.returns-in-Some-clause-same
-returns-in-Some-clause-same g c = (gone g (goal.at.returns-in-Some-clause-same g c).After-take_series).2
+returns-clause-taken g c = enters-all (TakesSeries None) c.loop-i.i c.args.machines.now c.args.passes.now c.loop-i.passes c.requires.locks c.loop-i.invariant (omega (arith, c.loop-i-test.false))

@@ -19,13 +19,11 @@ pub returns-in-Ok-clause-ok : goal.returns-in-Ok-clause-ok
 returns-in-Ok-clause-ok c =
     let p : Pass Guarded Placed Owner = c.pass.inside.pass in
     let t : Track = c.in-Ok.field-0.work.track in
-    subst (λ (u : Track). Ends c.args.pass u) (sym c.into_track.ensures)
-    (subst (λ (s : Sight). Ends s t) c.pass.view_is (ends p t c.in-Ok.ensures.ok.0 c.in-Ok.ensures.ok.1))
+    subst (λ (s : Sight). Ends s t) c.pass.view_is (ends p t c.in-Ok.ensures.ok.0 c.in-Ok.ensures.ok.1)
 
 pub returns-in-Ok-clause-whole : goal.returns-in-Ok-clause-whole
 returns-in-Ok-clause-whole c whole =
     let p : Pass Guarded Placed Owner = c.pass.inside.pass in
     let t : Track = c.in-Ok.field-0.work.track in
     let w : IsWholeSight (sight_of p) = subst (λ (s : Sight). IsWholeSight s) (sym c.pass.view_is) whole in
-    subst (λ (u : Track). EndsWhole c.args.pass u) (sym c.into_track.ensures)
-    (subst (λ (s : Sight). EndsWhole s t) c.pass.view_is (ends-whole p t c.in-Ok.ensures.ok.0 (c.in-Ok.ensures.whole w c.pass.invariant.outside)))
+    subst (λ (s : Sight). EndsWhole s t) c.pass.view_is (ends-whole p t c.in-Ok.ensures.ok.0 (c.in-Ok.ensures.whole w c.pass.invariant.outside))

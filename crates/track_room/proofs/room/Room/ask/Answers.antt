@@ -33,7 +33,7 @@ returns g c =
       );
       ok = if-ok (λ (reply : Reply). IsReplied c.args.author q reply p new) (λ (reply : Reply). Asks room c.args.author q reply c.args.pass.now (set xs i new)) c.ask.result
           (λ reply is. subst (λ (ss : List Sight). Asks room c.args.author q reply ss (set xs i new)) c.pass.view_is
-          (asks-at room xs c.args.author q reply i named.0 p new c.in_default.not-Machine stands (named.2 ∙ c.machine_of.ensures) at is)) c.ask.ensures.ok;
+          (asks-at room xs c.args.author q reply i named.0 p new c.in_default.not-Machine stands (named.2 ∙ c.machine.ensures) at is)) c.ask.ensures.ok;
       err = on-err (SeesMore p new) (AllZip SeesMore c.args.pass.now (set xs i new)) c.ask.result
           (λ sees. subst (λ (ss : List Sight). AllZip SeesMore ss (set xs i new)) c.pass.view_is (sees-at xs i p new at sees)) c.ask.ensures.err;
     }

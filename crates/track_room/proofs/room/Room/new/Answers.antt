@@ -1,8 +1,11 @@
-use Rattle.std.proofs.Common.{◌≡◌, List, [], ◌∷◌, ◌++◌, length, sym, ap, ap₂, ◌∙◌, arith}
+use Rattle.std.proofs.Common.{◌≡◌, List, [], ◌∷◌, ◌++◌, length, sym, ap, ap₂, subst, ◌∙◌, arith}
+use Rattle.std.specs.List.{AllZip}
 use Rattle.std.proofs.lemmas.Iterator.Adapters.{YieldsList-from_vec}
 use Rattle.std.proofs.lemmas.Iterator.Consumers.{YieldsList-end}
 use Rattle.std.proofs.lemmas.List.{length-map, map_push}
-use Rattle.track_room.specs.Sights.{Home, Sight, IsFirstOf}
+use Rattle.track_model.specs.Tracks.{Track}
+use Rattle.track_state.specs.Work.{Work}
+use Rattle.track_room.specs.Sights.{Home, Sight, IsFirstOf, tracks_of}
 use Rattle.track_room.proofs.Splits.{begin-first}
 use Rattle.track_room.proofs.Places.{zip-push, zip-long}
 use Rattle.track_room.proofs.room.Room.new.Goals as goal
@@ -19,7 +22,9 @@ loop-state-preserved c =
       tt,
       rw (c.in_ok-push.ensures.items, c.in_ok-push-2.ensures.items)
           (map_push (λ (s : Sight). s.home) sights p ∙ ap₂ (λ (hs : List Home) (h : Home). hs ++ h ∷ []) before.2 made.0),
-      rw c.in_ok-push-2.ensures.items (zip-push IsFirstOf c.loop-state.yielded sights c.in-Some.state p before.3 made.1),
+      rw c.in_ok-push-2.ensures.items
+          (subst (λ (ts : List Track). AllZip IsFirstOf ts (sights ++ p ∷ [])) (sym (map_push (λ (w : Work). w.track) c.loop-state.yielded c.in-Some.state))
+          (zip-push IsFirstOf (tracks_of c.loop-state.yielded) sights c.in-Some.state.track p before.3 made.1)),
     )
 
 pub invariant_of-result : goal.invariant_of-result
@@ -29,13 +34,14 @@ invariant_of-result c =
     let gives = c.into_iter-state-iterator.ensures.into_iter_gives in
     let ended = YieldsList-end (YieldsList-from_vec c.args.states.items gives.0 (gives.1 ∙ c.args.states.ok.0)) c.loop-state.yielded c.loop-state.state-iterator c.loop-state.yielded_by c.next.result c.next.new.self c.in-None.is c.next.ensures.steps in
     let same : length c.loop-state.machines.items ≡ length sights = ap (λ (hs : List Home). length hs) (sym before.2) ∙ length-map sights (λ (s : Sight). s.home) in
-    let long = zip-long IsFirstOf c.loop-state.yielded sights before.3 in
+    let long = zip-long IsFirstOf (tracks_of c.loop-state.yielded) sights before.3 in
+    let many = length-map c.loop-state.yielded (λ (w : Work). w.track) in
     let size = c.args.states.ok.0 in
     let room = c.in_ok-ended.ensures.capacity in (
-      omega (arith, same, long, ended.1, c.requires.few),
+      omega (arith, same, long, many, ended.1, c.requires.few),
       c.in_ok-ended.ensures.items,
-      omega (arith, same, long, ended.1, room, size),
+      omega (arith, same, long, many, ended.1, room, size),
     )
 
 pub returns-clause-pass : goal.returns-clause-pass
-returns-clause-pass c = (c.loop-state.invariant.2, begin-first c.loop-state.yielded c.loop-state.passes.items c.loop-state.invariant.3)
+returns-clause-pass c = (c.loop-state.invariant.2, begin-first (tracks_of c.loop-state.yielded) c.loop-state.passes.items c.loop-state.invariant.3)

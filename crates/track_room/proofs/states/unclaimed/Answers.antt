@@ -1,0 +1,14 @@
+use Rattle.std.proofs.Common.{List, [], ◌∷◌, ◌++◌, ap, ap₂, ◌∙◌}
+use Rattle.std.proofs.lemmas.List.{map_push}
+use Rattle.track_model.specs.Tracks.{Track}
+use Rattle.track_state.specs.Work.{Work}
+use Rattle.track_room.proofs.states.unclaimed.Goals as goal
+
+pub loop-machine-preserved : goal.loop-machine-preserved
+loop-machine-preserved c =
+    let before = c.loop-machine.invariant in (
+      tt,
+      tt,
+      rw c.in_ok-push.ensures.items
+          (map_push (λ (w : Work). w.track) c.loop-machine.states.items c.of.result ∙ ap₂ (λ (ts : List Track) (t : Track). ts ++ t ∷ []) before.2 (ap (λ (w : Work). w.track) c.of.ensures)),
+    )

@@ -1,0 +1,43 @@
+//! Machines with claims, which a room takes and gives back, and machines without.
+ghost use Rattle.std.specs.Prelude.{◌≡◌, ◌≤◌, ◌+◌, ◌++◌, [], length, vec_capacity, IfOk};
+ghost use Rattle.std.specs.Vec.Iter.{into_iter_items};
+ghost use Rattle.track_room.specs.Sights.{tracks_of};
+
+use crate::NoMemory;
+use machine_state::MachineState;
+use std::alloc::Global;
+use std::vec::IntoIter;
+use track_state::TrackState;
+
+/// These machines, of which nothing is claimed. Linear in them.
+pub fn unclaimed(alloc: Global, machines: Vec<MachineState>) -> Result<Vec<TrackState>, NoMemory>
+    ensures { IfOk result (λ states. tracks_of states.items ≡ machines.items) }
+{
+    let mut states = Vec::new(alloc);
+    for machine in machines {
+        states.push(TrackState::of(machine))?;
+    }
+    Ok(states)
+}
+
+/// Gives the machines, whatever is claimed of them, into a list that has room for them. Takes no memory. Linear in them.
+pub fn leave_each(states: Vec<TrackState>, left: &mut Vec<MachineState>)
+    requires none { left.old.items ≡ [] }
+    requires room { length states.items ≤ vec_capacity left.old }
+    ensures { left.new.items ≡ tracks_of states.items }
+{
+    leave_rest(states.into_iter(), left);
+}
+
+// Gives those that are left.
+fn leave_rest(mut states: IntoIter<TrackState>, left: &mut Vec<MachineState>)
+    requires room { length left.old.items + length (into_iter_items states)
+        ≤ vec_capacity left.old }
+    ensures { left.new.items ≡ left.old.items ++ tracks_of (into_iter_items states) }
+{
+    let Some(state) = states.next() else {
+        return;
+    };
+    left.push_reserved(state.into_track());
+    leave_rest(states, left);
+}
