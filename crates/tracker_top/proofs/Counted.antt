@@ -1,6 +1,6 @@
 -- What is answered by steps that are counted, without the count, and the count.
-use Rattle.std.proofs.Common.{◌≡◌, ◌≢◌, ℕ, ◌+◌, ◌^◌, ◌≤◌, true, false, List, [], ◌∷◌, Option, length, Result, Ok, Err, OnOk, refl, sym, ap, subst, ◌∙◌, arith}
-use Rattle.std.specs.List.{AllByRecursion, AllZip}
+use Rattle.std.proofs.Common.{◌≡◌, ◌≢◌, ℕ, ◌+◌, ◌^◌, ◌≤◌, false, List, [], ◌∷◌, Option, length, Result, Ok, Err, OnOk, refl, sym, ap, subst, arith}
+use Rattle.std.specs.List.{AllByRecursion}
 use Rattle.request_model.specs.declared.requests.Request.{Request}
 use Rattle.request_model.specs.declared.replies.Answer.{Answer}
 use Rattle.request_model.specs.declared.replies.Answer.TheVariants as answer
@@ -9,12 +9,12 @@ use Rattle.request_model.specs.declared.replies.Reply.{Reply}
 use Rattle.request_words.specs.Bodies.{Item}
 use Rattle.track_model.specs.Counts.{is_full}
 use Rattle.script_desk.specs.Counting.{Counted, Counting, counted}
-use Rattle.script_desk.specs.Sessions.{State, AnswersFor, AnswersSome}
+use Rattle.script_desk.specs.Sessions.{State, AnswersFor}
 use Rattle.script_loop.specs.declared.stop.Stop.{Stop}
 use Rattle.script_loop.specs.declared.stop.Stop.TheVariants as stop
 use Rattle.script_loop.specs.Folds.{AreAnswers}
 use Rattle.script_loop.specs.Endings.{HasAnswered, HasRead, HasWritten, Stands}
-use Rattle.script_session.specs.Counts.{NoneIsFull, RoseByRedone, SessionsCount, TrialsCount}
+use Rattle.script_session.specs.Counts.{NoneIsFull, RoseByRedone, SessionsCount}
 use Rattle.track_outside.specs.Calls.{GaveAtMost}
 use Rattle.track_outside.specs.declared.sink.Sink as sink
 use Rattle.track_outside.specs.declared.source.Source as source

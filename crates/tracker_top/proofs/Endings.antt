@@ -1,5 +1,5 @@
 -- How a command ends, and that what is due comes.
-use Rattle.std.proofs.Common.{◌≡◌, ◌≢◌, ℕ, ◌≤◌, ◌⊎◌, inl, inr, List, [], ◌∷◌, Option, None, Some, Result, Ok, Err, OnOk, OnErr, IfSome, map, pos, refl, sym, ap, subst, ◌∙◌, arith}
+use Rattle.std.proofs.Common.{◌≡◌, ◌≢◌, ℕ, ◌≤◌, ◌⊎◌, inl, inr, List, [], ◌∷◌, Option, None, Some, Result, Ok, Err, OnOk, OnErr, IfSome, pos, refl, sym, ap, subst, ◌∙◌, arith}
 use Rattle.track_outside.specs.Counts.{Rose}
 use Rattle.track_outside.specs.declared.source.Source as source
 use Rattle.track_outside.specs.declared.sink.Sink as sink
@@ -31,7 +31,7 @@ use Rattle.command_words.specs.Commands.{AreNoCommand, IsSpelled, AreOneCommand}
 use Rattle.script_session.specs.Counts.{RoseByRedone}
 use Rattle.tracker_top.specs.Statuses.{AsksAudit, AsksHunt, AsksPlay, status_of, script_status_of, script_status, ended, CutShows, PathShows, ScriptShows, Shows, IsDue, OneStatusIsDue}
 use Rattle.tracker_top.specs.Text.{line_of}
-use Rattle.tracker_top.specs.Endings.{HasCause, EndsOutput, AnswersScript, Begins, WasStarted, Keeps, Prints, AppendCause, LoadCause, EndsSo, EndsScript, EndsApply, IsOfOutput, HasAsked, IsPlain, Ends, IsTold}
+use Rattle.tracker_top.specs.Endings.{HasCause, EndsOutput, AnswersScript, Begins, WasStarted, Keeps, Prints, AppendCause, LoadCause, EndsSo, EndsScript, EndsApply, IsOfOutput, HasAsked, IsPlain, Ends, IsTold, Streams}
 use Rattle.tracker_top.specs.Answers.{IsCertificateText, state_of}
 use Rattle.track_outside.specs.Kept.{with_more}
 use Rattle.keep_rows.specs.Kept.{AreKept}
@@ -62,7 +62,25 @@ stop_shows (Some bytes) stop show = inr (stop, refl, show)
 abbrev Comes : Type 0 → Type 0 → Type 0 → Status → Status → Type 0
 Comes R W K result status = (result ≡ status) ⊎ ((result ≡ NoMemory) ⊎ (R ⊎ (W ⊎ K)))
 
-module _ {I O K : Type 0} (g : source.Ghosts I) (h : sink.Ghosts O) (k : keeper.Ghosts K) (words : List (List ℕ)) (old new : I) (before after : O) (first last : K) (from to : ℕ) (one_command : AreOneCommand) (once : OneStatusIsDue) where
+module _ {I O K : Type 0} (g : source.Ghosts I) (h : sink.Ghosts O) (k : keeper.Ghosts K) (words : List (List ℕ)) (start finish : Streams I O K) (one_command : AreOneCommand) (once : OneStatusIsDue) where
+  abbrev old : I
+  old = start.input
+
+  abbrev new : I
+  new = finish.input
+
+  abbrev before : O
+  before = start.output
+
+  abbrev after : O
+  after = finish.output
+
+  abbrev first : K
+  first = start.keeper
+
+  abbrev last : K
+  last = finish.keeper
+
   abbrev DueComes : Option (List (List ℕ)) → Status → Type 0
   DueComes rows result =
       IfSome (g.left old) (λ bytes. (status : Status) → IsDue words rows bytes status
@@ -174,7 +192,7 @@ module _ {I O K : Type 0} (g : source.Ghosts I) (h : sink.Ghosts O) (k : keeper.
     unread_comes other cause = absurd cause
 
   apply_comes : (store : Option (List ℕ)) → IsSpelled words (Apply store) → (result : Status)
-      → EndsApply g h k store old new before after first last from to result → DueComes (k.kept first) result
+      → EndsApply g h k start finish store result → DueComes (k.kept first) result
   apply_comes None spelled result e =
       ends_so_comes (k.kept first) (λ status shows. shown (k.kept first) (Apply None) spelled (g.left old) status _ _ _ shows)
       None e.answers.items e.answers.text e.result result e.answers.read e.answers.wrote e.ends
@@ -202,7 +220,7 @@ module _ {I O K : Type 0} (g : source.Ghosts I) (h : sink.Ghosts O) (k : keeper.
   trial_comes rows number spelled items text (Err script.InputTooLong) read wrote = absurd read
   trial_comes rows number spelled items text (Err script.NoMemory) read wrote = wanted rows
 
-  pub comes : (command : Command) (result : Status) → IsSpelled words command → Ends g h k command old new before after first last from to result
+  pub comes : (command : Command) (result : Status) → IsSpelled words command → Ends g h k start finish command result
       → DueComes (k.kept first) result
   comes (Cut cut) result spelled ends = cut_comes (k.kept first) cut spelled (IsCertificateText cut (g.left old)) result ends.0.input.cause ends.0.output
   comes (Apply store) result spelled ends = apply_comes store spelled result ends
@@ -231,29 +249,32 @@ not_done : (stop : ScriptStop) → script_status_of stop ≢ Done
 not_done script.ReadFault is = cc
 not_done other is = cc
 
-module _ {I O K : Type 0} (g : source.Ghosts I) (h : sink.Ghosts O) (k : keeper.Ghosts K) (machines : List Track) (version : ℕ) (now : State) (old new : I) (before after : O) (first last : K) (from to : ℕ) where
+module _ {I O K : Type 0} (g : source.Ghosts I) (h : sink.Ghosts O) (k : keeper.Ghosts K) (machines : List Track) (version : ℕ) (now : State) (start finish : Streams I O K) where
+  abbrev Answered : Result (Unit {0}) ScriptStop → Type 0
+  Answered why = AnswersScript g h (state_of machines) now start.input finish.input start.output finish.output start.steps finish.steps why
+
   abbrev began : Stored
   began = record { machines = machines; version = version }
 
   prints : (items : List Item) (text : List ℕ) (known : Option (List ℕ)) → IfSome known (λ bytes. IsScript bytes items end)
-      → IsOutput AnswersFor (state_of machines) items text now → Took h before after text → IfSome known (λ bytes. Prints h machines bytes now before after)
+      → IsOutput AnswersFor (state_of machines) items text now → Took h start.output finish.output text → IfSome known (λ bytes. Prints h machines bytes now start.output finish.output)
   prints items text None read output took = tt
   prints items text (Some bytes) read output took = (text, record { items = items; script = read; output = output }, took)
 
-  whole_of : (store : Option (List ℕ)) (why : Result (Unit {0}) ScriptStop) (status : Status) → AnswersScript g h (state_of machines) now old new before after from to why
-      → EndsSo k store first last why status → status ≡ Done → IfSome (g.left old) (λ bytes. Prints h machines bytes now before after)
+  whole_of : (store : Option (List ℕ)) (why : Result (Unit {0}) ScriptStop) (status : Status) → Answered why
+      → EndsSo k store start.keeper finish.keeper why status → status ≡ Done → IfSome (g.left start.input) (λ bytes. Prints h machines bytes now start.output finish.output)
   whole_of store (Ok done) status answers ends is =
-      prints answers.items answers.text (g.left old) answers.read.0
+      prints answers.items answers.text (g.left start.input) answers.read.0
       (subst (IsOutput AnswersFor (state_of machines) answers.items answers.text) (sym answers.answered.stands) answers.answered.output) answers.wrote
   whole_of store (Err stop) status answers ends is = absurd (not_done stop (sym ends ∙ is))
 
-  counts_of : (store : Option (List ℕ)) (why : Result (Unit {0}) ScriptStop) (status : Status) (answers : AnswersScript g h (state_of machines) now old new before after from to why)
-      → EndsSo k store first last why status → status ≡ Done → RoseByRedone answers.items answers.answered.output.replies from to
+  counts_of : (store : Option (List ℕ)) (why : Result (Unit {0}) ScriptStop) (status : Status) (answers : Answered why)
+      → EndsSo k store start.keeper finish.keeper why status → status ≡ Done → RoseByRedone answers.items answers.answered.output.replies start.steps finish.steps
   counts_of store (Ok done) status answers ends is = answers.counted
   counts_of store (Err stop) status answers ends is = absurd (not_done stop (sym ends ∙ is))
 
-  pub ends_script : (store : Option (List ℕ)) (why : Result (Unit {0}) ScriptStop) (status : Status) → Begins k store first began → AnswersScript g h (state_of machines) now old new before after from to why
-      → EndsSo k store first last why status → Keeps k store version now.tracks first last status → EndsScript g h k store old new before after first last from to status
+  pub ends_script : (store : Option (List ℕ)) (why : Result (Unit {0}) ScriptStop) (status : Status) → Begins k store start.keeper began → Answered why
+      → EndsSo k store start.keeper finish.keeper why status → Keeps k store version now.tracks start.keeper finish.keeper status → EndsScript g h k start finish store status
   ends_script store why status begins answers ends keeps = record {
     machines = machines;
     version = version;
@@ -268,15 +289,15 @@ module _ {I O K : Type 0} (g : source.Ghosts I) (h : sink.Ghosts O) (k : keeper.
   }
 
   -- with a store, where all is done
-  ends_added : (name : List ℕ) (middle : K) (done : Unit {0}) → AreKept machines → IfSome (k.kept first) (λ rows. LeadTo rows began)
-      → k.kept middle ≡ k.kept first → WasStarted k name first last → AnswersScript g h (state_of machines) now old new before after from to (Ok done)
-      → ComesBack now → k.kept last ≡ with_more (k.kept middle) (new_rows version now.tracks) → EndsScript g h k (Some name) old new before after first last from to Done
+  ends_added : (name : List ℕ) (middle : K) (done : Unit {0}) → AreKept machines → IfSome (k.kept start.keeper) (λ rows. LeadTo rows began)
+      → k.kept middle ≡ k.kept start.keeper → WasStarted k name start.keeper finish.keeper → Answered (Ok done)
+      → ComesBack now → k.kept finish.keeper ≡ with_more (k.kept middle) (new_rows version now.tracks) → EndsScript g h k start finish (Some name) Done
   ends_added name middle done are led same started answers back is =
-      let rows : k.kept last ≡ with_more (k.kept first) (new_rows version now.tracks) = is ∙ ap (λ r. with_more r (new_rows version now.tracks)) same in
+      let rows : k.kept finish.keeper ≡ with_more (k.kept start.keeper) (new_rows version now.tracks) = is ∙ ap (λ r. with_more r (new_rows version now.tracks)) same in
       ends_script (Some name) (Ok done) Done (are, led) answers (inl refl) (record {
         started = started;
         added = rows;
-        comes_back = subst (λ r. IfSome r (λ told. LeadTo told (stored_after version now.tracks))) (sym rows) (leads (k.kept first) led);
+        comes_back = subst (λ r. IfSome r (λ told. LeadTo told (stored_after version now.tracks))) (sym rows) (leads (k.kept start.keeper) led);
       })
     where
       output : IsOutput AnswersFor (state_of machines) answers.items answers.text now
@@ -290,22 +311,22 @@ module _ {I O K : Type 0} (g : source.Ghosts I) (h : sink.Ghosts O) (k : keeper.
   -- the same of what was called: the store's name, the machines that the session began with, and those that it left
   pub ends_kept : (name called : List ℕ) (middle : K) (begun : State) (left : List Track) (done : Unit {0})
       → called ≡ name → begun ≡ state_of machines → left ≡ now.tracks
-      → AreKept machines → IfSome (k.kept first) (λ rows. LeadTo rows began) → k.kept middle ≡ k.kept first
-      → k.started middle ≡ with_more (k.started first) (called ∷ []) → k.faults first ≤ k.faults middle
-      → AnswersScript g h begun now old new before after from to (Ok done) → ComesBack now
-      → k.kept last ≡ with_more (k.kept middle) (new_rows version left) → k.started last ≡ k.started middle → k.faults middle ≤ k.faults last
-      → EndsScript g h k (Some name) old new before after first last from to Done
+      → AreKept machines → IfSome (k.kept start.keeper) (λ rows. LeadTo rows began) → k.kept middle ≡ k.kept start.keeper
+      → k.started middle ≡ with_more (k.started start.keeper) (called ∷ []) → k.faults start.keeper ≤ k.faults middle
+      → AnswersScript g h begun now start.input finish.input start.output finish.output start.steps finish.steps (Ok done) → ComesBack now
+      → k.kept finish.keeper ≡ with_more (k.kept middle) (new_rows version left) → k.started finish.keeper ≡ k.started middle → k.faults middle ≤ k.faults finish.keeper
+      → EndsScript g h k start finish (Some name) Done
   ends_kept name called middle begun left done name_is begun_is left_is are led same named counts answers back added stays more =
-      let started : k.started last ≡ with_more (k.started first) (name ∷ []) = stays ∙ named ∙ ap (λ n. with_more (k.started first) (n ∷ [])) name_is in
+      let started : k.started finish.keeper ≡ with_more (k.started start.keeper) (name ∷ []) = stays ∙ named ∙ ap (λ n. with_more (k.started start.keeper) (n ∷ [])) name_is in
       ends_added name middle done are led same (record { named = started; counts = omega (arith, counts, more) })
-      (subst (λ s. AnswersScript g h s now old new before after from to (Ok done)) begun_is answers) back
+      (subst (λ s. AnswersScript g h s now start.input finish.input start.output finish.output start.steps finish.steps (Ok done)) begun_is answers) back
       (added ∙ ap (λ ts. with_more (k.kept middle) (new_rows version ts)) left_is)
 
 -- without a store
-pub ends-alone : {I O K : Type 0} (g : source.Ghosts I) (h : sink.Ghosts O) (k : keeper.Ghosts K) (now : State) (old new : I) (before after : O) (first : K) (from to : ℕ) (why : Result (Unit {0}) ScriptStop) (status : Status)
-    → status ≡ script_status why → AnswersScript g h (state_of []) now old new before after from to why → EndsScript g h k None old new before after first first from to status
-ends-alone g h k now old new before after first from to (Ok done) status is answers = ends_script g h k [] 1 now old new before after first first from to None (Ok done) status refl answers is refl
-ends-alone g h k now old new before after first from to (Err stop) status is answers = ends_script g h k [] 1 now old new before after first first from to None (Err stop) status refl answers is refl
+pub ends-alone : {I O K : Type 0} (g : source.Ghosts I) (h : sink.Ghosts O) (k : keeper.Ghosts K) (now : State) (start finish : Streams I O K) (why : Result (Unit {0}) ScriptStop) (status : Status)
+    → finish.keeper ≡ start.keeper → status ≡ script_status why → AnswersScript g h (state_of []) now start.input finish.input start.output finish.output start.steps finish.steps why → EndsScript g h k start finish None status
+ends-alone g h k now start finish (Ok done) status same is answers = ends_script g h k [] 1 now start finish None (Ok done) status refl answers is same
+ends-alone g h k now start finish (Err stop) status same is answers = ends_script g h k [] 1 now start finish None (Err stop) status refl answers is same
 
 -- words that are no command: that is due
 pub bad-words-due : (known : Option (List ℕ)) (rows : Option (List (List ℕ))) (words : List (List ℕ)) (R : Type 0) → AreNoCommand words
@@ -319,5 +340,5 @@ bad-words-due known rows words R none = if_some known due_comes
 -- a status whose line was written, or a first part of it
 pub is-told-by : {O : Type 0} (h : sink.Ghosts O) (old new : O) (status : Status) (r : Result (Unit {0}) Failed) → OnOk r (Took h old new (line_of status)) → OnErr r (FailedIn h old new (line_of status))
     → IsTold h old new status
-is-told-by h old new status (Ok done) took failed = inl took
-is-told-by h old new status (Err why) took failed = inr failed
+is-told-by h o o' status (Ok done) took failed = inl took
+is-told-by h o o' status (Err why) took failed = inr failed

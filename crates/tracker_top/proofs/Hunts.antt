@@ -1,5 +1,5 @@
 -- How a hunt ends, and that what is due comes.
-use Rattle.std.proofs.Common.{◌≡◌, ◌≢◌, ℕ, ◌<◌, ◌≤◌, ◌⊎◌, inl, inr, List, length, nat_lt, Option, None, Some, IfSome, refl, sym, ap, subst, ◌∙◌, lt-ltb, le-ltb}
+use Rattle.std.proofs.Common.{◌≡◌, ℕ, ◌<◌, ◌≤◌, ◌⊎◌, inl, inr, List, length, Option, None, Some, IfSome, refl, sym, ap, subst, ◌∙◌, lt-ltb, le-ltb}
 use Rattle.track_outside.specs.Counts.{Rose}
 use Rattle.track_outside.specs.declared.source.Source as source
 use Rattle.track_outside.specs.declared.sink.Sink as sink
@@ -7,7 +7,7 @@ use Rattle.track_outside.specs.declared.runner.Runner as runner
 use Rattle.commit_lines.specs.declared.stop.Refusal.TheVariants as refusal
 use Rattle.commit_lines.specs.declared.stop.Stop.{Stop}
 use Rattle.commit_lines.specs.declared.stop.Stop.TheVariants as stop
-use Rattle.commit_lines.specs.Reading.{AreNamesOf, AreNamesOfInput}
+use Rattle.commit_lines.specs.Reading.{AreNamesOfInput}
 use Rattle.commit_lines.specs.Stops.{BytesShow, OneStop, OneListOfNames, NoStopOfNames}
 use Rattle.hunt_command.specs.Endings.{EndsHunt as PutsHunt, HasCause}
 use Rattle.hunt_command.specs.Stops.{end_of}
@@ -17,7 +17,7 @@ use Rattle.command_words.specs.declared.command.HuntPlan.{HuntPlan}
 use Rattle.command_words.specs.declared.command.Command.TheVariants.{Hunt}
 use Rattle.command_words.specs.Commands.{AreNoCommand, IsSpelled}
 use Rattle.tracker_top.specs.declared.status.Status.{Status}
-use Rattle.tracker_top.specs.declared.status.Status.TheVariants.{Done, BadWords, ReadFault, WriteFault, NoMemory, InputTooLong, BadLine, Full, TooFew}
+use Rattle.tracker_top.specs.declared.status.Status.TheVariants.{Done, BadWords, NoMemory, InputTooLong, BadLine, Full, TooFew}
 use Rattle.tracker_top.specs.Hunts.{HuntShows, HuntsAsDue, IsHuntDue, counted_status, hunt_status_of}
 
 -- a hunt never ends as bad words do

@@ -1,5 +1,5 @@
 -- What runners that weren't asked tell, the name of a script, and which word is the first.
-use Rattle.std.proofs.Common.{◌≡◌, ℕ, ◌-◌, ◌↔◌, Bool, true, IsTrue, String, string_bytes, zero, suc, ◌⊎◌, inl, inr, List, [], ◌∷◌, ◌++◌, All, drop, length, map, slice_get, take, Option, None, Some, IfSome, OnOk, OnErr, Result, Ok, Err, option_map, refl, sym, ap, subst, ◌∙◌, arith}
+use Rattle.std.proofs.Common.{◌≡◌, ℕ, ◌-◌, ◌↔◌, Bool, true, IsTrue, String, string_bytes, zero, suc, ◌⊎◌, inl, inr, List, [], ◌∷◌, ◌++◌, All, drop, length, slice_get, take, Option, None, Some, IfSome, OnOk, OnErr, Result, Ok, Err, option_map, refl, sym, ap, subst, ◌∙◌, arith}
 use Rattle.std.specs.Borrow.{Bor}
 use Rattle.std.specs.Option.{option_copied}
 use Rattle.std.specs.Slice.{IsItemAt}

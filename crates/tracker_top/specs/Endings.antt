@@ -2,7 +2,7 @@
 use Rattle.std.specs.Io.KnownBytes.{IsAtEnd}
 use Rattle.std.specs.List.{AllByRecursion}
 use Rattle.trial_script.specs.Accepted.{IsAccepted}
-use Rattle.std.specs.Prelude.{◌≡◌, ◌≢◌, ℕ, ◌+◌, ◌^◌, ◌≤◌, ◌⊎◌, List, [], ◌∷◌, map, Option, Some, None, Result, Ok, Err, IfSome, OnOk}
+use Rattle.std.specs.Prelude.{◌≡◌, ◌≢◌, ℕ, ◌+◌, ◌^◌, ◌≤◌, ◌⊎◌, List, [], ◌∷◌, Option, Some, None, Result, Ok, Err, IfSome, OnOk}
 use Rattle.track_outside.specs.Counts.{Rose}
 use Rattle.track_outside.specs.declared.source.Source as source
 use Rattle.track_outside.specs.declared.sink.Sink as sink
@@ -67,12 +67,6 @@ abbrev pub EndsOutput : {O : Type 0} → sink.Ghosts O → (List ℕ → Type 0)
 EndsOutput g Answers old new Done = (text : List ℕ) × Answers text × Took g old new text
 EndsOutput g Answers old new WriteFault = (text : List ℕ) × Answers text × FailedIn g old new text
 EndsOutput g Answers old new status = IsUntouched g old new
-
--- the input and the output, at this status of `cut`
-pub record EndsCut {I O : Type 0} (g : source.Ghosts I) (h : sink.Ghosts O) (cut : CutPlan)
-    (old new : I) (before after : O) (status : Status) : Type 0 where
-  pub input : EndsInput g old new status
-  pub output : EndsOutput h (IsCertificateText cut (g.left old)) before after status
 
 -- ---- apply
 
@@ -145,50 +139,12 @@ EndsSo k store first last (Err stop) status = status ≡ script_status_of stop
 EndsSo k None first last (Ok done) status = status ≡ Done
 EndsSo k (Some name) first last (Ok done) status = (status ≡ Done) ⊎ AppendCause k first last status
 
--- the script was answered
-pub record EndsScript {I O K : Type 0} (g : source.Ghosts I) (h : sink.Ghosts O)
-    (k : keeper.Ghosts K) (store : Option (List ℕ)) (old new : I) (before after : O)
-    (first last : K) (from to : ℕ) (status : Status) : Type 0 where
-  pub machines : List Track
-  pub version : ℕ
-  pub begins : Begins k store first (record { machines = machines; version = version })
-  pub now : State
-  pub result : Result (Unit {0}) Stop
-  pub answers : AnswersScript g h (state_of machines) now old new before after from to result
-  pub ends : EndsSo k store first last result status
-  pub keeps : Keeps k store version now.tracks first last status
-  pub whole : status ≡ Done
-      → IfSome (g.left old) (λ bytes. Prints h machines bytes now before after)
-  pub counted : status ≡ Done
-      → RoseByRedone answers.items answers.answered.output.replies from to
-
 -- why the rows of the store were not loaded
 abbrev pub LoadCause : {K : Type 0} → keeper.Ghosts K → K → K → Status → Type 0
 LoadCause k first last StoreFault = Rose (k.faults first) (k.faults last)
 LoadCause k first last (BadStore row) = IfSome (k.kept first) (λ rows. IsFirstBad rows row)
 LoadCause k first last NoMemory = Unit {0}
 LoadCause k first last status = ⊥
-
--- the rows were not loaded, so nothing was read, written or counted
-pub record EndsUnread {I O K : Type 0} (k : keeper.Ghosts K) (name : List ℕ) (old new : I)
-    (before after : O) (first last : K) (from to : ℕ) (status : Status) : Type 0 where
-  pub unread : new ≡ old
-  pub unwritten : after ≡ before
-  pub uncounted : to ≡ from
-  pub cause : LoadCause k first last status
-  pub rows : k.kept last ≡ k.kept first
-  pub named : status ≢ NoMemory → WasStarted k name first last
-  pub once : MayHaveName name (k.started first) (k.started last)
-  pub counts : k.faults first ≤ k.faults last
-
--- the input, the output, the keeper and the steps, at this status of `apply`
-abbrev pub EndsApply : {I O K : Type 0} → source.Ghosts I → sink.Ghosts O → keeper.Ghosts K
-    → Option (List ℕ) → I → I → O → O → K → K → ℕ → ℕ → Status → Type 0
-EndsApply g h k None old new before after first last from to status =
-    EndsScript g h k None old new before after first last from to status
-EndsApply g h k (Some name) old new before after first last from to status =
-    EndsUnread k name old new before after first last from to status
-    ⊎ EndsScript g h k (Some name) old new before after first last from to status
 
 -- ---- gen
 
@@ -198,13 +154,6 @@ IsOfOutput Done = Unit {0}
 IsOfOutput WriteFault = Unit {0}
 IsOfOutput NoMemory = Unit {0}
 IsOfOutput status = ⊥
-
--- the input and the output, at this status of `gen`
-pub record EndsGen {I O : Type 0} (h : sink.Ghosts O) (number : ℕ) (old new : I) (before after : O)
-    (status : Status) : Type 0 where
-  pub unread : new ≡ old
-  pub cause : IsOfOutput status
-  pub output : EndsOutput h (λ text. text ≡ script_of number) before after status
 
 -- ---- trial
 
@@ -257,31 +206,93 @@ pub record RunsScript {O : Type 0} (h : sink.Ghosts O) (bytes : List ℕ) (befor
   pub published : AllPublishWell now
   pub whole : status ≡ Done → PrintsPart h bytes before after from to
 
--- the input, the output and the steps, at this status of `trial`
-pub record EndsTrial {I O : Type 0} (h : sink.Ghosts O) (number : ℕ) (old new : I)
-    (before after : O) (from to : ℕ) (status : Status) : Type 0 where
-  pub unread : new ≡ old
-  pub run : RunsScript h (script_of number) before after from to status
-
 -- ---- any command
 
--- the input, the output, the keeper and the steps, at this status of the command; only `apply` calls
--- the keeper, and only it and `trial` take steps
-abbrev pub Ends : {I O K : Type 0} → source.Ghosts I → sink.Ghosts O → keeper.Ghosts K → Command → I
-    → I → O → O → K → K → ℕ → ℕ → Status → Type 0
-Ends g h k (Cut cut) old new before after first last from to status =
-    EndsCut g h cut old new before after status × (last ≡ first) × (to ≡ from)
-Ends g h k (Apply store) old new before after first last from to status =
-    EndsApply g h k store old new before after first last from to status
-Ends g h k (Gen number) old new before after first last from to status =
-    EndsGen h number old new before after status × (last ≡ first) × (to ≡ from)
-Ends g h k (Trial number) old new before after first last from to status =
-    EndsTrial h number old new before after from to status × (last ≡ first)
-Ends g h k (Path path) old new before after first last from to status =
-    EndsPath g h path old new before after status × (last ≡ first) × (to ≡ from)
-Ends g h k (Play plan) old new before after first last from to status = ⊥
-Ends g h k (Hunt hunt) old new before after first last from to status = ⊥
-Ends g h k (Audit audit) old new before after first last from to status = ⊥
+-- what a command of one thread works on: its input, its output, its keeper, and the steps that it
+-- counts
+pub record Streams (I O K : Type 0) : Type 0 where
+  pub input : I
+  pub output : O
+  pub keeper : K
+  pub steps : ℕ
+
+abbrev pub streams : {I O K : Type 0} → I → O → K → ℕ → Streams I O K
+streams input output keeper steps =
+    record { input = input; output = output; keeper = keeper; steps = steps }
+
+module _ {I O K : Type 0} (g : source.Ghosts I) (h : sink.Ghosts O) (k : keeper.Ghosts K)
+    (before after : Streams I O K) where
+  -- the input and the output, at this status of `cut`
+  pub record EndsCut (cut : CutPlan) (status : Status) : Type 0 where
+    pub input : EndsInput g before.input after.input status
+    pub output : EndsOutput h (IsCertificateText cut (g.left before.input))
+        before.output after.output status
+
+  -- the script of `apply` was answered
+  pub record EndsScript (store : Option (List ℕ)) (status : Status) : Type 0 where
+    pub machines : List Track
+    pub version : ℕ
+    pub begins : Begins k store before.keeper (record { machines = machines; version = version })
+    pub now : State
+    pub result : Result (Unit {0}) Stop
+    pub answers : AnswersScript g h (state_of machines) now before.input after.input
+        before.output after.output before.steps after.steps result
+    pub ends : EndsSo k store before.keeper after.keeper result status
+    pub keeps : Keeps k store version now.tracks before.keeper after.keeper status
+    pub whole : status ≡ Done → IfSome (g.left before.input) (λ bytes.
+        Prints h machines bytes now before.output after.output)
+    pub counted : status ≡ Done
+        → RoseByRedone answers.items answers.answered.output.replies before.steps after.steps
+
+  -- the rows of its store were not loaded, so nothing was read, written or counted
+  pub record EndsUnread (name : List ℕ) (status : Status) : Type 0 where
+    pub unread : after.input ≡ before.input
+    pub unwritten : after.output ≡ before.output
+    pub uncounted : after.steps ≡ before.steps
+    pub cause : LoadCause k before.keeper after.keeper status
+    pub rows : k.kept after.keeper ≡ k.kept before.keeper
+    pub named : status ≢ NoMemory → WasStarted k name before.keeper after.keeper
+    pub once : MayHaveName name (k.started before.keeper) (k.started after.keeper)
+    pub counts : k.faults before.keeper ≤ k.faults after.keeper
+
+  -- all of them, at this status of `apply`
+  abbrev pub EndsApply : Option (List ℕ) → Status → Type 0
+  EndsApply None status = EndsScript None status
+  EndsApply (Some name) status = EndsUnread name status ⊎ EndsScript (Some name) status
+
+  -- the input and the output, at this status of `gen`
+  pub record EndsGen (number : ℕ) (status : Status) : Type 0 where
+    pub unread : after.input ≡ before.input
+    pub cause : IsOfOutput status
+    pub output : EndsOutput h (λ text. text ≡ script_of number) before.output after.output status
+
+  -- the input, the output and the steps, at this status of `trial`
+  pub record EndsTrial (number : ℕ) (status : Status) : Type 0 where
+    pub unread : after.input ≡ before.input
+    pub run : RunsScript h (script_of number) before.output after.output
+        before.steps after.steps status
+
+  -- the keeper had no call
+  abbrev pub IsUnkept : Type 0
+  IsUnkept = after.keeper ≡ before.keeper
+
+  -- no step was counted
+  abbrev pub IsUncounted : Type 0
+  IsUncounted = after.steps ≡ before.steps
+
+  -- all of them, at this status of the command; only `apply` calls the keeper, and only it and
+  -- `trial` take steps
+  abbrev pub Ends : Command → Status → Type 0
+  Ends (Cut cut) status = EndsCut cut status × IsUnkept × IsUncounted
+  Ends (Apply store) status = EndsApply store status
+  Ends (Gen number) status = EndsGen number status × IsUnkept × IsUncounted
+  Ends (Trial number) status = EndsTrial number status × IsUnkept
+  Ends (Path path) status =
+      EndsPath g h path before.input after.input before.output after.output status
+      × IsUnkept × IsUncounted
+  Ends (Play plan) status = ⊥
+  Ends (Hunt hunt) status = ⊥
+  Ends (Audit audit) status = ⊥
 
 -- the command runs no threads and opens no file
 abbrev pub IsPlain : Command → Type 0
@@ -292,13 +303,9 @@ IsPlain command = Unit {0}
 
 -- memory was wanting to read the words, so no command was begun: nothing was read, written, kept or
 -- counted
-pub record EndsUnbegun {I O K : Type 0} (old new : I) (before after : O) (first last : K)
-    (from to : ℕ) (status : Status) : Type 0 where
+pub record EndsUnbegun {I O K : Type 0} (before after : Streams I O K) (status : Status) : Type 0 where
   pub wanting : status ≡ NoMemory
-  pub unread : new ≡ old
-  pub unwritten : after ≡ before
-  pub unkept : last ≡ first
-  pub uncounted : to ≡ from
+  pub untouched : after ≡ before
 
 -- the status' line was written, or a first part of it where that failed
 abbrev pub IsTold : {O : Type 0} → sink.Ghosts O → O → O → Status → Type 0

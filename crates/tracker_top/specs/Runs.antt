@@ -1,5 +1,5 @@
 -- How the program runs: a command of one thread, an audit, scripts that run at once, or a hunt.
-use Rattle.std.specs.Prelude.{◌≡◌, ◌≢◌, ◌⊎◌, ℕ, List, length, Option, IfSome}
+use Rattle.std.specs.Prelude.{◌≡◌, ◌≢◌, ◌⊎◌, ℕ, List, length, IfSome}
 use Rattle.track_outside.specs.Counts.{Rose}
 use Rattle.track_outside.specs.declared.files.Files as files
 use Rattle.track_outside.specs.declared.source.Source as source
@@ -16,25 +16,25 @@ use Rattle.shared_run.specs.Endings.{Objects, Told}
 use Rattle.tracker_top.specs.declared.status.Status.{Status}
 use Rattle.tracker_top.specs.declared.status.Status.TheVariants.{BadWords, NoMemory}
 use Rattle.tracker_top.specs.Audits.{AreFilesIn, AuditsAsDue, EndsAudit, IsToldOf}
-use Rattle.tracker_top.specs.Endings.{Ends, EndsUnbegun, IsTold}
+use Rattle.tracker_top.specs.Endings.{Ends, EndsUnbegun, IsTold, Streams}
 use Rattle.tracker_top.specs.Hunts.{AreAsBefore, EndsHunt, HuntsAsDue}
 use Rattle.tracker_top.specs.Plays.{AreNamesIn, AreUntouched, EndsPlay, IsToldIn, PlaysAsDue}
 use Rattle.tracker_top.specs.Statuses.{IsDue}
 
 -- a command of one thread was run that opens and creates no file, or its words are none
 pub record RunsAlone {F I O K : Type 0} (g : source.Ghosts I) (h : sink.Ghosts O) (k : keeper.Ghosts K)
-    (words : List (List ℕ)) (old new : I) (before after : O) (told_to telling : O) (files files' : F)
-    (first last : K) (from to : ℕ) (status : Status) : Type 0 where
+    (words : List (List ℕ)) (before after : Streams I O K) (told_to telling : O) (files files' : F)
+    (status : Status) : Type 0 where
   pub bad_words : status ≡ BadWords → AreNoCommand words
-  pub untouched : status ≡ BadWords → (new ≡ old) × (after ≡ before) × (last ≡ first) × (to ≡ from)
+  pub untouched : status ≡ BadWords → after ≡ before
   pub same_files : files' ≡ files
-  pub command : status ≢ BadWords
-      → EndsUnbegun old new before after first last from to status
-      ⊎ ((command : Command) × IsSpelled words command
-      × Ends g h k command old new before after first last from to status)
-  pub complete : IfSome (g.left old) (λ bytes. (due : Status) → IsDue words (k.kept first) bytes due
-      → (status ≡ due) ⊎ (status ≡ NoMemory) ⊎ Rose (g.faults old) (g.faults new)
-      ⊎ Rose (h.faults before) (h.faults after) ⊎ Rose (k.faults first) (k.faults last))
+  pub command : status ≢ BadWords → EndsUnbegun before after status
+      ⊎ ((command : Command) × IsSpelled words command × Ends g h k before after command status)
+  pub complete : IfSome (g.left before.input) (λ bytes. (due : Status)
+      → IsDue words (k.kept before.keeper) bytes due → (status ≡ due) ⊎ (status ≡ NoMemory)
+      ⊎ Rose (g.faults before.input) (g.faults after.input)
+      ⊎ Rose (h.faults before.output) (h.faults after.output)
+      ⊎ Rose (k.faults before.keeper) (k.faults after.keeper))
   pub told : IsTold h told_to telling status
 
 -- scripts were run at once, and workers beside them, or the words are no command: as many runners

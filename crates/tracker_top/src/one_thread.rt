@@ -1,6 +1,7 @@
 //! A command of one thread, on its objects.
 ghost use Rattle.std.specs.Prelude.{◌≡◌};
 ghost use Rattle.command_words.specs.Texts.{texts};
+ghost use Rattle.tracker_top.specs.Endings.{streams};
 ghost use Rattle.tracker_top.specs.Runs.{RunsAlone, RunsAudit};
 ghost use Rattle.tracker_top.specs.Statuses.{AsksAudit, AsksHunt, AsksPlay};
 
@@ -60,8 +61,9 @@ pub fn alone<F: Files, K: Keeper, L: Ledger>(
     // No other command opens a file.
     ensures others { ¬ AsksAudit (texts words.now) → RunsAlone
         F.Input.Source F.Output.Sink K.Keeper (texts words.now)
-        input.old input.new out.old out.new err.old err.new files.old files.new
-        keeper.old keeper.new steps.old steps.new result }
+        (streams input.old out.old keeper.old steps.old)
+        (streams input.new out.new keeper.new steps.new)
+        err.old err.new files.old files.new result }
 {
     if asks_audit(words) {
         return audit(alloc, words, out, err, files);

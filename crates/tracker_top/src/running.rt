@@ -2,6 +2,7 @@
 ghost use Rattle.std.specs.Prelude.{◌≡◌, ◌≤◌, All, length};
 ghost use Rattle.command_words.specs.Texts.{texts};
 ghost use Rattle.tracker_top.specs.Plays.{IsNewRunner};
+ghost use Rattle.tracker_top.specs.Endings.{streams};
 ghost use Rattle.tracker_top.specs.Runs.{RunsAlone, RunsAudit, RunsHunt, RunsPlay};
 ghost use Rattle.tracker_top.specs.Statuses.{AsksAudit, AsksHunt, AsksPlay};
 
@@ -63,8 +64,9 @@ pub fn run<R: Threads + Wait + Sync, F: Files, K: Keeper, N: Runner + Send, G: G
     ensures alone { ¬ AsksPlay (texts words.now) → ¬ AsksHunt (texts words.now)
         → ¬ AsksAudit (texts words.now) → RunsAlone
         F.Input.Source F.Output.Sink K.Keeper (texts words.now)
-        input.old input.new out.old out.new err.old err.new files.old files.new
-        keeper.old keeper.new steps.old steps.new result }
+        (streams input.old out.old keeper.old steps.old)
+        (streams input.new out.new keeper.new steps.new)
+        err.old err.new files.old files.new result }
     ensures unasked { ¬ AsksPlay (texts words.now) → ¬ AsksHunt (texts words.now)
         → runners.new.items ≡ runners.old.items }
 {

@@ -10,7 +10,7 @@ ghost use Rattle.command_words.specs.Texts.{texts};
 ghost use Rattle.tracker_top.specs.Paths.{EndsPath};
 ghost use Rattle.tracker_top.specs.Statuses.{script_status, AsksAudit, AsksHunt, AsksPlay, IsDue, OneStatusIsDue};
 ghost use Rattle.tracker_top.specs.Answers.{IsCertificateText, IsTextOf, StandsBy, state_of, AllBisectWell};
-ghost use Rattle.tracker_top.specs.Endings.{EndsInput, EndsOutput, AnswersScript, EndsApply, EndsWell, RefusesNone, IsOfOutput, RunsScript, IsPlain, Ends, EndsUnbegun, IsTold};
+ghost use Rattle.tracker_top.specs.Endings.{EndsInput, EndsOutput, AnswersScript, EndsApply, EndsWell, RefusesNone, IsOfOutput, RunsScript, IsPlain, Ends, EndsUnbegun, IsTold, streams};
 ghost use Rattle.series_gen.specs.Script.{script as script_of};
 
 use crate::printing::put_status;
@@ -62,17 +62,17 @@ pub(crate) fn run_streams<I: Source, O: Sink, K: Keeper, L: Ledger>(
     // Bad words are no command, and then nothing is read, written, kept or counted but the status' line.
     ensures bad_words { result ≡ Status.BadWords → AreNoCommand (texts words.now) }
     ensures untouched { result ≡ Status.BadWords
-        → (input.new ≡ input.old) × (out.new ≡ out.old) × (keeper.new ≡ keeper.old)
-        × (steps.new ≡ steps.old) }
+        → streams input.new out.new keeper.new steps.new
+        ≡ streams input.old out.old keeper.old steps.old }
 
     // Else memory was wanting to read them, or they are a command, which ends so on the input, the output, the keeper and
     // the steps, as `Ends` says of each.
     ensures command { result ≢ Status.BadWords
-        → EndsUnbegun input.old input.new out.old out.new keeper.old keeper.new
-        steps.old steps.new result
+        → EndsUnbegun (streams input.old out.old keeper.old steps.old)
+        (streams input.new out.new keeper.new steps.new) result
         ⊎ ((command : Command) × IsSpelled (texts words.now) command
-        × Ends I.Source O.Sink K.Keeper command
-        input.old input.new out.old out.new keeper.old keeper.new steps.old steps.new result) }
+        × Ends I.Source O.Sink K.Keeper (streams input.old out.old keeper.old steps.old)
+        (streams input.new out.new keeper.new steps.new) command result) }
 
     // What is due comes, unless an object fails or memory is wanting. So good words, rows and input are Done.
     ensures complete { IfSome (I.left input.old) (λ bytes. (status : Status)
@@ -112,8 +112,8 @@ fn run_command<I: Source, O: Sink, K: Keeper, L: Ledger>(
 ) -> Status
     requires range { IsInRange command.now }
     requires plain { IsPlain command.now }
-    ensures { Ends I.Source O.Sink K.Keeper command.now
-        input.old input.new out.old out.new keeper.old keeper.new steps.old steps.new result }
+    ensures { Ends I.Source O.Sink K.Keeper (streams input.old out.old keeper.old steps.old)
+        (streams input.new out.new keeper.new steps.new) command.now result }
 {
     match command {
         Command::Cut(plan) => cut(alloc, plan, input, out),
@@ -189,8 +189,8 @@ fn apply_on<I: Source, O: Sink, K: Keeper, L: Ledger>(
     keeper: &mut K,
     steps: &mut Steps<L>,
 ) -> Status
-    ensures { EndsApply I.Source O.Sink K.Keeper store.now
-        input.old input.new out.old out.new keeper.old keeper.new steps.old steps.new result }
+    ensures { EndsApply I.Source O.Sink K.Keeper (streams input.old out.old keeper.old steps.old)
+        (streams input.new out.new keeper.new steps.new) store.now result }
 {
     match store {
         None => apply(alloc, input, out, steps),
@@ -232,8 +232,8 @@ fn apply_to<I: Source, O: Sink, K: Keeper, L: Ledger>(
     keeper: &mut K,
     steps: &mut Steps<L>,
 ) -> Status
-    ensures { EndsApply I.Source O.Sink K.Keeper (Some store.now)
-        input.old input.new out.old out.new keeper.old keeper.new steps.old steps.new result }
+    ensures { EndsApply I.Source O.Sink K.Keeper (streams input.old out.old keeper.old steps.old)
+        (streams input.new out.new keeper.new steps.new) (Some store.now) result }
 {
     let Loaded { states, version } = match load(alloc, keeper, store.as_str()) {
         Ok(loaded) => loaded,

@@ -1,11 +1,11 @@
-use Rattle.std.proofs.Common.{◌≡◌, ◌∙◌, List, length, sym, ap, subst, inr, IfNone, IfSome}
+use Rattle.std.proofs.Common.{◌≡◌, ◌∙◌, length, sym, ap, subst, inr, IfNone, IfSome}
 use Rattle.command_words.specs.declared.command.Command.TheVariants.{Play}
 use Rattle.command_words.specs.Commands.{AreNoCommand, IsSpelled}
 use Rattle.command_words.specs.Plans.{Plan}
 use Rattle.command_words.specs.Texts.{shown, texts}
 use Rattle.tracker_top.specs.Plays.{PlaysAsDue, run_status}
 use Rattle.tracker_top.specs.declared.status.Status.{Status}
-use Rattle.shared_run.specs.Crews.{AreNew, asked_by}
+use Rattle.shared_run.specs.Crews.{asked_by}
 use Rattle.shared_run.specs.Endings.{EndsRun, Objects, Told}
 use Rattle.tracker_top.proofs.Plans.{are-new, bad-due, is-told, never-bad, plan-due, whole-of}
 use Rattle.tracker_top.proofs.playing.play.Goals as goal
