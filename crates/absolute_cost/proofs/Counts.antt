@@ -9,7 +9,7 @@ use Rattle.std.proofs.lemmas.Bool.{cases_Bool, le-leb, leb-true}
 use Rattle.std.proofs.lemmas.Int.{ints}
 use Rattle.std.proofs.lemmas.Cmp.{int_cmp_total}
 use Rattle.std.proofs.lemmas.List.{get_or-take, get_or-drop, take_rest, drop_all, length-drop, length-take-le, length-append, append-nil, drop_at, take_at}
-use Rattle.std.proofs.lemmas.List.Elements.{All-append, All-from_get_or, All-weaker, All-nil, All-cons, All-head, All-tail, All-take, All-drop}
+use Rattle.std.proofs.lemmas.List.Elements.{All-append, All-from_get_or, All-nil, All-cons, All-head, All-tail, All-take, All-drop}
 use Rattle.std.proofs.lemmas.List.Sums.{sum_by-append, sum_by-cons}
 use Rattle.std.proofs.lemmas.List.Sorted.{sorted_far, ranks_by, sum_by-IsPermutation}
 use Rattle.segment_model.specs.Limits.{IsSmall}
@@ -17,6 +17,9 @@ use Rattle.distance_model.specs.Middles.{at_most, IsMiddle}
 use Rattle.distance_model.specs.Distances.{distance, distances_about, middle_of, least_distances_of}
 use Rattle.distance_model.proofs.Middles.{le_yes, le_told, is_middle, middle_is}
 use Rattle.absolute_cost.specs.Blocks.{AreInOrder, block, AreBlocks, HaveSameSums, IsSortedFrom, all_of}
+use Rattle.absolute_cost.specs.Between.{AreWider, IsBetween}
+use Rattle.absolute_cost.specs.declared.ends.Ends.{Ends}
+use Rattle.absolute_cost.proofs.Numbers.{not_above, still, wider}
 use Rattle.absolute_cost.proofs.Sorted.{one_more, block_length, same_by}
 
 -- ---- values in order
@@ -88,31 +91,23 @@ count_more c k count here xs before one =
 
 -- ---- ends
 
-pub least_more : (k : ℕ) (a b : ℤ) (xs : List ℤ) → AreBlocks xs → 32 * k + 32 ≤ length xs → All (λ (x : ℤ). a ≤ℤ x) (take (32 * k) xs) → b ≤ℤ a → b ≤ℤ get_or xs (32 * k) (pos 0)
-    → All (λ (x : ℤ). b ≤ℤ x) (take (32 * (k + 1)) xs)
-least_more k a b xs blocks fits all less here =
+-- with one block more, whose least and greatest value lie between the ends
+pub blocks_more : (k : ℕ) (e f : Ends) (xs : List ℤ) → AreBlocks xs → 32 * k + 32 ≤ length xs → All (IsBetween e) (take (32 * k) xs) → AreWider e f → f.least ≤ℤ get_or xs (32 * k) (pos 0)
+    → get_or xs (32 * k + 31) (pos 0) ≤ℤ f.greatest → All (IsBetween f) (take (32 * (k + 1)) xs)
+blocks_more k e f xs blocks fits all wide low high =
     let order = blocks.ordered k fits in
     let full : length (block k xs) ≡ 32 = block_length k xs fits in
     let first : get_or (block k xs) 0 (pos 0) ≡ get_or xs (32 * k) (pos 0) =
     get_or-take 32 (drop (32 * k) xs) 0 (pos 0) (omega arith) ∙ get_or-drop (32 * k) xs 0 (pos 0) ∙ ap (λ (n : ℕ). get_or xs n (pos 0)) (omega arith) in
-    let low : b ≤ℤ get_or (block k xs) 0 (pos 0) = subst (λ (z : ℤ). b ≤ℤ z) (sym first) here in
-    let old : All (λ (x : ℤ). b ≤ℤ x) (take (32 * k) xs) = All-weaker (λ (x : ℤ). a ≤ℤ x) (λ (x : ℤ). b ≤ℤ x) (λ (x : ℤ) (h : a ≤ℤ x). up_to b a x less h) (take (32 * k) xs) all in
-    let new : All (λ (x : ℤ). b ≤ℤ x) (block k xs) = All-from_get_or (λ (x : ℤ). b ≤ℤ x) (block k xs) (pos 0)
-    (λ (i : ℕ) (lt : i < length (block k xs)). up_to b (get_or (block k xs) 0 (pos 0)) (get_or (block k xs) i (pos 0)) low (order 0 i (pos 0) (omega arith) lt)) in
-    subst (λ (zs : List ℤ). All (λ (x : ℤ). b ≤ℤ x) zs) (sym (one_more k xs)) (All-append (λ (x : ℤ). b ≤ℤ x) (take (32 * k) xs) (block k xs) old new)
-
-pub greatest_more : (k : ℕ) (a b : ℤ) (xs : List ℤ) → AreBlocks xs → 32 * k + 32 ≤ length xs → All (λ (x : ℤ). x ≤ℤ a) (take (32 * k) xs) → a ≤ℤ b → get_or xs (32 * k + 31) (pos 0) ≤ℤ b
-    → All (λ (x : ℤ). x ≤ℤ b) (take (32 * (k + 1)) xs)
-greatest_more k a b xs blocks fits all less here =
-    let order = blocks.ordered k fits in
-    let full : length (block k xs) ≡ 32 = block_length k xs fits in
     let last : get_or (block k xs) 31 (pos 0) ≡ get_or xs (32 * k + 31) (pos 0) =
     get_or-take 32 (drop (32 * k) xs) 31 (pos 0) (omega arith) ∙ get_or-drop (32 * k) xs 31 (pos 0) in
-    let high : get_or (block k xs) 31 (pos 0) ≤ℤ b = subst (λ (z : ℤ). z ≤ℤ b) (sym last) here in
-    let old : All (λ (x : ℤ). x ≤ℤ b) (take (32 * k) xs) = All-weaker (λ (x : ℤ). x ≤ℤ a) (λ (x : ℤ). x ≤ℤ b) (λ (x : ℤ) (h : x ≤ℤ a). up_to x a b h less) (take (32 * k) xs) all in
-    let new : All (λ (x : ℤ). x ≤ℤ b) (block k xs) = All-from_get_or (λ (x : ℤ). x ≤ℤ b) (block k xs) (pos 0)
-    (λ (i : ℕ) (lt : i < length (block k xs)). up_to (get_or (block k xs) i (pos 0)) (get_or (block k xs) 31 (pos 0)) b (order i 31 (pos 0) (omega (arith, lt, full)) (omega (arith, full))) high) in
-    subst (λ (zs : List ℤ). All (λ (x : ℤ). x ≤ℤ b) zs) (sym (one_more k xs)) (All-append (λ (x : ℤ). x ≤ℤ b) (take (32 * k) xs) (block k xs) old new)
+    let low' : f.least ≤ℤ get_or (block k xs) 0 (pos 0) = subst (λ (z : ℤ). f.least ≤ℤ z) (sym first) low in
+    let high' : get_or (block k xs) 31 (pos 0) ≤ℤ f.greatest = subst (λ (z : ℤ). z ≤ℤ f.greatest) (sym last) high in
+    let new : All (IsBetween f) (block k xs) = All-from_get_or (IsBetween f) (block k xs) (pos 0) (λ (i : ℕ) (lt : i < length (block k xs)). (
+      not_above f.least (get_or (block k xs) 0 (pos 0)) (get_or (block k xs) i (pos 0)) low' (order 0 i (pos 0) (omega arith) lt),
+      not_above (get_or (block k xs) i (pos 0)) (get_or (block k xs) 31 (pos 0)) f.greatest (order i 31 (pos 0) (omega (arith, lt, full)) (omega (arith, full))) high',
+    )) in
+    subst (λ (zs : List ℤ). All (IsBetween f) zs) (sym (one_more k xs)) (All-append (IsBetween f) (take (32 * k) xs) (block k xs) (still e f wide (take (32 * k) xs) all) new)
 
 -- ---- the same sums
 
@@ -178,17 +173,9 @@ in_whole P h w t all = subst (λ (zs : List ℤ). All P zs) (take_at w t (length
 pub in_tail : (P : ℤ → Type 0) (h w t : List ℤ) → All P (all_of h w t) → All P t
 in_tail P h w t all = in_rest P w t (in_rest P h (w ++ t) all)
 
-pub all_above : (h w t : List ℤ) (a b r : ℤ) → All (λ (x : ℤ). a ≤ℤ x) t → b ≤ℤ a → All (λ (x : ℤ). b ≤ℤ x) w → r ≤ℤ b → All (λ (x : ℤ). r ≤ℤ x) h → All (λ (x : ℤ). r ≤ℤ x) (all_of h w t)
-all_above h w t a b r tail less whole also head =
-    let two : All (λ (x : ℤ). r ≤ℤ x) w = All-weaker (λ (x : ℤ). b ≤ℤ x) (λ (x : ℤ). r ≤ℤ x) (λ (x : ℤ) (k : b ≤ℤ x). up_to r b x also k) w whole in
-    let three : All (λ (x : ℤ). r ≤ℤ x) t = All-weaker (λ (x : ℤ). a ≤ℤ x) (λ (x : ℤ). r ≤ℤ x) (λ (x : ℤ) (k : a ≤ℤ x). up_to r b x also (up_to b a x less k)) t tail in
-    All-append (λ (x : ℤ). r ≤ℤ x) h (w ++ t) head (All-append (λ (x : ℤ). r ≤ℤ x) w t two three)
-
-pub all_below : (h w t : List ℤ) (a b r : ℤ) → All (λ (x : ℤ). x ≤ℤ a) t → a ≤ℤ b → All (λ (x : ℤ). x ≤ℤ b) w → b ≤ℤ r → All (λ (x : ℤ). x ≤ℤ r) h → All (λ (x : ℤ). x ≤ℤ r) (all_of h w t)
-all_below h w t a b r tail less whole also head =
-    let two : All (λ (x : ℤ). x ≤ℤ r) w = All-weaker (λ (x : ℤ). x ≤ℤ b) (λ (x : ℤ). x ≤ℤ r) (λ (x : ℤ) (k : x ≤ℤ b). up_to x b r k also) w whole in
-    let three : All (λ (x : ℤ). x ≤ℤ r) t = All-weaker (λ (x : ℤ). x ≤ℤ a) (λ (x : ℤ). x ≤ℤ r) (λ (x : ℤ) (k : x ≤ℤ a). up_to x b r (up_to x a b k less) also) t tail in
-    All-append (λ (x : ℤ). x ≤ℤ r) h (w ++ t) head (All-append (λ (x : ℤ). x ≤ℤ r) w t two three)
+pub between_parts : (h w t : List ℤ) (e f g : Ends) → All (IsBetween e) t → AreWider e f → All (IsBetween f) w → AreWider f g → All (IsBetween g) h → All (IsBetween g) (all_of h w t)
+between_parts h w t e f g tail one whole two head =
+    All-append (IsBetween g) h (w ++ t) head (All-append (IsBetween g) w t (still f g two w whole) (still e g (wider e f g one two) t tail))
 
 pub sum_parts : (f : ℤ → ℕ) (h w t : List ℤ) → sum_by f (all_of h w t) ≡ sum_by f h + sum_by f w + sum_by f t
 sum_parts f h w t = omega (arith, sum_by-append f h (w ++ t), sum_by-append f w t)
@@ -198,3 +185,14 @@ count_parts c h w t = sum_parts (λ (x : ℤ). cond (int_le x c) 1 0) h w t
 
 pub distance_parts : (c : ℤ) (h w t : List ℤ) → distances_about c (all_of h w t) ≡ distances_about c h + distances_about c w + distances_about c t
 distance_parts c h w t = sum_parts (distance c) h w t
+
+-- the sum of the distances of three pieces
+module _ (c : ℤ) (h w t : List ℤ) where
+  pub parts_fit : distances_about c (all_of h w t) < 2 ^ 128 → (distances_about c h < 2 ^ 128) × (distances_about c w < 2 ^ 128) × (distances_about c t < 2 ^ 128)
+  parts_fit all = let parts = distance_parts c h w t in (omega (arith, parts, all), omega (arith, parts, all), omega (arith, parts, all))
+
+  pub two_fit : distances_about c (all_of h w t) < 2 ^ 128 → (a b : ℕ) → a ≡ distances_about c h → b ≡ distances_about c w → a + b < 2 ^ 128
+  two_fit all a b one two = omega (arith, distance_parts c h w t, all, one, two)
+
+  pub three_add : (a b d : ℕ) → a ≡ distances_about c h → b ≡ distances_about c w → d ≡ distances_about c t → a + b + d ≡ distances_about c (all_of h w t)
+  three_add a b d one two three = omega (arith, distance_parts c h w t, one, two, three)

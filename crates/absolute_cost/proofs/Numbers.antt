@@ -1,6 +1,6 @@
 -- The halving of the numbers that the middle may be.
 use Rattle.std.proofs.lemmas.List.Elements.{All-head, All-tail, All-get_or, All-weaker, All-more}
-use Rattle.std.proofs.Common.{[], ◌∷◌, get_or, take, nat_abs, ◌≤ℤ◌, ◌+ℤ◌, suc, ◌≡◌, ℕ, ℤ, pos, ◌+◌, ◌*◌, ◌<◌, ◌≤◌, List, length, ◌-ℤ◌, refl, sym, ap, ◌∙◌, subst, arith}
+use Rattle.std.proofs.Common.{[], ◌∷◌, get_or, take, nat_abs, ◌≤ℤ◌, ◌+ℤ◌, suc, ◌≡◌, ℕ, ℤ, pos, ◌+◌, ◌*◌, ◌<◌, ◌≤◌, List, length, ◌-ℤ◌, refl, sym, ap, ◌∙◌, subst, FitsSigned, w64, arith}
 use Rattle.std.specs.List.{All}
 use Rattle.std.proofs.lemmas.List.{take_all}
 use Rattle.std.proofs.lemmas.Int.{ints}
@@ -8,7 +8,9 @@ use Rattle.segment_model.specs.Limits.{IsSmall}
 use Rattle.distance_model.specs.Middles.{at_most}
 use Rattle.distance_model.specs.Distances.{distances_about, middle_of, least_distances_of}
 use Rattle.distance_model.proofs.Middles.{is_middle, le_told, le_not_told, most_yes, most_no}
+use Rattle.absolute_cost.specs.Between.{AreWider, IsBetween}
 use Rattle.absolute_cost.specs.Numbers.{number_of}
+use Rattle.absolute_cost.specs.declared.ends.Ends.{Ends}
 
 -- the middle is none below low, and none above high
 pub record Halves (values : List ℤ) (least : ℤ) (span low high : ℕ) : Type 0 where
@@ -40,54 +42,57 @@ ends values least span low high r some h met is =
     let e : high ≡ low = omega (arith, h.order) in
     is ∙ is_middle values (number_of least low) some (record { half = subst (λ (n : ℕ). length values ≤ 2 * at_most (number_of least n) values) e h.half; less = h.less })
 
+pub not_above : (a b c : ℤ) → a ≤ℤ b → b ≤ℤ c → a ≤ℤ c
+not_above a b c h k = omega (arith, ints, h, k)
+
 -- ---- the least and the greatest value
 
-pub none_under : (r : ℤ) (xs : List ℤ) → All (λ (x : ℤ). r ≤ℤ x) xs → at_most (r -ℤ pos 1) xs ≡ 0
-none_under r [] h = refl
-none_under r (x ∷ xs) h =
-    let here : r ≤ℤ x = All-head (λ (x : ℤ). r ≤ℤ x) x xs h in
-    most_no (r -ℤ pos 1) x xs (le_not_told x (r -ℤ pos 1) (omega (arith, ints, here))) ∙ none_under r xs (All-tail (λ (x : ℤ). r ≤ℤ x) x xs h)
+pub none_under : (e : Ends) (xs : List ℤ) → All (IsBetween e) xs → at_most (e.least -ℤ pos 1) xs ≡ 0
+none_under e [] h = refl
+none_under e (x ∷ xs) h =
+    let here : IsBetween e x = All-head (IsBetween e) x xs h in
+    most_no (e.least -ℤ pos 1) x xs (le_not_told x (e.least -ℤ pos 1) (omega (arith, ints, here.0))) ∙ none_under e xs (All-tail (IsBetween e) x xs h)
 
 add_one : (n : ℕ) → 1 + n ≡ suc n
 add_one n = omega arith
 
-pub all_up_to : (r : ℤ) (xs : List ℤ) → All (λ (x : ℤ). x ≤ℤ r) xs → at_most r xs ≡ length xs
-all_up_to r [] h = refl
-all_up_to r (x ∷ xs) h =
-    let here : x ≤ℤ r = All-head (λ (x : ℤ). x ≤ℤ r) x xs h in
-    most_yes r x xs (le_told x r here) ∙ ap (λ (n : ℕ). 1 + n) (all_up_to r xs (All-tail (λ (x : ℤ). x ≤ℤ r) x xs h)) ∙ add_one (length xs)
+pub all_up_to : (e : Ends) (xs : List ℤ) → All (IsBetween e) xs → at_most e.greatest xs ≡ length xs
+all_up_to e [] h = refl
+all_up_to e (x ∷ xs) h =
+    let here : IsBetween e x = All-head (IsBetween e) x xs h in
+    most_yes e.greatest x xs (le_told x e.greatest here.1) ∙ ap (λ (n : ℕ). 1 + n) (all_up_to e xs (All-tail (IsBetween e) x xs h)) ∙ add_one (length xs)
 
 -- from the least to the greatest
-pub spans : (values : List ℤ) (least greatest : ℤ) (span : ℕ) → 0 < length values → All (λ (x : ℤ). least ≤ℤ x) values → All (λ (x : ℤ). x ≤ℤ greatest) values
-    → span ≡ nat_abs (greatest -ℤ least) → least +ℤ pos span ≡ greatest
-spans values least greatest span some l g s =
-    let low : least ≤ℤ get_or values 0 (pos 0) = All-get_or (λ (x : ℤ). least ≤ℤ x) values 0 (pos 0) some l in
-    let high : get_or values 0 (pos 0) ≤ℤ greatest = All-get_or (λ (x : ℤ). x ≤ℤ greatest) values 0 (pos 0) some g in
-    omega (arith, ints, low, high, s)
-
-less_all : (a b : ℤ) (xs : List ℤ) → b ≤ℤ a → All (λ (x : ℤ). a ≤ℤ x) xs → All (λ (x : ℤ). b ≤ℤ x) xs
-less_all a b xs h all = All-weaker (λ (x : ℤ). a ≤ℤ x) (λ (x : ℤ). b ≤ℤ x) (λ (x : ℤ) (k : a ≤ℤ x). omega (arith, ints, h, k)) xs all
-
-more_all : (a b : ℤ) (xs : List ℤ) → a ≤ℤ b → All (λ (x : ℤ). x ≤ℤ a) xs → All (λ (x : ℤ). x ≤ℤ b) xs
-more_all a b xs h all = All-weaker (λ (x : ℤ). x ≤ℤ a) (λ (x : ℤ). x ≤ℤ b) (λ (x : ℤ) (k : x ≤ℤ a). omega (arith, ints, h, k)) xs all
-
--- with one value more
-pub least_more : (values : List ℤ) (i : ℕ) (a b : ℤ) → i < length values → All (λ (x : ℤ). a ≤ℤ x) (take i values) → b ≤ℤ a → b ≤ℤ get_or values i (pos 0) → All (λ (x : ℤ). b ≤ℤ x) (take (i + 1) values)
-least_more values i a b within all h k = All-more (λ (x : ℤ). b ≤ℤ x) values i (pos 0) within (less_all a b (take i values) h all) k
-
-pub greatest_more : (values : List ℤ) (i : ℕ) (a b : ℤ) → i < length values → All (λ (x : ℤ). x ≤ℤ a) (take i values) → a ≤ℤ b → get_or values i (pos 0) ≤ℤ b → All (λ (x : ℤ). x ≤ℤ b) (take (i + 1) values)
-greatest_more values i a b within all h k = All-more (λ (x : ℤ). x ≤ℤ b) values i (pos 0) within (more_all a b (take i values) h all) k
+pub spans : (values : List ℤ) (e : Ends) (span : ℕ) → 0 < length values → All (IsBetween e) values → span ≡ nat_abs (e.greatest -ℤ e.least) → e.least +ℤ pos span ≡ e.greatest
+spans values e span some all s =
+    let here : IsBetween e (get_or values 0 (pos 0)) = All-get_or (IsBetween e) values 0 (pos 0) some all in
+    omega (arith, ints, here.0, here.1, s)
 
 -- the sum of distances from the middle
 pub least_is : (xs ys : List ℤ) (c : ℤ) → c ≡ middle_of xs → xs ≡ ys → pos (distances_about c xs) ≡ least_distances_of ys
 unfolding least_distances_of
 least_is xs ys c is same = ap (λ (m : ℤ). pos (distances_about m xs)) is ∙ ap (λ (zs : List ℤ). pos (distances_about (middle_of zs) zs)) same
 
-pub least_whole : (values : List ℤ) (i : ℕ) (a : ℤ) → length values ≤ i → All (λ (x : ℤ). a ≤ℤ x) (take i values) → All (λ (x : ℤ). a ≤ℤ x) values
-least_whole values i a end all = subst (λ (xs : List ℤ). All (λ (x : ℤ). a ≤ℤ x) xs) (take_all i values end) all
+-- ---- two numbers with values between them
 
-pub greatest_whole : (values : List ℤ) (i : ℕ) (a : ℤ) → length values ≤ i → All (λ (x : ℤ). x ≤ℤ a) (take i values) → All (λ (x : ℤ). x ≤ℤ a) values
-greatest_whole values i a end all = subst (λ (xs : List ℤ). All (λ (x : ℤ). x ≤ℤ a) xs) (take_all i values end) all
+-- what lies between some ends lies between wider ones
+pub still : (e f : Ends) → AreWider e f → (xs : List ℤ) → All (IsBetween e) xs → All (IsBetween f) xs
+still e f wider xs all =
+    All-weaker (IsBetween e) (IsBetween f) (λ (x : ℤ) (h : IsBetween e x). (not_above f.least e.least x wider.0 h.0, not_above x e.greatest f.greatest h.1 wider.1)) xs all
 
-pub not_above : (a b c : ℤ) → a ≤ℤ b → b ≤ℤ c → a ≤ℤ c
-not_above a b c h k = omega (arith, ints, h, k)
+pub wider : (e f g : Ends) → AreWider e f → AreWider f g → AreWider e g
+wider e f g one two = (not_above g.least f.least e.least two.0 one.0, not_above e.greatest f.greatest g.greatest one.1 two.1)
+
+-- with one value more
+pub between_more : (values : List ℤ) (i : ℕ) (e f : Ends) → i < length values → All (IsBetween e) (take i values) → AreWider e f → IsBetween f (get_or values i (pos 0)) → All (IsBetween f) (take (i + 1) values)
+between_more values i e f within all h k = All-more (IsBetween f) values i (pos 0) within (still e f h (take i values) all) k
+
+pub between_all : (values : List ℤ) (i : ℕ) (e : Ends) → length values ≤ i → All (IsBetween e) (take i values) → All (IsBetween e) values
+between_all values i e end all = subst (λ (xs : List ℤ). All (IsBetween e) xs) (take_all i values end) all
+
+-- a small value fits a word
+pub small-fits : (v : ℤ) → IsSmall v → FitsSigned w64 v
+small-fits v small = omega (arith, ints, small)
+
+pub value-fits : (values : List ℤ) → All IsSmall values → (i : ℕ) → i < length values → FitsSigned w64 (get_or values i (pos 0))
+value-fits values small i lt = small-fits (get_or values i (pos 0)) (small i (pos 0) lt)

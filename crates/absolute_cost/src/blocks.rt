@@ -1,10 +1,11 @@
 //! Values of which each whole block stands in order.
-ghost use Rattle.std.specs.Prelude.{◌≡◌, ℤ, ◌+◌, ◌<◌, ◌≤◌, ◌++◌, length, All, ◌≤ℤ◌, vec_len, vec_capacity};
+ghost use Rattle.std.specs.Prelude.{◌≡◌, ℤ, ◌+◌, ◌<◌, ◌≤◌, ◌++◌, length, All, vec_len, vec_capacity};
 ghost use Rattle.segment_model.specs.Limits.{IsSmall};
 ghost use Rattle.distance_model.specs.Middles.{at_most};
+ghost use Rattle.absolute_cost.specs.Between.{AreSmall, HaveTaken};
 ghost use Rattle.absolute_cost.specs.Blocks.{AreInOrder, AreBlocks, AreBlocksOf, IsAdded, IsSortedFrom};
 
-use crate::ends::{greater, lesser};
+use crate::ends::Ends;
 
 // How many values a block has.
 pub const BLOCK: usize = 32;
@@ -71,34 +72,17 @@ fn count_in_order(values: &[i64], c: i64) -> usize
     values.partition_point(|x| *x <= c)
 }
 
-// The lesser of a number and the least value: a look at each block.
-pub fn least_in_blocks(whole: &[i64], start: i64) -> i64
+// The ends with the values of some blocks more: a look at the least and the greatest one of each.
+pub fn with_blocks(ends: Ends, whole: &[i64]) -> Ends
     requires blocks { AreBlocks whole.now }
-    requires small { IsSmall start }
+    requires small { AreSmall ends }
     requires all_small { All IsSmall whole.now }
-    ensures small { IsSmall result }
-    ensures start { result ≤ℤ start }
-    ensures least { All (λ x. result ≤ℤ x) whole.now }
+    ensures { HaveTaken whole.now ends result }
 {
-    let mut least = start;
+    let mut wide = ends;
     for k in 0..whole.len() / BLOCK {
-        least = lesser(least, whole[BLOCK * k]);
+        let low = wide.with_value(whole[BLOCK * k]);
+        wide = low.with_value(whole[BLOCK * k + (BLOCK - 1)]);
     }
-    least
-}
-
-// The greater of a number and the greatest value: a look at each block.
-pub fn greatest_in_blocks(whole: &[i64], start: i64) -> i64
-    requires blocks { AreBlocks whole.now }
-    requires small { IsSmall start }
-    requires all_small { All IsSmall whole.now }
-    ensures small { IsSmall result }
-    ensures start { start ≤ℤ result }
-    ensures greatest { All (λ x. x ≤ℤ result) whole.now }
-{
-    let mut greatest = start;
-    for k in 0..whole.len() / BLOCK {
-        greatest = greater(greatest, whole[BLOCK * k + (BLOCK - 1)]);
-    }
-    greatest
+    wide
 }

@@ -1,49 +1,41 @@
-//! The least and the greatest of some values.
-ghost use Rattle.std.specs.Prelude.{All, ◌≤ℤ◌};
+//! Two numbers with some values between them.
+ghost use Rattle.std.specs.Prelude.{All};
 ghost use Rattle.segment_model.specs.Limits.{IsSmall};
 
-// The lesser of a number and the least value.
-pub fn least_of(values: &[i64], start: i64) -> i64
-    requires small { IsSmall start }
-    requires all_small { All IsSmall values.now }
-    ensures small { IsSmall result }
-    ensures start { result ≤ℤ start }
-    ensures least { All (λ x. result ≤ℤ x) values.now }
-{
-    let mut least = start;
-    for x in values {
-        least = lesser(least, *x);
+// Two numbers: the least and the greatest of some values.
+#[derive(Clone, Copy, Drop)]
+pub struct Ends {
+    pub least: i64,
+    pub greatest: i64,
+}
+
+impl Ends {
+    ghost use Rattle.absolute_cost.specs.Between.{AreSmall, AreWider, IsBetween, HaveTaken};
+
+    // With one value more between them.
+    pub fn with_value(self, x: i64) -> Ends
+        requires small { AreSmall self }
+        requires x_small { IsSmall x }
+        ensures small { AreSmall result }
+        ensures wider { AreWider self result }
+        ensures between { IsBetween result x }
+    {
+        Ends {
+            least: self.least.min(x),
+            greatest: self.greatest.max(x),
+        }
     }
-    least
-}
 
-// The greater of a number and the greatest value.
-pub fn greatest_of(values: &[i64], start: i64) -> i64
-    requires small { IsSmall start }
-    requires all_small { All IsSmall values.now }
-    ensures small { IsSmall result }
-    ensures start { start ≤ℤ result }
-    ensures greatest { All (λ x. x ≤ℤ result) values.now }
-{
-    let mut greatest = start;
-    for x in values {
-        greatest = greater(greatest, *x);
+    // With some values more.
+    pub fn with_values(self, values: &[i64]) -> Ends
+        requires small { AreSmall self }
+        requires all_small { All IsSmall values.now }
+        ensures { HaveTaken values.now self result }
+    {
+        let mut ends = self;
+        for x in values {
+            ends = ends.with_value(*x);
+        }
+        ends
     }
-    greatest
-}
-
-// The lesser of two numbers.
-pub fn lesser(a: i64, b: i64) -> i64
-    ensures least { (result ≤ℤ a) × (result ≤ℤ b) }
-    ensures one { IsSmall a → IsSmall b → IsSmall result }
-{
-    if b < a { b } else { a }
-}
-
-// The greater of two numbers.
-pub fn greater(a: i64, b: i64) -> i64
-    ensures greatest { (a ≤ℤ result) × (b ≤ℤ result) }
-    ensures one { IsSmall a → IsSmall b → IsSmall result }
-{
-    if a < b { b } else { a }
 }

@@ -1,12 +1,13 @@
 //! The value in the middle of some values, and the sum of their distances from a number.
-ghost use Rattle.std.specs.Prelude.{◌≡◌, ℕ, ◌*◌, ◌^◌, ◌<◌, ◌≤◌, All, length, pos, ◌+ℤ◌, ◌-ℤ◌, ◌≤ℤ◌};
+ghost use Rattle.std.specs.Prelude.{◌≡◌, ℕ, ◌*◌, ◌^◌, ◌<◌, ◌≤◌, All, length, pos, ◌+ℤ◌, ◌-ℤ◌};
 ghost use Rattle.segment_model.specs.Limits.{IsSmall};
 ghost use Rattle.distance_model.specs.Distances.{distances_about, middle_of};
 ghost use Rattle.distance_model.specs.Middles.{at_most};
+ghost use Rattle.absolute_cost.specs.Between.{AreSmall, IsBetween};
 ghost use Rattle.absolute_cost.specs.Blocks.{AreBlocks, all_of};
 
-use crate::blocks::{count_in_blocks, greatest_in_blocks, least_in_blocks};
-use crate::ends::{greatest_of, least_of};
+use crate::blocks::{count_in_blocks, with_blocks};
+use crate::ends::Ends;
 use crate::pieces::Pieces;
 
 // A span below this can be multiplied by a count.
@@ -23,9 +24,8 @@ pub fn middle(pieces: Pieces<'_>) -> i64
         (all_of pieces.entry.head.now pieces.entry.whole.now pieces.entry.tail.now) }
     ensures small { IsSmall result }
 {
-    let start = some_value(pieces);
-    let least = least_value(pieces, start);
-    middle_from(pieces, least, greatest_value(pieces, start).abs_diff(least))
+    let ends = ends_of(pieces);
+    middle_from(pieces, ends.least, ends.greatest.abs_diff(ends.least))
 }
 
 // A value, where there is one before or in the blocks.
@@ -42,36 +42,21 @@ fn some_value(pieces: Pieces<'_>) -> i64
     0
 }
 
-// The lesser of a number and the least value.
-fn least_value(pieces: Pieces<'_>, start: i64) -> i64
+// Two numbers with the values between them, each one of these where there is one before or in the blocks.
+fn ends_of(pieces: Pieces<'_>) -> Ends
     requires blocks { AreBlocks pieces.whole.now }
     requires small { All IsSmall (all_of pieces.head.now pieces.whole.now pieces.tail.now) }
-    requires start { IsSmall start }
-    ensures small { IsSmall result }
-    ensures start { result ≤ℤ start }
-    ensures least { All (λ x. result ≤ℤ x)
+    ensures small { AreSmall result }
+    ensures between { All (IsBetween result)
         (all_of pieces.entry.head.now pieces.entry.whole.now pieces.entry.tail.now) }
 {
-    least_of(
-        pieces.head,
-        least_in_blocks(pieces.whole, least_of(pieces.tail, start)),
-    )
-}
-
-// The greater of a number and the greatest value.
-fn greatest_value(pieces: Pieces<'_>, start: i64) -> i64
-    requires blocks { AreBlocks pieces.whole.now }
-    requires small { All IsSmall (all_of pieces.head.now pieces.whole.now pieces.tail.now) }
-    requires start { IsSmall start }
-    ensures small { IsSmall result }
-    ensures start { start ≤ℤ result }
-    ensures greatest { All (λ x. x ≤ℤ result)
-        (all_of pieces.entry.head.now pieces.entry.whole.now pieces.entry.tail.now) }
-{
-    greatest_of(
-        pieces.head,
-        greatest_in_blocks(pieces.whole, greatest_of(pieces.tail, start)),
-    )
+    let start = some_value(pieces);
+    let one = Ends {
+        least: start,
+        greatest: start,
+    };
+    let inside = with_blocks(one.with_values(pieces.tail), pieces.whole);
+    inside.with_values(pieces.head)
 }
 
 // The middle, which is a number from `least` to `span` above it.

@@ -1,10 +1,10 @@
 //! A certificate's text.
-ghost use Rattle.std.specs.Prelude.{◌≡◌, List, [], ◌∷◌, ◌++◌, map, codes, decimal, length, take, OnOk, OnErr};
+ghost use Rattle.std.specs.Prelude.{◌≡◌, ℕ, List, [], ◌∷◌, ◌++◌, map, codes, decimal, length, take, OnOk, OnErr};
 ghost use Rattle.std.specs.Fmt.{signed_decimal};
 ghost use Rattle.cost_certificate.specs.Text.{row, length_row, text_of};
 
-use line_text::{Numbers, put_i128, put_u64};
-use segment_cost::{Cert, Costs, NoMemory, Places};
+use line_text::{put_i128, put_u64};
+use segment_cost::{Cert, NoMemory};
 use std::alloc::Global;
 
 /// Puts a certificate's text behind some bytes: seven lines, each a name and numbers after single spaces, or eight where
@@ -30,8 +30,8 @@ fn put_rows(alloc: Global, out: &mut Vec<u8>, cert: &Cert) -> Result<(), NoMemor
     ensures err { OnErr result (take (length out.old.items) out.new.items ≡ out.old.items) }
 {
     put_asked(alloc, out, cert)?;
-    put_numbers(alloc, out, b"cuts", &cert.cuts)?;
-    put_cost(alloc, out, b"total", cert.total)?;
+    put_row(alloc, out, b"cuts", cert.cuts.as_slice())?;
+    put_row(alloc, out, b"total", &[cert.total])?;
     put_tables(alloc, out, cert)?;
     Ok(())
 }
@@ -44,8 +44,8 @@ fn put_asked(alloc: Global, out: &mut Vec<u8>, cert: &Cert) -> Result<(), NoMemo
         ++ length_row cert.now.length) }
     ensures err { OnErr result (take (length out.old.items) out.new.items ≡ out.old.items) }
 {
-    put_number(alloc, out, b"points", cert.points)?;
-    put_cost(alloc, out, b"penalty", cert.penalty)?;
+    put_row(alloc, out, b"points", &[cert.points])?;
+    put_row(alloc, out, b"penalty", &[cert.penalty])?;
     put_length(alloc, out, cert.length)?;
     Ok(())
 }
@@ -58,21 +58,9 @@ fn put_tables(alloc: Global, out: &mut Vec<u8>, cert: &Cert) -> Result<(), NoMem
         ++ row (codes "pruned") (map decimal cert.now.pruned)) }
     ensures err { OnErr result (take (length out.old.items) out.new.items ≡ out.old.items) }
 {
-    put_costs(alloc, out, b"least", &cert.least)?;
-    put_places(alloc, out, b"back", &cert.back)?;
-    put_places(alloc, out, b"pruned", &cert.pruned)?;
-    Ok(())
-}
-
-// A line of one number behind a name.
-fn put_number(alloc: Global, out: &mut Vec<u8>, name: &[u8], number: u64) -> Result<(), NoMemory>
-    ensures ok { OnOk result (out.new.items ≡ out.old.items ++ row name.now (decimal number ∷ [])) }
-    ensures err { OnErr result (take (length out.old.items) out.new.items ≡ out.old.items) }
-{
-    out.extend_from_slice(name)?;
-    out.push(b' ')?;
-    put_u64(alloc, out, number)?;
-    out.push(b'\n')?;
+    put_row(alloc, out, b"least", cert.least.as_slice())?;
+    put_row(alloc, out, b"back", cert.back.as_slice())?;
+    put_row(alloc, out, b"pruned", cert.pruned.as_slice())?;
     Ok(())
 }
 
@@ -83,75 +71,61 @@ fn put_length(alloc: Global, out: &mut Vec<u8>, len: u8) -> Result<(), NoMemory>
     ensures err { OnErr result (take (length out.old.items) out.new.items ≡ out.old.items) }
 {
     if len > 1 {
-        return put_number(alloc, out, b"length", u64::from(len));
+        return put_row(alloc, out, b"length", &[u64::from(len)]);
     }
-    Ok(())
-}
-
-// A line of one cost behind a name.
-fn put_cost(alloc: Global, out: &mut Vec<u8>, name: &[u8], cost: i128) -> Result<(), NoMemory>
-    ensures ok { OnOk result
-        (out.new.items ≡ out.old.items ++ row name.now (signed_decimal cost ∷ [])) }
-    ensures err { OnErr result (take (length out.old.items) out.new.items ≡ out.old.items) }
-{
-    out.extend_from_slice(name)?;
-    out.push(b' ')?;
-    put_i128(alloc, out, cost)?;
-    out.push(b'\n')?;
     Ok(())
 }
 
 // A line of numbers behind a name.
-fn put_numbers(
+fn put_row<N: Figure>(
     alloc: Global,
     out: &mut Vec<u8>,
     name: &[u8],
-    numbers: &Numbers,
+    numbers: &[N],
 ) -> Result<(), NoMemory>
     ensures ok { OnOk result
-        (out.new.items ≡ out.old.items ++ row name.now (map decimal numbers.now)) }
+        (out.new.items ≡ out.old.items ++ row name.now (map N.text numbers.now)) }
     ensures err { OnErr result (take (length out.old.items) out.new.items ≡ out.old.items) }
 {
     out.extend_from_slice(name)?;
-    for number in numbers.as_slice() {
+    for number in numbers {
         out.push(b' ')?;
-        put_u64(alloc, out, *number)?;
+        number.put(alloc, out)?;
     }
     out.push(b'\n')?;
     Ok(())
 }
 
-// A line of places behind a name.
-fn put_places(
-    alloc: Global,
-    out: &mut Vec<u8>,
-    name: &[u8],
-    places: &Places,
-) -> Result<(), NoMemory>
-    ensures ok { OnOk result
-        (out.new.items ≡ out.old.items ++ row name.now (map decimal places.now)) }
-    ensures err { OnErr result (take (length out.old.items) out.new.items ≡ out.old.items) }
-{
-    out.extend_from_slice(name)?;
-    for place in places.as_slice() {
-        out.push(b' ')?;
-        put_u64(alloc, out, u64::from(*place))?;
-    }
-    out.push(b'\n')?;
-    Ok(())
+// A number with a text.
+trait Figure: Copy {
+    ghost text: { Self → List ℕ };
+
+    // Puts its text behind some bytes; changes nothing where there is no memory.
+    fn put(self, alloc: Global, out: &mut Vec<u8>) -> Result<(), NoMemory>
+        ensures ok { OnOk result (out.new.items ≡ out.old.items ++ text self) }
+        ensures err { OnErr result (out.new.items ≡ out.old.items) };
 }
 
-// A line of costs behind a name.
-fn put_costs(alloc: Global, out: &mut Vec<u8>, name: &[u8], costs: &Costs) -> Result<(), NoMemory>
-    ensures ok { OnOk result
-        (out.new.items ≡ out.old.items ++ row name.now (map signed_decimal costs.now)) }
-    ensures err { OnErr result (take (length out.old.items) out.new.items ≡ out.old.items) }
-{
-    out.extend_from_slice(name)?;
-    for cost in costs.as_slice() {
-        out.push(b' ')?;
-        put_i128(alloc, out, *cost)?;
+impl Figure for u16 {
+    ghost text = { decimal };
+
+    fn put(self, alloc: Global, out: &mut Vec<u8>) -> Result<(), NoMemory> {
+        put_u64(alloc, out, u64::from(self))
     }
-    out.push(b'\n')?;
-    Ok(())
+}
+
+impl Figure for u64 {
+    ghost text = { decimal };
+
+    fn put(self, alloc: Global, out: &mut Vec<u8>) -> Result<(), NoMemory> {
+        put_u64(alloc, out, self)
+    }
+}
+
+impl Figure for i128 {
+    ghost text = { signed_decimal };
+
+    fn put(self, alloc: Global, out: &mut Vec<u8>) -> Result<(), NoMemory> {
+        put_i128(alloc, out, self)
+    }
 }

@@ -150,28 +150,30 @@ module _ (s : Series) (run : List ℕ) (a : Acceptance) where
       either (Some r) true = refl
       either (Some r) false = refl
 
+  -- whether another run stands, with the run taken back too
+  module _ (gone : List Retraction) (step : ℕ) (b : Acceptance) where
+    still-dead : is_none (find (takes_back b.run.run) gone) ≡ false → is_none (find (takes_back b.run.run) (gone ++ record { step = step; run = run } ∷ [])) ≡ false
+    still-dead dead = still gone step b.run.run ∙ ap (λ t. t && not (bytes_eq run b.run.run)) dead
+
+    by-name : is_none (find (takes_back b.run.run) gone) ≡ true → is_none (find (takes_back b.run.run) (gone ++ record { step = step; run = run } ∷ [])) ≡ not (is_run run b)
+    by-name live = still gone step b.run.run ∙ ap (λ t. t && not (bytes_eq run b.run.run)) live ∙ ap not (nat_list_eq_equiv.symm run b.run.run)
+
   pub brought-without : (gone : List Retraction) (step : ℕ) (runs : List Acceptance) → Tells run a runs
       → brought s (live_of (gone ++ record { step = step; run = run } ∷ []) runs) ≡ filter (is_other a.run.commit a.step) (brought s (live_of gone runs))
   brought-without gone step [] tell = refl
   brought-without gone step (b ∷ runs) tell =
       let rest = brought-without gone step runs tell.1.1 in
-      let live_is = still gone step b.run.run in
-      let name : bytes_eq run b.run.run ≡ is_run run b = nat_list_eq_equiv.symm run b.run.run in
       elim (cases_Bool (is_none (find (takes_back b.run.run) gone))) [
-        | inr dead ↦
-            let dead' : is_none (find (takes_back b.run.run) (gone ++ record { step = step; run = run } ∷ [])) ≡ false = live_is ∙ ap (λ t. t && not (bytes_eq run b.run.run)) dead in
-            rw (dead', dead) rest
+        | inr dead ↦ rw (still-dead gone step b dead, dead) rest
         | inl live ↦ elim (cases_Bool (is_run run b)) [
           | inl hit ↦
-              let dead' : is_none (find (takes_back b.run.run) (gone ++ record { step = step; run = run } ∷ [])) ≡ false =
-              live_is ∙ ap (λ t. t && not (bytes_eq run b.run.run)) live ∙ ap not (name ∙ hit) in
+              let dead' = by-name gone step b live ∙ ap not hit in
               let none : filter (is_other a.run.commit a.step) (brought_by s b) ≡ [] =
               ap (λ (x : Acceptance). filter (is_other a.run.commit a.step) (brought_by s x)) (tell.1.0 hit) ∙ all-gone (filter (is_of s) a.run.samples) in
               rw (dead', live) (rest ∙ sym (filter-append (is_other a.run.commit a.step) (brought_by s b) (brought s (live_of gone runs))
               ∙ ap (λ ys. ys ++ filter (is_other a.run.commit a.step) (brought s (live_of gone runs))) none))
           | inr miss ↦
-              let live' : is_none (find (takes_back b.run.run) (gone ++ record { step = step; run = run } ∷ [])) ≡ true =
-              live_is ∙ ap (λ t. t && not (bytes_eq run b.run.run)) live ∙ ap not (name ∙ miss) in
+              let live' = by-name gone step b live ∙ ap not miss in
               let all : filter (is_other a.run.commit a.step) (brought_by s b) ≡ brought_by s b = all-stay b (sym tell.0 ∙ miss) (filter (is_of s) b.run.samples) in
               rw (live', live) (ap (λ ys. brought_by s b ++ ys) rest
               ∙ sym (filter-append (is_other a.run.commit a.step) (brought_by s b) (brought s (live_of gone runs))
@@ -185,21 +187,15 @@ module _ (s : Series) (run : List ℕ) (a : Acceptance) where
   brought-same gone step [] tell none = refl
   brought-same gone step (b ∷ runs) tell none =
       let rest = brought-same gone step runs tell.1.1 none in
-      let live_is = still gone step b.run.run in
-      let name : bytes_eq run b.run.run ≡ is_run run b = nat_list_eq_equiv.symm run b.run.run in
       elim (cases_Bool (is_none (find (takes_back b.run.run) gone))) [
-        | inr dead ↦
-            let dead' : is_none (find (takes_back b.run.run) (gone ++ record { step = step; run = run } ∷ [])) ≡ false = live_is ∙ ap (λ t. t && not (bytes_eq run b.run.run)) dead in
-            rw (dead', dead) rest
+        | inr dead ↦ rw (still-dead gone step b dead, dead) rest
         | inl live ↦ elim (cases_Bool (is_run run b)) [
           | inl hit ↦
-              let dead' : is_none (find (takes_back b.run.run) (gone ++ record { step = step; run = run } ∷ [])) ≡ false =
-              live_is ∙ ap (λ t. t && not (bytes_eq run b.run.run)) live ∙ ap not (name ∙ hit) in
+              let dead' = by-name gone step b live ∙ ap not hit in
               let mine : brought_by s b ≡ [] = ap (brought_by s) (tell.1.0 hit) ∙ none in
               rw (dead', live) (rest ∙ sym (ap (λ ys. ys ++ brought s (live_of gone runs)) mine))
           | inr miss ↦
-              let live' : is_none (find (takes_back b.run.run) (gone ++ record { step = step; run = run } ∷ [])) ≡ true =
-              live_is ∙ ap (λ t. t && not (bytes_eq run b.run.run)) live ∙ ap not (name ∙ miss) in
+              let live' = by-name gone step b live ∙ ap not miss in
               rw (live', live) (ap (λ ys. brought_by s b ++ ys) rest)
         ]
       ]

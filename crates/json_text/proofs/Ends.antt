@@ -1,5 +1,5 @@
 -- Where the grammar may end, the machine may, and the other way round.
-use Rattle.std.proofs.Common.{◌≡◌, ℕ, true, false, List, [], ◌∷◌, ◌++◌, inl, inr, Some, Option, ap, refl, sym, ◌∙◌, append-nil}
+use Rattle.std.proofs.Common.{◌≡◌, ℕ, true, false, List, [], ◌∷◌, ◌++◌, inl, inr, Some, Option, ap, refl, sym, subst, ◌∙◌, append-nil}
 use Rattle.json_text.specs.declared.state.Digits.{Digits}
 use Rattle.json_text.specs.Tree.{Tree, null, boolean, number, text, list, object}
 use Rattle.json_text.specs.Bytes.{null_letters, true_letters, false_letters}
@@ -64,19 +64,24 @@ grammar_ends (digits place spelling) frames whole (tail, more, e, ends, k) = dig
 grammar_ends (content role place bytes) frames whole (inside, more, spelled, e, ends, k) = absurd (one_thing inside 34 more e)
 grammar_ends (ended tree) frames whole k = ended_ends frames tree whole k
 
--- a text that ends in this state is complete
-pub machine_ends : (mode : Mode) (frames : List Frame) (whole : Tree) → finish mode frames ≡ Some whole → Completes mode frames [] whole
-machine_ends value frames whole e = absurd (cc e)
-machine_ends first_item frames whole e = absurd (cc e)
-machine_ends first_key frames whole e = absurd (cc e)
-machine_ends (next_key listed) frames whole e = absurd (cc e)
-machine_ends (colon listed key) frames whole e = absurd (cc e)
-machine_ends (letters left tree) frames whole e = absurd (cc e)
-machine_ends (digits place spelling) [] whole e = elim (chosen (λ (o : Option Tree). o ≡ Some whole) (may_end place) _ _ e) [
-  | inl (may, same) ↦ let is : number spelling ≡ whole = cc same in ([], [], refl, ends_here place may, (tt, ap number (append-nil spelling) ∙ is))
+-- where a text may end, what holds behind a number that may end and behind a value holds
+pub finished : (P : Mode → List Frame → Tree → Type 0) → ((place : Digits) (spelling : List ℕ) → may_end place ≡ true → P (digits place spelling) [] (number spelling))
+    → ((tree : Tree) → P (ended tree) [] tree) → (mode : Mode) (frames : List Frame) (whole : Tree) → finish mode frames ≡ Some whole → P mode frames whole
+finished P number_ends value_ends value frames whole e = absurd (cc e)
+finished P number_ends value_ends first_item frames whole e = absurd (cc e)
+finished P number_ends value_ends first_key frames whole e = absurd (cc e)
+finished P number_ends value_ends (next_key listed) frames whole e = absurd (cc e)
+finished P number_ends value_ends (colon listed key) frames whole e = absurd (cc e)
+finished P number_ends value_ends (letters left tree) frames whole e = absurd (cc e)
+finished P number_ends value_ends (digits place spelling) [] whole e = elim (chosen (λ (o : Option Tree). o ≡ Some whole) (may_end place) _ _ e) [
+  | inl (may, same) ↦ let is : number spelling ≡ whole = cc same in subst (P (digits place spelling) []) is (number_ends place spelling may)
   | inr (may, none) ↦ absurd (cc none)
 ]
-machine_ends (digits place spelling) (frame ∷ frames) whole e = absurd (cc e)
-machine_ends (content role place bytes) frames whole e = absurd (cc e)
-machine_ends (ended tree) [] whole e = (tt, cc e)
-machine_ends (ended tree) (frame ∷ frames) whole e = absurd (cc e)
+finished P number_ends value_ends (digits place spelling) (frame ∷ frames) whole e = absurd (cc e)
+finished P number_ends value_ends (content role place bytes) frames whole e = absurd (cc e)
+finished P number_ends value_ends (ended tree) [] whole e = let is : tree ≡ whole = cc e in subst (P (ended tree) []) is (value_ends tree)
+finished P number_ends value_ends (ended tree) (frame ∷ frames) whole e = absurd (cc e)
+
+-- a text that ends in this state is complete
+pub machine_ends : (mode : Mode) (frames : List Frame) (whole : Tree) → finish mode frames ≡ Some whole → Completes mode frames [] whole
+machine_ends = finished (λ mode frames whole. Completes mode frames [] whole) (λ place spelling may. ([], [], refl, ends_here place may, (tt, ap number (append-nil spelling)))) (λ tree. (tt, refl))

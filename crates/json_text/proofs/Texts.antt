@@ -9,7 +9,7 @@ use Rattle.json_text.specs.Reached.{ended_tree}
 use Rattle.json_text.proofs.Completion.{Completes, Leads}
 use Rattle.json_text.proofs.Steps.{IsSoundMode, Keeps, forth, back, step_keeps, around_least}
 use Rattle.json_text.proofs.Endings.{ending, completes_deep}
-use Rattle.json_text.proofs.Ends.{grammar_ends, machine_ends}
+use Rattle.json_text.proofs.Ends.{grammar_ends, machine_ends, finished}
 use Rattle.json_text.proofs.Choices.{chosen}
 
 -- a text is what completes the first state
@@ -92,20 +92,8 @@ ends_text bytes state tree e done =
 
 -- where a text ends in a state, the state has no level more than its tree
 pub finish_deep : (mode : Mode) (frames : List Frame) (tree : Tree) → finish mode frames ≡ Some tree → nesting tree ≤ depth (mode, frames)
-finish_deep value frames tree e = absurd (cc e)
-finish_deep first_item frames tree e = absurd (cc e)
-finish_deep first_key frames tree e = absurd (cc e)
-finish_deep (next_key listed) frames tree e = absurd (cc e)
-finish_deep (colon listed key) frames tree e = absurd (cc e)
-finish_deep (letters left word) frames tree e = absurd (cc e)
-finish_deep (digits place spelling) [] tree e = elim (chosen (λ (o : Option Tree). o ≡ Some tree) (may_end place) _ _ e) [
-  | inl (may, same) ↦ let is : number spelling ≡ tree = cc same in subst (λ (t : Tree). nesting t ≤ 0) is (omega arith)
-  | inr (may, none) ↦ absurd (cc none)
-]
-finish_deep (digits place spelling) (frame ∷ frames) tree e = absurd (cc e)
-finish_deep (content role place bytes) frames tree e = absurd (cc e)
-finish_deep (ended whole) [] tree e = let is : whole ≡ tree = cc e in subst (λ (t : Tree). nesting t ≤ nesting whole) is (omega arith)
-finish_deep (ended whole) (frame ∷ frames) tree e = absurd (cc e)
+finish_deep = finished (λ mode frames tree. nesting tree ≤ depth (mode, frames)) (λ place spelling may. let least : nesting (number spelling) ≤ 0 = omega arith in least)
+    (λ tree. let least : nesting tree ≤ nesting tree = omega arith in least)
 
 -- A text has one tree.
 pub one_tree : (bytes : List ℕ) (one other : Tree) → IsText bytes one → IsText bytes other → one ≡ other

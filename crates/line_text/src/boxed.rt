@@ -19,6 +19,9 @@ impl<T> Model for Boxed<T> {
 }
 
 impl<T: Drop> Boxed<T> {
+    ghost use Rattle.std.specs.Borrow.{Lends, sem};
+    ghost use Rattle.line_text.specs.contracts.boxed.Boxed.{the_row};
+
     /// The value, in memory of its own.
     pub fn new(alloc: Global, value: T) -> Result<Boxed<T>, NoMemory>
         ensures { IfOk result (λ made. made ≡ value) }
@@ -34,6 +37,14 @@ impl<T: Drop> Boxed<T> {
         ensures { result.now ≡ self.now }
     {
         self.value.as_ref()
+    }
+
+    /// The value, to be changed.
+    pub fn get_mut(&mut self) -> &mut T
+        ensures* writes_back { sem 𝓛 (Lends (the_row T.row) T.row self.entry result (λ w. w)) }
+        ensures value { result.now ≡ self.old }
+    {
+        self.value.as_mut()
     }
 }
 

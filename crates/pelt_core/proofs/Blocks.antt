@@ -1,6 +1,7 @@
 -- The bounds of the blocks of candidates.
-use Rattle.std.proofs.Common.{◌≡◌, ◌≢◌, ℕ, ℤ, zero, suc, ◌+◌, ◌*◌, ◌^◌, ◌<◌, ◌≤◌, List, [], ◌∷◌, ◌++◌, length, set, slice_index, inl, inr, refl, sym, ap, ◌∙◌, pos, neg_ℤ, ◌+ℤ◌, ◌≤ℤ◌, get_or-set_same, get_or-set_other, arith}
+use Rattle.std.proofs.Common.{◌≡◌, ◌≢◌, ℕ, ℤ, zero, suc, ◌+◌, ◌*◌, ◌^◌, ◌<◌, ◌≤◌, List, [], ◌∷◌, ◌++◌, length, set, slice_index, inl, inr, refl, sym, ap, ◌∙◌, pos, neg_ℤ, ◌+ℤ◌, ◌≤ℤ◌, get_or-set_same, get_or-set_other, FitsSigned, arith}
 use Rattle.std.proofs.Math.ListN.{length-set}
+use Rattle.std.specs.Int.{w128}
 use Rattle.std.proofs.lemmas.Int.{ints}
 use Rattle.std.proofs.lemmas.Bool.{cases_lt, cases_eq}
 use Rattle.std.proofs.lemmas.List.{length-append, get_or_append_left, get_or_push}
@@ -13,6 +14,30 @@ use Rattle.pelt_core.specs.Bounds.{bound_at, IsBound, HaveBounds, HaveMore, IsFi
 
 abbrev pub no_bound : Bound
 no_bound = record { at = 0; total = pos 0 }
+
+-- bounds of which one was lowered keep to their range
+lowered-range : (cost : ℕ → ℕ → ℤ) (t : ℕ) (least : List ℤ) (cs : List ℕ) (apart : ℕ) (bounds bounds' : List Bound) → HaveBounds cost t least cs apart bounds → (k : ℕ) (x : ℤ)
+    → length bounds' ≡ length bounds → k < length bounds → neg_ℤ (pos (10 ^ 36)) ≤ℤ x → x ≤ℤ pos (2 * 10 ^ 37) → IsLowered (bound_at bounds k) t x (bound_at bounds' k)
+    → ((j : ℕ) → j ≢ k → bound_at bounds' j ≡ bound_at bounds j)
+    → ((j : ℕ) → j < length bounds' → (bound_at bounds' j).at ≤ t) × ((j : ℕ) → j < length bounds' → neg_ℤ (pos (10 ^ 36)) ≤ℤ (bound_at bounds' j).total)
+    × ((j : ℕ) → j < length bounds' → (bound_at bounds' j).total ≤ℤ pos (2 * 10 ^ 37))
+lowered-range cost t least cs apart bounds bounds' h k x size in' low high lowered others = (
+  (λ j lt. elim (cases_eq j k) [ inl at ↦ rw at (omega (arith, lowered.at)) | inr away ↦ rw (others j away) (h.placed j (omega (arith, lt, size))) ]),
+  (λ j lt. elim (cases_eq j k) [
+    | inl at ↦ rw at (elim lowered.one [ inl same ↦ rw same (h.low k in') | inr same ↦ rw same low ])
+    | inr away ↦ rw (others j away) (h.low j (omega (arith, lt, size)))
+  ]),
+  (λ j lt. elim (cases_eq j k) [
+    | inl at ↦ rw at (elim lowered.one [ inl same ↦ rw same (h.high k in') | inr same ↦ rw same high ])
+    | inr away ↦ rw (others j away) (h.high j (omega (arith, lt, size)))
+  ]),
+)
+
+-- a bound that rises by what a segment costs fits its word
+pub rise-fits : (total cost : ℤ) → neg_ℤ (pos (10 ^ 36)) ≤ℤ total → total ≤ℤ pos (2 * 10 ^ 37) → pos 0 ≤ℤ cost → cost ≤ℤ pos (10 ^ 37)
+    → FitsSigned w128 total × FitsSigned w128 cost × FitsSigned w128 (total +ℤ cost)
+rise-fits total cost low high cost_low cost_high =
+    (omega (arith, ints, low, high), omega (arith, ints, cost_low, cost_high), omega (arith, ints, cost_low, cost_high, low, high))
 
 module _ (cost : ℕ → ℕ → ℤ) (least : List ℤ) (t : ℕ) (merges : Merges cost t) (range : AreInRange cost t) where
   -- a bound that is lowered is one for a later place
@@ -54,15 +79,9 @@ module _ (cost : ℕ → ℕ → ℤ) (least : List ℤ) (t : ℕ) (merges : Mer
         → (other : ℕ) → HaveBounds cost t least cs other bounds'
     apart-moves guess k total bounds bounds' h start end in' low high is size lowered others other = record {
       enough = omega (arith, size, h.enough);
-      placed = λ j lt. elim (cases_eq j k) [ inl at ↦ rw at (omega (arith, lowered.at)) | inr away ↦ rw (others j away) (h.placed j (omega (arith, lt, size))) ];
-      low = λ j lt. elim (cases_eq j k) [
-        | inl at ↦ rw at (elim lowered.one [ inl same ↦ rw same (h.low k in') | inr same ↦ rw same low ])
-        | inr away ↦ rw (others j away) (h.low j (omega (arith, lt, size)))
-      ];
-      high = λ j lt. elim (cases_eq j k) [
-        | inl at ↦ rw at (elim lowered.one [ inl same ↦ rw same (h.high k in') | inr same ↦ rw same high ])
-        | inr away ↦ rw (others j away) (h.high j (omega (arith, lt, size)))
-      ];
+      placed = (lowered-range cost t least cs guess bounds bounds' h k total size in' low high lowered others).0;
+      low = (lowered-range cost t least cs guess bounds bounds' h k total size in' low high lowered others).1;
+      high = (lowered-range cost t least cs guess bounds bounds' h k total size in' low high lowered others).2;
       holds = λ j i lt from upto inside apart. elim (cases_eq j k) [
         | inl at ↦ rw at (elim (cases_eq i guess) [
           | inl here ↦ rw here (here_too (below guess (rw here at inside)))
@@ -187,15 +206,9 @@ pub bounds-push : (cost : ℕ → ℕ → ℤ) (t : ℕ) (least : List ℤ) (cs 
     → HaveBounds cost t least (cs ++ c ∷ []) apart bounds'
 bounds-push cost t least cs apart k c x bounds bounds' merges range h start end room size low high le at_most lowered others = record {
   enough = omega (arith, size, room, length-append cs (c ∷ []));
-  placed = λ j lt. elim (cases_eq j k) [ inl at ↦ rw at (omega (arith, lowered.at)) | inr away ↦ rw (others j away) (h.placed j (omega (arith, lt, size))) ];
-  low = λ j lt. elim (cases_eq j k) [
-    | inl at ↦ rw at (elim lowered.one [ inl same ↦ rw same (h.low k in') | inr same ↦ rw same low ])
-    | inr away ↦ rw (others j away) (h.low j (omega (arith, lt, size)))
-  ];
-  high = λ j lt. elim (cases_eq j k) [
-    | inl at ↦ rw at (elim lowered.one [ inl same ↦ rw same (h.high k in') | inr same ↦ rw same high ])
-    | inr away ↦ rw (others j away) (h.high j (omega (arith, lt, size)))
-  ];
+  placed = (lowered-range cost t least cs apart bounds bounds' h k x size in' low high lowered others).0;
+  low = (lowered-range cost t least cs apart bounds bounds' h k x size in' low high lowered others).1;
+  high = (lowered-range cost t least cs apart bounds bounds' h k x size in' low high lowered others).2;
   holds = λ j i lt from upto inside apart'. elim (cases_lt i (length cs)) [
     | inl before ↦
         rw (get_or_append_left cs (c ∷ []) 0 i before) (elim (cases_eq j k) [

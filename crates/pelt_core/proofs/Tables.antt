@@ -1,11 +1,16 @@
 -- Pruned tables of positions: of none, before one more, and of the first ones.
-use Rattle.std.proofs.Common.{◌≡◌, ℕ, ℤ, ◌+◌, ◌-◌, ◌^◌, ◌≤◌, List, [], ◌∷◌, ◌++◌, length, take, drop, refl, sym, ap, ◌∙◌, pos, ◌≤ℤ◌, arith}
+use Rattle.std.proofs.Common.{◌≡◌, ℕ, ℤ, ◌+◌, ◌-◌, ◌^◌, ◌≤◌, List, [], ◌∷◌, ◌++◌, length, take, drop, refl, sym, ap, subst, ◌∙◌, pos, ◌≤ℤ◌, arith}
 use Rattle.std.proofs.lemmas.Int.{ints}
 use Rattle.std.proofs.lemmas.List.{length-append, length-take, take-append-drop}
 use Rattle.segment_model.specs.Cuts.{Agree, IsBest, total}
 use Rattle.segment_model.specs.Laws.{AgreeingCostsHaveOneTable, BestOfNoneIsEmpty}
 use Rattle.segment_model.specs.Values.{AreWithinLimits, values_between, cost_between, MergesValues, CostsInRange, FrontHasSameValues, FrontIsWithinLimits, SegmentsMerge, SegmentsAreInRange}
+use Rattle.segment_cost.specs.declared.cert.Cert.{Cert}
+use Rattle.segment_cost.specs.Certificate.{IsCertificate}
 use Rattle.pelt_core.specs.declared.rows.Rows.{Rows}
+use Rattle.pelt_core.specs.declared.table.Best.{Best}
+use Rattle.pelt_core.specs.Best.{IsBestOf}
+use Rattle.pelt_core.specs.Seen.{Tabled}
 use Rattle.pelt_core.specs.Rows.{ArePruned, IsPrunedTable, HasRoomMade}
 use Rattle.pelt_core.specs.Bounds.{AreInRange}
 use Rattle.pelt_core.proofs.Growth.{table-by, candidates-by}
@@ -38,12 +43,12 @@ table-of-none f merging in_range ps none b rows low high are = rw none (record {
 -- the same lists, with room made, are pruned alike
 pub pruned-same : (cost : ℕ → ℕ → ℤ) (n : ℕ) (b : ℤ) (rows rows' : Rows) → HasRoomMade rows rows' → ArePruned cost n b rows → ArePruned cost n b rows'
 pruned-same cost n b rows rows' same h = record {
-  length_from = rw same.len h.length_from;
-  table = rw same.len (table-by cost n b rows.length rows.least.items rows'.least.items rows.back.items rows'.back.items rows.pruned.items rows'.pruned.items same.least same.back same.pruned h.table);
-  swept = rw (same.len, same.swept) h.swept;
-  candidates = rw (same.len, same.swept) (candidates-by rows.length rows.swept rows.candidates.items rows'.candidates.items rows.pruned.items rows'.pruned.items (n + 1 - rows.length + 1) same.candidates same.pruned h.candidates);
+  length_from = rw same.tables.len h.length_from;
+  table = rw same.tables.len (table-by cost n b rows.length rows.least.items rows'.least.items rows.back.items rows'.back.items rows.pruned.items rows'.pruned.items same.tables.least same.tables.back same.tables.pruned h.table);
+  swept = rw (same.tables.len, same.swept) h.swept;
+  candidates = rw (same.tables.len, same.swept) (candidates-by rows.length rows.swept rows.candidates.items rows'.candidates.items rows.pruned.items rows'.pruned.items (n + 1 - rows.length + 1) same.candidates same.tables.pruned h.candidates);
   bounds = bounds-by cost n rows.least.items rows'.least.items rows.candidates.items rows'.candidates.items rows.leader rows'.leader rows'.bounds.items rows'.bounds.items
-      same.least same.candidates same.leader refl (bounds-more cost n rows.least.items rows.candidates.items rows.leader rows.bounds.items rows'.bounds.items same.bounds h.bounds);
+      same.tables.least same.candidates same.leader refl (bounds-more cost n rows.least.items rows.candidates.items rows.leader rows.bounds.items rows'.bounds.items same.bounds h.bounds);
   room = omega (arith, h.room, same.capacity);
   wide = omega (arith, h.wide, same.bounds.more);
 }
@@ -107,3 +112,21 @@ pub total-of-none : (f : List ℤ → ℤ) → MergesValues f → CostsInRange f
 total-of-none f merging in_range empty ps b len n cuts none best =
     let best' : IsBest (cost_between f ps) b len 0 cuts = rw none at best in
     rw (none, empty (cost_between f ps) b len cuts best') (nothing-costs f merging in_range)
+
+-- what the table and its best cut list come to
+pub certified : (f : List ℤ → ℤ) (ps : List (List ℤ)) (b : ℤ) (rows : Rows) (t : Tabled) (best : Best) (cert : Cert) → record { positions = ps; penalty = b; length = rows.length } ≡ t → IsPrunedTable f ps b rows
+    → IsBestOf (cost_between f t.positions) (length t.positions) t.penalty t.length best → cert.points ≡ length ps → cert.penalty ≡ b → cert.length ≡ rows.length
+    → cert.cuts ≡ best.cuts.items → cert.total ≡ best.total → cert.least ≡ rows.least.items → cert.back ≡ rows.back.items → cert.pruned ≡ rows.pruned.items
+    → IsCertificate (cost_between f t.positions) (length t.positions) t.penalty t.length cert
+certified f ps b rows t best cert seen table is points penalty len cuts total least back pruned =
+    let best' : IsBestOf (cost_between f ps) (length ps) b rows.length best =
+    subst (λ (u : Tabled). IsBestOf (cost_between f u.positions) (length u.positions) u.penalty u.length best) (sym seen) is in
+    let made : IsCertificate (cost_between f ps) (length ps) b rows.length cert = record {
+      counted = points;
+      same_penalty = penalty;
+      same_length = len;
+      best = rw cuts best'.cuts;
+      totalled = rw (total, cuts) best'.totalled;
+      table = rw (least, back, pruned) table.pruned.table;
+    } in
+    subst (λ (u : Tabled). IsCertificate (cost_between f u.positions) (length u.positions) u.penalty u.length cert) seen made

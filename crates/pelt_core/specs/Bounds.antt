@@ -1,5 +1,6 @@
 -- Private: no public contract cites this. Lower bounds of what the candidates of each block make.
 use Rattle.std.specs.Prelude.{◌≡◌, ◌≢◌, ℕ, ℤ, ◌+◌, ◌*◌, ◌^◌, ◌<◌, ◌≤◌, List, length, slice_index, slice_index_or, ◌⊎◌, pos, neg_ℤ, ◌+ℤ◌, ◌≤ℤ◌, ◌<ℤ◌}
+use Rattle.segment_model.specs.Values.{AreWithinLimits}
 use Rattle.pelt_core.specs.declared.bounds.Bound.{Bound}
 use Rattle.pelt_core.specs.declared.bounds.Found.{Found}
 use Rattle.pelt_core.specs.declared.bounds.Rise.{Rise}
@@ -23,6 +24,13 @@ pub record HaveBounds (cost : ℕ → ℕ → ℤ) (t : ℕ) (least : List ℤ) 
   pub high : (k : ℕ) → k < length bounds → (bound_at bounds k).total ≤ℤ pos (2 * 10 ^ 37)
   pub holds : (k i : ℕ) → k < length bounds → 256 * k ≤ i → i < 256 * k + 256 → i < length candidates → i ≢ apart
       → IsBound cost least (slice_index candidates i) (bound_at bounds k)
+
+-- a bound for a place of positions within the limits, by which it may rise
+pub record MayRise (positions : List (List ℤ)) (bound : Bound) : Type 0 where
+  pub limits : AreWithinLimits positions
+  pub placed : bound.at ≤ length positions
+  pub low : neg_ℤ (pos (10 ^ 36)) ≤ℤ bound.total
+  pub high : bound.total ≤ℤ pos (2 * 10 ^ 37)
 
 -- more bounds at the end, each at most what any last segment makes; the first are the same
 pub record HaveMore (old new : List Bound) : Type 0 where

@@ -48,27 +48,19 @@ pub record AddsRow (b : ℤ) (found : Found) (old new : Rows) : Type 0 where
   pub capacity : vec_capacity new.candidates ≡ vec_capacity old.candidates
   pub many : length new.bounds.items ≡ length old.bounds.items
 
+-- the least length and the three tables are the same
+pub record HaveSameTables (old new : Rows) : Type 0 where
+  pub len : new.length ≡ old.length
+  pub least : new.least.items ≡ old.least.items
+  pub back : new.back.items ≡ old.back.items
+  pub pruned : new.pruned.items ≡ old.pruned.items
+
 -- the same lists but for more bounds, with no less room
 pub record HasRoomMade (old new : Rows) : Type 0 where
-  pub len : new.length ≡ old.length
+  pub tables : HaveSameTables old new
   pub swept : new.swept ≡ old.swept
-  pub least : new.least.items ≡ old.least.items
-  pub back : new.back.items ≡ old.back.items
-  pub pruned : new.pruned.items ≡ old.pruned.items
   pub candidates : new.candidates.items ≡ old.candidates.items
   pub bounds : HaveMore old.bounds.items new.bounds.items
-  pub leader : new.leader ≡ old.leader
-  pub capacity : vec_capacity old.candidates ≤ vec_capacity new.candidates
-
--- the same lists, with no less room
-pub record SameLists (old new : Rows) : Type 0 where
-  pub len : new.length ≡ old.length
-  pub swept : new.swept ≡ old.swept
-  pub least : new.least.items ≡ old.least.items
-  pub back : new.back.items ≡ old.back.items
-  pub pruned : new.pruned.items ≡ old.pruned.items
-  pub candidates : new.candidates.items ≡ old.candidates.items
-  pub bounds : new.bounds.items ≡ old.bounds.items
   pub leader : new.leader ≡ old.leader
   pub capacity : vec_capacity old.candidates ≤ vec_capacity new.candidates
 
@@ -84,10 +76,7 @@ pub record SameButMarks (old new : Rows) : Type 0 where
 
 -- all but the candidates is the same; they are the same too, or those that have no mark up to place g are left
 pub record IsSwept (g : ℕ) (did : Bool) (old new : Rows) : Type 0 where
-  pub len : new.length ≡ old.length
-  pub least : new.least.items ≡ old.least.items
-  pub back : new.back.items ≡ old.back.items
-  pub pruned : new.pruned.items ≡ old.pruned.items
+  pub tables : HaveSameTables old new
   pub bounds : new.bounds.items ≡ old.bounds.items
   pub same : did ≡ false → (new.candidates.items ≡ old.candidates.items) × (new.swept ≡ old.swept)
   pub fewer : did ≡ true → (new.candidates.items ≡ filter (stays g old.pruned.items) old.candidates.items) × (new.swept ≡ g)
@@ -96,11 +85,8 @@ pub record IsSwept (g : ℕ) (did : Bool) (old new : Rows) : Type 0 where
 -- all but the bounds and the leader is the same; they are the same too, but that the leader is at that index, or each bound is
 -- the total to place t
 pub record AreRenewed (did : Bool) (t : ℕ) (total : ℤ) (index : ℕ) (old new : Rows) : Type 0 where
-  pub len : new.length ≡ old.length
+  pub tables : HaveSameTables old new
   pub swept : new.swept ≡ old.swept
-  pub least : new.least.items ≡ old.least.items
-  pub back : new.back.items ≡ old.back.items
-  pub pruned : new.pruned.items ≡ old.pruned.items
   pub candidates : new.candidates.items ≡ old.candidates.items
   pub capacity : vec_capacity new.candidates ≡ vec_capacity old.candidates
   pub many : length new.bounds.items ≡ length old.bounds.items
@@ -117,11 +103,8 @@ pub record HasOneMore (t ready k : ℕ) (old new : Rows) : Type 0 where
 
 -- place `ready` became a candidate, where a segment may begin there
 pub record IsAdmitted (t ready : ℕ) (old new : Rows) : Type 0 where
-  pub len : new.length ≡ old.length
+  pub tables : HaveSameTables old new
   pub swept : new.swept ≡ old.swept
-  pub least : new.least.items ≡ old.least.items
-  pub back : new.back.items ≡ old.back.items
-  pub pruned : new.pruned.items ≡ old.pruned.items
   pub leader : new.leader ≡ old.leader
   pub capacity : vec_capacity old.candidates ≤ vec_capacity new.candidates
   pub many : length new.bounds.items ≡ length old.bounds.items

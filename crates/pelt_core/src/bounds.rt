@@ -9,7 +9,7 @@
 ghost use Rattle.std.specs.Prelude.{◌≡◌, ◌≢◌, ℕ, ◌+◌, ◌*◌, ◌^◌, ◌<◌, ◌≤◌, length, pos, neg_ℤ, ◌≤ℤ◌, ◌<ℤ◌, ◌↔◌, ◌⊎◌, IsTrue, OnOk};
 ghost use Rattle.segment_model.specs.Values.{AreWithinLimits, cost_between};
 ghost use Rattle.pelt_core.specs.Candidates.{AreCandidates};
-ghost use Rattle.pelt_core.specs.Bounds.{bound_at, HaveBounds, IsFirst, AreLooked, IsBelowBlock, IsLowered, IsMoved, IsRise, IsNoLater, HaveMore};
+ghost use Rattle.pelt_core.specs.Bounds.{bound_at, HaveBounds, IsFirst, AreLooked, IsBelowBlock, IsLowered, IsMoved, IsRise, MayRise, IsNoLater, HaveMore};
 
 use crate::candidates::last_total;
 use segment_cost::{Cost, NoMemory};
@@ -177,10 +177,7 @@ fn look_at_block<C: Cost>(
 // Whether each total that a bound allows, at an index from `start` on, comes behind the best: it is more, or equal at no
 // earlier index.
 fn is_behind<C: Cost>(cost: &C, bound: Bound, start: usize, rise: &mut Rise, best: Found) -> bool
-    requires limits { AreWithinLimits (C.positions cost.now) }
-    requires placed { bound.at ≤ length (C.positions cost.now) }
-    requires low { neg_ℤ (pos (10 ^ 36)) ≤ℤ bound.total }
-    requires high { bound.total ≤ℤ pos (2 * 10 ^ 37) }
+    requires bound { MayRise (C.positions cost.now) bound }
     requires rise { IsRise (cost_between C.cost_of (C.positions cost.now))
         (length (C.positions cost.now)) rise.old }
     ensures rise { IsRise (cost_between C.cost_of (C.positions cost.now))
@@ -223,10 +220,7 @@ fn cost_from<C: Cost>(cost: &C, at: usize, rise: &mut Rise) -> i128
 
 // The bound, moved to the end.
 fn moved<C: Cost>(cost: &C, bound: Bound, rise: &mut Rise) -> Bound
-    requires limits { AreWithinLimits (C.positions cost.now) }
-    requires placed { bound.at ≤ length (C.positions cost.now) }
-    requires low { neg_ℤ (pos (10 ^ 36)) ≤ℤ bound.total }
-    requires high { bound.total ≤ℤ pos (2 * 10 ^ 37) }
+    requires bound { MayRise (C.positions cost.now) bound }
     requires rise { IsRise (cost_between C.cost_of (C.positions cost.now))
         (length (C.positions cost.now)) rise.old }
     ensures rise { IsRise (cost_between C.cost_of (C.positions cost.now))

@@ -28,6 +28,6 @@ mod steps;
 mod table;
 mod walk;
 
-pub use from_points::segmentation;
+pub use from_points::{certificate_by, segmentation};
 pub use steps::Steps;
 pub use table::Table;

@@ -42,7 +42,7 @@ impl Rows {
     ghost use Rattle.segment_model.specs.Limits.{IsLength};
     ghost use Rattle.segment_model.specs.Tables.{IsCandidate};
     ghost use Rattle.pelt_core.specs.Candidates.{AreTotals, AreCandidates, AreLookedAt, IsNear};
-    ghost use Rattle.pelt_core.specs.Rows.{ArePruned, HaveRoom, CanGrow, AddsRow, SameLists, HasRoomMade, SameButMarks, IsSwept, AreRenewed, IsAdmitted};
+    ghost use Rattle.pelt_core.specs.Rows.{ArePruned, HaveRoom, CanGrow, AddsRow, HasRoomMade, SameButMarks, IsSwept, AreRenewed, IsAdmitted};
 
     // The rows of no positions.
     pub fn start(alloc: Global, penalty: i128, len: u8) -> Result<Rows, NoMemory>
@@ -145,25 +145,16 @@ impl Rows {
         either(before, behind)
     }
 
-    // Whether it is time to look for candidates that can be dropped: a least length less one behind the first place that became
-    // a mark since that was done last. Until then they are candidates still.
-    fn is_due(&mut self, any: bool, t: usize) -> bool
-        requires few { t ≤ 16_384 }
-        requires length { IsLength self.old.length }
-        ensures { SameLists self.old self.new }
-    {
-        self.latest = latest_of(self.latest, any, t);
-        self.due = next_due(self.due, any, t + usize::from(self.length) - 1);
-        self.due > 0 && self.due <= t
-    }
-
-    // Drops the candidates that have a mark up to place g, where it is time to look for them; says whether it was.
+    // Drops the candidates that have a mark up to place g, where it is time to look for them; says whether it was: a least
+    // length less one behind the first place that became a mark since that was done last. Until then they are candidates still.
     fn sweep(&mut self, any: bool, t: usize, g: usize) -> bool
         requires few { t ≤ 16_384 }
         requires length { IsLength self.old.length }
         ensures { IsSwept g result self.old self.new }
     {
-        if !self.is_due(any, t) {
+        self.latest = latest_of(self.latest, any, t);
+        self.due = next_due(self.due, any, t + usize::from(self.length) - 1);
+        if !is_due(self.due, t) {
             return false;
         }
         drop_marked(&mut self.candidates, &self.pruned, g);
@@ -270,4 +261,9 @@ fn latest_of(latest: usize, any: bool, t: usize) -> usize {
 // The place at which candidates are looked through next: the one that was set, or the later one, where there is something new.
 fn next_due(due: usize, any: bool, later: usize) -> usize {
     if due == 0 && any { later } else { due }
+}
+
+// Whether it is time for what is to be done at a place: 0 where there is no such place.
+fn is_due(due: usize, t: usize) -> bool {
+    due > 0 && due <= t
 }

@@ -225,7 +225,10 @@ fn count_below(steps: &[i64], step: u64) -> usize
     ensures rest { (k : ℕ) (d : ℤ) → result ≤ k → k < length steps.now
         → step ≤ cast_unsigned w64 (slice_index_or steps.now k d) }
 {
-    steps.partition_point(|s| s.cast_unsigned() < step)
+    if step == 0 {
+        return 0;
+    }
+    count_up_to(steps, step - 1)
 }
 
 // How many steps are not above this one, where they don't fall. Logarithmic time.

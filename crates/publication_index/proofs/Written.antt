@@ -1,12 +1,20 @@
 -- What one write to a map makes of what is held by name.
 use Rattle.std.proofs.Common.{◌≡◌, ℕ, Bool, true, false, cond, ◌&&◌, List, [], refl, sym, ap, ◌∙◌, Option, Some, inl, inr}
 use Rattle.std.specs.Prelude.{unwrap_or, bytes_eq}
+use Rattle.std.specs.BTreeMap.{BTreeMap, WritesThrough}
+use Rattle.std.specs.Cmp.Lexicographic.{slice_cmp}
+use Rattle.std.specs.Map.{lookup}
+use Rattle.std.specs.Ordering.{nat_cmp}
 use Rattle.std.proofs.lemmas.Bool.{cases_Bool}
 use Rattle.std.proofs.lemmas.Map.Text.{is_eq-slice_cmp}
 use Rattle.std.proofs.lemmas.Slice.Eq.{bytes_eq-Decides}
+use Rattle.history_model.proofs.Cases.{some-is}
 use Rattle.history_model.specs.Runs.{Series}
 use Rattle.publication_index.specs.declared.held.Held.{Held}
-use Rattle.publication_index.specs.Kept.{is_same, held_of}
+use Rattle.publication_index.specs.Kept.{is_same, held_of, held}
+
+abbrev pub Metrics : Type 0
+Metrics = List (List ℕ × Held)
 
 -- names that are the same are equal
 pub same-name : (one other : List ℕ) → is_same one other ≡ true → one ≡ other
@@ -41,7 +49,7 @@ keeps-there g name m x y es after found written same = ap g written ∙ elim (ca
 ]
 
 -- ---- the metrics of a test
-module _ (before after : List ℕ → Option (List (List ℕ × Held))) (test : List ℕ) (v new : List (List ℕ × Held)) (here : unwrap_or (before test) [] ≡ v)
+module _ (before after : List ℕ → Option Metrics) (test : List ℕ) (v new : Metrics) (here : unwrap_or (before test) [] ≡ v)
     (written : (q : List ℕ) → after q ≡ cond (is_same test q) (Some new) (before q)) where
   at-test : (s : Series) → is_same test s.test ≡ true → v ≡ unwrap_or (before s.test) []
   at-test s hit = sym here ∙ ap (λ (n : List ℕ). unwrap_or (before n) []) (same-name test s.test hit)
@@ -52,11 +60,11 @@ module _ (before after : List ℕ → Option (List (List ℕ × Held))) (test : 
       ≡ cond (bytes_eq test s.test && bytes_eq metric s.metric) x (g (held_of s.metric (unwrap_or (before s.test) [])))
   read-within {A = A} g metric x inner s =
       let old : A = g (held_of s.metric (unwrap_or (before s.test) [])) in
-      ap (λ (o : Option (List (List ℕ × Held))). g (held_of s.metric (unwrap_or o []))) (written s.test) ∙ elim (cases_Bool (is_same test s.test)) [
+      ap (λ (o : Option Metrics). g (held_of s.metric (unwrap_or o []))) (written s.test) ∙ elim (cases_Bool (is_same test s.test)) [
         | inl hit ↦
             ap (λ b. g (held_of s.metric (unwrap_or (cond b (Some new) (before s.test)) []))) hit
             ∙ inner s.metric
-            ∙ ap (λ (es : List (List ℕ × Held)). cond (bytes_eq metric s.metric) x (g (held_of s.metric es))) (at-test s hit)
+            ∙ ap (λ (es : Metrics). cond (bytes_eq metric s.metric) x (g (held_of s.metric es))) (at-test s hit)
             ∙ ap (λ b. cond (b && bytes_eq metric s.metric) x old) (sym (sym (is_eq-slice_cmp test s.test) ∙ hit))
         | inr miss ↦
             ap (λ b. g (held_of s.metric (unwrap_or (cond b (Some new) (before s.test)) []))) miss
@@ -64,9 +72,29 @@ module _ (before after : List ℕ → Option (List (List ℕ × Held))) (test : 
       ]
 
   -- or stays
-  pub same-within : {A : Type 0} (g : Option Held → A) → ((m : List ℕ) → g (held_of m new) ≡ g (held_of m v))
+  same-within : {A : Type 0} (g : Option Held → A) → ((m : List ℕ) → g (held_of m new) ≡ g (held_of m v))
       → (s : Series) → g (held_of s.metric (unwrap_or (after s.test) [])) ≡ g (held_of s.metric (unwrap_or (before s.test) []))
-  same-within g inner s = ap (λ (o : Option (List (List ℕ × Held))). g (held_of s.metric (unwrap_or o []))) (written s.test) ∙ elim (cases_Bool (is_same test s.test)) [
-    | inl hit ↦ ap (λ b. g (held_of s.metric (unwrap_or (cond b (Some new) (before s.test)) []))) hit ∙ inner s.metric ∙ ap (λ (es : List (List ℕ × Held)). g (held_of s.metric es)) (at-test s hit)
+  same-within g inner s = ap (λ (o : Option Metrics). g (held_of s.metric (unwrap_or o []))) (written s.test) ∙ elim (cases_Bool (is_same test s.test)) [
+    | inl hit ↦ ap (λ b. g (held_of s.metric (unwrap_or (cond b (Some new) (before s.test)) []))) hit ∙ inner s.metric ∙ ap (λ (es : Metrics). g (held_of s.metric es)) (at-test s hit)
     | inr miss ↦ ap (λ b. g (held_of s.metric (unwrap_or (cond b (Some new) (before s.test)) []))) miss
   ]
+
+-- ---- of a test that is there
+module _ (m : BTreeMap (List ℕ) Metrics) (now : List (List ℕ × Metrics)) (view_is : m.entries ≡ now) (test : List ℕ) (lender : Metrics → BTreeMap (List ℕ) Metrics)
+    (holds : (w : Metrics) → WritesThrough (slice_cmp nat_cmp) (slice_cmp nat_cmp test) m w (lender w)) (v new : Metrics) (there : Some v ≡ lookup (λ (n : List ℕ). is_same test n) m.entries) where
+  here : unwrap_or (lookup (λ (n : List ℕ). is_same test n) m.entries) [] ≡ v
+  here = ap (λ (o : Option Metrics). unwrap_or o []) (sym there)
+
+  written : (q : List ℕ) → lookup (λ (n : List ℕ). is_same q n) (lender new).entries ≡ cond (is_same test q) (Some new) (lookup (λ (n : List ℕ). is_same q n) m.entries)
+  written = ((holds new).3 (some-is (lookup (λ (n : List ℕ). is_same test n) m.entries) v (sym there))).0
+
+  pub read-through : {A : Type 0} (g : Option Held → A) (metric : List ℕ) (x : A) → ((m : List ℕ) → g (held_of m new) ≡ cond (bytes_eq metric m) x (g (held_of m v)))
+      → (s : Series) → g (held s (lender new).entries) ≡ cond (bytes_eq test s.test && bytes_eq metric s.metric) x (g (held s now))
+  read-through g metric x inner s =
+      read-within (λ q. lookup (λ (n : List ℕ). is_same q n) m.entries) (λ q. lookup (λ (n : List ℕ). is_same q n) (lender new).entries) test v new here written g metric x inner s
+      ∙ ap (λ (es : List (List ℕ × Metrics)). cond (bytes_eq test s.test && bytes_eq metric s.metric) x (g (held s es))) view_is
+
+  pub same-through : {A : Type 0} (g : Option Held → A) → ((m : List ℕ) → g (held_of m new) ≡ g (held_of m v)) → (s : Series) → g (held s (lender new).entries) ≡ g (held s now)
+  same-through g inner s =
+      same-within (λ q. lookup (λ (n : List ℕ). is_same q n) m.entries) (λ q. lookup (λ (n : List ℕ). is_same q n) (lender new).entries) test v new here written g inner s
+      ∙ ap (λ (es : List (List ℕ × Metrics)). g (held s es)) view_is

@@ -9,7 +9,6 @@
 //! penalties of metrics for which none was set.
 #![tactic(auto)]
 
-mod apart;
 mod held;
 mod metrics;
 mod published;

@@ -1,23 +1,22 @@
 //! The finished segmentations of one test, by metric.
 ghost use Rattle.std.specs.Prelude.{◌≡◌, ℕ, List, [], bytes_eq, if◌then◌else◌, OnOk, OnErr, option_copied, Some, None, IfSome};
-ghost use Rattle.publication_index.specs.Kept.{done_at_home, done_in, held_of, table_in};
+ghost use Rattle.publication_index.specs.Kept.{done_in, held_of, table_in};
 ghost use Rattle.publication_index.specs.Standing.{IsKeptTable, table_for};
 
 use crate::NoMemory;
-use crate::apart::HeldApart;
 use crate::held::Held;
-use line_text::Name;
+use line_text::{Boxed, Name};
 use pelt_core::Table;
 use segment_cost::{Done, Square};
 use std::alloc::Global;
 use std::collections::BTreeMap;
 use std::marker::Model;
 
-// The metrics of one test, in order.
+// The metrics of one test, in order. A leaf of an ordered map has room for 15 values, so small ones are best there.
 #[derive(Drop)]
 pub struct MetricIndex {
     alloc: Global,
-    entries: BTreeMap<Name, HeldApart>,
+    entries: BTreeMap<Name, Boxed<Held>>,
 }
 
 impl Model for MetricIndex {
@@ -39,22 +38,12 @@ impl MetricIndex {
         }
     }
 
-    // What is kept of a metric.
-    pub fn get(&self, metric: &Name) -> Option<&Done>
-        ensures { option_copied result ≡ done_in (held_of metric.now self.now) }
+    // What is held of a metric.
+    pub fn get(&self, metric: &Name) -> Option<&Held>
+        ensures { option_copied result ≡ held_of metric.now self.now }
     {
         match self.entries.get(metric) {
-            Some(held) => Some(held.done()),
-            None => None,
-        }
-    }
-
-    // What is kept of a metric whose table is home.
-    pub fn at_home(&self, metric: &Name) -> Option<&Done>
-        ensures { option_copied result ≡ done_at_home (held_of metric.now self.now) }
-    {
-        match self.entries.get(metric) {
-            Some(held) => held.at_home(),
+            Some(held) => Some(held.get()),
             None => None,
         }
     }
@@ -70,7 +59,7 @@ impl MetricIndex {
     {
         let key = done.metric.copy(self.alloc)?;
         let table = Some(table);
-        let held = HeldApart::new(self.alloc, Held { done, table })?;
+        let held = Boxed::new(self.alloc, Held { done, table })?;
         self.entries.insert(key, held)?;
         Ok(())
     }
@@ -85,7 +74,7 @@ impl MetricIndex {
             ≡ (if bytes_eq metric.now m then None else table_in (held_of m self.old)) }
     {
         if let Some(held) = self.entries.get_mut(metric) {
-            let table = held.take_table();
+            let table = held.get_mut().take_table();
             return table;
         }
         None

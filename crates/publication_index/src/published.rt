@@ -3,10 +3,11 @@ ghost use Rattle.std.specs.Prelude.{◌≡◌, [], if◌then◌else◌, OnOk, On
 ghost use Rattle.std.specs.FinSet as set;
 ghost use Rattle.history_model.specs.Runs.{Series, same_series};
 ghost use Rattle.publication_index.specs.Homes.{homes};
-ghost use Rattle.publication_index.specs.Kept.{home, kept, kept_at_home, series_of};
+ghost use Rattle.publication_index.specs.Kept.{held, home, kept, kept_at_home, series_of};
 ghost use Rattle.publication_index.specs.Standing.{IsKeptTable, table_for};
 
 use crate::NoMemory;
+use crate::held::Held;
 use crate::metrics::MetricIndex;
 use line_text::Name;
 use pelt_core::Table;
@@ -42,10 +43,10 @@ impl PublicationIndex {
         }
     }
 
-    /// What is kept of a series. Logarithmic time; takes no memory.
-    pub fn get(&self, test: &Name, metric: &Name) -> Option<&Done>
+    // What is held of a series.
+    fn find(&self, test: &Name, metric: &Name) -> Option<&Held>
         ensures { option_copied result
-            ≡ kept (record { test = test.now; metric = metric.now }) self.now }
+            ≡ held (record { test = test.now; metric = metric.now }) self.now }
     {
         match self.tests.get(test) {
             Some(metrics) => metrics.get(metric),
@@ -53,15 +54,21 @@ impl PublicationIndex {
         }
     }
 
+    /// What is kept of a series. Logarithmic time; takes no memory.
+    pub fn get(&self, test: &Name, metric: &Name) -> Option<&Done>
+        ensures { option_copied result
+            ≡ kept (record { test = test.now; metric = metric.now }) self.now }
+    {
+        let held = self.find(test, metric)?;
+        Some(&held.done)
+    }
+
     /// What is kept of a series whose table is home. Logarithmic time; takes no memory.
     pub fn at_home(&self, test: &Name, metric: &Name) -> Option<&Done>
         ensures { option_copied result
             ≡ kept_at_home (record { test = test.now; metric = metric.now }) self.now }
     {
-        match self.tests.get(test) {
-            Some(metrics) => metrics.at_home(metric),
-            None => None,
-        }
+        self.find(test, metric)?.at_home()
     }
 
     /// Puts it, with its table, in the place of its series' earlier one; where there is no memory, what is kept of each

@@ -1,12 +1,13 @@
 -- Segments of positions as lists of values.
-use Rattle.std.proofs.Common.{◌≡◌, ℕ, ℤ, zero, suc, ◌+◌, ◌-◌, ◌<◌, ◌≤◌, List, [], ◌∷◌, ◌++◌, length, get_or, take, drop, All, refl, sym, ap, ◌∙◌, arith}
+use Rattle.std.proofs.Common.{◌≡◌, ℕ, ℤ, zero, suc, ◌+◌, ◌-◌, ◌<◌, ◌≤◌, List, [], ◌∷◌, ◌++◌, length, get_or, take, drop, All, refl, sym, ap, subst, ◌∙◌, pos, ◌^◌, ◌≤ℤ◌, arith}
+use Rattle.std.proofs.lemmas.Int.{ints}
 use Rattle.std.proofs.lemmas.List.{length-append, length-drop, length-map, drop-drop, take-append-drop, take_all, take_more, take-append-le, drop-append-le}
 use Rattle.std.proofs.lemmas.List.Concat.{flat_map-append}
-use Rattle.segment_model.specs.Segments.{Observation, Position, position_values, values_of}
-use Rattle.segment_model.specs.Limits.{IsSmall, HasValue}
+use Rattle.segment_model.specs.Segments.{Observation, Position, position_values, values_of, segment, IsCost}
+use Rattle.segment_model.specs.Limits.{IsSmall, HasValue, WithinLimits}
 use Rattle.segment_model.specs.Values.{joined, values_between, values_by_position, IsSome, AreWithinLimits, ValuesHaveParts, ValuesAreWithinLimits, ValuesAreSome, FrontHasSameValues, FrontIsWithinLimits, FirstAreWithinLimits, NextOfPoints, AllOfPoints, NextValuesFollow, ValuesOfPoints, PointsAreWithinLimits, SegmentsMerge, SegmentsAreInRange}
 use Rattle.segment_model.proofs.Segments.{take-sum, one-position}
-use Rattle.segment_model.proofs.Bounds.{all-left, all-right}
+use Rattle.segment_model.proofs.Bounds.{all-left, all-right, least_sum-low, least_sum-high}
 
 joined-append : (xs ys : List (List ℤ)) → joined (xs ++ ys) ≡ joined xs ++ joined ys
 joined-append xs ys = flat_map-append (λ (v : List ℤ). v) xs ys
@@ -123,6 +124,29 @@ points-within points h = record {
   small = rw (joined-map points) h.small;
   none_empty = some-map points h.none_empty;
 }
+
+-- ---- the segments of points within the limits
+module _ (points : List Position) (within : WithinLimits points) where
+  inside : (t : ℕ) → t ≤ length points → t ≤ length (values_by_position points)
+  inside t fits = omega (arith, fits, length-map points position_values)
+
+  pub segment-small : (s t : ℕ) → s ≤ t → t ≤ length points → All IsSmall (segment points s t)
+  segment-small s t le fits = subst (All IsSmall) (points-values points s t) (values-small (values_by_position points) (points-within points within) s t le (inside t fits))
+
+  pub segment-few : (s t : ℕ) → s ≤ t → t ≤ length points → length (segment points s t) ≤ 65_536
+  segment-few s t le fits = subst (λ (xs : List ℤ). length xs ≤ 65_536) (points-values points s t) (values-few (values_by_position points) (points-within points within) s t le (inside t fits))
+
+  pub segment-some : (s t : ℕ) → s < t → t ≤ length points → 0 < length (segment points s t)
+  segment-some s t lt fits = subst (λ (xs : List ℤ). 0 < length xs) (points-values points s t) (values-some (values_by_position points) (points-within points within) s t lt (inside t fits))
+
+pub cost-range : (points : List Position) (cost : ℕ → ℕ → ℤ) → WithinLimits points → IsCost points cost
+    → (s t : ℕ) → s ≤ t → t ≤ length points → (pos 0 ≤ℤ cost s t) × (cost s t ≤ℤ pos (10 ^ 37))
+cost-range points cost within is s t le fits =
+    let small = segment-small points within s t le fits in
+    let few = segment-few points within s t le fits in (
+      least_sum-low (segment points s t) (cost s t) (is s t le fits),
+      omega (arith, ints, few, least_sum-high (10 ^ 16) (segment points s t) (cost s t) small (is s t le fits)),
+    )
 
 pub segments-merge : SegmentsMerge
 segments-merge cost merges positions n s u t lo hi fits = rw (values-parts positions s u t lo hi) (merges (values_between positions s u) (values_between positions u t))

@@ -1,6 +1,6 @@
 -- The metrics at the place of a test, and what a write there makes of what is found by name.
 use Rattle.std.proofs.Common.{◌≡◌, ℕ, zero, suc, ◌+◌, ◌<◌, ◌≤◌, Bool, true, false, cond, not, nat_lt, List, [], ◌∷◌, ◌++◌, length, set, drop, get_or, refl, sym, ap, subst, ◌∙◌, Option, Some, None, inl, inr, arith}
-use Rattle.std.specs.Prelude.{bytes_eq, position}
+use Rattle.std.specs.Prelude.{bytes_eq, position, unwrap_or}
 use Rattle.std.specs.List.{position_or_len}
 use Rattle.std.specs.Map.{keys_of, lookup}
 use Rattle.std.specs.Cmp.Lexicographic.{nat_list_eq_equiv}
@@ -8,13 +8,11 @@ use Rattle.std.proofs.lemmas.Bool.{cases_Bool, cases_lt, lt-ltb}
 use Rattle.std.proofs.lemmas.List.Quantifiers.{position-Some}
 use Rattle.std.proofs.lemmas.Map.Text.{is_eq-slice_cmp}
 use Rattle.series_index.specs.declared.tracked.Tracked.{Tracked}
-use Rattle.series_index.specs.Seen.{is_same}
-use Rattle.series_index.proofs.Written.{same-name}
+use Rattle.history_model.specs.Runs.{Series}
+use Rattle.series_index.specs.Seen.{is_same, is_series, unseen, seen_of, seen}
+use Rattle.series_index.proofs.Written.{Metrics, same-name, seen-within, same-within, absent-within}
 
-abbrev Metrics : Type 0
-Metrics = List (List ℕ × Tracked)
-
-abbrev Tests : Type 0
+abbrev pub Tests : Type 0
 Tests = List (List ℕ × Metrics)
 
 abbrev metrics_of : List ℕ → Tests → Option Metrics
@@ -31,9 +29,23 @@ twice : {A : Type 0} (b : Bool) (x y z : A) → cond b x z ≡ cond b x (cond b 
 twice true x y z = refl
 twice false x y z = refl
 
+-- behind a test of another name
+past-other : (test q : List ℕ) (e : List ℕ × Metrics) (m : Metrics) (es : Tests) → is_same test e.0 ≡ false
+    → cond (is_same q e.0) (Some e.1) (cond (is_same test q) (Some m) (metrics_of q es)) ≡ cond (is_same test q) (Some m) (metrics_of q (e ∷ es))
+past-other test q e m es other = elim (cases_Bool (is_same test q)) [
+  | inl hit ↦
+      let miss : is_same q e.0 ≡ false = ap (λ (n : List ℕ). is_same n e.0) (sym (same-name test q hit)) ∙ other in
+      ap (λ b. cond b (Some e.1) (cond (is_same test q) (Some m) (metrics_of q es))) miss
+      ∙ ap (λ b. cond b (Some m) (metrics_of q es)) hit
+      ∙ sym (ap (λ b. cond b (Some m) (metrics_of q (e ∷ es))) hit)
+  | inr miss ↦
+      ap (λ b. cond (is_same q e.0) (Some e.1) (cond b (Some m) (metrics_of q es))) miss
+      ∙ sym (ap (λ b. cond b (Some m) (metrics_of q (e ∷ es))) miss)
+]
+
 -- ---- the first place of a name
 module _ (test : List ℕ) (r : List ℕ × Metrics) (here : is_same test r.0 ≡ true) where
-  pub metrics-at : (es : Tests) (p : ℕ) → p < length es → r ≡ get_or es p r → ((k : ℕ) → k < p → is_same test (get_or es k r).0 ≡ false) → metrics_of test es ≡ Some r.1
+  metrics-at : (es : Tests) (p : ℕ) → p < length es → r ≡ get_or es p r → ((k : ℕ) → k < p → is_same test (get_or es k r).0 ≡ false) → metrics_of test es ≡ Some r.1
   metrics-at [] p lt at before = absurd (omega arith)
   metrics-at (e ∷ es) zero lt at before =
       let hit : is_same test e.0 ≡ true = ap (λ (x : List ℕ × Metrics). is_same test x.0) (sym at) ∙ here in
@@ -42,7 +54,7 @@ module _ (test : List ℕ) (r : List ℕ × Metrics) (here : is_same test r.0 �
       ap (λ b. cond b (Some e.1) (metrics_of test es)) (before 0 (omega arith))
       ∙ metrics-at es p (omega arith) at (λ k less. before (suc k) (omega arith))
 
-  pub metrics-written : (m : Metrics) (es : Tests) (p : ℕ) → p < length es → r ≡ get_or es p r → ((k : ℕ) → k < p → is_same test (get_or es k r).0 ≡ false)
+  metrics-written : (m : Metrics) (es : Tests) (p : ℕ) → p < length es → r ≡ get_or es p r → ((k : ℕ) → k < p → is_same test (get_or es k r).0 ≡ false)
       → (q : List ℕ) → metrics_of q (set es p (r.0, m)) ≡ cond (is_same test q) (Some m) (metrics_of q es)
   metrics-written m [] p lt at before q = absurd (omega arith)
   metrics-written m (e ∷ es) zero lt at before q =
@@ -53,18 +65,9 @@ module _ (test : List ℕ) (r : List ℕ × Metrics) (here : is_same test r.0 �
       ∙ ap (λ b. cond (is_same test q) (Some m) (cond b (Some e.1) (metrics_of q es))) (sym two)
   metrics-written m (e ∷ es) (suc p) lt at before q =
       let next = metrics-written m es p (omega arith) at (λ k less. before (suc k) (omega arith)) q in
-      ap (cond (is_same q e.0) (Some e.1)) next ∙ elim (cases_Bool (is_same test q)) [
-        | inl hit ↦
-            let miss : is_same q e.0 ≡ false = ap (λ (n : List ℕ). is_same n e.0) (sym (same-name test q hit)) ∙ before 0 (omega arith) in
-            ap (λ b. cond b (Some e.1) (cond (is_same test q) (Some m) (metrics_of q es))) miss
-            ∙ ap (λ b. cond b (Some m) (metrics_of q es)) hit
-            ∙ sym (ap (λ b. cond b (Some m) (metrics_of q (e ∷ es))) hit)
-        | inr miss ↦
-            ap (λ b. cond (is_same q e.0) (Some e.1) (cond b (Some m) (metrics_of q es))) miss
-            ∙ sym (ap (λ b. cond b (Some m) (metrics_of q (e ∷ es))) miss)
-      ]
+      ap (cond (is_same q e.0) (Some e.1)) next ∙ past-other test q e m es (before 0 (omega arith))
 
-pub same-keys : (r : List ℕ × Metrics) (m : Metrics) (es : Tests) (p : ℕ) → r ≡ get_or es p r → keys_of (set es p (r.0, m)) ≡ keys_of es
+same-keys : (r : List ℕ × Metrics) (m : Metrics) (es : Tests) (p : ℕ) → r ≡ get_or es p r → keys_of (set es p (r.0, m)) ≡ keys_of es
 same-keys r m [] p at = refl
 same-keys r m (e ∷ es) zero at = ap (λ (x : List ℕ × Metrics). x.0 ∷ keys_of es) at
 same-keys r m (e ∷ es) (suc p) at = ap (λ (ks : List (List ℕ)). e.0 ∷ ks) (same-keys r m es p at)
@@ -84,7 +87,7 @@ module _ (test : List ℕ) (names : List (List ℕ)) (es : Tests) (p : ℕ) (r :
   stands : (p < length (keys_of es)) × (bytes_eq test (get_or (keys_of es) p r.0) ≡ true) × ((k : ℕ) → k < p → bytes_eq test (get_or (keys_of es) k r.0) ≡ false)
   stands = position-Some (λ (k : List ℕ). bytes_eq test k) (keys_of es) p r.0 (ap (position (λ (k : List ℕ). bytes_eq test k)) (sym same) ∙ found)
 
-  pub within : p < length es
+  within : p < length es
   within = let lt = stands.0 in omega (arith, length-keys es, lt)
 
   here : is_same test r.0 ≡ true
@@ -93,14 +96,36 @@ module _ (test : List ℕ) (names : List (List ℕ)) (es : Tests) (p : ℕ) (r :
   before : (k : ℕ) → k < p → is_same test (get_or es k r).0 ≡ false
   before k less = is_eq-slice_cmp test (get_or es k r).0 ∙ ap (bytes_eq test) (sym (keys-at es k r)) ∙ stands.2 k less
 
-  pub found-metrics : metrics_of test es ≡ Some r.1
+  found-metrics : metrics_of test es ≡ Some r.1
   found-metrics = metrics-at test r here es p within at before
 
-  pub put-metrics : (m : Metrics) (q : List ℕ) → metrics_of q (set es p (r.0, m)) ≡ cond (is_same test q) (Some m) (metrics_of q es)
+  put-metrics : (m : Metrics) (q : List ℕ) → metrics_of q (set es p (r.0, m)) ≡ cond (is_same test q) (Some m) (metrics_of q es)
   put-metrics m q = metrics-written test r here m es p within at before q
 
   pub put-keys : (m : Metrics) → names ≡ keys_of (set es p (r.0, m))
   put-keys m = same ∙ sym (same-keys r m es p at)
+
+  -- what is seen there, and what is seen after a write there
+  module _ (now : Tests) (view_is : es ≡ now) where
+    pub seen-at : (m : List ℕ) → seen (record { test = test; metric = m }) now ≡ seen_of m r.1
+    seen-at m =
+        ap (λ (ts : Tests). seen (record { test = test; metric = m }) ts) (sym view_is) ∙ ap (λ (o : Option Metrics). seen_of m (unwrap_or o [])) found-metrics
+
+    there : unwrap_or (metrics_of test es) [] ≡ r.1
+    there = ap (λ (o : Option Metrics). unwrap_or o []) found-metrics
+
+    abbrev after : Metrics → List ℕ → Option Metrics
+    after m q = metrics_of q (set es p (r.0, m))
+
+    pub seen-put : (new : Metrics) (metric : List ℕ) (f : Tracked → Tracked) → ((m : List ℕ) → seen_of m new ≡ cond (is_same metric m) (f (seen_of m r.1)) (seen_of m r.1))
+        → (s : Series) → seen s (set es p (r.0, new)) ≡ cond (is_series test metric s) (f (seen s now)) (seen s now)
+    seen-put new metric f inner s =
+        seen-within (λ q. metrics_of q es) (after new) test r.1 new there (put-metrics new) metric f inner s
+        ∙ ap (λ (ts : Tests). cond (is_series test metric s) (f (seen s ts)) (seen s ts)) view_is
+
+    pub same-put : (new : Metrics) → ((m : List ℕ) → seen_of m new ≡ seen_of m r.1) → (s : Series) → seen s (set es p (r.0, new)) ≡ seen s now
+    same-put new inner s =
+        same-within (λ q. metrics_of q es) (after new) test r.1 new there (put-metrics new) inner s ∙ ap (λ (ts : Tests). seen s ts) view_is
 
 -- ---- a name that isn't there
 absent : (test : List ℕ) (es : Tests) → length es ≤ position_or_len (λ (k : List ℕ). bytes_eq test k) (keys_of es) → metrics_of test es ≡ None
@@ -125,23 +150,33 @@ none-metrics test names es same none =
     ]
 
 -- ---- one test more
-pub added-metrics : (test : List ℕ) (m : Metrics) (es : Tests) → metrics_of test es ≡ None → (q : List ℕ) → metrics_of q (es ++ (test, m) ∷ []) ≡ cond (is_same test q) (Some m) (metrics_of q es)
+added-metrics : (test : List ℕ) (m : Metrics) (es : Tests) → metrics_of test es ≡ None → (q : List ℕ) → metrics_of q (es ++ (test, m) ∷ []) ≡ cond (is_same test q) (Some m) (metrics_of q es)
 added-metrics test m [] none q = ap (λ b. cond b (Some m) None) (turned q test)
 added-metrics test m (e ∷ es) none q = elim (cases_Bool (is_same test e.0)) [
   | inl hit ↦ absurd (let no : Some e.1 ≡ None = sym (ap (λ b. cond b (Some e.1) (metrics_of test es)) hit) ∙ none in cc)
   | inr other ↦
       let rest : metrics_of test es ≡ None = sym (ap (λ b. cond b (Some e.1) (metrics_of test es)) other) ∙ none in
-      ap (cond (is_same q e.0) (Some e.1)) (added-metrics test m es rest q) ∙ elim (cases_Bool (is_same test q)) [
-        | inl hit ↦
-            let miss : is_same q e.0 ≡ false = ap (λ (n : List ℕ). is_same n e.0) (sym (same-name test q hit)) ∙ other in
-            ap (λ b. cond b (Some e.1) (cond (is_same test q) (Some m) (metrics_of q es))) miss
-            ∙ ap (λ b. cond b (Some m) (metrics_of q es)) hit
-            ∙ sym (ap (λ b. cond b (Some m) (metrics_of q (e ∷ es))) hit)
-        | inr miss ↦
-            ap (λ b. cond (is_same q e.0) (Some e.1) (cond b (Some m) (metrics_of q es))) miss
-            ∙ sym (ap (λ b. cond b (Some m) (metrics_of q (e ∷ es))) miss)
-      ]
+      ap (cond (is_same q e.0) (Some e.1)) (added-metrics test m es rest q) ∙ past-other test q e m es other
 ]
+
+module _ (test metric : List ℕ) (es now : Tests) (view_is : es ≡ now) (none : metrics_of test es ≡ None) where
+  pub unseen-at : seen (record { test = test; metric = metric }) now ≡ unseen
+  unseen-at =
+      ap (λ (ts : Tests). seen (record { test = test; metric = metric }) ts) (sym view_is) ∙ ap (λ (o : Option Metrics). seen_of metric (unwrap_or o [])) none
+
+  -- what leaves an unseen series as it is changes nothing
+  pub seen-none : (f : Tracked → Tracked) → f unseen ≡ unseen → (s : Series) → seen s now ≡ cond (is_series test metric s) (f (seen s now)) (seen s now)
+  seen-none f same s =
+      sym (ap (λ (ts : Tests). seen s ts) view_is)
+      ∙ absent-within (λ q. metrics_of q es) test metric f none same s
+      ∙ ap (λ (ts : Tests). cond (is_series test metric s) (f (seen s ts)) (seen s ts)) view_is
+
+  pub seen-added : (new : Metrics) (f : Tracked → Tracked) → ((m : List ℕ) → seen_of m new ≡ cond (is_same metric m) (f (seen_of m [])) (seen_of m []))
+      → (s : Series) → seen s (es ++ (test, new) ∷ []) ≡ cond (is_series test metric s) (f (seen s now)) (seen s now)
+  seen-added new f inner s =
+      seen-within (λ q. metrics_of q es) (λ q. metrics_of q (es ++ (test, new) ∷ [])) test [] new (ap (λ (o : Option Metrics). unwrap_or o []) none)
+      (added-metrics test new es none) metric f inner s
+      ∙ ap (λ (ts : Tests). cond (is_series test metric s) (f (seen s ts)) (seen s ts)) view_is
 
 pub added-keys : (test : List ℕ) (m : Metrics) (es : Tests) → keys_of (es ++ (test, m) ∷ []) ≡ keys_of es ++ test ∷ []
 added-keys test m [] = refl

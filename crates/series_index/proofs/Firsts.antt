@@ -1,21 +1,24 @@
 -- The samples of a run, one more: which make a series known, and how many a series has.
-use Rattle.std.proofs.Common.{◌≡◌, ℕ, ◌+◌, ◌<◌, ◌≤◌, Bool, true, false, cond, not, ◌&&◌, ◌||◌, List, [], ◌∷◌, ◌++◌, length, map, take, get_or, refl, sym, ap, subst, ◌∙◌, Option, Some, None, is_some, arith, inl, inr}
+use Rattle.std.proofs.Common.{◌≡◌, ℕ, ◌+◌, ◌<◌, ◌≤◌, Bool, true, false, cond, not, ◌&&◌, ◌||◌, List, [], ◌∷◌, ◌++◌, length, map, take, get_or, refl, sym, ap, subst, ◌∙◌, Option, Some, None, is_some, All, ℤ, pos, negsuc, FitsSigned, w64, arith, inl, inr}
 use Rattle.std.specs.Prelude.{filter, bytes_eq, is_none}
 use Rattle.std.specs.List.{list_any}
 use Rattle.std.proofs.lemmas.Bool.{cases_Bool}
+use Rattle.std.proofs.lemmas.Int.{ints}
 use Rattle.std.proofs.lemmas.List.{take_more, append-nil, length-append, map-append}
 use Rattle.std.proofs.lemmas.List.Elements.{filter-append}
 use Rattle.std.proofs.lemmas.Slice.Eq.{bytes_eq-Decides}
 use Rattle.segment_model.specs.Segments.{values_of}
+use Rattle.segment_model.specs.Limits.{IsSmall}
 use Rattle.segment_model.proofs.Inserted.{count-inserted}
 use Rattle.history_model.specs.Laws.{SeriesAreListedOnce}
 use Rattle.sample_model.specs.Samples.{Measurement}
 use Rattle.history_model.specs.Runs.{Series, is_of, measured, distinct, same_series}
 use Rattle.series_index.specs.declared.tracked.Tracked.{Tracked}
-use Rattle.series_index.specs.Seen.{with_sample}
-use Rattle.series_index.specs.Taken.{of_series, with_samples}
+use Rattle.series_index.specs.Seen.{seen, is_series, with_sample, HasRoom}
+use Rattle.series_index.specs.Taken.{of_series, with_samples, HasRoomFor}
 use Rattle.series_index.specs.Demands.{Kept, is_new, new_ones}
-use Rattle.series_index.proofs.Runs.{filter-next, count-next}
+use Rattle.series_index.proofs.Runs.{filter-next, count-next, series-is, taken-next, room-fewer}
+use Rattle.series_index.proofs.Undo.{room-after, room-next}
 use Rattle.history_model.proofs.Lists.{or-true, any-map}
 
 pub own : (x : Measurement) → is_of (measured x) x ≡ true
@@ -103,3 +106,38 @@ one-at-most false = omega arith
 pub filter-few : {A : Type 0} (p : A → Bool) (xs : List A) → length (filter p xs) ≤ length xs
 filter-few p [] = omega arith
 filter-few p (x ∷ xs) = let rest = filter-few p xs in elim (p x) as (λ b. length (cond b (x ∷ filter p xs) (filter p xs)) ≤ length (x ∷ xs)) [ true ↦ omega (arith, rest) | false ↦ omega (arith, rest) ]
+
+-- ---- the next sample of a run
+pub small-fits : (v : ℤ) → IsSmall v → FitsSigned w64 v
+small-fits (pos n) small = omega (arith, ints, small)
+small-fits (negsuc n) small = omega (arith, ints, small)
+
+module _ (kept : Kept) (commit step : ℕ) (samples : List Measurement) (i : ℕ) (x y : Measurement) (lt : i < length samples) (is : x ≡ get_or samples i x) (inside : y ≡ x)
+    (all_small : All (λ (z : Measurement). IsSmall z.value) samples) where
+  next-small : IsSmall x.value
+  next-small = let P : Measurement → Type 0 = λ z. IsSmall z.value in subst P (sym is) (all_small i x lt)
+
+  pub next-fits : FitsSigned w64 y.value
+  next-fits = small-fits y.value (let P : Measurement → Type 0 = λ z. IsSmall z.value in subst P (sym inside) next-small)
+
+  -- there is room for it where the samples before it were taken in
+  pub next-room : (t : Tracked) → HasRoomFor t commit step (length (of_series (measured x) samples)) → seen (measured x) kept ≡ with_samples commit step (of_series (measured x) (take i samples)) t
+      → HasRoom (seen (measured y) kept) commit step y.value
+  next-room t room are =
+      let xs : List Measurement = of_series (measured x) (take i samples) in
+      let few = count-next (is_of (measured x)) samples i x lt is (own x) in
+      let enough = room-fewer t commit step (1 + length xs) (length (of_series (measured x) samples)) (omega (arith, few)) room in
+      let next = room-next (with_samples commit step xs t) commit step 0 x.value next-small (room-after t commit step 1 xs enough) in
+      let P : Tracked → Type 0 = λ u. HasRoom u commit step x.value in
+      let Q : Measurement → Type 0 = λ z. HasRoom (seen (measured z) kept) commit step z.value in
+      subst Q (sym inside) (subst P (sym are) next)
+
+  -- with it
+  pub next-taken : (s : Series) (t after : Tracked) → after ≡ cond (is_series y.test y.metric s) (with_sample commit (record { step = step; value = y.value }) (seen s kept)) (seen s kept)
+      → seen s kept ≡ with_samples commit step (of_series s (take i samples)) t → after ≡ with_samples commit step (of_series s (take (i + 1) samples)) t
+  next-taken s t after put are =
+      put
+      ∙ ap (λ (z : Measurement). cond (is_series z.test z.metric s) (with_sample commit (record { step = step; value = z.value }) (seen s kept)) (seen s kept)) inside
+      ∙ ap (λ b. cond b (with_sample commit (record { step = step; value = x.value }) (seen s kept)) (seen s kept)) (series-is s x)
+      ∙ ap (λ (u : Tracked). cond (is_of s x) (with_sample commit (record { step = step; value = x.value }) u) u) are
+      ∙ taken-next commit step s samples i x t lt is

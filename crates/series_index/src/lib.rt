@@ -9,7 +9,6 @@
 //! Stands on `point_list` for the positions, on `name_index` for the tests by name and on `history_model` for series.
 #![tactic(auto)]
 
-mod apart;
 mod coming;
 mod demand;
 mod known;

@@ -1,22 +1,21 @@
 //! The series of one test, by metric.
 ghost use Rattle.std.specs.Prelude.{◌≡◌, ℕ, List, [], if◌then◌else◌, IfOk, OnOk, OnErr, option_copied};
 ghost use Rattle.std.specs.Map.{lookup};
-ghost use Rattle.series_index.specs.Seen.{is_same, seen_of, with_sample, without, undone, HasRoom};
+ghost use Rattle.series_index.specs.Seen.{is_same, seen_of, with_sample, taken_out, HasRoom};
 
 use crate::NoMemory;
-use crate::apart::TrackedApart;
 use crate::tracked::Tracked;
-use line_text::Name;
+use line_text::{Boxed, Name};
 use point_list::FrozenPoints;
 use std::alloc::Global;
 use std::collections::BTreeMap;
 use std::marker::Model;
 
-// The metrics of one test, in order.
+// The metrics of one test, in order. A leaf of an ordered map has room for 15 values, so small ones are best there.
 #[derive(Drop)]
 pub struct MetricIndex {
     alloc: Global,
-    pub(crate) entries: BTreeMap<Name, TrackedApart>,
+    pub(crate) entries: BTreeMap<Name, Boxed<Tracked>>,
 }
 
 impl Model for MetricIndex {
@@ -64,13 +63,13 @@ impl MetricIndex {
         ensures err { OnErr result ((m : List ℕ) → seen_of m self.new ≡ seen_of m self.old) }
     {
         if let Some(tracked) = self.entries.get_mut(metric) {
-            tracked.insert(commit, step, value)?;
+            tracked.get_mut().insert(commit, step, value)?;
             return Ok(());
         }
         let mut tracked = Tracked::new(self.alloc);
         tracked.insert(commit, step, value)?;
         let key = metric.copy(self.alloc)?;
-        let apart = TrackedApart::new(self.alloc, tracked)?;
+        let apart = Boxed::new(self.alloc, tracked)?;
         self.entries.insert(key, apart)?;
         Ok(())
     }
@@ -80,7 +79,7 @@ impl MetricIndex {
         ensures { (m : List ℕ) → seen_of m self.new ≡ seen_of m self.old }
     {
         if let Some(tracked) = self.entries.get_mut(metric) {
-            return tracked.settle();
+            return tracked.get_mut().settle();
         }
         Ok(())
     }
@@ -91,31 +90,19 @@ impl MetricIndex {
         ensures same { (m : List ℕ) → seen_of m self.new ≡ seen_of m self.old }
     {
         if let Some(tracked) = self.entries.get_mut(metric) {
-            return tracked.freeze();
+            return tracked.get_mut().freeze();
         }
         FrozenPoints::none(self.alloc)
     }
 
-    // Takes out the samples of a step.
-    pub fn take_out(&mut self, metric: &Name, commit: u64, step: u64)
+    // Takes out the samples of a step, and forgets the series where that is asked and it was known since then.
+    pub fn remove(&mut self, metric: &Name, commit: u64, step: u64, forget: bool)
         ensures { (m : List ℕ) → seen_of m self.new ≡ (if is_same metric.now m
-            then without commit step (seen_of m self.old)
+            then taken_out forget commit step (seen_of m self.old)
             else seen_of m self.old) }
     {
         if let Some(tracked) = self.entries.get_mut(metric) {
-            tracked.take_out(commit, step);
-            return;
-        }
-    }
-
-    // Takes them out as if they had never come.
-    pub fn undo(&mut self, metric: &Name, commit: u64, step: u64)
-        ensures { (m : List ℕ) → seen_of m self.new ≡ (if is_same metric.now m
-            then undone commit step (seen_of m self.old)
-            else seen_of m self.old) }
-    {
-        if let Some(tracked) = self.entries.get_mut(metric) {
-            tracked.undo(commit, step);
+            tracked.get_mut().remove(commit, step, forget);
             return;
         }
     }

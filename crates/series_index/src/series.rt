@@ -4,7 +4,7 @@ ghost use Rattle.std.specs.List.{list_any};
 ghost use Rattle.segment_model.specs.Limits.{IsSmall};
 ghost use Rattle.sample_model.specs.Samples.{Measurement};
 ghost use Rattle.history_model.specs.Runs.{Series, is_of};
-ghost use Rattle.series_index.specs.Seen.{seen, unseen, is_series, with_sample, without, undone, HasRoom};
+ghost use Rattle.series_index.specs.Seen.{seen, unseen, is_series, with_sample, without, undone, taken_out, HasRoom};
 ghost use Rattle.series_index.specs.Taken.{of_series, with_samples, HasRoomFor};
 
 use crate::NoMemory;
@@ -147,16 +147,26 @@ impl SeriesIndex {
         }
     }
 
+    // Takes all samples of a step at a commit out of a series, and forgets it where that is asked and it was known since
+    // then.
+    fn remove(&mut self, test: &Name, metric: &Name, commit: u64, step: u64, forget: bool)
+        ensures { (s : Series) → seen s self.new ≡ (if is_series test.now metric.now s
+            then taken_out forget commit step (seen s self.old)
+            else seen s self.old) }
+    {
+        if let Some(place) = self.names.place_of(test) {
+            self.tests[place].1.remove(metric, commit, step, forget);
+            return;
+        }
+    }
+
     /// Takes all samples of a step at a commit out of a series, which stays known. Takes no memory.
     pub fn take_out(&mut self, test: &Name, metric: &Name, commit: u64, step: u64)
         ensures { (s : Series) → seen s self.new ≡ (if is_series test.now metric.now s
             then without commit step (seen s self.old)
             else seen s self.old) }
     {
-        if let Some(place) = self.names.place_of(test) {
-            self.tests[place].1.take_out(metric, commit, step);
-            return;
-        }
+        self.remove(test, metric, commit, step, false);
     }
 
     /// Takes them out as if they had never come: the series is no longer known where it was known since then.
@@ -165,10 +175,7 @@ impl SeriesIndex {
             then undone commit step (seen s self.old)
             else seen s self.old) }
     {
-        if let Some(place) = self.names.place_of(test) {
-            self.tests[place].1.undo(metric, commit, step);
-            return;
-        }
+        self.remove(test, metric, commit, step, true);
     }
 
     /// Puts all samples of a run in at a commit, each into its series; where there is no memory for one of them, what is
@@ -191,6 +198,21 @@ impl SeriesIndex {
         Ok(())
     }
 
+    // Takes all samples of a step at a commit out of the series of some samples, and forgets those where that is asked.
+    fn remove_all(&mut self, commit: u64, step: u64, samples: &[Sample], forget: bool)
+        requires { (s : Series) → taken_out forget commit step
+            (taken_out forget commit step (seen s self.old))
+            ≡ taken_out forget commit step (seen s self.old) }
+        ensures { (s : Series) → seen s self.new
+            ≡ (if list_any (is_of s) samples.now
+            then taken_out forget commit step (seen s self.old)
+            else seen s self.old) }
+    {
+        for sample in samples {
+            self.remove(&sample.test, &sample.metric, commit, step, forget);
+        }
+    }
+
     /// Takes all samples of a step at a commit out of the series of a run's samples. Takes no memory.
     pub fn take_back(&mut self, commit: u64, step: u64, samples: &[Sample])
         ensures { (s : Series) → seen s self.new
@@ -198,9 +220,7 @@ impl SeriesIndex {
             then without commit step (seen s self.old)
             else seen s self.old) }
     {
-        for sample in samples {
-            self.take_out(&sample.test, &sample.metric, commit, step);
-        }
+        self.remove_all(commit, step, samples, false);
     }
 
     /// Takes all samples of a step out of the series of some samples, as if they had never come. Takes no memory.
@@ -212,8 +232,6 @@ impl SeriesIndex {
             then undone commit step (seen s self.old)
             else seen s self.old) }
     {
-        for sample in samples {
-            self.undo(&sample.test, &sample.metric, commit, step);
-        }
+        self.remove_all(commit, step, samples, true);
     }
 }

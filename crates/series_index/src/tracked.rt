@@ -1,6 +1,6 @@
 //! What is kept of one series.
 ghost use Rattle.std.specs.Prelude.{◌≡◌, IfOk, OnOk, OnErr};
-ghost use Rattle.series_index.specs.Seen.{unseen, with_sample, without, undone, HasRoom};
+ghost use Rattle.series_index.specs.Seen.{unseen, with_sample, taken_out, HasRoom};
 
 use crate::NoMemory;
 use crate::log::PointLog;
@@ -56,20 +56,14 @@ impl Tracked {
         self.points.freeze()
     }
 
-    // Takes out the samples of a step.
-    pub(crate) fn take_out(&mut self, commit: u64, step: u64)
-        ensures { self.new ≡ without commit step self.old }
-    {
-        self.points.remove(commit, step);
-    }
-
-    // Takes them out as if they had never come.
-    pub(crate) fn undo(&mut self, commit: u64, step: u64)
-        ensures { self.new ≡ undone commit step self.old }
+    // Takes out the samples of a step; then the series is no longer known where it was since that step, if it is to be
+    // forgotten.
+    pub(crate) fn remove(&mut self, commit: u64, step: u64, forget: bool)
+        ensures { self.new ≡ taken_out forget commit step self.old }
     {
         self.points.remove(commit, step);
         if let Some(since) = self.since {
-            if since == step {
+            if forget && since == step {
                 self.since = None;
             }
         }

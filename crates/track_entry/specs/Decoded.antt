@@ -1,5 +1,5 @@
 -- Private: no public contract cites this. What words stand for, whether or not they are canonical.
-use Rattle.std.specs.Prelude.{ℕ, ℤ, pos, neg_ℤ, ◌==◌, if◌then◌else◌, List, [], ◌∷◌, map, drop, slice_index, bytes_eq, codes, Option, Some, None, Result, Ok, Err}
+use Rattle.std.specs.Prelude.{ℕ, ℤ, pos, neg_ℤ, ◌==◌, if◌then◌else◌, List, [], ◌∷◌, map, drop, slice_index, bytes_eq, codes, Option, Some, None}
 use Rattle.std.specs.Str.Parse.{digits_value}
 use Rattle.percent_encoding.specs.Percent.{percent_decode}
 use Rattle.sample_model.specs.Samples.{Measurement}
@@ -10,14 +10,9 @@ use Rattle.history_model.specs.declared.events.JobEvent.TheVariants as job
 use Rattle.regression_state.specs.Moves.{word}
 use Rattle.regression_state.specs.declared.states.State.{State}
 use Rattle.regression_state.specs.declared.states.State.TheVariants.{Detected, Staged, Active, NotToBeFixed, Ignored, Verify, Fixed}
-use Rattle.track_entry.specs.declared.fault.EntryFault.{EntryFault}
-use Rattle.track_entry.specs.declared.fault.EntryFault.TheVariants.{NotEntry, NoMemory}
-
--- a reader gives what it should, unless there was no memory
-abbrev pub Reads : {A : Type 0} → Result A EntryFault → (A → Type 0) → Type 0
-Reads (Ok x) P = P x
-Reads (Err NotEntry) P = ⊥
-Reads (Err NoMemory) P = Unit {0}
+use Rattle.track_entry.specs.declared.kind.Kind.{Kind}
+use Rattle.track_entry.specs.declared.kind.Kind.TheVariants as kind
+use Rattle.track_entry.specs.Kinds.{kind_in}
 
 abbrev pub value_of : List ℕ → ℤ
 value_of word = if slice_index word 0 == 45 then neg_ℤ (pos (digits_value 10 (drop 1 word))) else pos (digits_value 10 word)
@@ -97,20 +92,19 @@ give_up_of (number ∷ place ∷ []) = Some (Job (job.GiveUp (digits_value 10 nu
 give_up_of words = None
 
 -- the entry of words behind the word of its kind
-abbrev pub said_by : List ℕ → List (List ℕ) → Option Entry
-said_by kind words =
-    if bytes_eq kind (codes "commit") then commit_of words
-    else (if bytes_eq kind (codes "accept") then accept_of words
-    else (if bytes_eq kind (codes "retract") then retract_of words
-    else (if bytes_eq kind (codes "tune") then tune_of words
-    else (if bytes_eq kind (codes "publish") then publish_of words
-    else (if bytes_eq kind (codes "raise") then raise_of words
-    else (if bytes_eq kind (codes "move") then move_of words
-    else (if bytes_eq kind (codes "begin") then begin_of words
-    else (if bytes_eq kind (codes "answer") then answer_of words
-    else (if bytes_eq kind (codes "giveup") then give_up_of words
-    else None)))))))))
+abbrev pub said_by : Option Kind → List (List ℕ) → Option Entry
+said_by (Some kind.Commit) words = commit_of words
+said_by (Some kind.Accept) words = accept_of words
+said_by (Some kind.Retract) words = retract_of words
+said_by (Some kind.Tune) words = tune_of words
+said_by (Some kind.Publish) words = publish_of words
+said_by (Some kind.Raise) words = raise_of words
+said_by (Some kind.Move) words = move_of words
+said_by (Some kind.Begin) words = begin_of words
+said_by (Some kind.Answer) words = answer_of words
+said_by (Some kind.GiveUp) words = give_up_of words
+said_by None words = None
 
 abbrev pub decoded : List (List ℕ) → Option Entry
 decoded [] = None
-decoded (kind ∷ words) = said_by kind words
+decoded (word ∷ words) = said_by (kind_in word) words

@@ -1,5 +1,5 @@
 -- Private: no public contract cites this. The kinds of entries, and their words.
-use Rattle.std.specs.Prelude.{ℕ, List, codes}
+use Rattle.std.specs.Prelude.{ℕ, List, codes, if◌then◌else◌, bytes_eq, Option, Some, None}
 use Rattle.history_model.specs.declared.entries.Entry.{Entry}
 use Rattle.history_model.specs.declared.entries.Entry.TheVariants as entry
 use Rattle.history_model.specs.declared.events.RegressionEvent.TheVariants as regression
@@ -7,18 +7,20 @@ use Rattle.history_model.specs.declared.events.JobEvent.TheVariants as job
 use Rattle.track_entry.specs.declared.kind.Kind.{Kind}
 use Rattle.track_entry.specs.declared.kind.Kind.TheVariants.{Commit, Accept, Retract, Tune, Publish, Raise, Move, Begin, Answer, GiveUp}
 
--- the word of a kind
-abbrev pub kind_word : Kind → List ℕ
-kind_word Commit = codes "commit"
-kind_word Accept = codes "accept"
-kind_word Retract = codes "retract"
-kind_word Tune = codes "tune"
-kind_word Publish = codes "publish"
-kind_word Raise = codes "raise"
-kind_word Move = codes "move"
-kind_word Begin = codes "begin"
-kind_word Answer = codes "answer"
-kind_word GiveUp = codes "giveup"
+-- the kind of which this is the word
+abbrev pub kind_in : List ℕ → Option Kind
+kind_in word =
+    if bytes_eq word (codes "commit") then Some Commit
+    else (if bytes_eq word (codes "accept") then Some Accept
+    else (if bytes_eq word (codes "retract") then Some Retract
+    else (if bytes_eq word (codes "tune") then Some Tune
+    else (if bytes_eq word (codes "publish") then Some Publish
+    else (if bytes_eq word (codes "raise") then Some Raise
+    else (if bytes_eq word (codes "move") then Some Move
+    else (if bytes_eq word (codes "begin") then Some Begin
+    else (if bytes_eq word (codes "answer") then Some Answer
+    else (if bytes_eq word (codes "giveup") then Some GiveUp
+    else None)))))))))
 
 -- the kind of an entry
 abbrev pub kind_of : Entry → Kind

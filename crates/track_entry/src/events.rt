@@ -1,31 +1,21 @@
 //! What becomes of regressions and bisections, read from their words.
-ghost use Rattle.std.specs.Prelude.{◌≡◌, ℕ, ◌≤◌, List, ◌∷◌, length, drop, codes, Some};
+ghost use Rattle.std.specs.Prelude.{◌≤◌, length, drop};
 ghost use Rattle.line_text.specs.Lines.{words_of};
-ghost use Rattle.history_model.specs.declared.entries.Entry.{Entry as AnEntry};
-ghost use Rattle.track_entry.specs.Texts.{entry_words, IsEntry};
-ghost use Rattle.track_entry.specs.Decoded.{Reads, raise_of, move_of, begin_of, answer_of, give_up_of};
+ghost use Rattle.track_entry.specs.declared.kind.Kind.TheVariants as kind;
+ghost use Rattle.track_entry.specs.Readings.{ReadsKind};
 
-use crate::fault::EntryFault;
-use crate::words::{byte_at, end_at, number_at, series_at, state_at};
+use crate::fault::EntryResult;
+use crate::words::{byte_at, end_at, last_pair, number_at, pair_at, series_at, state_at};
 use history_model::{Entry, JobEvent, Raised, RegressionEvent};
 use line_text::Names;
 use std::alloc::Global;
 
-pub fn read_raise(
-    alloc: Global,
-    names: &mut Names,
-    text: &[u8],
-    at: usize,
-) -> Result<Entry, EntryFault>
+pub fn read_raise(alloc: Global, names: &mut Names, text: &[u8], at: usize) -> EntryResult
     requires { at ≤ length text.now }
-    ensures { (e : AnEntry) → IsEntry e → raise_of (words_of (drop at text.now)) ≡ Some e
-        → codes "raise" ∷ words_of (drop at text.now) ≡ entry_words e
-        → Reads result (λ read. read ≡ e) }
+    ensures { ReadsKind kind.Raise (words_of (drop at text.now)) result }
 {
     let (test, metric, behind_metric) = series_at(alloc, names, text, at)?;
-    let (before, behind_before) = number_at(text, behind_metric)?;
-    let (after, end) = number_at(text, behind_before)?;
-    end_at(text, end)?;
+    let (before, after) = last_pair(text, behind_metric)?;
     let raised = Raised {
         test,
         metric,
@@ -36,11 +26,9 @@ pub fn read_raise(
     Ok(Entry::Regression { event })
 }
 
-pub fn read_move(text: &[u8], at: usize) -> Result<Entry, EntryFault>
+pub fn read_move(text: &[u8], at: usize) -> EntryResult
     requires { at ≤ length text.now }
-    ensures { (e : AnEntry) → IsEntry e → move_of (words_of (drop at text.now)) ≡ Some e
-        → codes "move" ∷ words_of (drop at text.now) ≡ entry_words e
-        → Reads result (λ read. read ≡ e) }
+    ensures { ReadsKind kind.Move (words_of (drop at text.now)) result }
 {
     let (regression, behind_number) = number_at(text, at)?;
     let (state, end) = state_at(text, behind_number)?;
@@ -49,42 +37,31 @@ pub fn read_move(text: &[u8], at: usize) -> Result<Entry, EntryFault>
     Ok(Entry::Regression { event })
 }
 
-pub fn read_begin(text: &[u8], at: usize) -> Result<Entry, EntryFault>
+pub fn read_begin(text: &[u8], at: usize) -> EntryResult
     requires { at ≤ length text.now }
-    ensures { (e : AnEntry) → IsEntry e → begin_of (words_of (drop at text.now)) ≡ Some e
-        → codes "begin" ∷ words_of (drop at text.now) ≡ entry_words e
-        → Reads result (λ read. read ≡ e) }
+    ensures { ReadsKind kind.Begin (words_of (drop at text.now)) result }
 {
-    let (lo, behind_lo) = number_at(text, at)?;
-    let (hi, end) = number_at(text, behind_lo)?;
-    end_at(text, end)?;
+    let (lo, hi) = last_pair(text, at)?;
     let event = JobEvent::Begin { lo, hi };
     Ok(Entry::Job { event })
 }
 
-pub fn read_answer(text: &[u8], at: usize) -> Result<Entry, EntryFault>
+pub fn read_answer(text: &[u8], at: usize) -> EntryResult
     requires { at ≤ length text.now }
-    ensures { (e : AnEntry) → IsEntry e → answer_of (words_of (drop at text.now)) ≡ Some e
-        → codes "answer" ∷ words_of (drop at text.now) ≡ entry_words e
-        → Reads result (λ read. read ≡ e) }
+    ensures { ReadsKind kind.Answer (words_of (drop at text.now)) result }
 {
-    let (job, behind_job) = number_at(text, at)?;
-    let (place, behind_place) = number_at(text, behind_job)?;
+    let (job, place, behind_place) = pair_at(text, at)?;
     let (status, end) = byte_at(text, behind_place)?;
     end_at(text, end)?;
     let event = JobEvent::Answer { job, place, status };
     Ok(Entry::Job { event })
 }
 
-pub fn read_give_up(text: &[u8], at: usize) -> Result<Entry, EntryFault>
+pub fn read_give_up(text: &[u8], at: usize) -> EntryResult
     requires { at ≤ length text.now }
-    ensures { (e : AnEntry) → IsEntry e → give_up_of (words_of (drop at text.now)) ≡ Some e
-        → codes "giveup" ∷ words_of (drop at text.now) ≡ entry_words e
-        → Reads result (λ read. read ≡ e) }
+    ensures { ReadsKind kind.GiveUp (words_of (drop at text.now)) result }
 {
-    let (job, behind_job) = number_at(text, at)?;
-    let (place, end) = number_at(text, behind_job)?;
-    end_at(text, end)?;
+    let (job, place) = last_pair(text, at)?;
     let event = JobEvent::GiveUp { job, place };
     Ok(Entry::Job { event })
 }

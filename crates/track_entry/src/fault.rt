@@ -4,7 +4,11 @@ ghost use Rattle.line_text.specs.declared.name.NameError.TheVariants as error;
 ghost use Rattle.track_entry.specs.declared.fault.EntryFault.TheVariants as fault;
 
 use crate::NoMemory;
+use history_model::Entry;
 use line_text::NameError;
+
+/// What a reader of entries gives.
+pub type EntryResult = Result<Entry, EntryFault>;
 
 /// Why no entry was read.
 #[derive(Clone, Copy)]

@@ -1,7 +1,6 @@
 //! The word that an entry's text begins with.
-ghost use Rattle.std.specs.Prelude.{◌≡◌, ◌≢◌, ◌↔◌, IsTrue, IfSome, IfNone};
-ghost use Rattle.track_entry.specs.declared.kind.Kind.{Kind as AKind};
-ghost use Rattle.track_entry.specs.Kinds.{kind_word};
+ghost use Rattle.std.specs.Prelude.{◌≡◌, bytes_eq};
+ghost use Rattle.track_entry.specs.Kinds.{kind_in};
 
 /// The kinds of entries, as their texts tell them.
 #[derive(Clone, Copy)]
@@ -20,8 +19,7 @@ pub enum Kind {
 
 /// The kind of which this is the word; none where it is no kind's word.
 pub fn read_kind(word: &[u8]) -> Option<Kind>
-    ensures read { IfSome result (λ kind. word.now ≡ kind_word kind) }
-    ensures none { IfNone result ((kind : AKind) → word.now ≢ kind_word kind) }
+    ensures { result ≡ kind_in word.now }
 {
     if is_same(word, b"commit") {
         Some(Kind::Commit)
@@ -49,7 +47,7 @@ pub fn read_kind(word: &[u8]) -> Option<Kind>
 }
 
 fn is_same(bytes: &[u8], word: &[u8]) -> bool
-    ensures { IsTrue result ↔ (bytes.now ≡ word.now) }
+    ensures { result ≡ bytes_eq bytes.now word.now }
 {
     bytes == word
 }

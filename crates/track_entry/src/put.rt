@@ -142,8 +142,7 @@ fn put_publication(alloc: Global, out: &mut Vec<u8>, p: &Publication) -> Result<
 }
 
 fn put_cuts(alloc: Global, out: &mut Vec<u8>, cuts: &[u64]) -> Result<(), NoMemory>
-    ensures { OnOk result
-        (out.new.items ≡ out.old.items ++ flat_map next (map decimal cuts.now)) }
+    ensures { OnOk result (out.new.items ≡ out.old.items ++ flat_map next (map decimal cuts.now)) }
 {
     for cut in cuts {
         put_number(alloc, out, *cut)?;

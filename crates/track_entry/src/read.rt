@@ -5,15 +5,16 @@ ghost use Rattle.sample_model.specs.Samples.{Measurement, AreSamples};
 ghost use Rattle.history_model.specs.declared.entries.Entry.{Entry as AnEntry};
 ghost use Rattle.history_model.specs.declared.entries.Entry.TheVariants as entry;
 ghost use Rattle.track_entry.specs.Texts.{sample_words, entry_words, HasShortMetric, IsEntry, SpellsEntry, IsOneEntry};
-ghost use Rattle.track_entry.specs.Decoded.{Reads, commit_of, accept_of, retract_of, tune_of, publish_of};
+ghost use Rattle.track_entry.specs.declared.kind.Kind.TheVariants as kind;
+ghost use Rattle.track_entry.specs.Readings.{Reads, ReadsKind};
 
 use crate::events::{read_answer, read_begin, read_give_up, read_move, read_raise};
-use crate::fault::EntryFault;
+use crate::fault::{EntryFault, EntryResult};
 use crate::fits::entry_law;
 use crate::kind::{Kind, read_kind};
 use crate::put::put_whole;
 use crate::words::{
-    METRIC_LIMIT, byte_at, end_at, name_at, number_at, sample_at, series_at, signed_at,
+    METRIC_LIMIT, byte_at, end_at, name_at, number_at, pair_at, sample_at, series_at, signed_at,
 };
 use history_model::{Entry, Publication, RegressionEvent, Run};
 use line_text::{Boxed, Names, Numbers, names_law, next_word, words_law};
@@ -52,7 +53,7 @@ pub fn read_entry_with(alloc: Global, names: &mut Names, text: &[u8]) -> Result<
 }
 
 // The entry of the text's words. They need not be canonical.
-fn read_words(alloc: Global, names: &mut Names, text: &[u8]) -> Result<Entry, EntryFault>
+fn read_words(alloc: Global, names: &mut Names, text: &[u8]) -> EntryResult
     ensures { (e : AnEntry) → IsEntry e → words_of text.now ≡ entry_words e
         → Reads result (λ read. read ≡ e) }
 {
@@ -63,30 +64,31 @@ fn read_words(alloc: Global, names: &mut Names, text: &[u8]) -> Result<Entry, En
     let Some(kind) = read_kind(&text[from..to]) else {
         return Err(EntryFault::NotEntry);
     };
+    read_behind(alloc, names, kind, text, to)
+}
+
+// The entry of the kind, of the words from a place on.
+fn read_behind(alloc: Global, names: &mut Names, kind: Kind, text: &[u8], at: usize) -> EntryResult
+    requires { at ≤ length text.now }
+    ensures { ReadsKind kind (words_of (drop at text.now)) result }
+{
     match kind {
-        Kind::Commit => read_commit(alloc, names, text, to),
-        Kind::Accept => read_accept(alloc, names, text, to),
-        Kind::Retract => read_retract(alloc, names, text, to),
-        Kind::Tune => read_tune(alloc, names, text, to),
-        Kind::Publish => read_publish(alloc, names, text, to),
-        Kind::Raise => read_raise(alloc, names, text, to),
-        Kind::Move => read_move(text, to),
-        Kind::Begin => read_begin(text, to),
-        Kind::Answer => read_answer(text, to),
-        Kind::GiveUp => read_give_up(text, to),
+        Kind::Commit => read_commit(alloc, names, text, at),
+        Kind::Accept => read_accept(alloc, names, text, at),
+        Kind::Retract => read_retract(alloc, names, text, at),
+        Kind::Tune => read_tune(alloc, names, text, at),
+        Kind::Publish => read_publish(alloc, names, text, at),
+        Kind::Raise => read_raise(alloc, names, text, at),
+        Kind::Move => read_move(text, at),
+        Kind::Begin => read_begin(text, at),
+        Kind::Answer => read_answer(text, at),
+        Kind::GiveUp => read_give_up(text, at),
     }
 }
 
-fn read_commit(
-    alloc: Global,
-    names: &mut Names,
-    text: &[u8],
-    at: usize,
-) -> Result<Entry, EntryFault>
+fn read_commit(alloc: Global, names: &mut Names, text: &[u8], at: usize) -> EntryResult
     requires { at ≤ length text.now }
-    ensures { (e : AnEntry) → IsEntry e → commit_of (words_of (drop at text.now)) ≡ Some e
-        → codes "commit" ∷ words_of (drop at text.now) ≡ entry_words e
-        → Reads result (λ read. read ≡ e) }
+    ensures { ReadsKind kind.Commit (words_of (drop at text.now)) result }
 {
     let (number, behind_number) = number_at(text, at)?;
     let (name, end) = name_at(alloc, names, text, behind_number)?;
@@ -94,16 +96,9 @@ fn read_commit(
     Ok(Entry::Commit { number, name })
 }
 
-fn read_accept(
-    alloc: Global,
-    names: &mut Names,
-    text: &[u8],
-    at: usize,
-) -> Result<Entry, EntryFault>
+fn read_accept(alloc: Global, names: &mut Names, text: &[u8], at: usize) -> EntryResult
     requires { at ≤ length text.now }
-    ensures { (e : AnEntry) → IsEntry e → accept_of (words_of (drop at text.now)) ≡ Some e
-        → codes "accept" ∷ words_of (drop at text.now) ≡ entry_words e
-        → Reads result (λ read. read ≡ e) }
+    ensures { ReadsKind kind.Accept (words_of (drop at text.now)) result }
 {
     let (run, behind_run) = name_at(alloc, names, text, at)?;
     let (commit, behind_commit) = number_at(text, behind_run)?;
@@ -117,27 +112,18 @@ fn read_accept(
     Ok(Entry::Accept { run })
 }
 
-fn read_retract(
-    alloc: Global,
-    names: &mut Names,
-    text: &[u8],
-    at: usize,
-) -> Result<Entry, EntryFault>
+fn read_retract(alloc: Global, names: &mut Names, text: &[u8], at: usize) -> EntryResult
     requires { at ≤ length text.now }
-    ensures { (e : AnEntry) → IsEntry e → retract_of (words_of (drop at text.now)) ≡ Some e
-        → codes "retract" ∷ words_of (drop at text.now) ≡ entry_words e
-        → Reads result (λ read. read ≡ e) }
+    ensures { ReadsKind kind.Retract (words_of (drop at text.now)) result }
 {
     let (run, end) = name_at(alloc, names, text, at)?;
     end_at(text, end)?;
     Ok(Entry::Retract { run })
 }
 
-fn read_tune(alloc: Global, names: &mut Names, text: &[u8], at: usize) -> Result<Entry, EntryFault>
+fn read_tune(alloc: Global, names: &mut Names, text: &[u8], at: usize) -> EntryResult
     requires { at ≤ length text.now }
-    ensures { (e : AnEntry) → IsEntry e → tune_of (words_of (drop at text.now)) ≡ Some e
-        → codes "tune" ∷ words_of (drop at text.now) ≡ entry_words e
-        → Reads result (λ read. read ≡ e) }
+    ensures { ReadsKind kind.Tune (words_of (drop at text.now)) result }
 {
     let (metric, behind_metric) = name_at(alloc, names, text, at)?;
     let (penalty, behind_penalty) = signed_at(text, behind_metric)?;
@@ -151,20 +137,12 @@ fn read_tune(alloc: Global, names: &mut Names, text: &[u8], at: usize) -> Result
     })
 }
 
-fn read_publish(
-    alloc: Global,
-    names: &mut Names,
-    text: &[u8],
-    at: usize,
-) -> Result<Entry, EntryFault>
+fn read_publish(alloc: Global, names: &mut Names, text: &[u8], at: usize) -> EntryResult
     requires { at ≤ length text.now }
-    ensures { (e : AnEntry) → IsEntry e → publish_of (words_of (drop at text.now)) ≡ Some e
-        → codes "publish" ∷ words_of (drop at text.now) ≡ entry_words e
-        → Reads result (λ read. read ≡ e) }
+    ensures { ReadsKind kind.Publish (words_of (drop at text.now)) result }
 {
     let (test, metric, behind_metric) = series_at(alloc, names, text, at)?;
-    let (version, behind_version) = number_at(text, behind_metric)?;
-    let (base, behind_base) = number_at(text, behind_version)?;
+    let (version, base, behind_base) = pair_at(text, behind_metric)?;
     let (total, behind_total) = signed_at(text, behind_base)?;
     let (_, behind_count) = number_at(text, behind_total)?;
     let cuts = read_cuts(alloc, text, behind_count)?;

@@ -8,7 +8,7 @@ ghost use Rattle.regression_state.specs.Moves.{word};
 ghost use Rattle.regression_state.specs.declared.states.State.{State as AState};
 ghost use Rattle.sample_model.specs.Samples.{Measurement, IsSample};
 ghost use Rattle.track_entry.specs.Texts.{sample_words};
-ghost use Rattle.track_entry.specs.Decoded.{Reads};
+ghost use Rattle.track_entry.specs.Readings.{Reads};
 
 use crate::fault::EntryFault;
 use line_text::{Name, Names, names_law, next_word, read_i64, read_i128, read_u64};
@@ -61,6 +61,32 @@ pub fn number_at(text: &[u8], at: usize) -> Result<(u64, usize), EntryFault>
         return Err(EntryFault::NotEntry);
     };
     Ok((number, to))
+}
+
+// The numbers of the next two words, and where the second of them ends.
+pub fn pair_at(text: &[u8], at: usize) -> Result<(u64, u64, usize), EntryFault>
+    requires { at ≤ length text.now }
+    ensures placed { IfOk result (λ read. (at < read.2) × (read.2 ≤ length text.now)) }
+    ensures reads { (first second : ℕ) (more : List (List ℕ)) → first < 2 ^ 64 → second < 2 ^ 64
+        → words_of (drop at text.now) ≡ decimal first ∷ decimal second ∷ more
+        → Reads result (λ read. (read.0 ≡ first) × (read.1 ≡ second)
+        × (words_of (drop read.2 text.now) ≡ more)) }
+{
+    let (first, behind_first) = number_at(text, at)?;
+    let (second, end) = number_at(text, behind_first)?;
+    Ok((first, second, end))
+}
+
+// The numbers of the last two words.
+pub fn last_pair(text: &[u8], at: usize) -> Result<(u64, u64), EntryFault>
+    requires { at ≤ length text.now }
+    ensures { (first second : ℕ) → first < 2 ^ 64 → second < 2 ^ 64
+        → words_of (drop at text.now) ≡ decimal first ∷ decimal second ∷ []
+        → Reads result (λ read. (read.0 ≡ first) × (read.1 ≡ second)) }
+{
+    let (first, second, end) = pair_at(text, at)?;
+    end_at(text, end)?;
+    Ok((first, second))
 }
 
 // The number of 8 bits of the next word, and where the word ends.

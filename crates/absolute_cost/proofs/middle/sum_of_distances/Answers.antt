@@ -1,54 +1,36 @@
-use Rattle.std.proofs.Common.{FitsSigned, w64, arith}
+use Rattle.std.proofs.Common.{◌≡◌, ◌+◌, FitsSigned, w64, arith}
 use Rattle.std.proofs.lemmas.Int.{to_z-of_z}
-use Rattle.absolute_cost.proofs.Counts.{distance_parts}
+use Rattle.distance_model.specs.Distances.{distances_about}
+use Rattle.absolute_cost.specs.Blocks.{all_of}
+use Rattle.absolute_cost.proofs.Counts.{parts_fit, two_fit, three_add}
 use Rattle.absolute_cost.proofs.middle.sum_of_distances.Goals as goal
+use Rattle.absolute_cost.proofs.middle.sum_of_distances.Goals.{After-distances_in-3}
 
 pub distances_in-requires : goal.distances_in-requires
-distances_in-requires c =
-    let fits : FitsSigned w64 c.args.c = c.ranges.c in
-    let parts = distance_parts c.args.c c.args.pieces.head.now c.args.pieces.whole.now c.args.pieces.tail.now in
-    let all = c.requires in
-    simp to_z-of_z (omega (arith, parts, all))
+distances_in-requires c = let fits : FitsSigned w64 c.args.c = c.ranges.c in simp to_z-of_z (parts_fit c.args.c c.args.pieces.head.now c.args.pieces.whole.now c.args.pieces.tail.now c.requires).0
 
 pub distances_in-requires-2 : goal.distances_in-requires-2
-distances_in-requires-2 c =
-    let fits : FitsSigned w64 c.args.c = c.ranges.c in
-    let parts = distance_parts c.args.c c.args.pieces.head.now c.args.pieces.whole.now c.args.pieces.tail.now in
-    let all = c.requires in
-    simp to_z-of_z (omega (arith, parts, all))
+distances_in-requires-2 c = let fits : FitsSigned w64 c.args.c = c.ranges.c in simp to_z-of_z (parts_fit c.args.c c.args.pieces.head.now c.args.pieces.whole.now c.args.pieces.tail.now c.requires).1
 
 pub distances_in-requires-3 : goal.distances_in-requires-3
-distances_in-requires-3 c =
-    let fits : FitsSigned w64 c.args.c = c.ranges.c in
-    let parts = distance_parts c.args.c c.args.pieces.head.now c.args.pieces.whole.now c.args.pieces.tail.now in
-    let all = c.requires in
-    simp to_z-of_z (omega (arith, parts, all))
+distances_in-requires-3 c = let fits : FitsSigned w64 c.args.c = c.ranges.c in simp to_z-of_z (parts_fit c.args.c c.args.pieces.head.now c.args.pieces.whole.now c.args.pieces.tail.now c.requires).2
 
 pub overflow_add-result : goal.overflow_add-result
 overflow_add-result c =
     let fits : FitsSigned w64 c.args.c = c.ranges.c in
-    let parts = distance_parts c.args.c c.args.pieces.head.now c.args.pieces.whole.now c.args.pieces.tail.now in
-    let all = c.requires in
-    let one = simp to_z-of_z at c.distances_in.ensures in
-    let two = simp to_z-of_z at c.distances_in-2.ensures in
-    omega (arith, parts, all, one, two)
+    let two = two_fit c.args.c c.args.pieces.head.now c.args.pieces.whole.now c.args.pieces.tail.now c.requires c.distances_in.result c.distances_in-2.result
+    (simp to_z-of_z at c.distances_in.ensures) (simp to_z-of_z at c.distances_in-2.ensures) in
+    omega (arith, two)
+
+-- the sum of all three
+whole : (c : After-distances_in-3) → c.distances_in.result + c.distances_in-2.result + c.distances_in-3.result ≡ distances_about c.args.c (all_of c.args.pieces.head.now c.args.pieces.whole.now c.args.pieces.tail.now)
+whole c =
+    let fits : FitsSigned w64 c.args.c = c.ranges.c in
+    three_add c.args.c c.args.pieces.head.now c.args.pieces.whole.now c.args.pieces.tail.now c.distances_in.result c.distances_in-2.result c.distances_in-3.result
+    (simp to_z-of_z at c.distances_in.ensures) (simp to_z-of_z at c.distances_in-2.ensures) (simp to_z-of_z at c.distances_in-3.ensures)
 
 pub overflow_add-result-2 : goal.overflow_add-result-2
-overflow_add-result-2 c =
-    let fits : FitsSigned w64 c.args.c = c.ranges.c in
-    let parts = distance_parts c.args.c c.args.pieces.head.now c.args.pieces.whole.now c.args.pieces.tail.now in
-    let all = c.requires in
-    let one = simp to_z-of_z at c.distances_in.ensures in
-    let two = simp to_z-of_z at c.distances_in-2.ensures in
-    let three = simp to_z-of_z at c.distances_in-3.ensures in
-    omega (arith, parts, all, one, two, three)
+overflow_add-result-2 c = let all = whole (goal.at.overflow_add-result-2 c).After-distances_in-3 in omega (arith, all, c.requires)
 
 pub returns : goal.returns
-returns c =
-    let fits : FitsSigned w64 c.args.c = c.ranges.c in
-    let parts = distance_parts c.args.c c.args.pieces.head.now c.args.pieces.whole.now c.args.pieces.tail.now in
-    let all = c.requires in
-    let one = simp to_z-of_z at c.distances_in.ensures in
-    let two = simp to_z-of_z at c.distances_in-2.ensures in
-    let three = simp to_z-of_z at c.distances_in-3.ensures in
-    omega (arith, parts, one, two, three)
+returns c = whole (goal.at.returns c).After-distances_in-3

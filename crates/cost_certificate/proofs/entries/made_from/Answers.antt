@@ -17,20 +17,12 @@ overflow_add-result c =
     let total = least_range c in
     omega (arith, ints, cost.0, cost.1, total.0, total.1)
 
-pub returns-clause-total : goal.returns-clause-total
-returns-clause-total c =
+pub returns : goal.returns
+returns c =
     let cost = cost_range c in
     let total = least_range c in
-    omega (arith, ints, cost.0, cost.1, total.0, total.1, c.cost.ensures)
-
-pub returns-clause-low : goal.returns-clause-low
-returns-clause-low c =
-    let cost = cost_range c in
-    let total = least_range c in
-    omega (arith, ints, cost.0, cost.1, total.0, total.1)
-
-pub returns-clause-high : goal.returns-clause-high
-returns-clause-high c =
-    let cost = cost_range c in
-    let total = least_range c in
-    omega (arith, ints, cost.0, cost.1, total.0, total.1)
+    record {
+      total = omega (arith, ints, cost.0, cost.1, total.0, total.1, c.cost.ensures);
+      low = omega (arith, ints, cost.0, cost.1, total.0, total.1);
+      high = omega (arith, ints, cost.0, cost.1, total.0, total.1);
+    }

@@ -23,20 +23,12 @@ overflow_add-result g c =
     let total = least_range g c in
     omega (arith, ints, cost.0, cost.1, total.0, total.1)
 
-pub returns-clause-total : goal.returns-clause-total
-returns-clause-total g c =
+pub returns : goal.returns
+returns g c =
     let cost = cost_range g c in
     let total = least_range g c in
-    omega (arith, ints, cost.0, cost.1, total.0, total.1, cost_is g c)
-
-pub returns-clause-low : goal.returns-clause-low
-returns-clause-low g c =
-    let cost = cost_range g c in
-    let total = least_range g c in
-    omega (arith, ints, cost.0, cost.1, total.0, total.1)
-
-pub returns-clause-high : goal.returns-clause-high
-returns-clause-high g c =
-    let cost = cost_range g c in
-    let total = least_range g c in
-    omega (arith, ints, cost.0, cost.1, total.0, total.1)
+    record {
+      total = omega (arith, ints, cost.0, cost.1, total.0, total.1, cost_is g c);
+      low = omega (arith, ints, cost.0, cost.1, total.0, total.1);
+      high = omega (arith, ints, cost.0, cost.1, total.0, total.1);
+    }

@@ -1,22 +1,8 @@
-use Rattle.std.proofs.Common.{◌≡◌, ℕ, ℤ, List, length}
 use Rattle.std.specs.Int.{w128}
 use Rattle.std.proofs.lemmas.Int.{to_z-of_z}
-use Rattle.std.proofs.lemmas.List.{length-map}
-use Rattle.segment_model.specs.Segments.{Position, position_values}
-use Rattle.segment_model.specs.Computed.{least_sum_of}
-use Rattle.segment_model.specs.Values.{values_by_position, cost_between}
-use Rattle.segment_cost.specs.declared.cert.Cert.{Cert}
-use Rattle.segment_cost.specs.Certificate.{IsCertificate, squares_between}
-use Rattle.pelt_core.specs.Seen.{Tabled, table_of}
 use Rattle.pelt_core.proofs.from_points.segmentation.Goals as goal
-
-of-points : (points : List Position) (b : ℤ) (len : ℕ) (cert : Cert) (t : Tabled) → t ≡ table_of (values_by_position points) b len
-    → IsCertificate (cost_between least_sum_of t.positions) (length t.positions) t.penalty t.length cert → IsCertificate (squares_between points) (length points) b len cert
-of-points points b len cert t e is =
-    let is' = rw e at is in
-    rw (length-map points position_values) at is'
 
 pub returns : goal.returns
 returns c =
-    let table = simp (to_z-of_z w128 c.args.penalty c.ranges.penalty) at c.in_ok-table.ensures in
-    c.certificate_law.ensures.stands c.args.points.now c.args.penalty c.args.length c.in_ok-cert.cert (of-points c.args.points.now c.args.penalty c.args.length c.in_ok-cert.cert c.in_ok-table.table table c.in_ok-cert.ensures)
+    let is = simp (to_z-of_z w128 c.args.penalty c.ranges.penalty) at c.in_ok-cert.ensures in
+    c.certificate_law.ensures.stands c.args.points.now c.args.penalty c.args.length c.in_ok-cert.cert is

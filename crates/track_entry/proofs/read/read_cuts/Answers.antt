@@ -6,8 +6,7 @@ use Rattle.track_entry.proofs.read.read_cuts.Goals as goal
 pub returns-in_err-cut : goal.returns-in_err-cut
 returns-in_err-cut c all are words =
     let n = some_next (λ n. n < 2 ^ 64) (map decimal) _ _ _ all _ _ refl are c.loop-cuts-test.ensures c.next_word.ensures.some (c.loop-cuts.invariant.1 all are words) in
-    kept_err c.in_err-cut.field-0.0 c.from_residual.result _ _ c.from_residual.ensures
-    (c.in_err-cut.ensures.reads n.m _ n.item n.are)
+    kept_err c.in_err-cut.field-0.0 c.from_residual.result _ _ c.from_residual.ensures (c.in_err-cut.ensures.reads n.m _ n.item n.are)
 
 pub loop-cuts-preserved : goal.loop-cuts-preserved
 loop-cuts-preserved c = (

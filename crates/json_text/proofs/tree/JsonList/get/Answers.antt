@@ -1,11 +1,9 @@
-use Rattle.std.proofs.Common.{◌≡◌, ◌<◌, ◌≤◌, List, MatchOption, IfSome, length, get_or, subst}
-use Rattle.std.specs.List.{HoldsAt}
-use Rattle.json_text.specs.declared.tree.Json.{Json}
-use Rattle.json_text.proofs.Parts.{item_got}
+use Rattle.std.proofs.Common.{◌∙◌, map, sym, ap}
+use Rattle.json_text.specs.View.{items_of, tree_of}
+use Rattle.json_text.proofs.Views.{items_view-opened}
+use Rattle.json_text.proofs.Parts.{items_listed, got}
 use Rattle.json_text.proofs.tree.JsonList.get.Goals as goal
 
 pub returns : goal.returns
 returns c =
-    item_got c.args.self.now c.args.place c.get.result
-    (subst (λ (held : List Json). MatchOption c.get.result (length held ≤ c.args.place) (λ got. (c.args.place < length held) × HoldsAt (λ one. got.now ≡ one) held c.args.place)) c.deref.ensures.value c.get.ensures.lookup.3)
-    (subst (λ (held : List Json). IfSome c.get.result (λ got. got.now ≡ get_or held c.args.place got.now)) c.deref.ensures.value c.get.ensures.lookup.1)
+    got items_listed _ _ c.args.place c.get.result (items_view-opened c.args.self.now ∙ ap (λ xs. items_of (map tree_of xs)) (sym c.deref.ensures.value)) c.get.ensures.lookup.3 c.get.ensures.lookup.1

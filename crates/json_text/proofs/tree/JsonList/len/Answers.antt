@@ -1,7 +1,11 @@
-use Rattle.std.proofs.Common.{◌∙◌, sym}
+use Rattle.std.proofs.Common.{◌∙◌, sym, ap}
+use Rattle.json_text.specs.Parts.{item_count}
 use Rattle.json_text.specs.declared.tree.JsonList.{out-JsonList}
-use Rattle.json_text.proofs.Parts.{item_count-opened}
+use Rattle.json_text.proofs.Views.{items_view-opened}
+use Rattle.json_text.proofs.Parts.{items_listed, counted}
 use Rattle.json_text.proofs.tree.JsonList.len.Goals as goal
 
 pub returns : goal.returns
-returns c = c.len.ensures ∙ (out-JsonList c.args.self.now).items.ok.0 ∙ sym (item_count-opened c.args.self.now)
+returns c =
+    let held = (out-JsonList c.args.self.now).items in
+    c.len.ensures ∙ held.ok.0 ∙ sym (ap item_count (items_view-opened c.args.self.now) ∙ counted items_listed held.items)

@@ -1,7 +1,11 @@
-use Rattle.std.proofs.Common.{◌∙◌, sym}
+use Rattle.std.proofs.Common.{◌∙◌, sym, ap}
+use Rattle.json_text.specs.Parts.{member_count}
 use Rattle.json_text.specs.declared.tree.JsonMembers.{out-JsonMembers}
-use Rattle.json_text.proofs.Parts.{member_count-opened}
+use Rattle.json_text.proofs.Views.{members_view-opened}
+use Rattle.json_text.proofs.Parts.{members_listed, counted}
 use Rattle.json_text.proofs.tree.JsonMembers.len.Goals as goal
 
 pub returns : goal.returns
-returns c = c.len.ensures ∙ (out-JsonMembers c.args.self.now).members.ok.0 ∙ sym (member_count-opened c.args.self.now)
+returns c =
+    let held = (out-JsonMembers c.args.self.now).members in
+    c.len.ensures ∙ held.ok.0 ∙ sym (ap member_count (members_view-opened c.args.self.now) ∙ counted members_listed held.items)

@@ -16,11 +16,8 @@ returns c =
     let lowered = rw (old, read) at (simp to_z-of_z at c.lower.ensures.lowered) in
     let others = rw old at c.lower.ensures.others in
     record {
-      len = refl;
+      tables = record { len = refl; least = refl; back = refl; pruned = refl };
       swept = refl;
-      least = refl;
-      back = refl;
-      pruned = refl;
       leader = refl;
       capacity = omega (arith, c.push_reserved.ensures.capacity);
       many = ap length written ∙ c.lower.auto.bounds ∙ ap length old;

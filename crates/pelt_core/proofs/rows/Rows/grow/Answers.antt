@@ -83,10 +83,10 @@ module _ (g : _) (c : After-renew g) where
       (filter-by c.saturating_sub-ready.result (length ps + 1 - c.args.self.now.length) marked c.mark_dear-any.new.self.candidates.items c.args.self.now.candidates.items left ready candidates-same is.0, is.1 ∙ ready))
 
   length-same : c.renew.new.self.length ≡ c.args.self.now.length
-  length-same = c.renew.ensures.len ∙ c.sweep-swept.ensures.len ∙ c.mark_dear-any.ensures.same.len ∙ row.len
+  length-same = c.renew.ensures.tables.len ∙ c.sweep-swept.ensures.tables.len ∙ c.mark_dear-any.ensures.same.len ∙ row.len
 
   least-same : c.renew.new.self.least.items ≡ least
-  least-same = c.renew.ensures.least ∙ c.sweep-swept.ensures.least ∙ c.mark_dear-any.ensures.same.least ∙ row.least
+  least-same = c.renew.ensures.tables.least ∙ c.sweep-swept.ensures.tables.least ∙ c.mark_dear-any.ensures.same.least ∙ row.least
 
   bounds-same : c.sweep-swept.new.self.bounds.items ≡ c.next_row-found.new.self.bounds.items
   bounds-same = c.sweep-swept.ensures.bounds ∙ c.mark_dear-any.ensures.same.bounds
@@ -135,11 +135,11 @@ returns-clause-pruned g c =
     let n : ℕ = length (g.C.Cost.positions c.args.cost.now) in
     let len : ℕ = c.args.self.now.length in
     let kept : c.renew.new.self.candidates.items ≡ left g k = c.renew.ensures.candidates in
-    let same-length : c.admit.new.self.length ≡ c.args.self.now.length = c.admit.ensures.len ∙ length-same g k in
-    let least-now : c.admit.new.self.least.items ≡ least g k = c.admit.ensures.least ∙ least-same g k in
+    let same-length : c.admit.new.self.length ≡ c.args.self.now.length = c.admit.ensures.tables.len ∙ length-same g k in
+    let least-now : c.admit.new.self.least.items ≡ least g k = c.admit.ensures.tables.least ∙ least-same g k in
     let back-now : c.admit.new.self.back.items ≡ c.args.self.now.back.items ++ slice_index c.args.self.now.candidates.items c.next_row-found.result.index ∷ [] =
-    c.admit.ensures.back ∙ c.renew.ensures.back ∙ c.sweep-swept.ensures.back ∙ c.mark_dear-any.ensures.same.back ∙ (row g k).back in
-    let pruned-now : c.admit.new.self.pruned.items ≡ marked g k = c.admit.ensures.pruned ∙ c.renew.ensures.pruned ∙ c.sweep-swept.ensures.pruned in
+    c.admit.ensures.tables.back ∙ c.renew.ensures.tables.back ∙ c.sweep-swept.ensures.tables.back ∙ c.mark_dear-any.ensures.same.back ∙ (row g k).back in
+    let pruned-now : c.admit.new.self.pruned.items ≡ marked g k = c.admit.ensures.tables.pruned ∙ c.renew.ensures.tables.pruned ∙ c.sweep-swept.ensures.tables.pruned in
     let swept-now : c.admit.new.self.swept ≡ c.sweep-swept.new.self.swept = c.admit.ensures.swept ∙ c.renew.ensures.swept in
     let none = admitted-none c.len-t.result c.saturating_sub-ready.result n (n + 1 - len) len c.renew.new.self c.admit.new.self (left g k) (least g k) c.admit.ensures c.len-t.ensures (ready g k) (length-same g k) kept (least-same g k) in
     let one = admitted-one c.len-t.result c.saturating_sub-ready.result n (n + 1 - len) len c.renew.new.self c.admit.new.self (left g k) (least g k) c.admit.ensures c.len-t.ensures (ready g k) (length-same g k) kept (least-same g k) in
@@ -160,4 +160,4 @@ returns-clause-pruned g c =
     }
 
 pub returns-clause-length : goal.returns-clause-length
-returns-clause-length g c = c.admit.ensures.len ∙ c.renew.ensures.len ∙ c.sweep-swept.ensures.len ∙ c.mark_dear-any.ensures.same.len ∙ c.next_row-found.ensures.row.len
+returns-clause-length g c = c.admit.ensures.tables.len ∙ c.renew.ensures.tables.len ∙ c.sweep-swept.ensures.tables.len ∙ c.mark_dear-any.ensures.same.len ∙ c.next_row-found.ensures.row.len

@@ -5,11 +5,10 @@ use Rattle.std.specs.BTreeMap.{BTreeMap}
 use Rattle.std.specs.Option.{option_copied_mut}
 use Rattle.history_model.specs.Runs.{Series, same_series}
 use Rattle.publication_index.specs.declared.held.Held.{Held}
-use Rattle.publication_index.specs.Kept.{is_same, held_of, held, done_in, table_in, kept, home}
-use Rattle.history_model.proofs.Cases.{some-is}
+use Rattle.publication_index.specs.Kept.{is_same, held_of, done_in, table_in, kept, home}
 use Rattle.publication_index.proofs.Homes.{absent, homes-without}
 use Rattle.publication_index.proofs.Standing.{moved-table}
-use Rattle.publication_index.proofs.Written.{read-within, same-within}
+use Rattle.publication_index.proofs.Written.{read-through, same-through}
 use Rattle.publication_index.proofs.published.PublicationIndex.take_table.Goals as goal
 
 pub returns-in-Some-clause-stands : goal.returns-in-Some-clause-stands
@@ -23,30 +22,16 @@ returns-in-Some-clause-stands c =
     c.take_table-table.result c.take_table-table.ensures.stands
 
 pub returns-in-Some-clause-kept : goal.returns-in-Some-clause-kept
-returns-in-Some-clause-kept c s =
-    let test : List ℕ = c.args.test.now in
-    let before : List ℕ → Option (List (List ℕ × Held)) = λ q. lookup (λ (n : List ℕ). is_same q n) c.self.inside.tests.entries in
-    let after : List ℕ → Option (List (List ℕ × Held)) = λ q. lookup (λ (n : List ℕ). is_same q n) (c.get_mut.follows.lender c.take_table-table.new.self).entries in
-    let v : List (List ℕ × Held) = c.in-Some.metrics.now in
-    let found : before test ≡ Some v = sym c.in-Some.ensures.value in
-    let updates = (c.get_mut.follows.holds c.take_table-table.new.self).3 (some-is (before test) v found) in
-    same-within before after test v c.take_table-table.new.self (ap (λ (o : Option (List (List ℕ × Held))). unwrap_or o []) found) updates.0 done_in
-    c.take_table-table.ensures.done s
-    ∙ ap (λ (es : List (List ℕ × List (List ℕ × Held))). done_in (held s es)) c.self.view_is
+returns-in-Some-clause-kept c =
+    same-through c.self.inside.tests c.args.self.now c.self.view_is c.args.test.now c.get_mut.follows.lender c.get_mut.follows.holds c.in-Some.metrics.now
+    c.take_table-table.new.self c.in-Some.ensures.value done_in c.take_table-table.ensures.done
 
 pub returns-in-Some-clause-left : goal.returns-in-Some-clause-left
 returns-in-Some-clause-left c =
-    let test : List ℕ = c.args.test.now in
-    let t : Series = record { test = c.args.test.now; metric = c.args.metric.now } in
-    let before : List ℕ → Option (List (List ℕ × Held)) = λ q. lookup (λ (n : List ℕ). is_same q n) c.self.inside.tests.entries in
-    let after : List ℕ → Option (List (List ℕ × Held)) = λ q. lookup (λ (n : List ℕ). is_same q n) (c.get_mut.follows.lender c.take_table-table.new.self).entries in
-    let v : List (List ℕ × Held) = c.in-Some.metrics.now in
-    let found : before test ≡ Some v = sym c.in-Some.ensures.value in
-    let updates = (c.get_mut.follows.holds c.take_table-table.new.self).3 (some-is (before test) v found) in
-    homes-without c.args.self.now (c.get_mut.follows.lender c.take_table-table.new.self).entries t (λ s.
-    read-within before after test v c.take_table-table.new.self (ap (λ (o : Option (List (List ℕ × Held))). unwrap_or o []) found) updates.0 table_in
-    c.args.metric.now None c.take_table-table.ensures.left s
-    ∙ ap (λ (es : List (List ℕ × List (List ℕ × Held))). cond (same_series t s) None (table_in (held s es))) c.self.view_is)
+    homes-without c.args.self.now (c.get_mut.follows.lender c.take_table-table.new.self).entries (record { test = c.args.test.now; metric = c.args.metric.now })
+    (read-through c.self.inside.tests c.args.self.now c.self.view_is c.args.test.now c.get_mut.follows.lender c.get_mut.follows.holds c.in-Some.metrics.now
+    c.take_table-table.new.self c.in-Some.ensures.value table_in c.args.metric.now None
+    c.take_table-table.ensures.left)
 
 pub returns-clause-left : goal.returns-clause-left
 returns-clause-left c =

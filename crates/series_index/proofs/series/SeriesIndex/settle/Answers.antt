@@ -1,33 +1,12 @@
-use Rattle.std.proofs.Common.{◌≡◌, ◌∙◌, List, [], ℕ, Option, set, ap, sym}
-use Rattle.std.specs.Prelude.{unwrap_or}
-use Rattle.std.specs.Map.{lookup}
-use Rattle.series_index.specs.declared.tracked.Tracked.{Tracked}
-use Rattle.series_index.specs.Seen.{is_same, seen}
-use Rattle.series_index.proofs.Written.{same-within}
-use Rattle.series_index.proofs.ByPlace.{found-metrics, put-metrics, put-keys}
+use Rattle.std.proofs.Common.{◌∙◌, sym}
+use Rattle.series_index.proofs.ByPlace.{put-keys, same-put}
 use Rattle.series_index.proofs.series.SeriesIndex.settle.Goals as goal
 
-abbrev Metrics : Type 0
-Metrics = List (List ℕ × Tracked)
-
-abbrev Tests : Type 0
-Tests = List (List ℕ × Metrics)
-
 pub returns-in-Some : goal.returns-in-Some
-returns-in-Some c s =
-    let es : Tests = c.self.inside.tests.items in
-    let names : List (List ℕ) = c.self.inside.names in
-    let r : List ℕ × Metrics = c.index_mut.result.now in
-    let new : Metrics = c.settle.new.self in
-    let at = sym c.place_of.ensures ∙ c.in-Some.is in
-    let found = found-metrics c.args.test.now names es c.in-Some.place r c.self.invariant at c.index_mut.ensures.value in
-    let put = put-metrics c.args.test.now names es c.in-Some.place r c.self.invariant at c.index_mut.ensures.value new in
-    let before : List ℕ → Option Metrics = λ q. lookup (λ (n : List ℕ). is_same q n) es in
-    let after : List ℕ → Option Metrics = λ q. lookup (λ (n : List ℕ). is_same q n) (set es c.in-Some.place (r.0, new)) in
-    let there : unwrap_or (before c.args.test.now) [] ≡ r.1 = ap (λ (o : Option Metrics). unwrap_or o []) found in
-    same-within before after c.args.test.now r.1 new there put c.settle.ensures s ∙ ap (λ (es : Tests). seen s es) c.self.view_is
+returns-in-Some c =
+    same-put c.args.test.now c.self.inside.names c.self.inside.tests.items c.in-Some.place c.index_mut.result.now c.self.invariant (sym c.place_of.ensures ∙ c.in-Some.is)
+    c.index_mut.ensures.value c.args.self.now c.self.view_is c.settle.new.self c.settle.ensures
 
 pub invariant_of-self : goal.invariant_of-self
-invariant_of-self c =
-    put-keys c.args.test.now c.self.inside.names c.self.inside.tests.items c.in-Some.place c.index_mut.result.now c.self.invariant
-    (sym c.place_of.ensures ∙ c.in-Some.is) c.index_mut.ensures.value c.settle.new.self
+invariant_of-self c = put-keys c.args.test.now c.self.inside.names c.self.inside.tests.items c.in-Some.place c.index_mut.result.now c.self.invariant (sym c.place_of.ensures ∙ c.in-Some.is)
+    c.index_mut.ensures.value c.settle.new.self

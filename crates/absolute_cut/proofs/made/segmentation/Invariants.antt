@@ -1,4 +1,0 @@
-use Rattle.absolute_cut.proofs.made.segmentation.Given as goal
-
-abbrev pub ghosts-table : goal.ghosts-table
-ghosts-table a = record { name = a.blank.name; parts = a.blank.parts }
