@@ -6,7 +6,7 @@ ghost use Rattle.history_model.specs.declared.entries.Author.TheVariants as auth
 ghost use Rattle.bisect_workers.specs.Bisecting.{IsBisected};
 ghost use Rattle.worker_model.specs.Quiet.{JobsAreQuiet};
 ghost use Rattle.bisect_workers.specs.Quiet.{NoneAsks};
-ghost use Rattle.track_state.specs.Work.{history_of};
+ghost use Rattle.track_state.specs.Work.{IsUntaken, history_of};
 
 use crate::NoMemory;
 use crate::asking::ask;
@@ -26,6 +26,7 @@ fn turn<R: Runner>(
     requires { length (history_of state.old) < most limit.Steps }
     ensures bisected { IsBisected (author.Bisect 1) test.now state.old.track state.new.track
         (R.asked runner.old) (R.asked runner.new) (R.faults runner.old) (R.faults runner.new) }
+    ensures free { IsUntaken state.old → IsUntaken state.new }
     ensures done { IfOk result (λ more. more ≡ false → NoneAsks (history_of state.new)) }
     ensures more { IfOk result (λ more. more ≡ true
         → length (history_of state.new) ≡ length (history_of state.old) + 1) }
@@ -41,7 +42,7 @@ fn turn<R: Runner>(
 
 /// Ends all claims and asks the questions of all open jobs, that of the job of the smallest number first, and says what
 /// was found, as the first worker that bisects, until no job is open or there is no room for another entry. Where there
-/// is no memory, what was said stands. Returns where the runner's calls do.
+/// is no memory, what was said stands, and all claims have ended. Returns where the runner's calls do.
 pub fn bisect_last<R: Runner>(
     alloc: Global,
     state: &mut TrackState,
@@ -50,6 +51,7 @@ pub fn bisect_last<R: Runner>(
 ) -> Result<(), NoMemory>
     ensures bisected { IsBisected (author.Bisect 1) test.now state.old.track state.new.track
         (R.asked runner.old) (R.asked runner.new) (R.faults runner.old) (R.faults runner.new) }
+    ensures free { IsUntaken state.new }
     ensures quiet { OnOk result (JobsAreQuiet (history_of state.new)) }
 {
     state.end_claims();

@@ -10,10 +10,8 @@
 
 mod asking;
 mod last;
-mod pace;
 mod worker;
 
 pub use last::bisect_last;
-pub use pace::{AtGate, Pace};
 pub use std::alloc::AllocError as NoMemory;
 pub use worker::{bisect, bisect_by};

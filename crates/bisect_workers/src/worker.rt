@@ -7,12 +7,11 @@ ghost use Rattle.bisect_workers.specs.Beside.{IsBisectedIn};
 
 use crate::NoMemory;
 use crate::asking::ask;
-use crate::pace::{AtGate, Pace};
 use history_model::{Author, jobs_law};
 use std::alloc::Global;
 use std::sync::Wait;
-use track_outside::{Gate, Runner};
-use track_room::{Ended, Room, RoomPass};
+use track_outside::{Gate, Place, Runner};
+use track_room::{AtGate, Ended, Pace, Room, RoomPass};
 use track_state::Question;
 
 // Asks a question of the runner, and says what became of it.
@@ -36,7 +35,7 @@ fn finish<R: Wait, A: Runner, P: Pace>(
 {
     jobs_law();
     let status = ask(alloc, runner, test, question)?;
-    pace.answered();
+    pace.done();
     let _ = room.settle(rt, pass, Author::Bisect(number), machine, question, status)?;
     Ok(())
 }
@@ -84,7 +83,11 @@ pub fn bisect<R: Wait, A: Runner, G: Gate>(
     ensures bisected { IsBisectedIn (author.Bisect number) test.now pass.old pass.new
         (A.asked runner.old) (A.asked runner.new) (A.faults runner.old) (A.faults runner.new) }
 {
-    let pace = AtGate { gate, number };
+    let pace = AtGate {
+        gate,
+        taken: Place::QuestionTaken(number),
+        done: Place::AnswerReady(number),
+    };
     bisect_by(rt, alloc, room, pass, number, test, runner, ended, &pace)
 }
 

@@ -5,7 +5,7 @@ ghost use Rattle.history_model.specs.Runs.{is_known};
 ghost use Rattle.worker_model.specs.Quiet.{SeriesAreQuiet};
 ghost use Rattle.recompute_workers.specs.Quiet.{IsQuiet};
 ghost use Rattle.recompute_workers.specs.Recomputing.{AddsOne, AddsPublications};
-ghost use Rattle.track_state.specs.Work.{history_of};
+ghost use Rattle.track_state.specs.Work.{IsUntaken, history_of};
 
 use crate::NoMemory;
 use history_model::{Author, growth_law, publication_law, setting_law};
@@ -18,6 +18,7 @@ use track_state::TrackState;
 // Publishes a series, where it is stale.
 fn recompute_series(alloc: Global, work: &mut TrackState, name: &SeriesName) -> Result<(), NoMemory>
     ensures added { AddsOne (author.Recompute 1) work.old.track work.new.track }
+    ensures free { IsUntaken work.old → IsUntaken work.new }
     ensures quiet { OnOk result (IsQuiet (history_of work.new) name.now) }
 {
     growth_law();
@@ -35,9 +36,10 @@ fn recompute_series(alloc: Global, work: &mut TrackState, name: &SeriesName) -> 
 }
 
 /// Ends all claims and publishes each stale series, in order of test and metric, as the first worker that recomputes.
-/// Where there is no memory, what was published stands. Always returns.
+/// Where there is no memory, what was published stands, and all claims have ended. Always returns.
 pub fn recompute_last(alloc: Global, work: &mut TrackState) -> Result<(), NoMemory>
     ensures added { AddsPublications (author.Recompute 1) work.old.track work.new.track }
+    ensures free { IsUntaken work.new }
     ensures quiet { OnOk result (SeriesAreQuiet (history_of work.new)) }
 {
     growth_law();

@@ -9,12 +9,10 @@
 #![tactic(auto)]
 
 mod last;
-mod pace;
 mod worker;
 
 pub use last::recompute_last;
-pub use pace::{AtGate, Pace};
 pub use std::alloc::AllocError as NoMemory;
-pub use track_room::{leave_each, unclaimed};
+pub use track_room::{AtGate, leave_each, unclaimed};
 pub use track_state::TrackState;
 pub use worker::{recompute, recompute_by};

@@ -7,12 +7,11 @@ ghost use Rattle.track_room.specs.Taking.{IsTaken, OfSeen};
 ghost use Rattle.recompute_workers.specs.Works.{Works};
 
 use crate::NoMemory;
-use crate::pace::{AtGate, Pace};
 use history_model::{Author, publication_law};
 use std::alloc::Global;
 use std::sync::Wait;
-use track_outside::Gate;
-use track_room::{Ended, Room, RoomPass, SeriesClaim};
+use track_outside::{Gate, Place};
+use track_room::{AtGate, Ended, Pace, Room, RoomPass, SeriesClaim};
 use track_series::{Snapshot, compute_apart};
 
 // Computes a series that was taken, and publishes it; gives it back where there is no memory.
@@ -79,7 +78,11 @@ pub fn recompute<R: Wait, G: Gate>(
     ensures room { IsPassOf room.now pass.new }
     ensures works { AllZip (Works (author.Recompute number)) pass.old pass.new }
 {
-    let pace = AtGate { gate, number };
+    let pace = AtGate {
+        gate,
+        taken: Place::SeriesTaken(number),
+        done: Place::SeriesDone(number),
+    };
     recompute_by(rt, alloc, room, pass, number, ended, &pace)
 }
 

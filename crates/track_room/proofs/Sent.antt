@@ -14,6 +14,7 @@ use Rattle.point_list.specs.contracts.points.Points as Points
 use Rattle.point_list.specs.contracts.frozen.FrozenPoints as FrozenPoints
 use Rattle.prefix_sums.specs.contracts.prefixes.PrefixSums as PrefixSums
 use Rattle.publication_index.specs.contracts.settings.SettingIndex as SettingIndex
+use Rattle.publication_index.specs.contracts.held.Held as Held
 use Rattle.publication_index.specs.contracts.published.PublicationIndex as PublicationIndex
 use Rattle.sample_store.specs.contracts.store.SampleStore as SampleStore
 use Rattle.segment_cost.specs.contracts.square.Square as Square
@@ -64,8 +65,11 @@ store_send = search (sendable, crosses, maps.crosses, over.crosses) depth 60 fit
 series_send : IsSend SeriesIndex.the_row
 series_send = search (name_send, points_send, sendable, crosses, maps.crosses, over.crosses) depth 60 fits 20000
 
+held_send : IsSend Held.the_row
+held_send = search (square_send, shared_send, sendable, crosses) depth 60 fits 20000
+
 published_send : IsSend PublicationIndex.the_row
-published_send = search (name_send, square_send, shared_send, sendable, crosses, maps.crosses, over.crosses) depth 60 fits 20000
+published_send = search (name_send, held_send, sendable, crosses, maps.crosses, over.crosses) depth 60 fits 20000
 
 setting_send : IsSend SettingIndex.the_row
 setting_send = search (sendable, crosses, maps.crosses, over.crosses) depth 60 fits 20000
@@ -150,8 +154,11 @@ store_sync = search (sendable, crosses, maps.crosses, over.crosses) depth 60 fit
 series_sync : IsSync SeriesIndex.the_row
 series_sync = search (name_sync, points_sync, sendable, crosses, maps.crosses, over.crosses) depth 60 fits 20000
 
+held_sync : IsSync Held.the_row
+held_sync = search (square_sync, shared_points_sync, sendable, crosses) depth 60 fits 20000
+
 published_sync : IsSync PublicationIndex.the_row
-published_sync = search (name_sync, square_sync, shared_points_sync, sendable, crosses, maps.crosses, over.crosses) depth 60 fits 20000
+published_sync = search (name_sync, held_sync, sendable, crosses, maps.crosses, over.crosses) depth 60 fits 20000
 
 setting_sync : IsSync SettingIndex.the_row
 setting_sync = search (sendable, crosses, maps.crosses, over.crosses) depth 60 fits 20000

@@ -1,7 +1,8 @@
 //! Machines with claims, which a room takes and gives back, and machines without.
-ghost use Rattle.std.specs.Prelude.{◌≡◌, ◌≤◌, ◌+◌, ◌++◌, [], length, vec_capacity, IfOk};
+ghost use Rattle.std.specs.Prelude.{◌≡◌, ◌≤◌, ◌+◌, ◌++◌, [], length, map, vec_capacity, IfOk};
 ghost use Rattle.std.specs.Vec.Iter.{into_iter_items};
 ghost use Rattle.track_room.specs.Sights.{tracks_of};
+ghost use Rattle.track_state.specs.Work as work;
 
 use crate::NoMemory;
 use machine_state::MachineState;
@@ -11,7 +12,8 @@ use track_state::TrackState;
 
 /// These machines, of which nothing is claimed. Linear in them.
 pub fn unclaimed(alloc: Global, machines: Vec<MachineState>) -> Result<Vec<TrackState>, NoMemory>
-    ensures { IfOk result (λ states. tracks_of states.items ≡ machines.items) }
+    ensures states { IfOk result (λ states. states.items ≡ map work.unclaimed machines.items) }
+    ensures tracks { IfOk result (λ states. tracks_of states.items ≡ machines.items) }
 {
     let mut states = Vec::new(alloc);
     for machine in machines {

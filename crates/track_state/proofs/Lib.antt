@@ -1,4 +1,5 @@
 pub mod Snapped
+pub mod Untaken
 mod Covering
 mod Touching
 mod Tests

@@ -1,5 +1,5 @@
 -- A machine's state with what workers have taken of it: which series and jobs are claimed.
-use Rattle.std.specs.Prelude.{◌≡◌, ℕ, Bool, true, false, nat_lt, if◌then◌else◌, List, Option, Some, None}
+use Rattle.std.specs.Prelude.{◌≡◌, ℕ, Bool, true, false, nat_lt, if◌then◌else◌, List, [], Option, Some, None}
 use Rattle.std.specs.FinSet as set
 use Rattle.std.specs.Ordering.{is_lt}
 use Rattle.history_model.specs.declared.entries.Entry.{Entry}
@@ -25,6 +25,10 @@ pub record Work : Type 0 where
   pub marks : Entries
   pub jobs : List ℕ
 
+-- a machine of which nothing is claimed
+abbrev pub unclaimed : Track → Work
+unclaimed t = record { track = t; marks = []; jobs = [] }
+
 abbrev pub history_of : Work → List Entry
 history_of w = entries_of w.track.history
 
@@ -42,6 +46,11 @@ claim_by h s (Some m) = if nat_lt m.touched (last_touch h s) then touched_claim 
 -- the claim on a series: it is free, taken, or refused by a limit
 abbrev pub claim_on : Series → Work → Claim
 claim_on s w = claim_by (history_of w) s (mark_of (key_of s) w.marks)
+
+-- no worker has taken a series of it, or a job
+pub record IsUntaken (w : Work) : Type 0 where
+  pub series : (s : Series) → claim_on s w ≡ Taken → ⊥
+  pub jobs : w.jobs ≡ []
 
 -- the claims on all series stay
 abbrev pub ClaimsStay : Work → Work → Type 0

@@ -1,6 +1,7 @@
 //! The state, and how it is made and given back.
-ghost use Rattle.std.specs.Prelude.{◌≡◌, ◌-◌, ◌<◌, [], None, length, option_copied, slice_get};
+ghost use Rattle.std.specs.Prelude.{◌≡◌, ◌-◌, ◌<◌, None, length, option_copied, slice_get};
 ghost use Rattle.track_model.specs.Tracks.{new_track};
+ghost use Rattle.track_state.specs.Work.{unclaimed};
 
 use crate::NoMemory;
 use history_model::Placed;
@@ -38,7 +39,7 @@ impl Model for TrackState {
 impl TrackState {
     /// A machine of no entries, of which nothing is claimed. `kept` says whether it has a row in the store.
     pub fn new(alloc: Global, machine: Name, kept: bool) -> TrackState
-        ensures { result ≡ record { track = new_track machine kept; marks = []; jobs = [] } }
+        ensures { result ≡ unclaimed (new_track machine kept) }
     {
         TrackState::of(MachineState::new(alloc, machine, kept))
     }
@@ -74,7 +75,7 @@ impl TrackState {
 
     /// A machine of which nothing is claimed.
     pub fn of(track: MachineState) -> TrackState
-        ensures { result ≡ record { track = track; marks = []; jobs = [] } }
+        ensures { result ≡ unclaimed track }
     {
         let alloc = track.alloc();
         TrackState {
@@ -102,7 +103,7 @@ impl TrackState {
 
     /// Ends every claim on a series or a job, and changes nothing else.
     pub fn end_claims(&mut self)
-        ensures { self.new ≡ record { track = self.old.track; marks = []; jobs = [] } }
+        ensures { self.new ≡ unclaimed self.old.track }
     {
         let alloc = self.track.alloc();
         self.touched = TouchIndex::new(alloc);

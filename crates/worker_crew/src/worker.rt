@@ -1,12 +1,12 @@
 //! A worker of a room.
 use bisect_workers::bisect_by;
 use play_crew::{Ended, Room, RoomPass};
-use recompute_workers::recompute_by;
+use recompute_workers::{AtGate, recompute_by};
 use side_by_side::{Job, Worker};
 use std::alloc::Global;
 use std::marker::Model;
 use std::sync::Wait;
-use track_outside::{Gate, Runner};
+use track_outside::{Gate, Place, Runner};
 
 /// What the workers of a run have in common: the room, whether the scripts have ended, their gate, and the word of the test.
 #[derive(Drop)]
@@ -91,9 +91,10 @@ impl<'a, R: Wait + Sync, G: Gate> Job<R> for RoomWorker<'a, G> {
     ghost comes_to = { Recomputes };
 
     fn run(&mut self, rt: &R) {
-        let pace = recompute_workers::AtGate {
+        let pace = AtGate {
             gate: self.gate,
-            number: self.number,
+            taken: Place::SeriesTaken(self.number),
+            done: Place::SeriesDone(self.number),
         };
         let done = recompute_by(
             rt,
@@ -116,9 +117,10 @@ impl<'a, R: Wait + Sync, A: Runner, G: Gate> Worker<R, A> for RoomWorker<'a, G> 
     ghost work_gives = { Bisects A.Runner };
 
     fn work(&mut self, rt: &R, tool: &mut A) {
-        let pace = bisect_workers::AtGate {
+        let pace = AtGate {
             gate: self.gate,
-            number: self.number,
+            taken: Place::QuestionTaken(self.number),
+            done: Place::AnswerReady(self.number),
         };
         let done = bisect_by(
             rt,

@@ -6,32 +6,43 @@ use Rattle.history_model.specs.declared.entries.Placed.{Placed}
 use Rattle.history_model.specs.Allowed.{KeepsLimits}
 use Rattle.history_model.specs.Entries.{entries_of}
 use Rattle.track_model.specs.Tracks.{Track}
-use Rattle.track_state.specs.Work.{Work}
+use Rattle.track_state.specs.Work.{IsUntaken, Work}
+use Rattle.track_state.proofs.Untaken.{unclaimed-untaken}
 use Rattle.bisect_workers.specs.Bisecting.{IsBisected}
 use Rattle.bisect_workers.proofs.Closed.{jobs-closed}
 use Rattle.bisect_workers.proofs.Joined.{joined, nothing}
 use Rattle.bisect_workers.proofs.last.bisect_last.Goals as goal
 
 pub turns-init : goal.turns-init
-turns-init g c =
-    subst (λ (t : Track). IsBisected (Bisect 1) c.args.test.now c.args.state.now.track t (g.R.Runner.asked c.args.runner.now) (g.R.Runner.asked c.args.runner.now) (g.R.Runner.faults c.args.runner.now) (g.R.Runner.faults c.args.runner.now))
-    (sym (ap (λ (w : Work). w.track) c.end_claims.ensures))
-    (nothing (Bisect 1) c.args.test.now c.args.state.now.track (g.R.Runner.asked c.args.runner.now) (g.R.Runner.faults c.args.runner.now) (g.R.Runner.faults c.args.runner.now) (omega arith))
+turns-init g c = (
+  subst (λ (t : Track). IsBisected (Bisect 1) c.args.test.now c.args.state.now.track t (g.R.Runner.asked c.args.runner.now) (g.R.Runner.asked c.args.runner.now) (g.R.Runner.faults c.args.runner.now) (g.R.Runner.faults c.args.runner.now))
+      (sym (ap (λ (w : Work). w.track) c.end_claims.ensures))
+      (nothing (Bisect 1) c.args.test.now c.args.state.now.track (g.R.Runner.asked c.args.runner.now) (g.R.Runner.faults c.args.runner.now) (g.R.Runner.faults c.args.runner.now) (omega arith)),
+  subst IsUntaken (sym c.end_claims.ensures) (unclaimed-untaken c.args.state.now.track),
+)
 
 pub returns-in_err-turn-clause-bisected : goal.returns-in_err-turn-clause-bisected
 returns-in_err-turn-clause-bisected g c =
     joined (Bisect 1) c.args.test.now c.args.state.now.track c.turns.state.track c.turn.new.state.track (g.R.Runner.asked c.args.runner.now) (g.R.Runner.asked c.turns.runner) (g.R.Runner.asked c.turn.new.runner)
-    (g.R.Runner.faults c.args.runner.now) (g.R.Runner.faults c.turns.runner) (g.R.Runner.faults c.turn.new.runner) c.turns.invariant c.turn.ensures.bisected
+    (g.R.Runner.faults c.args.runner.now) (g.R.Runner.faults c.turns.runner) (g.R.Runner.faults c.turn.new.runner) c.turns.invariant.0 c.turn.ensures.bisected
 
 pub returns-then-not-branch-clause-bisected : goal.returns-then-not-branch-clause-bisected
 returns-then-not-branch-clause-bisected g c =
     joined (Bisect 1) c.args.test.now c.args.state.now.track c.turns.state.track c.turn.new.state.track (g.R.Runner.asked c.args.runner.now) (g.R.Runner.asked c.turns.runner) (g.R.Runner.asked c.turn.new.runner)
-    (g.R.Runner.faults c.args.runner.now) (g.R.Runner.faults c.turns.runner) (g.R.Runner.faults c.turn.new.runner) c.turns.invariant c.turn.ensures.bisected
+    (g.R.Runner.faults c.args.runner.now) (g.R.Runner.faults c.turns.runner) (g.R.Runner.faults c.turn.new.runner) c.turns.invariant.0 c.turn.ensures.bisected
 
 pub turns-preserved : goal.turns-preserved
-turns-preserved g c =
-    joined (Bisect 1) c.args.test.now c.args.state.now.track c.turns.state.track c.turn.new.state.track (g.R.Runner.asked c.args.runner.now) (g.R.Runner.asked c.turns.runner) (g.R.Runner.asked c.turn.new.runner)
-    (g.R.Runner.faults c.args.runner.now) (g.R.Runner.faults c.turns.runner) (g.R.Runner.faults c.turn.new.runner) c.turns.invariant c.turn.ensures.bisected
+turns-preserved g c = (
+  joined (Bisect 1) c.args.test.now c.args.state.now.track c.turns.state.track c.turn.new.state.track (g.R.Runner.asked c.args.runner.now) (g.R.Runner.asked c.turns.runner) (g.R.Runner.asked c.turn.new.runner)
+      (g.R.Runner.faults c.args.runner.now) (g.R.Runner.faults c.turns.runner) (g.R.Runner.faults c.turn.new.runner) c.turns.invariant.0 c.turn.ensures.bisected,
+  c.turn.ensures.free c.turns.invariant.1,
+)
+
+pub returns-in_err-turn-clause-free : goal.returns-in_err-turn-clause-free
+returns-in_err-turn-clause-free g c = c.turn.ensures.free c.turns.invariant.1
+
+pub returns-then-not-branch-clause-free : goal.returns-then-not-branch-clause-free
+returns-then-not-branch-clause-free g c = c.turn.ensures.free c.turns.invariant.1
 
 pub returns-clause-quiet : goal.returns-clause-quiet
 returns-clause-quiet g c =

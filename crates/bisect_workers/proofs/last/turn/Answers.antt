@@ -10,9 +10,10 @@ use Rattle.history_model.specs.Entries.{entries_of}
 use Rattle.track_follow.specs.Settling.{entry_said}
 use Rattle.track_model.specs.Tracks.{Track, with_entry}
 use Rattle.track_state.specs.Asking.{IsOpenQuestion}
-use Rattle.track_state.specs.Work.{Work}
+use Rattle.track_state.specs.Work.{IsUntaken, Work}
 use Rattle.track_state.specs.Questions.{IsFirstQuestion}
 use Rattle.track_state.specs.declared.questions.Question.{Question}
+use Rattle.track_state.proofs.Untaken.{settled-untaken}
 use Rattle.bisect_workers.specs.Bisecting.{IsBisected}
 use Rattle.bisect_workers.proofs.Joined.{nothing}
 use Rattle.bisect_workers.proofs.Turning.{none-asks, recorded, unused, used}
@@ -66,6 +67,13 @@ returns-clause-bisected g c =
     recorded c.within_law.ensures.kept old (Bisect 1) c.in-Some.question c.in_ok-status.status c.in_ok-settle.field-0 c.settle.new.self.track first.question c.requires c.in_ok-settle.ensures.settled.track in
     used (Bisect 1) c.args.test.now old c.in-Some.question first.question c.in_ok-status.status c.settle.new.self.track is (g.R.Runner.asked c.args.runner.now) (g.R.Runner.asked c.ask.new.runner)
     (g.R.Runner.faults c.args.runner.now) (g.R.Runner.faults c.ask.new.runner) c.in_ok-status.ensures.asked c.in_ok-status.ensures.faults
+
+pub returns-clause-free : goal.returns-clause-free
+returns-clause-free g c free =
+    settled-untaken c.args.state.now (Bisect 1) c.in-Some.question c.in_ok-status.status c.in_ok-settle.field-0 c.settle.new.self c.in_ok-settle.ensures.settled free
+
+pub returns-in_err-settle-clause-free : goal.returns-in_err-settle-clause-free
+returns-in_err-settle-clause-free g c free = subst IsUntaken (sym c.in_err-settle.ensures.same) free
 
 pub returns-clause-more : goal.returns-clause-more
 returns-clause-more g c is_true =

@@ -17,6 +17,9 @@ pub returns-in_err-recompute_series-clause-added : goal.returns-in_err-recompute
 returns-in_err-recompute_series-clause-added c =
     adds-more (Recompute 1) c.args.work.now.track c.loop-name.work.track c.recompute_series.new.work.track c.loop-name.invariant.added c.recompute_series.ensures.added
 
+pub returns-in_err-recompute_series-clause-free : goal.returns-in_err-recompute_series-clause-free
+returns-in_err-recompute_series-clause-free c = c.recompute_series.ensures.free c.loop-name.invariant.free
+
 pub loop-name-preserved : goal.loop-name-preserved
 loop-name-preserved c =
     let names : List Series = c.as_slice-name-items.result.now in
@@ -33,6 +36,7 @@ loop-name-preserved c =
       added = adds-more (Recompute 1) c.args.work.now.track b d c.loop-name.invariant.added c.recompute_series.ensures.added;
       known = λ s. known-more c.growth_law.ensures.acceptances c.growth_law.ensures.retractions c.publication_law.ensures.cuts c.setting_law.ensures.stays c.touch_law.ensures.last c.touch_law.ensures.known c.stale_law.ensures
           (Recompute 1) b d legal c.recompute_series.ensures.added s ∙ c.loop-name.invariant.known s;
+      free = c.recompute_series.ensures.free c.loop-name.invariant.free;
       quiet = subst (λ (ns : List Series). All (λ (s : Series). IsQuiet (entries_of d.history) s) ns) (sym more)
           (All-push (λ (s : Series). IsQuiet (entries_of d.history) s) (take i names) x
           (All-weaker (λ (s : Series). IsQuiet (entries_of b.history) s) (λ (s : Series). IsQuiet (entries_of d.history) s) quiet (take i names) c.loop-name.invariant.quiet)

@@ -16,8 +16,9 @@ use Rattle.track_series.specs.declared.snapshot.Snapshot.{Snapshot}
 use Rattle.track_series.proofs.Segmenting.{made-from, series-is}
 use Rattle.machine_state.specs.Made.{IsMadeFrom, entry_of}
 use Rattle.track_state.specs.Taking.{TakesStale}
-use Rattle.track_state.specs.Work.{bare, history_of}
+use Rattle.track_state.specs.Work.{IsUntaken, bare, history_of}
 use Rattle.track_state.proofs.Snapped.{bare-taken, entries-taken}
+use Rattle.track_state.proofs.Untaken.{published-untaken, stale-untaken, untaken-stays}
 use Rattle.touch_model.specs.Stale.{is_stale}
 use Rattle.recompute_workers.specs.Quiet.{IsQuiet}
 use Rattle.recompute_workers.specs.Recomputing.{AddsOne}
@@ -31,6 +32,18 @@ pair test metric = record { test = test; metric = metric }
 
 pub returns-in_err-snapshot-clause-added : goal.returns-in_err-snapshot-clause-added
 returns-in_err-snapshot-clause-added c = inl (ap bare c.in_err-snapshot.ensures.same.track)
+
+pub returns-in_err-snapshot-clause-free : goal.returns-in_err-snapshot-clause-free
+returns-in_err-snapshot-clause-free c free =
+    untaken-stays c.args.work.now c.stale_snapshot.new.self c.in_err-snapshot.ensures.same.claims c.in_err-snapshot.ensures.same.jobs free
+
+pub returns-in_default-clause-free : goal.returns-in_default-clause-free
+returns-in_default-clause-free c free =
+    stale-untaken c.args.work.now (pair c.test.result.now c.metric.result.now) _ c.stale_snapshot.new.self c.in_ok-snapshot.ensures.taken free
+
+pub returns-in_err-made-clause-free : goal.returns-in_err-made-clause-free
+returns-in_err-made-clause-free c free =
+    stale-untaken c.args.work.now (pair c.test.result.now c.metric.result.now) _ c.stale_snapshot.new.self c.in_ok-snapshot.ensures.taken free
 
 pub returns-in_default-clause-added : goal.returns-in_default-clause-added
 returns-in_default-clause-added c =
@@ -84,6 +97,19 @@ pub returns-in_err-publish-clause-added : goal.returns-in_err-publish-clause-add
 returns-in_err-publish-clause-added c =
     let k = (goal.at.returns-in_err-publish-clause-added c).In_ok-made in
     inl (ap bare c.in_err-publish.ensures.same.track ∙ bare-taken (t k) (s k) (mid k) (found k).2.track)
+
+abbrev mid-free : (c : In_ok-made) → IsUntaken c.args.work.now → IsUntaken c.stale_snapshot.new.self
+mid-free c free = stale-untaken c.args.work.now (s c) _ c.stale_snapshot.new.self c.in_ok-snapshot.ensures.taken free
+
+pub returns-in_err-publish-clause-free : goal.returns-in_err-publish-clause-free
+returns-in_err-publish-clause-free c free =
+    let k = (goal.at.returns-in_err-publish-clause-free c).In_ok-made in
+    untaken-stays c.stale_snapshot.new.self c.publish.new.self c.in_err-publish.ensures.same.claims c.in_err-publish.ensures.same.jobs (mid-free k free)
+
+pub returns-clause-free : goal.returns-clause-free
+returns-clause-free c free =
+    let k = (goal.at.returns-clause-free c).In_ok-made in
+    published-untaken c.stale_snapshot.new.self (Recompute 1) c.in_ok-made.made.done c.in_ok-publish.field-0 c.publish.new.self c.in_ok-publish.ensures.published (mid-free k free)
 
 pub returns-clause-added : goal.returns-clause-added
 returns-clause-added c =

@@ -15,7 +15,7 @@ use Rattle.shared_run.proofs.scripts.run_machines.Goals.{After-crew_law}
 module _ (g : Over) (c : After-crew_law g) where
   -- the first pass has seen what the machines had
   starts : AllZip IsFirstOf c.args.machines.items c.in-Ok-new.pass
-  starts = rw c.in-Ok-unclaimed.ensures at c.in-Ok-new.ensures.first
+  starts = rw c.in-Ok-unclaimed.ensures.tracks at c.in-Ok-new.ensures.first
 
   -- all others were joined into it
   whole : IsWhole c.run_players.new.pass
@@ -25,7 +25,7 @@ module _ (g : Over) (c : After-crew_law g) where
 
 pub run_players-requires-clause-different : goal.run_players-requires-clause-different
 run_players-requires-clause-different g c κs within =
-    room-different c.args.machines.items c.in-Ok-new.room c.in-Ok-new.pass c.in-Ok-new.ensures.pass.0 (rw c.in-Ok-unclaimed.ensures at c.in-Ok-new.ensures.first) c.requires.different
+    room-different c.args.machines.items c.in-Ok-new.room c.in-Ok-new.pass c.in-Ok-new.ensures.pass.0 (rw c.in-Ok-unclaimed.ensures.tracks at c.in-Ok-new.ensures.first) c.requires.different
 
 pub unreachable-requires : goal.unreachable-requires
 unreachable-requires g c = c.in_default-close.ensures.whole (whole g (goal.at.unreachable-requires g c).After-crew_law)
