@@ -1,5 +1,5 @@
 -- No bytes have two stops, nor names and a stop, nor two lists of names.
-use Rattle.std.proofs.Common.{◌≡◌, ◌≢◌, ℕ, ◌+◌, ◌^◌, ◌<◌, ◌≤◌, ◌⊎◌, inl, inr, List, [], ◌∷◌, ◌++◌, length, refl, sym, ap, ap₂, subst, ◌∙◌, arith, append_assoc, length-append}
+use Rattle.std.proofs.Common.{◌≡◌, ◌≢◌, ℕ, ◌+◌, ◌^◌, ◌<◌, ◌≤◌, ◌⊎◌, inl, inr, List, [], ◌∷◌, ◌++◌, length, refl, sym, ap, ap₂, subst, ◌∙◌, arith, length-append}
 use Rattle.std.specs.Prelude.{Contains}
 use Rattle.std.specs.List.{AllPairs}
 use Rattle.std.proofs.lemmas.Bool.{cases_order}
@@ -7,12 +7,14 @@ use Rattle.std.proofs.lemmas.List.{take_all, get_or_append_left}
 use Rattle.std.proofs.Math.Seq.{get_or-append_seam}
 use Rattle.line_text.specs.Lines.{lines_of}
 use Rattle.line_text.proofs.Parts.{one_front}
-use Rattle.commit_lines.specs.declared.stop.Refusal.{Refusal}
-use Rattle.commit_lines.specs.declared.stop.Refusal.TheVariants.{Bad, Full}
-use Rattle.commit_lines.specs.declared.stop.Stop.{Stop}
-use Rattle.commit_lines.specs.declared.stop.Stop.TheVariants.{Fault, TooLong, Refused, NoMemory}
-use Rattle.commit_lines.specs.Lines.{IsSkipped, IsNameLine, IsGood, AreNames, MayGo}
-use Rattle.commit_lines.specs.Reading.{AreAccepted, Breaks, IsFirstRefused, HasBegun, FrontRefuses, MayGoOn, within_limit, Refuses, IsTooLong, AreNamesOf}
+use Rattle.line_pieces.specs.Stops.{within_limit}
+use Rattle.line_pieces.proofs.Fronts.{goes_past, one_split}
+use Rattle.line_pieces.specs.declared.stop.Refusal.{Refusal}
+use Rattle.line_pieces.specs.declared.stop.Refusal.TheVariants.{Bad, Full}
+use Rattle.line_pieces.specs.declared.stop.Stop.{Stop}
+use Rattle.line_pieces.specs.declared.stop.Stop.TheVariants.{Fault, TooLong, Refused, NoMemory}
+use Rattle.commit_lines.specs.Lines.{AreNames, MayGo}
+use Rattle.commit_lines.specs.Reading.{AreAccepted, Breaks, IsFirstRefused, FrontRefuses, MayGoOn, Refuses, IsTooLong, AreNamesOf}
 use Rattle.commit_lines.specs.Stops.{BytesShow}
 use Rattle.commit_lines.proofs.Words.{skipped_not_name, one_name, good_may}
 use Rattle.commit_lines.proofs.Fronts.{first_later}
@@ -80,30 +82,6 @@ not_among why before line behind names all are accepted refused = at parts.behin
         omega (arith, many, accepted.few)
 
 -- ---- the first refused line is one line
-
--- a shorter front begins the longer one
-goes_past : (one two : List (List ℕ)) (line : List ℕ) (behind rest : List (List ℕ)) → one ++ line ∷ behind ≡ two ++ rest → length one < length two
-    → (more : List (List ℕ)) × (two ≡ one ++ line ∷ more)
-goes_past one [] line behind rest same less = absurd (omega arith)
-goes_past [] (first ∷ two) line behind rest same less =
-    let is : line ≡ first = cc in
-    (two, ap (λ (l : List ℕ). l ∷ two) (sym is))
-goes_past (next ∷ one) (first ∷ two) line behind rest same less =
-    let is : next ≡ first = cc in
-    let tails : one ++ line ∷ behind ≡ two ++ rest = cc in
-    let found = goes_past one two line behind rest tails (omega arith) in
-    (found.0, ap₂ (λ (l : List ℕ) (ls : List (List ℕ)). l ∷ ls) (sym is) found.1)
-
-one_split : (one two : List (List ℕ)) (line other : List ℕ) (behind rest : List (List ℕ)) → one ++ line ∷ behind ≡ two ++ other ∷ rest → length one ≡ length two
-    → (one ≡ two) × (line ≡ other)
-one_split [] [] line other behind rest same count = (refl, cc)
-one_split [] (first ∷ two) line other behind rest same count = absurd (omega arith)
-one_split (next ∷ one) [] line other behind rest same count = absurd (omega arith)
-one_split (next ∷ one) (first ∷ two) line other behind rest same count =
-    let is : next ≡ first = cc in
-    let tails : one ++ line ∷ behind ≡ two ++ other ∷ rest = cc in
-    let found = one_split one two line other behind rest tails (omega arith) in
-    (ap₂ (λ (l : List ℕ) (ls : List (List ℕ)). l ∷ ls) is found.0, found.1)
 
 -- a line is refused for one reason
 one_reason : (why other : Refusal) (names : List (List ℕ)) (line : List ℕ) → Breaks why names line → Breaks other names line → why ≡ other

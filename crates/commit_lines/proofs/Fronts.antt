@@ -1,20 +1,15 @@
 -- A refusal that some bytes show stands, whatever comes behind them.
-use Rattle.std.proofs.Common.{◌≡◌, ℕ, ◌+◌, ◌<◌, inl, inr, List, [], ◌∷◌, ◌++◌, length, take, drop, get_or, refl, sym, ap, subst, ◌∙◌, append_assoc, true, Bool, eqb}
-use Rattle.std.proofs.lemmas.Bool.{eqb-true}
-use Rattle.std.proofs.lemmas.List.{take-append-drop, drop_more}
+use Rattle.std.proofs.Common.{◌≡◌, ℕ, ◌+◌, inl, inr, List, [], ◌∷◌, ◌++◌, length, refl, sym, ap, subst, ◌∙◌, append_assoc}
 use Rattle.std.specs.List.{slice_split}
 use Rattle.line_text.proofs.Parts.{first_part, goes_on}
-use Rattle.commit_lines.specs.declared.stop.Refusal.{Refusal}
-use Rattle.commit_lines.specs.declared.stop.Refusal.TheVariants.{Bad}
-use Rattle.commit_lines.specs.declared.stop.Stop.{Stop}
-use Rattle.commit_lines.specs.declared.stop.Stop.TheVariants.{Fault, TooLong, Refused, NoMemory}
+use Rattle.line_pieces.proofs.Lines.{is_feed, on_refused-weaker}
+use Rattle.line_pieces.specs.declared.stop.Refusal.{Refusal}
+use Rattle.line_pieces.specs.declared.stop.Refusal.TheVariants.{Bad}
+use Rattle.line_pieces.specs.declared.stop.Stop.{Stop}
 use Rattle.commit_lines.specs.Lines.{MayGo}
 use Rattle.commit_lines.specs.Reading.{HasBegun, IsFirstRefused, FrontRefuses}
-use Rattle.commit_lines.specs.HasRead.{OnRefused, ShowsRefused}
+use Rattle.commit_lines.specs.HasRead.{ShowsRefused}
 use Rattle.commit_lines.proofs.Words.{may_front, good_may}
-
-abbrev pub is_feed : ℕ → Bool
-is_feed b = eqb b 10
 
 -- a list with an item, from its last one
 record Ends (x : List ℕ) (behind : List (List ℕ)) : Type 0 where
@@ -90,32 +85,6 @@ front_more why bytes next k (inr (lines, rest, names, begun, is, number, never))
     subst (λ (w : Refusal). FrontRefuses w (bytes ++ next) k) (sym is)
     (open_more bytes next lines rest names k part.first part.behind begun number never part.is)
 
--- what follows for each refused line follows for the stop
-pub on_refused-weaker : (P Q : Refusal → ℕ → Type 0) (stop : Stop) → ((why : Refusal) (k : ℕ) → P why k → Q why k) → OnRefused P stop → OnRefused Q stop
-on_refused-weaker P Q (Refused why k) all holds = all why k holds
-on_refused-weaker P Q NoMemory all holds = tt
-on_refused-weaker P Q Fault all holds = holds
-on_refused-weaker P Q TooLong all holds = holds
-
 pub shows_more : (bytes next : List ℕ) (stop : Stop) → ShowsRefused bytes stop → ShowsRefused (bytes ++ next) stop
 shows_more bytes next stop =
     on_refused-weaker (λ why k. FrontRefuses why bytes k) (λ why k. FrontRefuses why (bytes ++ next) k) stop (λ why k. front_more why bytes next k)
-
--- a part of bytes refuses, whatever comes behind it
-pub shows_front : (read done part back bytes : List ℕ) (stop : Stop) → done ++ (part ++ back) ≡ bytes → ShowsRefused ((read ++ done) ++ part) stop
-    → ShowsRefused (read ++ bytes) stop
-shows_front read done part back bytes stop whole shown =
-    let all : ((read ++ done) ++ part) ++ back ≡ read ++ bytes =
-    append_assoc (read ++ done) part back ∙ append_assoc read done (part ++ back) ∙ ap (λ bs. read ++ bs) whole in
-    subst (λ bs. ShowsRefused bs stop) all (shows_more ((read ++ done) ++ part) back stop shown)
-
--- a line feed, and the bytes before and behind it
-pub parted : (rest : List ℕ) (end : ℕ) → end < length rest → eqb (get_or rest end 0) 10 ≡ true → take end rest ++ 10 ∷ drop (end + 1) rest ≡ rest
-parted rest end few told =
-    let split : drop end rest ≡ get_or rest end 0 ∷ drop (end + 1) rest = drop_more rest end 0 few in
-    let is : get_or rest end 0 ≡ 10 = eqb-true (get_or rest end 0) 10 told in
-    ap (λ bs. take end rest ++ bs) (ap (λ b. b ∷ drop (end + 1) rest) (sym is) ∙ sym split) ∙ take-append-drop end rest
-
-pub joined : (done part back rest bytes : List ℕ) → part ++ 10 ∷ back ≡ rest → done ++ rest ≡ bytes → (done ++ (part ++ 10 ∷ [])) ++ back ≡ bytes
-joined done part back rest bytes split whole =
-    append_assoc done (part ++ 10 ∷ []) back ∙ ap (λ bs. done ++ bs) (append_assoc part (10 ∷ []) back ∙ split) ∙ whole

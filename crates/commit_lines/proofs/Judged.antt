@@ -1,9 +1,9 @@
 -- What a word that is found, or none, says of a line.
-use Rattle.std.proofs.Common.{◌≡◌, ◌≢◌, ℕ, ◌≤◌, inl, inr, List, [], ◌∷◌, length, get_or, Bool, true, false, not, Option, None, Some, IfSome, IfNone, is_some, refl, sym, ap, subst, ◌∙◌, arith}
+use Rattle.std.proofs.Common.{◌≡◌, ◌≢◌, ℕ, inl, inr, List, [], ◌∷◌, get_or, Bool, true, false, not, Option, None, Some, IfSome, IfNone, is_some, refl, sym, subst, ◌∙◌}
 use Rattle.std.specs.Prelude.{Contains}
 use Rattle.line_text.specs.Lines.{words_of}
-use Rattle.commit_lines.specs.declared.stop.Refusal.{Refusal}
-use Rattle.commit_lines.specs.declared.stop.Refusal.TheVariants.{Bad, Full}
+use Rattle.line_pieces.specs.declared.stop.Refusal.{Refusal}
+use Rattle.line_pieces.specs.declared.stop.Refusal.TheVariants.{Bad, Full}
 use Rattle.commit_lines.specs.Lines.{IsSkipped, IsNameLine, IsGood}
 use Rattle.commit_lines.specs.Reading.{Breaks}
 use Rattle.commit_lines.specs.HasRead.{RefusesName}

@@ -1,5 +1,5 @@
 -- A line that has begun and may become a name becomes one by an end that is tried.
-use Rattle.std.proofs.Common.{◌≡◌, ◌≢◌, ℕ, zero, suc, ◌+◌, ◌*◌, ◌/◌, ◌%◌, ◌<◌, ◌≤◌, ◌⊎◌, inl, inr, List, [], ◌∷◌, ◌++◌, length, get_or, take, filter, true, false, eqb, eq-eqb, ne_eqb, refl, sym, ap, subst, ◌∙◌, arith, append_assoc, append-nil, length-append}
+use Rattle.std.proofs.Common.{◌≡◌, ℕ, zero, suc, ◌+◌, ◌*◌, ◌/◌, ◌%◌, ◌<◌, ◌≤◌, ◌⊎◌, inl, inr, List, [], ◌∷◌, ◌++◌, length, take, filter, true, false, eq-eqb, ne_eqb, refl, sym, ap, subst, ◌∙◌, arith, length-append}
 use Rattle.std.specs.List.{slice_split, onto_first}
 use Rattle.std.specs.Char.{digit_char}
 use Rattle.std.proofs.lemmas.Bool.{cases_eq}
@@ -16,7 +16,7 @@ use Rattle.commit_lines.specs.Lines.{IsSkipped, IsNameLine, EndsWithSpace, MayBe
 use Rattle.commit_lines.specs.Ends.{char_end, digits_of, end_of, end_at}
 use Rattle.commit_lines.specs.HasRead.{SaysName, IsTried}
 use Rattle.commit_lines.proofs.Words.{same_first}
-use Rattle.commit_lines.proofs.WordEnds.{WordEnds, word_ends}
+use Rattle.commit_lines.proofs.WordEnds.{TriedEnd, WordEnds, bytes_of, word_ends}
 
 -- ---- the last word of a line
 
@@ -131,19 +131,19 @@ words_on line more last first behind is =
     ∙ ap (λ (ws : List (List ℕ)). filter is_word last.before ++ ws) (word_first last.first (last.rest ++ first) behind)
 
 -- by number
-numbered : (count value number : ℕ) → count < 3 → value < 256 → number < 12 → end_at (count * 3_072 + value * 12 + number) ≡ end_of count value number
-numbered count value number few small less =
-    let n : ℕ = count * 3_072 + value * 12 + number in
-    let one : n / 3_072 ≡ count = omega arith in
-    let two : n / 12 % 256 ≡ value = omega arith in
-    let three : n % 12 ≡ number = omega arith in
-    ap (λ (k : ℕ). end_of k (n / 12 % 256) (n % 12)) one ∙ ap (λ (k : ℕ). end_of count k (n % 12)) two ∙ ap (λ (k : ℕ). end_of count value k) three
+numbered : (e : TriedEnd) → end_at (e.count * 3_072 + e.value * 12 + e.number) ≡ bytes_of e
+numbered e =
+    let n : ℕ = e.count * 3_072 + e.value * 12 + e.number in
+    let one : n / 3_072 ≡ e.count = omega (arith, e.few_values, e.few_numbers) in
+    let two : n / 12 % 256 ≡ e.value = omega (arith, e.few_values, e.few_numbers) in
+    let three : n % 12 ≡ e.number = omega (arith, e.few_numbers) in
+    ap (λ (k : ℕ). end_of k (n / 12 % 256) (n % 12)) one ∙ ap (λ (k : ℕ). end_of e.count k (n % 12)) two ∙ ap (λ (k : ℕ). end_of e.count e.value k) three
 
 word_tried : (line more name : List ℕ) (last : LastWord line) → 0 < length line → IsNameLine (line ++ more) name → IsTried line
 word_tried line more name last some says = (
-  ends.count * 3_072 + ends.value * 12 + ends.number,
-  omega (arith, ends.few_digits, ends.few_values, ends.few_numbers),
-  subst (λ (bs : List ℕ). SaysName (line ++ bs)) (sym (numbered ends.count ends.value ends.number ends.few_digits ends.few_values ends.few_numbers)) (percent_decode (word ++ end), spelt),
+  ends.end.count * 3_072 + ends.end.value * 12 + ends.end.number,
+  omega (arith, ends.end.few_digits, ends.end.few_values, ends.end.few_numbers),
+  subst (λ (bs : List ℕ). SaysName (line ++ bs)) (sym (numbered ends.end)) (percent_decode (word ++ end), spelt),
 )
   where
     next : FirstPart is_space more
@@ -161,14 +161,14 @@ word_tried line more name last some says = (
         (subst IsUtf8 (sym (ap percent_decode only.1 ∙ says.spells.decoded)) says.spells.named.text)
 
     end : List ℕ
-    end = end_of ends.count ends.value ends.number
+    end = bytes_of ends.end
 
     spelt : IsNameLine (line ++ end) (percent_decode (word ++ end))
     spelt = record {
       short = omega (arith, says.short, length-append line end, length-append line more, ends.short, first_short more next.first next.behind next.is);
       other = λ first. says.other (same_first line more some ∙ sym (same_first line end some) ∙ first);
       word = word ++ end;
-      one = words_on line end last end [] (no_space end (end_big ends.count ends.value ends.number ends.few_digits)) ∙ ap (λ (ws : List (List ℕ)). ws ++ (word ++ end) ∷ []) only.0;
+      one = words_on line end last end [] (no_space end (end_big ends.end.count ends.end.value ends.end.number ends.end.few_digits)) ∙ ap (λ (ws : List (List ℕ)). ws ++ (word ++ end) ∷ []) only.0;
       spells = record {
         escapes = ends.escapes;
         decoded = refl;

@@ -1,23 +1,23 @@
 -- What is kept of bytes as they are read.
-use Rattle.std.proofs.Common.{◌≡◌, ◌≢◌, ℕ, ◌+◌, ◌<◌, ◌≤◌, ◌⊎◌, inl, inr, List, [], ◌∷◌, ◌++◌, length, get_or, take, false, ne_eqb, refl, sym, ap, subst, ◌∙◌, arith, append-nil, append_assoc, length-append}
+use Rattle.std.proofs.Common.{◌≡◌, ◌≢◌, ℕ, ◌+◌, ◌<◌, ◌≤◌, ◌⊎◌, inl, inr, List, [], ◌∷◌, ◌++◌, length, get_or, take, refl, sym, ap, subst, ◌∙◌, arith, length-append}
 use Rattle.std.specs.Prelude.{Contains}
 use Rattle.std.specs.List.{AllPairs}
 use Rattle.std.proofs.lemmas.Bool.{cases_lt}
 use Rattle.std.proofs.lemmas.List.{length-take, get_or_append_left}
-use Rattle.std.proofs.lemmas.List.Elements.{All-weaker, Contains-get_or}
-use Rattle.std.proofs.lemmas.List.Splits.{slice_split_none}
+use Rattle.std.proofs.lemmas.List.Elements.{Contains-get_or}
 use Rattle.std.proofs.Math.Seq.{get_or-append_seam}
 use Rattle.line_text.specs.Lines.{lines_of}
-use Rattle.commit_lines.specs.declared.stop.Refusal.{Refusal}
-use Rattle.commit_lines.specs.declared.stop.Refusal.TheVariants.{Bad}
-use Rattle.commit_lines.specs.declared.stop.Stop.{Stop}
-use Rattle.commit_lines.specs.declared.stop.Stop.TheVariants.{Refused}
-use Rattle.commit_lines.specs.Lines.{IsSkipped, IsNameLine, AreNames, HasNoLineFeed, MayBecomeName, MayGo}
+use Rattle.line_pieces.specs.declared.stop.Refusal.{Refusal}
+use Rattle.line_pieces.specs.declared.stop.Refusal.TheVariants.{Bad}
+use Rattle.line_pieces.specs.declared.stop.Stop.{Stop}
+use Rattle.line_pieces.specs.declared.stop.Stop.TheVariants.{Refused}
+use Rattle.commit_lines.specs.Lines.{IsSkipped, IsNameLine, AreNames, MayBecomeName, MayGo}
 use Rattle.commit_lines.specs.Reading.{AreAccepted, Breaks, IsFirstRefused, FrontRefuses, MayGoOn}
-use Rattle.commit_lines.specs.HasRead.{AreSkipped, IsLong, Keeps, Kept, HasKept, OnRefused, ShowsRefused, EndsRefused, TakesLine}
+use Rattle.commit_lines.specs.HasRead.{AreSkipped, IsLong, Keeps, Kept, HasKept, ShowsRefused, EndsRefused, TakesLine}
 use Rattle.line_text.proofs.Parts.{goes_on, last_part, one_front}
 use Rattle.commit_lines.proofs.Words.{both_skipped, turned, skipped_more, same_skipped, front_skipped, good_may}
-use Rattle.commit_lines.proofs.Fronts.{is_feed, on_refused-weaker}
+use Rattle.line_pieces.specs.Pieces.{HasNoLineFeed, OnRefused}
+use Rattle.line_pieces.proofs.Lines.{is_feed, one_part, ended, on_refused-weaker}
 
 -- ---- no bytes
 
@@ -34,9 +34,6 @@ has_none kept none whole begun = record {
 }
 
 -- ---- a part of a line more
-
-one_part : (part : List ℕ) → HasNoLineFeed part → lines_of part ≡ part ∷ []
-one_part part none = slice_split_none is_feed part (All-weaker (λ b. b ≢ 10) (λ b. is_feed b ≡ false) (λ b other. ne_eqb b 10 other) part none)
 
 -- all is kept but the line
 pub record Grows (old new : Kept) : Type 0 where
@@ -164,13 +161,6 @@ accepts lines names line next are (inr (name, is, adds)) =
 pub record Ends (old new : Kept) : Type 0 where
   pub whole : new.whole_lines ≡ old.whole_lines + 1
   pub line : new.line ≡ []
-
--- a line feed begins a line
-ended : (bytes : List ℕ) (lines : List (List ℕ)) (rest : List ℕ) → lines_of bytes ≡ lines ++ rest ∷ [] → lines_of (bytes ++ 10 ∷ []) ≡ (lines ++ rest ∷ []) ++ [] ∷ []
-ended bytes lines rest split =
-    goes_on is_feed bytes (10 ∷ []) lines rest [] ([] ∷ []) split refl
-    ∙ ap (λ line. lines ++ line ∷ [] ∷ []) (append-nil rest)
-    ∙ sym (append_assoc lines (rest ∷ []) ([] ∷ []))
 
 has_line : (read : List ℕ) (old new : Kept) (has : HasKept read old) → Ends old new → TakesLine has.rest old.names new.names → HasKept (read ++ 10 ∷ []) new
 has_line read old new has ends takes = record {

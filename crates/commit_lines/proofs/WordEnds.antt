@@ -1,9 +1,8 @@
 -- What ends a word whose first bytes are there: if any bytes make it spell a name, so do some that are tried.
-use Rattle.std.proofs.Common.{◌≡◌, ◌≢◌, ℕ, zero, suc, ◌+◌, ◌-◌, ◌*◌, ◌/◌, ◌%◌, ◌<◌, ◌≤◌, ◌⊎◌, List, [], ◌∷◌, ◌++◌, length, get_or, take, IsUtf8, inl, inr, refl, sym, ap, ap₂, ◌∙◌, subst, arith, append_assoc, append-nil, length-append}
+use Rattle.std.proofs.Common.{◌≡◌, ◌≢◌, ℕ, zero, suc, ◌+◌, ◌*◌, ◌/◌, ◌%◌, ◌<◌, ◌≤◌, List, [], ◌∷◌, ◌++◌, length, get_or, take, IsUtf8, inl, inr, refl, sym, ap, ap₂, ◌∙◌, subst, arith, append_assoc}
 use Rattle.std.specs.Char.{digit_value, digit_char}
 use Rattle.std.proofs.lemmas.Bool.{cases_eq}
 use Rattle.std.proofs.lemmas.Str.{digit_value-digit_char}
-use Rattle.std.proofs.lemmas.List.{length-take}
 use Rattle.percent_encoding.specs.Percent.{percent_decode}
 use Rattle.percent_encoding.proofs.PercentLemmas.{percent_decode_escape, percent_decode_not_percent, length-percent_decode, percent_decode-nil}
 use Rattle.line_text.specs.Names.{IsHexDigit, HasWholeEscapes}
@@ -62,34 +61,36 @@ char_high n = high_take (n % 4) ((128 + 16 * (n / 4)) ∷ 128 ∷ 128 ∷ []) (o
 
 -- ---- the ends that are enough
 
-pub record WordEnds (front word more : List ℕ) : Type 0 where
+-- one of the ends that are tried
+pub record TriedEnd : Type 0 where
   pub count : ℕ
   pub value : ℕ
   pub number : ℕ
   pub few_digits : count < 3
   pub few_values : value < 256
   pub few_numbers : number < 12
-  pub short : length (end_of count value number) ≤ length more
-  pub escapes : HasWholeEscapes (word ++ end_of count value number)
-  pub text : IsUtf8 (front ++ percent_decode (word ++ end_of count value number))
-  pub few : length (percent_decode (word ++ end_of count value number)) ≤ length (percent_decode (word ++ more))
+
+abbrev pub bytes_of : TriedEnd → List ℕ
+bytes_of end = end_of end.count end.value end.number
+
+pub record WordEnds (front word more : List ℕ) : Type 0 where
+  pub end : TriedEnd
+  pub short : length (bytes_of end) ≤ length more
+  pub escapes : HasWholeEscapes (word ++ bytes_of end)
+  pub text : IsUtf8 (front ++ percent_decode (word ++ bytes_of end))
+  pub few : length (percent_decode (word ++ bytes_of end)) ≤ length (percent_decode (word ++ more))
 
 -- some bytes that stand for one byte in front
 onto : (front part word more : List ℕ) (x : ℕ) → ((rest : List ℕ) → percent_decode (part ++ rest) ≡ x ∷ percent_decode rest)
     → ((rest : List ℕ) → HasWholeEscapes rest → HasWholeEscapes (part ++ rest)) → WordEnds (front ++ x ∷ []) word more → WordEnds front (part ++ word) more
 onto front part word more x decodes escapes rest =
-    let end : List ℕ = end_of rest.count rest.value rest.number in
+    let end : List ℕ = bytes_of rest.end in
     let is : percent_decode ((part ++ word) ++ end) ≡ x ∷ percent_decode (word ++ end) = ap percent_decode (append_assoc part word end) ∙ decodes (word ++ end) in
     let all : percent_decode ((part ++ word) ++ more) ≡ x ∷ percent_decode (word ++ more) = ap percent_decode (append_assoc part word more) ∙ decodes (word ++ more) in
     let one : length (percent_decode ((part ++ word) ++ end)) ≡ length (x ∷ percent_decode (word ++ end)) = ap (λ (l : List ℕ). length l) is in
     let two : length (percent_decode ((part ++ word) ++ more)) ≡ length (x ∷ percent_decode (word ++ more)) = ap (λ (l : List ℕ). length l) all in
     record {
-      count = rest.count;
-      value = rest.value;
-      number = rest.number;
-      few_digits = rest.few_digits;
-      few_values = rest.few_values;
-      few_numbers = rest.few_numbers;
+      end = rest.end;
       short = rest.short;
       escapes = subst HasWholeEscapes (sym (append_assoc part word end)) (escapes (word ++ end) rest.escapes);
       text = subst IsUtf8 (append_assoc front (x ∷ []) (percent_decode (word ++ end)) ∙ ap (λ (l : List ℕ). front ++ l) (sym is)) rest.text;
@@ -107,12 +108,7 @@ of_none front more text =
     let is : percent_decode (char_end done.number) ≡ char_end done.number = high_decode (char_end done.number) (char_high done.number) in
     let same : length (percent_decode (char_end done.number)) ≡ length (char_end done.number) = ap (λ (l : List ℕ). length l) is in
     record {
-      count = 0;
-      value = 0;
-      number = done.number;
-      few_digits = omega arith;
-      few_values = omega arith;
-      few_numbers = done.few;
+      end = record { count = 0; value = 0; number = done.number; few_digits = omega arith; few_values = omega arith; few_numbers = done.few };
       short = omega (arith, done.short, (length-percent_decode more).0);
       escapes = high_escapes (char_end done.number) (char_high done.number);
       text = subst (λ (l : List ℕ). IsUtf8 (front ++ l)) (sym is) done.text;
@@ -163,18 +159,7 @@ of_percent front more h l high low text =
     let first : digit_value (digit_char (value / 16 % 16)) ≡ digit_value h = digit_is (value / 16 % 16) (omega arith) ∙ one in
     let second : digit_value (digit_char (value % 16)) ≡ digit_value l = digit_is (value % 16) (omega arith) ∙ two in
     let is = spelled front more h l (digit_char (value / 16 % 16)) (digit_char (value % 16)) high low first second done in
-    record {
-      count = 2;
-      value = value;
-      number = done.number;
-      few_digits = omega arith;
-      few_values = omega arith;
-      few_numbers = done.few;
-      short = omega (arith, done.short, (length-percent_decode more).0);
-      escapes = is.escapes;
-      text = is.text;
-      few = is.few;
-    }
+    record { end = record { count = 2; value = value; number = done.number; few_digits = omega arith; few_values = omega arith; few_numbers = done.few }; short = omega (arith, done.short, (length-percent_decode more).0); escapes = is.escapes; text = is.text; few = is.few }
 
 of_digit : (front more : List ℕ) (h l : ℕ) → IsHexDigit h → IsHexDigit l → IsUtf8 (front ++ percent_decode (37 ∷ h ∷ l ∷ more)) → WordEnds front (37 ∷ h ∷ []) (l ∷ more)
 of_digit front more h l high low text =
@@ -182,18 +167,7 @@ of_digit front more h l high low text =
     let two : digit_value l % 16 ≡ digit_value l = omega arith in
     let second : digit_value (digit_char (digit_value l % 16)) ≡ digit_value l = digit_is (digit_value l % 16) (omega arith) ∙ two in
     let is = spelled front more h l h (digit_char (digit_value l % 16)) high low refl second done in
-    record {
-      count = 1;
-      value = digit_value l;
-      number = done.number;
-      few_digits = omega arith;
-      few_values = omega arith;
-      few_numbers = done.few;
-      short = omega (arith, done.short, (length-percent_decode more).0);
-      escapes = is.escapes;
-      text = is.text;
-      few = is.few;
-    }
+    record { end = record { count = 1; value = digit_value l; number = done.number; few_digits = omega arith; few_values = omega arith; few_numbers = done.few }; short = omega (arith, done.short, (length-percent_decode more).0); escapes = is.escapes; text = is.text; few = is.few }
 
 no_digit : IsHexDigit 0 → ⊥
 no_digit digit = omega arith

@@ -4,13 +4,13 @@ use Rattle.line_text.specs.Lines.{lines_of, words_of}
 use Rattle.commit_lines.specs.declared.line.LineKind.{LineKind}
 use Rattle.commit_lines.specs.declared.line.LineKind.TheVariants.{Skipped, Named, Bad as BadKind}
 use Rattle.commit_lines.specs.declared.reader.Reader.{Reader}
-use Rattle.commit_lines.specs.declared.stop.Refusal.{Refusal}
-use Rattle.commit_lines.specs.declared.stop.Refusal.TheVariants.{Bad, Full}
-use Rattle.commit_lines.specs.declared.stop.Stop.{Stop}
-use Rattle.commit_lines.specs.declared.stop.Stop.TheVariants.{Refused, NoMemory}
+use Rattle.line_pieces.specs.declared.stop.Refusal.{Refusal}
+use Rattle.line_pieces.specs.declared.stop.Refusal.TheVariants.{Bad, Full}
+use Rattle.line_pieces.specs.declared.stop.Stop.{Stop}
+use Rattle.line_pieces.specs.Pieces.{OnRefused}
 use Rattle.commit_lines.specs.Lines.{IsSkipped, IsNameLine}
 use Rattle.commit_lines.specs.Ends.{end_at}
-use Rattle.commit_lines.specs.Reading.{AreAccepted, HasBegun, IsFirstRefused, FrontRefuses, MayGoOn}
+use Rattle.commit_lines.specs.Reading.{AreAccepted, HasBegun, IsFirstRefused, FrontRefuses}
 
 -- what a line of this kind says
 abbrev pub IsKind : List ℕ → LineKind → Type 0
@@ -65,12 +65,6 @@ kept_by reader =
 abbrev pub HasRead : List ℕ → Reader → Type 0
 HasRead bytes reader = HasKept bytes (kept_by reader)
 
--- a line is refused, of which this holds, or memory is wanting
-abbrev pub OnRefused : (Refusal → ℕ → Type 0) → Stop → Type 0
-OnRefused Holds (Refused why k) = Holds why k
-OnRefused Holds NoMemory = Unit {0}
-OnRefused Holds stop = ⊥
-
 -- the bytes show that a line is refused, whatever comes behind them
 abbrev pub ShowsRefused : List ℕ → Stop → Type 0
 ShowsRefused bytes stop = OnRefused (λ why k. FrontRefuses why bytes k) stop
@@ -78,33 +72,6 @@ ShowsRefused bytes stop = OnRefused (λ why k. FrontRefuses why bytes k) stop
 -- the bytes are all, and their last line is refused
 abbrev pub EndsRefused : List ℕ → Stop → Type 0
 EndsRefused bytes stop = OnRefused (λ why k. IsFirstRefused why (lines_of bytes) k) stop
-
--- ---- what a call does to a reader, whatever it had read before
-
--- it has read these bytes more
-abbrev pub ReadsMore : List ℕ → Reader → Reader → Type 0
-ReadsMore bytes old new = (read : List ℕ) → HasRead read old → HasRead (read ++ bytes) new
-
--- these bytes more show that a line is refused
-abbrev pub MoreRefused : List ℕ → Reader → Stop → Type 0
-MoreRefused bytes old stop = (read : List ℕ) → HasRead read old → ShowsRefused (read ++ bytes) stop
-
--- what it has read shows that a line is refused
-abbrev pub IsRefused : Reader → Stop → Type 0
-IsRefused old stop = (read : List ℕ) → HasRead read old → ShowsRefused read stop
-
--- its last line is refused, where the bytes end and where a line feed comes
-abbrev pub LastRefused : Reader → Stop → Type 0
-LastRefused old stop =
-    (read : List ℕ) → HasRead read old → EndsRefused read stop × ShowsRefused (read ++ 10 ∷ []) stop
-
--- its last line is refused, where the bytes end
-abbrev pub EndRefused : Reader → Stop → Type 0
-EndRefused old stop = (read : List ℕ) → HasRead read old → EndsRefused read stop
-
--- bytes behind those that it has read may make the line good
-abbrev pub IsOpen : Reader → Type 0
-IsOpen old = (read : List ℕ) → HasRead read old → MayGoOn read
 
 -- these are the names of all lines that it has read
 abbrev pub HasNames : Reader → List (List ℕ) → Type 0

@@ -1,5 +1,5 @@
 -- What a line says to the command `hunt`.
-use Rattle.std.specs.Prelude.{◌≡◌, ◌≢◌, ◌≤◌, ◌⊎◌, ℕ, List, [], ◌∷◌, ◌++◌, length, slice_index, All, Contains}
+use Rattle.std.specs.Prelude.{◌≡◌, ◌≢◌, ◌≤◌, ◌⊎◌, ℕ, List, [], ◌∷◌, ◌++◌, length, slice_index, Contains}
 use Rattle.line_text.specs.Lines.{words_of}
 use Rattle.line_text.specs.Names.{Spells}
 
@@ -25,10 +25,6 @@ AreNames [] names = names ≡ []
 AreNames (line ∷ lines) names =
     (IsSkipped line × AreNames lines names)
     ⊎ ((name : List ℕ) × (rest : List (List ℕ)) × (names ≡ name ∷ rest) × IsNameLine line name × AreNames lines rest)
-
--- bytes within a line
-abbrev pub HasNoLineFeed : List ℕ → Type 0
-HasNoLineFeed bytes = All (λ b. b ≢ 10) bytes
 
 -- the last byte is a space
 abbrev pub EndsWithSpace : List ℕ → Type 0

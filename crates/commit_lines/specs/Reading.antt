@@ -1,9 +1,10 @@
 -- How the lines of an input read: they are accepted as a whole, or a line is the first that is refused.
-use Rattle.std.specs.Prelude.{◌≡◌, ◌≢◌, ℕ, ◌+◌, ◌^◌, ◌<◌, ◌≤◌, ◌⊎◌, List, [], ◌∷◌, ◌++◌, Option, IfSome, length, take, Contains}
+use Rattle.std.specs.Prelude.{◌≡◌, ◌≢◌, ℕ, ◌+◌, ◌^◌, ◌<◌, ◌≤◌, ◌⊎◌, List, [], ◌∷◌, ◌++◌, Option, IfSome, length, Contains}
 use Rattle.std.specs.List.{AllPairs}
 use Rattle.line_text.specs.Lines.{lines_of}
-use Rattle.commit_lines.specs.declared.stop.Refusal.{Refusal}
-use Rattle.commit_lines.specs.declared.stop.Refusal.TheVariants.{Bad, Full}
+use Rattle.line_pieces.specs.Stops.{within_limit}
+use Rattle.line_pieces.specs.declared.stop.Refusal.{Refusal}
+use Rattle.line_pieces.specs.declared.stop.Refusal.TheVariants.{Bad, Full}
 use Rattle.commit_lines.specs.Lines.{IsNameLine, IsGood, AreNames, MayGo}
 
 -- the lines are read, and these are their names, of which no two are equal
@@ -46,10 +47,6 @@ FrontRefuses why bytes k =
 abbrev pub MayGoOn : List ℕ → Type 0
 MayGoOn bytes =
     (lines : List (List ℕ)) × (rest : List ℕ) × (names : List (List ℕ)) × HasBegun bytes lines rest names × MayGo names rest
-
--- the bytes of an input that are read at most
-abbrev pub within_limit : List ℕ → List ℕ
-within_limit bytes = take (2 ^ 30) bytes
 
 -- the input refuses line k: the first 2^30 bytes do, or there are no more, and the last line is refused
 abbrev pub Refuses : Refusal → List ℕ → ℕ → Type 0

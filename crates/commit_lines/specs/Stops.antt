@@ -1,22 +1,21 @@
 -- Why reading of the names of an input stops.
-use Rattle.std.specs.Prelude.{◌≡◌, ℕ, List, Option, IfSome}
-use Rattle.std.specs.Io.KnownBytes.{prepend_known}
+use Rattle.std.specs.Prelude.{◌≡◌, ℕ, List, Option}
 use Rattle.track_outside.specs.declared.source.Source.{Ghosts}
-use Rattle.track_outside.specs.Counts.{Rose}
-use Rattle.commit_lines.specs.declared.stop.Stop.{Stop}
-use Rattle.commit_lines.specs.declared.stop.Stop.TheVariants.{Fault, TooLong, Refused, NoMemory}
-use Rattle.commit_lines.specs.Reading.{Refuses, MayGoOn, IsTooLong, AreNamesOf}
+use Rattle.line_pieces.specs.declared.stop.Stop.{Stop}
+use Rattle.line_pieces.specs.Stops as lines
+use Rattle.commit_lines.specs.Reading.{Refuses, MayGoOn, AreNamesOf}
+
+-- what the lines must be
+abbrev pub rules : lines.Rules
+rules = record { refuses = Refuses; goes_on = MayGoOn }
 
 -- the bytes of an input show that reading stops so; they never show a fault or want of memory
 abbrev pub BytesShow : List ℕ → Stop → Type 0
-BytesShow bytes TooLong = IsTooLong bytes
-BytesShow bytes (Refused why k) = Refuses why bytes k
-BytesShow bytes stop = ⊥
+BytesShow bytes stop = lines.BytesShow rules bytes stop
 
 -- no bytes show two stops
 abbrev pub OneStop : Type 0
-OneStop =
-    (bytes : List ℕ) (one other : Stop) → BytesShow bytes one → BytesShow bytes other → one ≡ other
+OneStop = lines.OneStop rules
 
 -- bytes that have names show no stop
 abbrev pub NoStopOfNames : Type 0
@@ -31,15 +30,10 @@ OneListOfNames =
     → AreNamesOf bytes other → names ≡ other
 
 -- the bytes that an input gave may go on, where it tells those that are left before and after
-pub record GaveMayGoOn (before after : Option (List ℕ)) : Type 0 where
-  pub given : List ℕ
-  pub gave : before ≡ prepend_known given after
-  pub may_go_on : MayGoOn given
+abbrev pub GaveMayGoOn : Option (List ℕ) → Option (List ℕ) → Type 0
+GaveMayGoOn before after = lines.GaveMayGoOn rules before after
 
 -- why reading of an input stopped: at a fault its count rose, and what it gave may go on; else its
 -- bytes show the stop, where it tells them; and of want of memory nothing is said
 abbrev pub StopsFor : {I : Type 0} → Ghosts I → I → I → Stop → Type 0
-StopsFor g old new Fault =
-    Rose (g.faults old) (g.faults new) × GaveMayGoOn (g.left old) (g.left new)
-StopsFor g old new NoMemory = Unit {0}
-StopsFor g old new stop = IfSome (g.left old) (λ bytes. BytesShow bytes stop)
+StopsFor g old new stop = lines.StopsFor rules g old new stop

@@ -10,15 +10,15 @@
 //! `specs/Stops.antt` when reading stops. What a reader keeps (`specs/HasRead.antt`, `Pieces.antt`) and the ends that are
 //! tried behind a line that has begun (`Ends.antt`) no public contract cites.
 //!
-//! It stands on the sources of `track_outside`, the lines and names of `line_text`, on `indexmap` and on `memchr`.
+//! It stands on the pieces of `line_pieces`, the sources of `track_outside`, the lines and names of `line_text`, and on
+//! `indexmap`.
 #![tactic(auto)]
 
 mod input;
 mod line;
 mod reader;
-mod stop;
 mod tries;
 
 pub use input::{one_stop_law, read_commits};
+pub use line_pieces::{Refusal, Stop};
 pub use reader::Commits;
-pub use stop::{Refusal, Stop};

@@ -1,13 +1,13 @@
 //! What is kept of the bytes that were read: the names of the whole lines, and the line that has begun.
-ghost use Rattle.std.specs.Prelude.{◌≡◌, ◌≢◌, ℕ, ◌+◌, ◌^◌, ◌<◌, ◌≤◌, List, [], ◌∷◌, ◌++◌, length, OnOk, OnErr, IfOk, IfErr, IsTrue};
-ghost use Rattle.commit_lines.specs.HasRead.{AddsName, RefusesName, OnRefused, TakesLine};
+ghost use Rattle.std.specs.Prelude.{◌≡◌, ◌+◌, ◌^◌, ◌<◌, ◌≤◌, [], ◌∷◌, length, OnOk, IfOk, IfErr};
+ghost use Rattle.line_pieces.specs.Pieces.{OnRefused};
+ghost use Rattle.commit_lines.specs.HasRead.{AddsName, RefusesName, TakesLine};
 ghost use Rattle.commit_lines.specs.Reading.{Breaks};
 
 use crate::line::{LINE_LIMIT, LineKind, is_skipped, line_kind, may_go};
-use crate::stop::{Refusal, Stop};
 use indexmap::IndexSet;
+use line_pieces::{LineReader, Refusal, Stop};
 use line_text::Name;
-use memchr::memchr;
 use std::alloc::Global;
 use std::marker::Model;
 
@@ -47,18 +47,9 @@ pub struct Reader {
 }
 
 impl Reader {
-    ghost use Rattle.commit_lines.specs.Lines.{HasNoLineFeed};
-    ghost use Rattle.commit_lines.specs.HasRead.{
-      HasRead,
-      ReadsMore,
-      MoreRefused,
-      IsRefused,
-      LastRefused,
-      EndRefused,
-      IsOpen,
-      HasNames,
-    };
-    ghost use Rattle.commit_lines.specs.Pieces.{TakesAll, MoreHasCause};
+    ghost use Rattle.line_pieces.specs.Pieces.{ReadsMore, LastRefused, EndRefused};
+    ghost use Rattle.commit_lines.specs.HasRead.{HasRead, HasNames};
+    ghost use Rattle.commit_lines.specs.Pieces.{reading};
 
     /// A reader of no bytes.
     pub fn new(alloc: Global) -> Reader
@@ -73,66 +64,12 @@ impl Reader {
         }
     }
 
-    /// Takes the next bytes, up to the first line that they show to be refused. Linear in the bytes.
-    pub fn take(&mut self, bytes: &[u8]) -> Result<(), Stop>
-        requires { self.old.whole_lines + length bytes.now < 2 ^ 32 }
-        ensures lines { self.new.whole_lines ≤ self.old.whole_lines + length bytes.now }
-        ensures ok { OnOk result (ReadsMore bytes.now self.old self.new) }
-        ensures err { IfErr result (MoreRefused bytes.now self.old) }
-    {
-        let mut rest = bytes;
-        while let Some(end) = memchr(b'\n', rest) {
-            self.grow(&rest[..end])?;
-            self.end_line()?;
-            rest = &rest[end + 1..];
-        }
-        self.grow(rest)
-    }
-
-    /// Takes the next bytes of an input, of which this many are allowed, and answers how many they are.
-    pub fn take_allowed(&mut self, bytes: &[u8], allowed: u64) -> Result<u64, Stop>
-        requires allowed { allowed ≤ 2 ^ 30 }
-        requires bytes { length bytes.now ≤ 2 ^ 30 + 1 }
-        requires lines { self.old.whole_lines ≤ 2 ^ 30 }
-        ensures ok { IfOk result (TakesAll bytes.now allowed self.old self.new) }
-        ensures err { IfErr result (MoreHasCause bytes.now allowed self.old) }
-    {
-        let count = bytes.len() as u64;
-        if count > allowed {
-            self.take(&bytes[..allowed as usize])?;
-            self.may_go_on()?;
-            return Err(Stop::TooLong);
-        }
-        self.take(bytes)?;
-        Ok(count)
-    }
-
-    // Takes the next bytes of the line. It is refused behind the most that it may have, unless it is skipped; of a skipped
-    // one that is longer, the first bytes are kept.
-    fn grow(&mut self, part: &[u8]) -> Result<(), Stop>
-        requires number { self.old.whole_lines < 2 ^ 32 }
-        requires part { HasNoLineFeed part.now }
-        ensures lines { self.new.whole_lines ≡ self.old.whole_lines }
-        ensures ok { OnOk result (ReadsMore part.now self.old self.new) }
-        ensures err { IfErr result (MoreRefused part.now self.old) }
-    {
-        self.line.extend_from_slice(part)?;
-        if self.line.len() <= LINE_LIMIT {
-            return Ok(());
-        }
-        if !is_skipped(&self.line) {
-            return Err(Stop::Refused(Refusal::Bad, self.number()));
-        }
-        self.line.truncate(LINE_LIMIT + 1);
-        Ok(())
-    }
-
     // Ends the line, which may be the last one and empty.
     fn end_line(&mut self) -> Result<(), Stop>
         requires { self.old.whole_lines < 2 ^ 32 }
         ensures lines { self.new.whole_lines ≤ self.old.whole_lines + 1 }
-        ensures ok { OnOk result (ReadsMore (10 ∷ []) self.old self.new) }
-        ensures err { IfErr result (LastRefused self.old) }
+        ensures ok { OnOk result (ReadsMore reading (10 ∷ []) self.old self.new) }
+        ensures err { IfErr result (LastRefused reading self.old) }
     {
         if self.line.len() > LINE_LIMIT {
             self.next_line();
@@ -155,26 +92,11 @@ impl Reader {
         self.line.clear();
     }
 
-    /// Whether the line that has begun may go on; else how it is refused.
-    pub fn may_go_on(&self) -> Result<(), Stop>
-        requires { self.now.whole_lines < 2 ^ 32 }
-        ensures ok { OnOk result (IsOpen self.now) }
-        ensures err { IfErr result (IsRefused self.now) }
-    {
-        if self.line.len() > LINE_LIMIT {
-            return Ok(());
-        }
-        if may_go(self.alloc, &self.names, &self.line)? {
-            return Ok(());
-        }
-        Err(Stop::Refused(Refusal::Bad, self.number()))
-    }
-
     /// The names of all lines.
     pub fn finish(mut self) -> Result<Commits, Stop>
         requires { self.whole_lines < 2 ^ 32 }
         ensures ok { IfOk result (HasNames self) }
-        ensures err { IfErr result (EndRefused self) }
+        ensures err { IfErr result (EndRefused reading self) }
     {
         // The last line needs no line feed.
         self.end_line()?;
@@ -189,6 +111,42 @@ impl Reader {
         ensures { result ≡ self.now.whole_lines + 1 }
     {
         self.whole_lines + 1
+    }
+}
+
+impl LineReader for Reader {
+    ghost use Rattle.commit_lines.specs.Pieces.{reading as of_names};
+
+    ghost reading = { of_names };
+
+    fn take_line(&mut self, part: &[u8]) -> Result<(), Stop> {
+        self.extend_line(part)?;
+        self.end_line()
+    }
+
+    // Takes the next bytes of the line. It is refused behind the most that it may have, unless it is skipped; of a skipped
+    // one that is longer, the first bytes are kept.
+    fn extend_line(&mut self, part: &[u8]) -> Result<(), Stop> {
+        self.line.extend_from_slice(part)?;
+        if self.line.len() <= LINE_LIMIT {
+            return Ok(());
+        }
+        if !is_skipped(&self.line) {
+            return Err(Stop::Refused(Refusal::Bad, self.number()));
+        }
+        self.line.truncate(LINE_LIMIT + 1);
+        Ok(())
+    }
+
+    // Whether the line that has begun may go on; else how it is refused.
+    fn may_go_on(&mut self) -> Result<(), Stop> {
+        if self.line.len() > LINE_LIMIT {
+            return Ok(());
+        }
+        if may_go(self.alloc, &self.names, &self.line)? {
+            return Ok(());
+        }
+        Err(Stop::Refused(Refusal::Bad, self.number()))
     }
 }
 

@@ -1,12 +1,13 @@
 -- One line more that is accepted, or is the first that is refused.
-use Rattle.std.proofs.Common.{◌≡◌, ℕ, ℤ, ◌+◌, inl, inr, List, [], ◌∷◌, ◌++◌, length, refl, sym, ap, subst, ◌∙◌, arith, append-nil, add-zero, Bool, eqb}
+use Rattle.std.proofs.Common.{◌≡◌, ℕ, ℤ, ◌+◌, inl, inr, List, [], ◌∷◌, ◌++◌, length, refl, sym, ap, subst, ◌∙◌, arith, append-nil, add-zero}
 use Rattle.std.proofs.lemmas.List.{append_assoc}
 use Rattle.line_text.specs.Lines.{lines_of}
 use Rattle.cut_lines.specs.Lines.{CutLine, IsSkipped, IsCutLine, AreCutLines}
 use Rattle.cut_lines.specs.Points.{FitsWithin}
-use Rattle.cut_lines.specs.declared.stop.Refusal.{Refusal}
+use Rattle.line_pieces.specs.declared.stop.Refusal.{Refusal}
 use Rattle.cut_lines.specs.Reading.{AreAcceptedWithin, IsFirstRefusedWithin, BreaksWithin, with_line}
 use Rattle.line_text.proofs.Parts.{first_part, goes_on}
+use Rattle.line_pieces.proofs.Lines.{is_feed}
 
 -- ---- the cut lines of one line more
 
@@ -42,9 +43,6 @@ accepts_cut most lines cuts line number order value are is cut fits = record {
 
 -- ---- the lines of bytes that go on
 
-abbrev pub is_feed : ℕ → Bool
-is_feed b = eqb b 10
-
 pub first_refused : (most : ℕ) (why : Refusal) (bytes : List ℕ) (lines : List (List ℕ)) (rest : List ℕ) (cuts : List CutLine) (number : ℕ) (next : List ℕ)
     → lines_of bytes ≡ lines ++ rest ∷ [] → AreAcceptedWithin most lines cuts → number ≡ length lines + 1
     → ((first : List ℕ) → BreaksWithin most why cuts number (rest ++ first)) → IsFirstRefusedWithin most why (lines_of (bytes ++ next)) number
@@ -79,10 +77,3 @@ ended_refused most why bytes lines rest cuts number split are is refused = (
     refused = subst (BreaksWithin most why cuts number) (sym (append-nil rest)) refused;
   },
 )
-
--- a line feed begins a line
-pub ended : (bytes : List ℕ) (lines : List (List ℕ)) (rest : List ℕ) → lines_of bytes ≡ lines ++ rest ∷ [] → lines_of (bytes ++ 10 ∷ []) ≡ (lines ++ rest ∷ []) ++ [] ∷ []
-ended bytes lines rest split =
-    goes_on is_feed bytes (10 ∷ []) lines rest [] ([] ∷ []) split refl
-    ∙ ap (λ line. lines ++ line ∷ [] ∷ []) (append-nil rest)
-    ∙ sym (append_assoc lines (rest ∷ []) ([] ∷ []))

@@ -8,20 +8,22 @@ use Rattle.std.proofs.lemmas.Str.Parse.{digit_from_value}
 use Rattle.std.proofs.lemmas.List.{append_assoc, take_all}
 use Rattle.std.proofs.lemmas.Bool.{cases_order}
 use Rattle.line_text.specs.Lines.{lines_of, words_of, is_word}
-use Rattle.cut_lines.specs.declared.stop.Refusal.{Refusal}
-use Rattle.cut_lines.specs.declared.stop.Refusal.TheVariants.{Bad, Full}
-use Rattle.cut_lines.specs.declared.stop.Stop.{Stop}
-use Rattle.cut_lines.specs.declared.stop.Stop.TheVariants.{Fault, TooLong, Refused, NoMemory}
+use Rattle.line_pieces.proofs.Fronts.{goes_past, one_split}
+use Rattle.line_pieces.specs.declared.stop.Refusal.{Refusal}
+use Rattle.line_pieces.specs.declared.stop.Refusal.TheVariants.{Bad, Full}
+use Rattle.line_pieces.specs.declared.stop.Stop.{Stop}
+use Rattle.line_pieces.specs.declared.stop.Stop.TheVariants.{Fault, TooLong, Refused, NoMemory}
 use Rattle.segment_model.specs.Segments.{Position}
 use Rattle.cut_lines.specs.Lines.{CutLine, IsSkipped, IsCutLine, IsGood, AreCutLines}
 use Rattle.cut_lines.specs.Points.{FitsWithin}
-use Rattle.cut_lines.specs.Reading.{AreAcceptedWithin, with_line, BreaksWithin, IsFirstRefusedWithin, within_limit, RefusesWithin, MayGoOnWithin, IsTooLongWithin, AreCutLinesWithin, ArePointsWithin}
+use Rattle.cut_lines.specs.Reading.{AreAcceptedWithin, with_line, BreaksWithin, IsFirstRefusedWithin, RefusesWithin, MayGoOnWithin, IsTooLongWithin, AreCutLinesWithin, ArePointsWithin}
 use Rattle.cut_lines.specs.Stops.{BytesShowWithin}
 use Rattle.line_text.proofs.SignedWords.{one_number, no_minus, behind_minus}
 use Rattle.line_text.proofs.Parts.{first_part, goes_on}
 use Rattle.line_text.proofs.Blank.{is_space, word_first}
 use Rattle.cut_lines.proofs.OpenLines.{HasNumbers, EndsWell, ends_well}
-use Rattle.cut_lines.proofs.Accepting.{is_feed}
+use Rattle.line_pieces.specs.Stops.{within_limit}
+use Rattle.line_pieces.proofs.Lines.{is_feed}
 use Rattle.cut_lines.proofs.LinePoints.{fits_front}
 
 -- ---- a line says one thing
@@ -152,30 +154,6 @@ not_among most why before line behind cuts all k are accepted number refused =
         over (fits_front most (with_line cuts (length before + 1) order value) all'.0 (subst (FitsWithin most) all'.1 accepted.fits))
 
 -- ---- the first refused line is one line
-
--- a shorter front begins the longer one
-goes_past : (one two : List (List ℕ)) (line : List ℕ) (behind rest : List (List ℕ)) → one ++ line ∷ behind ≡ two ++ rest → length one < length two
-    → (more : List (List ℕ)) × (two ≡ one ++ line ∷ more)
-goes_past one [] line behind rest same less = absurd (omega arith)
-goes_past [] (first ∷ two) line behind rest same less =
-    let is : line ≡ first = cc in
-    (two, ap (λ (l : List ℕ). l ∷ two) (sym is))
-goes_past (next ∷ one) (first ∷ two) line behind rest same less =
-    let is : next ≡ first = cc in
-    let tails : one ++ line ∷ behind ≡ two ++ rest = cc in
-    let found = goes_past one two line behind rest tails (omega arith) in
-    (found.0, ap₂ (λ (l : List ℕ) (ls : List (List ℕ)). l ∷ ls) (sym is) found.1)
-
-one_split : (one two : List (List ℕ)) (line other : List ℕ) (behind rest : List (List ℕ)) → one ++ line ∷ behind ≡ two ++ other ∷ rest → length one ≡ length two
-    → (one ≡ two) × (line ≡ other)
-one_split [] [] line other behind rest same count = (refl, cc)
-one_split [] (first ∷ two) line other behind rest same count = absurd (omega arith)
-one_split (next ∷ one) [] line other behind rest same count = absurd (omega arith)
-one_split (next ∷ one) (first ∷ two) line other behind rest same count =
-    let is : next ≡ first = cc in
-    let tails : one ++ line ∷ behind ≡ two ++ other ∷ rest = cc in
-    let found = one_split one two line other behind rest tails (omega arith) in
-    (ap₂ (λ (l : List ℕ) (ls : List (List ℕ)). l ∷ ls) is found.0, found.1)
 
 -- a line is refused for one reason
 one_reason : (most : ℕ) (why other : Refusal) (cuts : List CutLine) (k : ℕ) (line : List ℕ) → BreaksWithin most why cuts k line → BreaksWithin most other cuts k line → why ≡ other

@@ -1,16 +1,14 @@
 -- What is kept of bytes as they are read.
-use Rattle.std.proofs.Common.{◌≡◌, ◌≢◌, ℕ, ℤ, ◌+◌, ◌-◌, ◌<◌, ◌≤◌, ◌⊎◌, inl, inr, List, [], ◌∷◌, ◌++◌, length, take, drop, false, ne_eqb, refl, sym, ap, subst, ◌∙◌, arith, append-nil, append_assoc, length-append, suc, min}
+use Rattle.std.proofs.Common.{◌≡◌, ◌≢◌, ℕ, ℤ, ◌+◌, ◌-◌, ◌<◌, ◌≤◌, ◌⊎◌, inl, inr, List, [], ◌∷◌, ◌++◌, length, take, drop, refl, sym, ap, subst, ◌∙◌, arith, append-nil, append_assoc, length-append, suc, min}
 use Rattle.std.proofs.lemmas.List.{take_all, length-take}
 use Rattle.std.proofs.lemmas.Bool.{cases_lt}
-use Rattle.std.proofs.lemmas.List.Elements.{All-weaker}
-use Rattle.std.proofs.lemmas.List.Splits.{slice_split_none}
 use Rattle.segment_model.specs.Segments.{Position, values_of}
 use Rattle.line_text.specs.Lines.{lines_of, words_of}
-use Rattle.cut_lines.specs.declared.stop.Refusal.{Refusal}
-use Rattle.cut_lines.specs.declared.stop.Refusal.TheVariants.{Bad, Full}
-use Rattle.cut_lines.specs.declared.stop.Stop.{Stop}
-use Rattle.cut_lines.specs.declared.stop.Stop.TheVariants.{Refused}
-use Rattle.cut_lines.specs.Lines.{CutLine, IsSkipped, IsCutLine, IsGood, HasNoLineFeed, MayBecomeGood}
+use Rattle.line_pieces.specs.declared.stop.Refusal.{Refusal}
+use Rattle.line_pieces.specs.declared.stop.Refusal.TheVariants.{Bad, Full}
+use Rattle.line_pieces.specs.declared.stop.Stop.{Stop}
+use Rattle.line_pieces.specs.declared.stop.Stop.TheVariants.{Refused}
+use Rattle.cut_lines.specs.Lines.{CutLine, IsSkipped, IsCutLine, IsGood, MayBecomeGood}
 use Rattle.cut_lines.specs.Points.{points_of, FitsWithin}
 use Rattle.cut_lines.specs.Reading.{AreAcceptedWithin, IsFirstRefusedWithin, BreaksWithin, MayGoOnWithin, with_line}
 use Rattle.cut_lines.specs.LineKinds.{StaysSkipped, HasWord}
@@ -18,9 +16,10 @@ use Rattle.cut_lines.specs.Adding.{with_value_of, PassesLimit, BreaksPoints, Add
 use Rattle.cut_lines.specs.HasRead.{Kept, HasKept, AreLinesPoints, ShowsRefused, EndsRefused}
 use Rattle.line_text.proofs.Parts.{goes_on, last_part, one_front}
 use Rattle.cut_lines.proofs.Kept.{short_kept, Long, kept_long, comment_kept, blank_kept, not_blank, long_length}
-use Rattle.cut_lines.proofs.Accepting.{is_feed, accepts_skipped, accepts_cut, first_refused, ended_refused, ended}
+use Rattle.line_pieces.specs.Pieces.{HasNoLineFeed}
+use Rattle.line_pieces.proofs.Lines.{is_feed, one_part, ended, on_refused-weaker}
+use Rattle.cut_lines.proofs.Accepting.{accepts_skipped, accepts_cut, first_refused, ended_refused}
 use Rattle.cut_lines.proofs.LinePoints.{points-push, values-counted}
-use Rattle.cut_lines.proofs.Refusals.{on_refused-weaker}
 
 -- ---- no bytes
 
@@ -41,9 +40,6 @@ has_none kept none whole begun = record {
 }
 
 -- ---- a part of a line more
-
-one_part : (part : List ℕ) → HasNoLineFeed part → lines_of part ≡ part ∷ []
-one_part part none = slice_split_none is_feed part (All-weaker (λ b. b ≢ 10) (λ b. is_feed b ≡ false) (λ b other. ne_eqb b 10 other) part none)
 
 -- all is kept but the line, which has the part more
 pub record Grows (old new : Kept) : Type 0 where

@@ -4,17 +4,11 @@ use Rattle.std.specs.Prelude.{◌≡◌, ℕ, ℤ, ◌<◌, ◌≤◌, ◌⊎◌
 use Rattle.segment_model.specs.Segments.{Position, values_of}
 use Rattle.segment_model.specs.Limits.{WithinLimits}
 use Rattle.segment_model.specs.Edits.{inserted}
-use Rattle.cut_lines.specs.declared.stop.Refusal.{Refusal}
-use Rattle.cut_lines.specs.declared.stop.Refusal.TheVariants.{Bad, Full}
-use Rattle.cut_lines.specs.declared.stop.Stop.{Stop}
-use Rattle.cut_lines.specs.declared.stop.Stop.TheVariants.{Refused, NoMemory}
+use Rattle.line_pieces.specs.declared.stop.Refusal.{Refusal}
+use Rattle.line_pieces.specs.declared.stop.Refusal.TheVariants.{Bad, Full}
+use Rattle.line_pieces.specs.declared.stop.Stop.{Stop}
+use Rattle.line_pieces.specs.Pieces.{OnRefused}
 use Rattle.cut_lines.specs.Lines.{IsSkipped, IsCutLine, IsGood}
-
--- a line is refused, of which this holds, or memory is wanting
-abbrev pub OnRefused : (Refusal → ℕ → Type 0) → Stop → Type 0
-OnRefused Holds (Refused why k) = Holds why k
-OnRefused Holds NoMemory = Unit {0}
-OnRefused Holds stop = ⊥
 
 -- the points with the value of a line more
 abbrev pub with_value_of : List Position → ℕ → ℕ → ℤ → List Position

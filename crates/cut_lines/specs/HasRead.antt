@@ -3,11 +3,11 @@ use Rattle.std.specs.Prelude.{◌≡◌, ℕ, ◌<◌, List, [], ◌∷◌, ◌+
 use Rattle.segment_model.specs.Segments.{Position}
 use Rattle.line_text.specs.Lines.{lines_of}
 use Rattle.cut_lines.specs.declared.reader.Reader.{Reader}
-use Rattle.cut_lines.specs.declared.stop.Stop.{Stop}
+use Rattle.line_pieces.specs.declared.stop.Stop.{Stop}
 use Rattle.cut_lines.specs.Lines.{CutLine, IsSkipped}
 use Rattle.cut_lines.specs.Points.{points_of}
-use Rattle.cut_lines.specs.Reading.{AreAcceptedWithin, IsFirstRefusedWithin, MayGoOnWithin}
-use Rattle.cut_lines.specs.Adding.{OnRefused}
+use Rattle.cut_lines.specs.Reading.{AreAcceptedWithin, IsFirstRefusedWithin}
+use Rattle.line_pieces.specs.Pieces.{OnRefused}
 
 -- what is kept of bytes: how many positions there may be, the points of their whole lines, how many
 -- those are, and the first bytes of the line that has begun
@@ -51,33 +51,6 @@ ShowsRefused most bytes stop =
 -- the bytes are all, and their last line is refused
 abbrev pub EndsRefused : ℕ → List ℕ → Stop → Type 0
 EndsRefused most bytes stop = OnRefused (λ why k. IsFirstRefusedWithin most why (lines_of bytes) k) stop
-
--- ---- what a call does to a reader, whatever it had read before
-
--- it has read these bytes more
-abbrev pub ReadsMore : List ℕ → Reader → Reader → Type 0
-ReadsMore bytes old new = (read : List ℕ) → HasRead read old → HasRead (read ++ bytes) new
-
--- these bytes more show that a line is refused
-abbrev pub MoreRefused : List ℕ → Reader → Stop → Type 0
-MoreRefused bytes old stop = (read : List ℕ) → HasRead read old → ShowsRefused old.most (read ++ bytes) stop
-
--- what it has read shows that a line is refused
-abbrev pub IsRefused : Reader → Stop → Type 0
-IsRefused old stop = (read : List ℕ) → HasRead read old → ShowsRefused old.most read stop
-
--- its last line is refused, where the bytes end and where a line feed comes
-abbrev pub LastRefused : Reader → Stop → Type 0
-LastRefused old stop =
-    (read : List ℕ) → HasRead read old → EndsRefused old.most read stop × ShowsRefused old.most (read ++ 10 ∷ []) stop
-
--- its last line is refused, where the bytes end
-abbrev pub EndRefused : Reader → Stop → Type 0
-EndRefused old stop = (read : List ℕ) → HasRead read old → EndsRefused old.most read stop
-
--- bytes behind those that it has read may make the line good
-abbrev pub IsOpen : Reader → Type 0
-IsOpen old = (read : List ℕ) → HasRead read old → MayGoOnWithin old.most read
 
 -- these are the points of all lines that it has read
 abbrev pub HasPoints : Reader → List Position → Type 0

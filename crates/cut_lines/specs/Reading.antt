@@ -1,10 +1,11 @@
 -- How the lines of an input read: they are accepted as a whole, or a line is the first that is
 -- refused. There may be so many positions, most of them, as a reader is given; a series has 16,384.
-use Rattle.std.specs.Prelude.{◌≡◌, ℕ, ℤ, ◌+◌, ◌^◌, ◌<◌, ◌≤◌, List, [], ◌∷◌, ◌++◌, Option, IfSome, length, take}
+use Rattle.std.specs.Prelude.{◌≡◌, ℕ, ℤ, ◌+◌, ◌^◌, ◌<◌, ◌≤◌, List, [], ◌∷◌, ◌++◌, Option, IfSome, length}
 use Rattle.segment_model.specs.Segments.{Position}
 use Rattle.line_text.specs.Lines.{lines_of}
-use Rattle.cut_lines.specs.declared.stop.Refusal.{Refusal}
-use Rattle.cut_lines.specs.declared.stop.Refusal.TheVariants.{Bad, Full}
+use Rattle.line_pieces.specs.Stops.{within_limit}
+use Rattle.line_pieces.specs.declared.stop.Refusal.{Refusal}
+use Rattle.line_pieces.specs.declared.stop.Refusal.TheVariants.{Bad, Full}
 use Rattle.cut_lines.specs.Lines.{CutLine, IsCutLine, IsGood, MayBecomeGood, AreCutLines}
 use Rattle.cut_lines.specs.Points.{points_of, FitsWithin}
 
@@ -36,10 +37,6 @@ pub record IsFirstRefusedWithin (most : ℕ) (why : Refusal) (lines : List (List
   pub number : k ≡ length before + 1
   pub accepted : AreAcceptedWithin most before cuts
   pub refused : BreaksWithin most why cuts k line
-
--- the bytes of an input that are read at most
-abbrev pub within_limit : List ℕ → List ℕ
-within_limit bytes = take (2 ^ 30) bytes
 
 -- line k is the first that is refused, whatever comes behind the first 2^30 bytes where there are
 -- more

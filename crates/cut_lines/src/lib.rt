@@ -10,15 +10,14 @@
 //! which line is the first that is refused, and `specs/Stops.antt` when reading stops. What a reader keeps
 //! (`specs/HasRead.antt`, `LineKinds.antt`, `Adding.antt`) no public contract cites.
 //!
-//! It stands on the sources of `track_outside`, the lines and numbers of `line_text`, the points of `segment_cost`, and
-//! on `memchr`.
+//! It stands on the pieces of `line_pieces`, the sources of `track_outside`, the lines and numbers of `line_text`, and the
+//! points of `segment_cost`.
 #![tactic(auto)]
 
 mod cut_line;
 mod input;
 mod points;
 mod reader;
-mod stop;
 
 pub use input::{one_stop_law, read_points, read_points_within};
-pub use stop::{Refusal, Stop};
+pub use line_pieces::{Refusal, Stop};

@@ -6,7 +6,7 @@ ghost use Rattle.cut_lines.specs.Lines.{IsCutLine};
 ghost use Rattle.cut_lines.specs.Adding.{AddsValue, TakesLine, RefusesLine};
 
 use crate::cut_line::{LINE_LIMIT, LineKind, line_kind};
-use crate::stop::{Refusal, Stop};
+use line_pieces::{Refusal, Stop};
 use point_list::{PointFault, Points, steps_law};
 
 /// Adds what the line of this number says, where there may be so many positions. A line that is longer than a line may be

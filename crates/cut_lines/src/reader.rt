@@ -1,14 +1,13 @@
 //! What is kept of the bytes that were read: the points of the whole lines, and the line that has begun.
-ghost use Rattle.std.specs.Prelude.{◌≡◌, ◌≢◌, ℕ, ◌+◌, ◌^◌, ◌<◌, ◌≤◌, List, [], ◌∷◌, ◌++◌, length, OnOk, IfOk, IfErr, IsTrue};
+ghost use Rattle.std.specs.Prelude.{◌≡◌, ◌≢◌, ◌+◌, ◌^◌, ◌<◌, ◌≤◌, [], ◌∷◌, length, OnOk, IfOk, IfErr, IsTrue};
 ghost use Rattle.line_text.specs.Lines.{words_of};
 ghost use Rattle.point_list.specs.Steps.{CameUpTo};
 ghost use Rattle.cut_lines.specs.LineKinds.{StaysSkipped, HasWord};
 
 use crate::cut_line::{LINE_LIMIT, may_become_good};
 use crate::points::add_line;
-use crate::stop::{Refusal, Stop};
+use line_pieces::{LineReader, Refusal, Stop};
 use line_text::next_word;
-use memchr::memchr;
 use point_list::{Points, steps_law};
 use std::alloc::Global;
 
@@ -28,18 +27,9 @@ pub struct Reader {
 }
 
 impl Reader {
-    ghost use Rattle.cut_lines.specs.Lines.{HasNoLineFeed};
-    ghost use Rattle.cut_lines.specs.HasRead.{
-      HasRead,
-      ReadsMore,
-      MoreRefused,
-      IsRefused,
-      LastRefused,
-      EndRefused,
-      IsOpen,
-      HasPoints,
-    };
-    ghost use Rattle.cut_lines.specs.Pieces.{TakesAll, MoreHasCause};
+    ghost use Rattle.line_pieces.specs.Pieces.{ReadsMore, LastRefused, EndRefused};
+    ghost use Rattle.cut_lines.specs.HasRead.{HasRead, HasPoints};
+    ghost use Rattle.cut_lines.specs.Pieces.{reading};
 
     /// A reader of no bytes, for so many positions at most.
     pub fn new(alloc: Global, most: u64) -> Reader
@@ -57,91 +47,13 @@ impl Reader {
         }
     }
 
-    /// Takes the next bytes, up to the first line that they show to be refused. Linear in the bytes.
-    pub fn take(&mut self, bytes: &[u8]) -> Result<(), Stop>
-        requires { self.old.whole_lines + length bytes.now < 2 ^ 32 }
-        ensures limit { self.new.most ≡ self.old.most }
-        ensures lines { self.new.whole_lines ≤ self.old.whole_lines + length bytes.now }
-        ensures ok { OnOk result (ReadsMore bytes.now self.old self.new) }
-        ensures err { IfErr result (MoreRefused bytes.now self.old) }
-    {
-        let mut rest = bytes;
-        while let Some(end) = memchr(b'\n', rest) {
-            self.take_line(&rest[..end])?;
-            rest = &rest[end + 1..];
-        }
-        self.extend_line(rest)
-    }
-
-    /// Takes the next bytes of an input, of which this many are allowed, and answers how many they are.
-    pub fn take_allowed(&mut self, bytes: &[u8], allowed: u64) -> Result<u64, Stop>
-        requires allowed { allowed ≤ 2 ^ 30 }
-        requires bytes { length bytes.now ≤ 2 ^ 30 + 1 }
-        requires lines { self.old.whole_lines ≤ 2 ^ 30 }
-        ensures limit { self.new.most ≡ self.old.most }
-        ensures ok { IfOk result (TakesAll bytes.now allowed self.old self.new) }
-        ensures err { IfErr result (MoreHasCause bytes.now allowed self.old) }
-    {
-        let count = bytes.len() as u64;
-        if count > allowed {
-            self.take(&bytes[..allowed as usize])?;
-            self.may_go_on()?;
-            return Err(Stop::TooLong);
-        }
-        self.take(bytes)?;
-        Ok(count)
-    }
-
-    // Takes the bytes up to the line feed, and the line feed. A line of which nothing came before is read where it
-    // stands, without a copy.
-    fn take_line(&mut self, part: &[u8]) -> Result<(), Stop>
-        requires number { self.old.whole_lines < 2 ^ 32 }
-        requires part { HasNoLineFeed part.now }
-        ensures limit { self.new.most ≡ self.old.most }
-        ensures lines { self.new.whole_lines ≤ self.old.whole_lines + 1 }
-        ensures ok { OnOk result (ReadsMore (part.now ++ 10 ∷ []) self.old self.new) }
-        ensures err { IfErr result (MoreRefused (part.now ++ 10 ∷ []) self.old) }
-    {
-        if !self.line.is_empty() || part.len() > LINE_LIMIT {
-            self.extend_line(part)?;
-            return self.end_line();
-        }
-        steps_law();
-        self.whole_lines += 1;
-        add_line(&mut self.points, self.most, self.whole_lines, part)?;
-        Ok(())
-    }
-
-    // Takes the next bytes of the line. It is refused at the first byte behind the most that it may have, unless it is
-    // skipped.
-    fn extend_line(&mut self, part: &[u8]) -> Result<(), Stop>
-        requires number { self.old.whole_lines < 2 ^ 32 }
-        requires part { HasNoLineFeed part.now }
-        ensures limit { self.new.most ≡ self.old.most }
-        ensures lines { self.new.whole_lines ≡ self.old.whole_lines }
-        ensures ok { OnOk result (ReadsMore part.now self.old self.new) }
-        ensures err { IfErr result (MoreRefused part.now self.old) }
-    {
-        let room = KEPT - self.line.len();
-        if part.len() < room {
-            self.line.extend_from_slice(part)?;
-            return Ok(());
-        }
-        self.line.extend_from_slice(&part[..room])?;
-        if stays_skipped(&self.line, room, &part[room..]) {
-            Ok(())
-        } else {
-            Err(Stop::Refused(Refusal::Bad, self.number()))
-        }
-    }
-
     // Ends the line, which may be the last one and empty.
     fn end_line(&mut self) -> Result<(), Stop>
         requires { self.old.whole_lines < 2 ^ 32 }
         ensures limit { self.new.most ≡ self.old.most }
         ensures lines { self.new.whole_lines ≤ self.old.whole_lines + 1 }
-        ensures ok { OnOk result (ReadsMore (10 ∷ []) self.old self.new) }
-        ensures err { IfErr result (LastRefused self.old) }
+        ensures ok { OnOk result (ReadsMore reading (10 ∷ []) self.old self.new) }
+        ensures err { IfErr result (LastRefused reading self.old) }
     {
         steps_law();
         self.whole_lines += 1;
@@ -150,27 +62,11 @@ impl Reader {
         Ok(())
     }
 
-    /// Whether bytes behind those that were read may make the line good; else how it is refused.
-    pub fn may_go_on(&mut self) -> Result<(), Stop>
-        requires { self.old.whole_lines < 2 ^ 32 }
-        ensures limit { self.new.most ≡ self.old.most }
-        ensures ok { OnOk result (IsOpen self.old) }
-        ensures err { IfErr result (IsRefused self.old) }
-    {
-        if self.line.len() > LINE_LIMIT {
-            return Ok(());
-        }
-        if may_become_good(&mut self.line)? {
-            return Ok(());
-        }
-        Err(Stop::Refused(Refusal::Bad, self.number()))
-    }
-
     /// The points of all lines.
     pub fn finish(mut self) -> Result<Points, Stop>
         requires { self.whole_lines < 2 ^ 32 }
         ensures ok { IfOk result (HasPoints self) }
-        ensures err { IfErr result (EndRefused self) }
+        ensures err { IfErr result (EndRefused reading self) }
     {
         // The last line needs no line feed.
         self.end_line()?;
@@ -185,6 +81,52 @@ impl Reader {
         ensures { result ≡ self.now.whole_lines + 1 }
     {
         self.whole_lines + 1
+    }
+}
+
+impl LineReader for Reader {
+    ghost use Rattle.cut_lines.specs.Pieces.{reading as of_cut_lines};
+
+    ghost reading = { of_cut_lines };
+
+    // Takes the bytes up to the line feed, and the line feed. A line of which nothing came before is read where it
+    // stands, without a copy.
+    fn take_line(&mut self, part: &[u8]) -> Result<(), Stop> {
+        if !self.line.is_empty() || part.len() > LINE_LIMIT {
+            self.extend_line(part)?;
+            return self.end_line();
+        }
+        steps_law();
+        self.whole_lines += 1;
+        add_line(&mut self.points, self.most, self.whole_lines, part)?;
+        Ok(())
+    }
+
+    // Takes the next bytes of the line. It is refused at the first byte behind the most that it may have, unless it is
+    // skipped.
+    fn extend_line(&mut self, part: &[u8]) -> Result<(), Stop> {
+        let room = KEPT - self.line.len();
+        if part.len() < room {
+            self.line.extend_from_slice(part)?;
+            return Ok(());
+        }
+        self.line.extend_from_slice(&part[..room])?;
+        if stays_skipped(&self.line, room, &part[room..]) {
+            Ok(())
+        } else {
+            Err(Stop::Refused(Refusal::Bad, self.number()))
+        }
+    }
+
+    // Whether bytes behind those that were read may make the line good; else how it is refused.
+    fn may_go_on(&mut self) -> Result<(), Stop> {
+        if self.line.len() > LINE_LIMIT {
+            return Ok(());
+        }
+        if may_become_good(&mut self.line)? {
+            return Ok(());
+        }
+        Err(Stop::Refused(Refusal::Bad, self.number()))
     }
 }
 

@@ -4,9 +4,9 @@ use Rattle.track_outside.specs.declared.source.Source as source
 use Rattle.track_outside.specs.declared.sink.Sink as sink
 use Rattle.track_outside.specs.declared.runner.Runner as runner
 use Rattle.track_outside.specs.Calls.{IsUntouched}
-use Rattle.commit_lines.specs.declared.stop.Refusal.TheVariants as refusal
-use Rattle.commit_lines.specs.declared.stop.Stop.{Stop}
-use Rattle.commit_lines.specs.declared.stop.Stop.TheVariants as stop
+use Rattle.line_pieces.specs.declared.stop.Refusal.TheVariants as refusal
+use Rattle.line_pieces.specs.declared.stop.Stop.{Stop}
+use Rattle.line_pieces.specs.declared.stop.Stop.TheVariants as stop
 use Rattle.commit_lines.specs.Stops.{StopsFor}
 use Rattle.hunt_command.specs.Endings.{HasCause, EndsHunt}
 use Rattle.hunt_command.specs.Stops.{end_of}

@@ -7,7 +7,7 @@ use Rattle.track_outside.specs.declared.source.Source as source
 use Rattle.track_outside.specs.declared.sink.Sink as sink
 use Rattle.track_outside.specs.declared.runner.Runner as runner
 use Rattle.wide_bisect.specs.Searches.{Search}
-use Rattle.commit_lines.specs.declared.stop.Refusal.TheVariants as refusal
+use Rattle.line_pieces.specs.declared.stop.Refusal.TheVariants as refusal
 use Rattle.commit_lines.specs.Reading.{AreNamesOfInput, IsTooLong, Refuses}
 use Rattle.commit_lines.specs.Stops.{GaveMayGoOn}
 use Rattle.hunt_rounds.specs.Asked.{WereAskedOf}

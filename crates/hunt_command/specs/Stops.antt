@@ -1,8 +1,8 @@
 -- How a hunt ends where reading of its names stops.
 use Rattle.std.specs.Prelude.{ℕ}
-use Rattle.commit_lines.specs.declared.stop.Refusal.TheVariants as refusal
-use Rattle.commit_lines.specs.declared.stop.Stop.{Stop}
-use Rattle.commit_lines.specs.declared.stop.Stop.TheVariants as stop
+use Rattle.line_pieces.specs.declared.stop.Refusal.TheVariants as refusal
+use Rattle.line_pieces.specs.declared.stop.Stop.{Stop}
+use Rattle.line_pieces.specs.declared.stop.Stop.TheVariants as stop
 use Rattle.hunt_command.specs.declared.end.HuntEnd.{HuntEnd}
 use Rattle.hunt_command.specs.declared.end.HuntEnd.TheVariants.{ReadFault, NoMemory, TooLong, BadLine, Full}
 

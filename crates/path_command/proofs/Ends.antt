@@ -6,9 +6,9 @@ use Rattle.track_outside.specs.declared.source.Source as source
 use Rattle.track_outside.specs.declared.sink.Sink as sink
 use Rattle.track_outside.specs.Calls.{IsUntouched}
 use Rattle.segment_model.specs.Segments.{Position}
-use Rattle.cut_lines.specs.declared.stop.Refusal.TheVariants as refusal
-use Rattle.cut_lines.specs.declared.stop.Stop.{Stop}
-use Rattle.cut_lines.specs.declared.stop.Stop.TheVariants as stop
+use Rattle.line_pieces.specs.declared.stop.Refusal.TheVariants as refusal
+use Rattle.line_pieces.specs.declared.stop.Stop.{Stop}
+use Rattle.line_pieces.specs.declared.stop.Stop.TheVariants as stop
 use Rattle.cut_lines.specs.Stops.{StopsWithin}
 use Rattle.penalty_path.specs.declared.stretch.Stretch.{Stretch}
 use Rattle.penalty_path.specs.Paths.{IsPath, IsRange}

@@ -6,7 +6,7 @@ use Rattle.track_outside.specs.Counts.{Rose}
 use Rattle.track_outside.specs.declared.source.Source as source
 use Rattle.track_outside.specs.declared.sink.Sink as sink
 use Rattle.segment_model.specs.Segments.{Position}
-use Rattle.cut_lines.specs.declared.stop.Refusal.TheVariants as refusal
+use Rattle.line_pieces.specs.declared.stop.Refusal.TheVariants as refusal
 use Rattle.cut_lines.specs.Reading.{AreInputPointsWithin, IsTooLongWithin, RefusesWithin}
 use Rattle.cut_lines.specs.Stops.{GaveWithin}
 use Rattle.penalty_path.specs.declared.stretch.Stretch.{Stretch}

@@ -1,8 +1,8 @@
 -- How a path ends where reading of its lines stops.
 use Rattle.std.specs.Prelude.{ℕ}
-use Rattle.cut_lines.specs.declared.stop.Refusal.TheVariants as refusal
-use Rattle.cut_lines.specs.declared.stop.Stop.{Stop}
-use Rattle.cut_lines.specs.declared.stop.Stop.TheVariants as stop
+use Rattle.line_pieces.specs.declared.stop.Refusal.TheVariants as refusal
+use Rattle.line_pieces.specs.declared.stop.Stop.{Stop}
+use Rattle.line_pieces.specs.declared.stop.Stop.TheVariants as stop
 use Rattle.path_command.specs.declared.end.PathEnd.{PathEnd}
 use Rattle.path_command.specs.declared.end.PathEnd.TheVariants.{ReadFault, NoMemory, TooLong, BadLine, Full}
 

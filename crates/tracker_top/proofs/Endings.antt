@@ -15,9 +15,9 @@ use Rattle.command_words.specs.declared.command.Command.{Command}
 use Rattle.command_words.specs.declared.command.CutPlan.{CutPlan}
 use Rattle.command_words.specs.declared.command.PathPlan.{PathPlan}
 use Rattle.segment_model.specs.Segments.{Position}
-use Rattle.cut_lines.specs.declared.stop.Refusal.TheVariants as refusal
-use Rattle.cut_lines.specs.declared.stop.Stop.{Stop as LinesStop}
-use Rattle.cut_lines.specs.declared.stop.Stop.TheVariants as lines
+use Rattle.line_pieces.specs.declared.stop.Refusal.TheVariants as refusal
+use Rattle.line_pieces.specs.declared.stop.Stop.{Stop as LinesStop}
+use Rattle.line_pieces.specs.declared.stop.Stop.TheVariants as lines
 use Rattle.cut_lines.specs.Reading.{ArePointsWithin}
 use Rattle.cut_lines.specs.Stops.{BytesShowWithin}
 use Rattle.path_command.specs.Endings.{EndsPath as PutsPath, HasCause as HasPathCause}

@@ -4,9 +4,9 @@ use Rattle.track_outside.specs.Counts.{Rose}
 use Rattle.track_outside.specs.declared.source.Source as source
 use Rattle.track_outside.specs.declared.sink.Sink as sink
 use Rattle.track_outside.specs.declared.runner.Runner as runner
-use Rattle.commit_lines.specs.declared.stop.Refusal.TheVariants as refusal
-use Rattle.commit_lines.specs.declared.stop.Stop.{Stop}
-use Rattle.commit_lines.specs.declared.stop.Stop.TheVariants as stop
+use Rattle.line_pieces.specs.declared.stop.Refusal.TheVariants as refusal
+use Rattle.line_pieces.specs.declared.stop.Stop.{Stop}
+use Rattle.line_pieces.specs.declared.stop.Stop.TheVariants as stop
 use Rattle.commit_lines.specs.Reading.{AreNamesOfInput}
 use Rattle.commit_lines.specs.Stops.{BytesShow, OneStop, OneListOfNames, NoStopOfNames}
 use Rattle.hunt_command.specs.Endings.{EndsHunt as PutsHunt, HasCause}

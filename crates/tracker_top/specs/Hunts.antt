@@ -4,7 +4,7 @@ use Rattle.track_outside.specs.Counts.{Rose}
 use Rattle.track_outside.specs.declared.source.Source as source
 use Rattle.track_outside.specs.declared.sink.Sink as sink
 use Rattle.track_outside.specs.declared.runner.Runner as runner
-use Rattle.commit_lines.specs.declared.stop.Stop.{Stop}
+use Rattle.line_pieces.specs.declared.stop.Stop.{Stop}
 use Rattle.commit_lines.specs.Reading.{AreNamesOf}
 use Rattle.commit_lines.specs.Stops.{BytesShow}
 use Rattle.hunt_command.specs.Endings.{EndsInput as LeavesInput, EndsHunt as PutsHunt}

@@ -5,9 +5,9 @@ use Rattle.request_words.specs.Bodies.{Item}
 use Rattle.request_reader.specs.Scripts.{Ending, end, cut_off, unfinished, IsScript}
 use Rattle.script_loop.specs.declared.stop.Stop.{Stop as ScriptStop}
 use Rattle.script_loop.specs.declared.stop.Stop.TheVariants as script
-use Rattle.cut_lines.specs.declared.stop.Refusal.TheVariants as refusal
-use Rattle.cut_lines.specs.declared.stop.Stop.{Stop}
-use Rattle.cut_lines.specs.declared.stop.Stop.TheVariants as stop
+use Rattle.line_pieces.specs.declared.stop.Refusal.TheVariants as refusal
+use Rattle.line_pieces.specs.declared.stop.Stop.{Stop}
+use Rattle.line_pieces.specs.declared.stop.Stop.TheVariants as stop
 use Rattle.cut_lines.specs.Reading.{ArePointsWithin}
 use Rattle.cut_lines.specs.Stops.{BytesShowWithin}
 use Rattle.store_rows.specs.declared.append.AppendFault.{AppendFault}

@@ -1,53 +1,31 @@
-use Rattle.std.proofs.Common.{◌≡◌, ℕ, ◌-◌, List, ◌++◌, length, take, drop, arith, length-append}
-use Rattle.std.proofs.lemmas.List.{length-take, length-drop}
+use Rattle.std.proofs.Common.{arith}
 use Rattle.std.proofs.lemmas.Result.{err_from_is_err_and, MatchResult-weaker}
-use Rattle.commit_lines.proofs.PieceSteps.{gave_none, end_stops, end_names, always}
+use Rattle.line_pieces.proofs.Given.{end_stops}
+use Rattle.commit_lines.specs.Pieces.{reading}
+use Rattle.commit_lines.proofs.PieceSteps.{end_names}
 use Rattle.commit_lines.proofs.input.read_commits.Goals as goal
 
-pub loop-reader-init : goal.loop-reader-init
-loop-reader-init g c =
-    let count : length c.in_ok-buffer.buffer.items ≡ 65_536 = omega (arith, c.in_ok-buffer.ensures.len) in
-    (gave_none g.I.Source c.args.input.now c.new-reader.result c.new-reader.ensures.none c.new-reader.ensures.read, count)
-
-pub returns-in_err-count-clause-stop : goal.returns-in_err-count-clause-stop
-returns-in_err-count-clause-stop g c =
-    let p = err_from_is_err_and c.from_residual-in_err-count.result c.from_residual-in_err-count.ensures.1 in
-    rw (p.1, p.2) (c.in_err-count.ensures.err c.args.input.now c.loop-reader.invariant.0)
-
-pub returns-in_err-count-clause-few : goal.returns-in_err-count-clause-few
-returns-in_err-count-clause-few g c = c.take_piece.ensures.few c.args.input.now c.loop-reader.invariant.0
-
-pub returns-then-count-eq0-clause-few : goal.returns-then-count-eq0-clause-few
-returns-then-count-eq0-clause-few g c = c.take_piece.ensures.few c.args.input.now c.loop-reader.invariant.0
-
 pub finish-requires : goal.finish-requires
-finish-requires g c =
-    let gave = c.in_ok-count.ensures.ok.more c.args.input.now c.loop-reader.invariant.0 in
-    omega (arith, gave.lines, gave.short)
+finish-requires g c = let gave = c.in_ok-read_lines.ensures.ok.gave in omega (arith, gave.lines, gave.short)
 
-pub returns-then-count-eq0-clause-names : goal.returns-then-count-eq0-clause-names
-returns-then-count-eq0-clause-names g c =
-    MatchResult-weaker c.finish.result c.finish.ensures.ok (end_names g.I.Source c.args.input.now c.take_piece.new.input c.take_piece.new.reader (c.loop-reader.allowed - c.in_ok-count.count)
-    (c.in_ok-count.ensures.ok.more c.args.input.now c.loop-reader.invariant.0) (c.in_ok-count.ensures.ok.end c.if-count-eq0.true)) (λ stop told. told)
+pub returns-in_err-read_lines-clause-stop : goal.returns-in_err-read_lines-clause-stop
+returns-in_err-read_lines-clause-stop g c =
+    let p = err_from_is_err_and c.from_residual.result c.from_residual.ensures.1 in
+    rw (p.1, p.2) c.in_err-read_lines.ensures.stop
 
-pub returns-then-count-eq0-clause-whole : goal.returns-then-count-eq0-clause-whole
-returns-then-count-eq0-clause-whole g c = always c.finish.result (c.in_ok-count.ensures.ok.end c.if-count-eq0.true)
+pub returns-clause-names : goal.returns-clause-names
+returns-clause-names g c =
+    MatchResult-weaker c.finish.result c.finish.ensures.ok (λ names told.
+    end_names g.I.Source c.args.input.now c.read_lines.new.input c.read_lines.new.reader names c.in_ok-read_lines.ensures.ok told) (λ stop told. told)
 
-pub returns-then-count-eq0-clause-stop : goal.returns-then-count-eq0-clause-stop
-returns-then-count-eq0-clause-stop g c =
-    MatchResult-weaker c.finish.result c.finish.ensures.err (λ points told. told)
-    (end_stops g.I.Source c.args.input.now c.take_piece.new.input c.take_piece.new.reader (c.loop-reader.allowed - c.in_ok-count.count)
-    (c.in_ok-count.ensures.ok.more c.args.input.now c.loop-reader.invariant.0) (c.in_ok-count.ensures.ok.end c.if-count-eq0.true))
-
-pub loop-reader-preserved : goal.loop-reader-preserved
-loop-reader-preserved g c =
-    let new : List ℕ = c.take_piece.new.buffer in
-    let back : List ℕ = drop (length new) c.loop-reader.buffer.items in
-    let same : length new ≡ length c.loop-reader.buffer.items = omega (arith, c.take_piece.auto.buffer, c.deref_mut.ensures.len) in
-    let all : length (take c.loop-reader.buffer.len (new ++ back)) ≡ 65_536 = omega (arith, length-take c.loop-reader.buffer.len (new ++ back), length-append new back, length-drop (length new) c.loop-reader.buffer.items, c.loop-reader.invariant.1) in
-    (c.in_ok-count.ensures.ok.more c.args.input.now c.loop-reader.invariant.0, all)
-
-pub returns-then-count-eq0-clause-count : goal.returns-then-count-eq0-clause-count
-returns-then-count-eq0-clause-count g c =
-    let gave = c.in_ok-count.ensures.ok.more c.args.input.now c.loop-reader.invariant.0 in
+pub returns-clause-count : goal.returns-clause-count
+returns-clause-count g c =
+    let gave = c.in_ok-read_lines.ensures.ok.gave in
     MatchResult-weaker c.finish.result c.finish.ensures.ok (λ names told. (told gave.read gave.has).few) (λ stop told. told)
+
+pub returns-clause-stop : goal.returns-clause-stop
+returns-clause-stop g c =
+    let all = c.in_ok-read_lines.ensures.ok in
+    MatchResult-weaker c.finish.result c.finish.ensures.err (λ names told. told) (λ stop told.
+    end_stops g.I.Source reading stop c.args.input.now c.read_lines.new.input c.read_lines.new.reader all.allowed all.gave all.whole
+    (told all.gave.read all.gave.has (omega (arith, all.gave.short))))

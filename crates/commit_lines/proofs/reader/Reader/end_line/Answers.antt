@@ -1,7 +1,9 @@
-use Rattle.std.proofs.Common.{◌≡◌, ◌<◌, ◌≤◌, length, List, ℕ, sym, subst, arith}
+use Rattle.std.proofs.Common.{◌≡◌, ◌<◌, ◌≤◌, length, List, [], ◌∷◌, ◌++◌, ℕ, sym, subst, arith}
 use Rattle.std.proofs.lemmas.Result.{err_from_is_err_and}
-use Rattle.commit_lines.specs.HasRead.{kept_by, OnRefused, TakesLine}
+use Rattle.commit_lines.specs.HasRead.{kept_by, TakesLine}
 use Rattle.commit_lines.specs.Reading.{Breaks}
+use Rattle.line_pieces.specs.Pieces.{OnRefused}
+use Rattle.commit_lines.proofs.PieceSteps.{cause, end_cause}
 use Rattle.commit_lines.proofs.ReaderSteps.{line_taken, long_taken, line_refused}
 use Rattle.commit_lines.proofs.reader.Reader.end_line.Goals as goal
 
@@ -14,8 +16,14 @@ pub returns-in_err-add_line-clause-err : goal.returns-in_err-add_line-clause-err
 returns-in_err-add_line-clause-err c =
     let p = err_from_is_err_and c.from_residual.result c.from_residual.ensures.1 in
     let short : length c.args.self.now.line.items ≤ 4_096 = omega (arith, c.len.ensures, c.args.self.now.line.ok) in
-    rw (p.1, p.2) (λ read has. line_refused read (kept_by c.args.self.now) c.number-number.result c.in_err-add_line.field-0.0 c.number-number.ensures short
-    (subst (λ (line : List ℕ). OnRefused (λ why k. (k ≡ c.number-number.result) × Breaks why c.args.self.now.names.keys line) c.in_err-add_line.field-0.0) c.deref.ensures.value c.in_err-add_line.ensures.err) has)
+    let number : ℕ = c.number-number.result in
+    let stop = c.in_err-add_line.field-0.0 in
+    let refuses : OnRefused (λ why k. (k ≡ number) × Breaks why c.args.self.now.names.keys c.args.self.now.line.items) stop =
+    subst (λ (line : List ℕ). OnRefused (λ why k. (k ≡ number) × Breaks why c.args.self.now.names.keys line) stop) c.deref.ensures.value c.in_err-add_line.ensures.err in
+    rw (p.1, p.2) (
+      λ read has few. end_cause read stop few (line_refused read (kept_by c.args.self.now) number stop c.number-number.ensures short refuses has).0,
+      λ read rest has few. cause (read ++ 10 ∷ []) rest stop few (line_refused read (kept_by c.args.self.now) number stop c.number-number.ensures short refuses has).1,
+    )
 
 pub returns-clause-ok : goal.returns-clause-ok
 returns-clause-ok c read has =

@@ -7,7 +7,7 @@ use Rattle.cut_lines.proofs.reader.Reader.finish.Goals as goal
 pub returns-in_err-end_line-clause-err : goal.returns-in_err-end_line-clause-err
 returns-in_err-end_line-clause-err c =
     let p = err_from_is_err_and c.from_residual.result c.from_residual.ensures.1 in
-    rw (p.1, p.2) (λ read has. (c.in_err-end_line.ensures.err read has).0)
+    rw (p.1, p.2) c.in_err-end_line.ensures.err.0
 
 pub returns-clause-ok : goal.returns-clause-ok
 returns-clause-ok c read has =

@@ -1,0 +1,27 @@
+use Rattle.std.proofs.Common.{◌<◌, ◌≤◌, [], ◌++◌, length, sym, subst, arith}
+use Rattle.std.proofs.lemmas.Bool.{both_ways}
+use Rattle.commit_lines.specs.Lines.{MayGo}
+use Rattle.commit_lines.specs.HasRead.{kept_by}
+use Rattle.line_pieces.specs.declared.stop.Refusal.TheVariants.{Bad}
+use Rattle.line_pieces.specs.declared.stop.Stop.TheVariants.{Refused}
+use Rattle.commit_lines.proofs.Fronts.{shows_more}
+use Rattle.commit_lines.proofs.PieceSteps.{cause}
+use Rattle.commit_lines.proofs.ReaderSteps.{is_open, not_open}
+use Rattle.commit_lines.proofs.reader.ReaderLineReader.may_go_on.Goals as goal
+
+pub returns-then-len-gt-LINE_LIMIT-clause-ok : goal.returns-then-len-gt-LINE_LIMIT-clause-ok
+returns-then-len-gt-LINE_LIMIT-clause-ok c read has =
+    let long : 4_096 < length c.args.self.now.line.items = omega (arith, c.len.ensures, c.args.self.now.line.ok) in
+    is_open read (kept_by c.args.self.now) (λ short. absurd (omega arith)) has
+
+pub returns-then-branch-clause-ok : goal.returns-then-branch-clause-ok
+returns-then-branch-clause-ok c read has =
+    is_open read (kept_by c.args.self.now) (λ short. subst (MayGo c.args.self.now.names.keys) c.deref.ensures.value (c.in_ok-may_go.ensures.0 c.if-branch.true)) has
+
+pub returns-clause-err : goal.returns-clause-err
+returns-clause-err c read rest has few =
+    let short : length c.args.self.now.line.items ≤ 4_096 = omega (arith, c.len.ensures, c.args.self.now.line.ok) in
+    cause (read ++ []) rest (Refused Bad c.number.result) few
+    (shows_more read [] (Refused Bad c.number.result)
+    (not_open read (kept_by c.args.self.now) c.number.result c.number.ensures short
+    (λ may. both_ways c.in_ok-may_go.field-0 c.if-branch.false (c.in_ok-may_go.ensures.1 (subst (MayGo c.args.self.now.names.keys) (sym c.deref.ensures.value) may))) has))

@@ -1,0 +1,26 @@
+use Rattle.std.proofs.Common.{◌<◌, ◌≤◌, [], ◌++◌, length, arith}
+use Rattle.std.proofs.lemmas.Bool.{both_ways}
+use Rattle.line_pieces.specs.declared.stop.Refusal.TheVariants.{Bad}
+use Rattle.line_pieces.specs.declared.stop.Stop.TheVariants.{Refused}
+use Rattle.cut_lines.specs.HasRead.{kept_by}
+use Rattle.cut_lines.proofs.Refusals.{shows_more}
+use Rattle.cut_lines.proofs.PieceSteps.{cause}
+use Rattle.cut_lines.proofs.ReaderSteps.{is_open, not_open}
+use Rattle.cut_lines.proofs.reader.ReaderLineReader.may_go_on.Goals as goal
+
+pub returns-then-len-gt-LINE_LIMIT-clause-ok : goal.returns-then-len-gt-LINE_LIMIT-clause-ok
+returns-then-len-gt-LINE_LIMIT-clause-ok c read has =
+    let long : 4_096 < length c.args.self.now.line.items = omega arith in
+    is_open read (kept_by c.args.self.now) (λ short. absurd (omega arith)) has
+
+pub returns-then-branch-clause-ok : goal.returns-then-branch-clause-ok
+returns-then-branch-clause-ok c read has =
+    is_open read (kept_by c.args.self.now) (λ short. c.in_ok-may_become_good.ensures.some c.if-branch.true) has
+
+pub returns-clause-err : goal.returns-clause-err
+returns-clause-err c read rest has few =
+    let short : length c.args.self.now.line.items ≤ 4_096 = omega arith in
+    cause c.args.self.now.most (read ++ []) rest (Refused Bad c.number.result) few
+    (shows_more c.args.self.now.most read [] (Refused Bad c.number.result)
+    (not_open read (kept_by c.args.self.now) c.number.result c.number.ensures short
+    (c.in_ok-may_become_good.ensures.none (both_ways c.in_ok-may_become_good.field-0 c.if-branch.false)) has))

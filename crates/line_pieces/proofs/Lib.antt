@@ -1,0 +1,4 @@
+pub mod Fronts
+pub mod Given
+pub mod Parts
+pub mod Lines
