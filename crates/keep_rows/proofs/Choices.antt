@@ -7,6 +7,7 @@ use Rattle.std.proofs.lemmas.List.Sums.{sum_by-cons}
 use Rattle.history_model.specs.declared.entries.Declaration.{Declaration}
 use Rattle.history_model.specs.declared.entries.Entry.{Entry}
 use Rattle.history_model.specs.declared.entries.Entry.TheVariants as entry
+use Rattle.history_model.specs.declared.publication.Publication.{Publication}
 use Rattle.history_model.specs.Commits.{declaration, declarations, number_of, name_of}
 use Rattle.history_model.specs.Entries.{chosen_from, chosen}
 use Rattle.keep_rows.specs.Kept.{is_kept}
@@ -47,6 +48,11 @@ sum_map f g (x ∷ xs) = sum_by-cons (λ y. g (f y)) x xs ∙ ap (λ n. g (f x) 
 pub shorter : (h : List Entry) → length (filter is_kept h) ≤ length h
 shorter [] = omega arith
 shorter (e ∷ h) = elim (cases_Bool (is_kept e)) [ inl hit ↦ rw hit (omega (arith, shorter h)) | inr past ↦ rw past (omega (arith, shorter h)) ]
+
+-- what is never chosen of a publication isn't of what is left out
+pub never : {A : Type 0} (choice : ℕ → Entry → Option A) → ((s : ℕ) (p : Publication) → choice s (entry.Publish p) ≡ None) → (s : ℕ) (e : Entry) → is_kept e ≡ false → choice s e ≡ None
+never choice none s (entry.Publish p) past = none s p
+never choice none s e past = absurd cc
 
 -- what is chosen of a history, but for the steps, stays where what is left out is never chosen
 module _ {A B : Type 0} (f : A → B) (choice : ℕ → Entry → Option A) (same : (s t : ℕ) (e : Entry) → option_map f (choice s e) ≡ option_map f (choice t e))
@@ -92,8 +98,7 @@ declared_same s t (entry.Commit number name) = refl
 declared_same s t e = refl
 
 pub declared_none : (s : ℕ) (e : Entry) → is_kept e ≡ false → declaration s e ≡ None
-declared_none s (entry.Publish p) past = refl
-declared_none s e past = absurd cc
+declared_none = never declaration (λ s p. refl)
 
 module _ (h : List Entry) where
   pub same_pairs : map pair_of (declarations (filter is_kept h)) ≡ map pair_of (declarations h)

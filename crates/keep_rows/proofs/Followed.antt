@@ -1,5 +1,5 @@
 -- Regressions and jobs stand as they stood where the publications are left out.
-use Rattle.std.proofs.Common.{◌≡◌, ℕ, ◌+◌, ◌-◌, false, List, [], ◌∷◌, ◌++◌, length, take, None, refl, sym, ap, ap₂, ◌∙◌, arith, append-nil, append_assoc}
+use Rattle.std.proofs.Common.{◌≡◌, ℕ, ◌+◌, ◌-◌, List, [], ◌∷◌, ◌++◌, length, take, None, refl, sym, ap, ap₂, ◌∙◌, arith, append-nil, append_assoc}
 use Rattle.std.specs.Prelude.{filter, is_some, unwrap_or}
 use Rattle.std.specs.List.{last_or}
 use Rattle.std.proofs.Math.Seq.{take-append_seam}
@@ -15,39 +15,18 @@ use Rattle.history_model.specs.Entries.{chosen_from}
 use Rattle.history_model.specs.Jobs.{Begun, begun, said, turns, commits_of, standing_from, jobs}
 use Rattle.history_model.specs.Regressions.{raised, regressions, moved, state_of}
 use Rattle.keep_rows.specs.Kept.{is_kept}
-use Rattle.keep_rows.proofs.Choices.{filter_so, same_name, same_plain}
+use Rattle.keep_rows.proofs.Choices.{filter_so, never, same_name, same_plain}
 
 -- ---- regressions
-raised_same : (s t : ℕ) (e : Entry) → raised s e ≡ raised t e
-raised_same s t e = refl
-
-raised_none : (s : ℕ) (e : Entry) → is_kept e ≡ false → raised s e ≡ None
-raised_none s (entry.Publish p) past = refl
-raised_none s e past = absurd cc
-
 pub same_regressions : (h : List Entry) → regressions (filter is_kept h) ≡ regressions h
-same_regressions h = same_plain raised raised_same raised_none h
-
-moved_same : (number s t : ℕ) (e : Entry) → moved number s e ≡ moved number t e
-moved_same number s t e = refl
-
-moved_none : (number s : ℕ) (e : Entry) → is_kept e ≡ false → moved number s e ≡ None
-moved_none number s (entry.Publish p) past = refl
-moved_none number s e past = absurd cc
+same_regressions h = same_plain raised (λ s t e. refl) (never raised (λ s p. refl)) h
 
 pub same_state : (number : ℕ) (h : List Entry) → state_of number (filter is_kept h) ≡ state_of number h
-same_state number h = ap (λ moves. unwrap_or (last_or None moves) Detected) (same_plain (moved number) (moved_same number) (moved_none number) h)
+same_state number h = ap (λ moves. unwrap_or (last_or None moves) Detected) (same_plain (moved number) (λ s t e. refl) (never (moved number) (λ s p. refl)) h)
 
 -- ---- jobs
-said_same : (number s t : ℕ) (e : Entry) → said number s e ≡ said number t e
-said_same number s t e = refl
-
-said_none : (number s : ℕ) (e : Entry) → is_kept e ≡ false → said number s e ≡ None
-said_none number s (entry.Publish p) past = refl
-said_none number s e past = absurd cc
-
 same_turns : (number : ℕ) (h : List Entry) → turns number (filter is_kept h) ≡ turns number h
-same_turns number h = same_plain (said number) (said_same number) (said_none number) h
+same_turns number h = same_plain (said number) (λ s t e. refl) (never (said number) (λ s p. refl)) h
 
 -- the numbers that a history declares are the same without its publications
 same_between : (lo hi : ℕ) (g : List Entry) → numbers_between lo hi (declarations (filter is_kept g)) ≡ numbers_between lo hi (declarations g)

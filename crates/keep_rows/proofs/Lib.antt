@@ -1,4 +1,5 @@
 mod Placing
+pub mod Among
 mod Machines
 mod Once
 mod ComesBack

@@ -25,7 +25,7 @@ use Rattle.history_model.specs.Publications.{publication}
 use Rattle.history_model.specs.Regressions.{is_number}
 use Rattle.history_model.specs.Runs.{Retraction, Series, acceptance, acceptances, accepted, is_known, is_of, known_series, live_of, live_runs, retraction, retractions, retracted, same_series, distinct}
 use Rattle.keep_rows.specs.Kept.{is_kept}
-use Rattle.keep_rows.proofs.Choices.{filter_map, filter_so, find_map, flat_map_map, map_map, map_so, pair_of, same_chosen, same_name, same_number, same_pairs, shorter, sum_map}
+use Rattle.keep_rows.proofs.Choices.{filter_map, filter_so, find_map, flat_map_map, map_map, map_so, never, pair_of, same_chosen, same_name, same_number, same_pairs, shorter, sum_map}
 use Rattle.keep_rows.proofs.Followed.{same_regressions, same_state, same_jobs}
 
 -- ---- runs
@@ -40,18 +40,16 @@ unfolding run_of
 accepted_same s t (entry.Accept run) = refl
 accepted_same s t e = refl
 
-pub accepted_none : (s : ℕ) (e : Entry) → is_kept e ≡ false → acceptance s e ≡ None
-accepted_none s (entry.Publish p) past = refl
-accepted_none s e past = absurd cc
-
 taken_same : (s t : ℕ) (e : Entry) → option_map name_taken (retraction s e) ≡ option_map name_taken (retraction t e)
 unfolding name_taken
 taken_same s t (entry.Retract run) = refl
 taken_same s t e = refl
 
+pub accepted_none : (s : ℕ) (e : Entry) → is_kept e ≡ false → acceptance s e ≡ None
+accepted_none = never acceptance (λ s p. refl)
+
 pub taken_none : (s : ℕ) (e : Entry) → is_kept e ≡ false → retraction s e ≡ None
-taken_none s (entry.Publish p) past = refl
-taken_none s e past = absurd cc
+taken_none = never retraction (λ s p. refl)
 
 none_before : {A B : Type 0} (f : A → B) (x y : Option A) → option_map f x ≡ option_map f y → y ≡ None → x ≡ None
 none_before f None y same none = refl

@@ -11,7 +11,6 @@ use history_model::{Author, Placed};
 use line_text::Name;
 use machine_state::MachineState;
 use std::alloc::Global;
-use std::marker::Model;
 use store_rows::{AppendFault, Recorded, append_each, put_entry_row, put_machine_row};
 use track_entry::put_entry;
 use track_outside::Keeper;
@@ -43,22 +42,10 @@ struct Machines<'a> {
     version: u8,
 }
 
-impl<'a> Model for Machines<'a> {
-    ghost use Rattle.std.specs.Coded.{codes};
-    ghost use Rattle.track_model.specs.Tracks.{coded_home};
-    ghost use Rattle.keep_rows.specs.Loading.{Stored};
-
-    ghost Value = { Stored };
-
-    ghost coded = { Prim.hlevel (codes, coded_home) };
-
-    ghost view = { λ m. record { machines = m.machines.now; version = m.version } };
-}
-
 impl<'a> Recorded for Machines<'a> {
     ghost use Rattle.keep_rows.specs.Rows.{new_rows};
 
-    ghost new_rows = { λ m. new_rows m.version m.machines };
+    ghost new_rows = { λ m. new_rows m.version m.machines.now };
 
     fn put_rows(&self, alloc: Global, out: &mut Vec<Vec<u8>>) -> Result<(), NoMemory> {
         let mut rows = Vec::new(alloc);
@@ -102,7 +89,7 @@ fn put_each(
     Ok(())
 }
 
-// The new rows of a machine.
+// The new rows of a machine: its own, and those of its new entries.
 fn put_machine(
     alloc: Global,
     out: &mut Vec<Vec<u8>>,
@@ -112,7 +99,13 @@ fn put_machine(
         (bytes_of out.new.items ≡ bytes_of out.old.items ++ track_rows machine.now) }
 {
     put_head(alloc, out, machine)?;
-    put_entries(alloc, out, machine)
+    for k in 0..machine.len() {
+        match machine.entry(k + 1) {
+            Some(placed) => put_placed(alloc, out, machine.machine(), placed)?,
+            None => unreachable!(),
+        }
+    }
+    Ok(())
 }
 
 // The machine's own row, where the store had it not.
@@ -122,25 +115,6 @@ fn put_head(alloc: Global, out: &mut Vec<Vec<u8>>, machine: &MachineState) -> Re
 {
     if !machine.was_kept() {
         out.push(put_machine_row(alloc, machine.machine())?)?;
-    }
-    Ok(())
-}
-
-// The rows of its new entries.
-fn put_entries(
-    alloc: Global,
-    out: &mut Vec<Vec<u8>>,
-    machine: &MachineState,
-) -> Result<(), NoMemory>
-    ensures { OnOk result
-        (bytes_of out.new.items ≡ bytes_of out.old.items
-        ++ map (row_of machine.now.machine) (filter is_new machine.now.history)) }
-{
-    for k in 0..machine.len() {
-        match machine.entry(k + 1) {
-            Some(placed) => put_placed(alloc, out, machine.machine(), placed)?,
-            None => unreachable!(),
-        }
     }
     Ok(())
 }

@@ -12,13 +12,12 @@ pub struct Loaded {
 }
 
 impl Model for Loaded {
-    ghost use Rattle.std.specs.Coded.{codes};
-    ghost use Rattle.track_model.specs.Tracks.{coded_home};
+    ghost use Rattle.keep_rows.specs.Codes.{track_codes};
     ghost use Rattle.keep_rows.specs.Loading.{Stored};
 
     ghost Value = { Stored };
 
-    ghost coded = { Prim.hlevel (codes, coded_home) };
+    ghost coded = { Prim.hlevel track_codes };
 
     ghost view = { λ l. record { machines = l.states.items; version = l.version } };
 }

@@ -36,14 +36,13 @@ pub(crate) struct States {
 }
 
 impl Model for States {
-    ghost use Rattle.std.specs.Coded.{codes};
-    ghost use Rattle.track_model.specs.Tracks.{coded_home};
+    ghost use Rattle.keep_rows.specs.Codes.{track_codes};
     ghost use Rattle.keep_rows.specs.Kept.{AreKept};
     ghost use Rattle.keep_rows.specs.Loading.{Stored};
 
     ghost Value = { Stored };
 
-    ghost coded = { Prim.hlevel (codes, coded_home) };
+    ghost coded = { Prim.hlevel track_codes };
 
     ghost view = { λ s. record { machines = s.machines.items; version = s.version } };
 

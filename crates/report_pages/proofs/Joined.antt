@@ -49,25 +49,11 @@ same_keys : (a b c d e a' b' c' d' e' j m r s n : List ℕ) → a ≡ a' → b �
     → five a b c d e j m r s n ≡ five a' b' c' d' e' j m r s n
 same_keys a b c d e a' b' c' d' e' j m r s n p q u v w = rw (p, q, u, v, w) refl
 
-jobs_key : quoted (codes "jobs") ≡ codes "\"jobs\""
+-- the keys between quotes
+keys : (quoted (codes "jobs") ≡ codes "\"jobs\"") × (quoted (codes "machine") ≡ codes "\"machine\"") × (quoted (codes "regressions") ≡ codes "\"regressions\"")
+    × (quoted (codes "series") ≡ codes "\"series\"") × (quoted (codes "step") ≡ codes "\"step\"")
 unfolding serde_json_on_literals
-jobs_key = refl
-
-machine_key : quoted (codes "machine") ≡ codes "\"machine\""
-unfolding serde_json_on_literals
-machine_key = refl
-
-regressions_key : quoted (codes "regressions") ≡ codes "\"regressions\""
-unfolding serde_json_on_literals
-regressions_key = refl
-
-series_key : quoted (codes "series") ≡ codes "\"series\""
-unfolding serde_json_on_literals
-series_key = refl
-
-step_key : quoted (codes "step") ≡ codes "\"step\""
-unfolding serde_json_on_literals
-step_key = refl
+keys = (refl, refl, refl, refl, refl)
 
 in_order : (j m r s n : List ℕ)
     → ((((((((codes "{\"jobs\":" ++ j) ++ codes ",\"machine\":") ++ m) ++ codes ",\"regressions\":") ++ r) ++ codes ",\"series\":") ++ s)
@@ -84,4 +70,4 @@ whole_text p =
     let s : List ℕ = compact_text (array (items_of (map series_data p.series))) in
     let n : List ℕ = decimal p.step in
     in_order j m r s n
-    ∙ ap (λ (l : List ℕ). l ++ codes "\n") (sym (same_keys _ _ _ _ _ _ _ _ _ _ j m r s n jobs_key machine_key regressions_key series_key step_key))
+    ∙ ap (λ (l : List ℕ). l ++ codes "\n") (sym (same_keys _ _ _ _ _ _ _ _ _ _ j m r s n keys.0 keys.1 keys.2 keys.3 keys.4))

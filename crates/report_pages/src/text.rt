@@ -1,5 +1,5 @@
 //! The text form of a report.
-ghost use Rattle.std.specs.Prelude.{◌≡◌, ◌++◌, flat_map, codes, decimal, OnOk, OnErr};
+ghost use Rattle.std.specs.Prelude.{◌≡◌, ℕ, List, ◌++◌, flat_map, codes, decimal, OnOk, OnErr};
 ghost use Rattle.regression_state.specs.Moves.{word};
 ghost use Rattle.line_text.specs.Names.{spelling};
 ghost use Rattle.report_pages.specs.Alignment.{spaces, left_aligned, right_aligned};
@@ -12,6 +12,15 @@ use metric_table::decimals;
 use regression_state::State;
 use report_model::{JobLine, Pages, RegressionLine, SeriesLine, put_told};
 use std::alloc::Global;
+
+// What has a line of its own in the text form.
+trait Row {
+    ghost text: { Self → List ℕ };
+
+    // Appends the line.
+    fn put(&self, alloc: Global, out: &mut Vec<u8>) -> Result<(), NoMemory>
+        ensures { OnOk result (out.new.items ≡ out.old.items ++ text self.now) };
+}
 
 // Appends bytes.
 pub(crate) fn put_bytes(out: &mut Vec<u8>, bytes: &[u8]) -> Result<(), NoMemory>
@@ -29,6 +38,15 @@ fn put_spaces(out: &mut Vec<u8>, count: usize) -> Result<(), NoMemory>
         let _ = i;
         out.push(b' ')?;
     }
+    Ok(())
+}
+
+// Appends a text, and a number behind it.
+fn put_numbered(alloc: Global, out: &mut Vec<u8>, text: &[u8], n: u64) -> Result<(), NoMemory>
+    ensures { OnOk result (out.new.items ≡ out.old.items ++ (text.now ++ decimal n)) }
+{
+    put_bytes(out, text)?;
+    put_u64(alloc, out, n)?;
     Ok(())
 }
 
@@ -106,15 +124,17 @@ fn put_centre(
     Ok(())
 }
 
-fn put_series(alloc: Global, out: &mut Vec<u8>, line: &SeriesLine) -> Result<(), NoMemory>
-    ensures { OnOk result (out.new.items ≡ out.old.items ++ series_text line.now) }
-{
-    put_bytes(out, b"series ")?;
-    put_names(alloc, out, &line.test, &line.metric)?;
-    put_counts(alloc, out, line)?;
-    put_centre(alloc, out, &line.metric, line.centre)?;
-    put_bytes(out, b"\n")?;
-    Ok(())
+impl Row for SeriesLine {
+    ghost text = { series_text };
+
+    fn put(&self, alloc: Global, out: &mut Vec<u8>) -> Result<(), NoMemory> {
+        put_bytes(out, b"series ")?;
+        put_names(alloc, out, &self.test, &self.metric)?;
+        put_counts(alloc, out, self)?;
+        put_centre(alloc, out, &self.metric, self.centre)?;
+        put_bytes(out, b"\n")?;
+        Ok(())
+    }
 }
 
 // Appends a space and a name's spelling.
@@ -126,17 +146,18 @@ fn put_word(alloc: Global, out: &mut Vec<u8>, name: &Name) -> Result<(), NoMemor
     Ok(())
 }
 
-fn put_regression(alloc: Global, out: &mut Vec<u8>, line: &RegressionLine) -> Result<(), NoMemory>
-    ensures { OnOk result (out.new.items ≡ out.old.items ++ regression_text line.now) }
-{
-    put_bytes(out, b"regression ")?;
-    put_u64(alloc, out, line.number)?;
-    put_word(alloc, out, &line.test)?;
-    put_word(alloc, out, &line.metric)?;
-    put_word(alloc, out, &line.before)?;
-    put_word(alloc, out, &line.after)?;
-    put_state(out, line.state)?;
-    Ok(())
+impl Row for RegressionLine {
+    ghost text = { regression_text };
+
+    fn put(&self, alloc: Global, out: &mut Vec<u8>) -> Result<(), NoMemory> {
+        put_numbered(alloc, out, b"regression ", self.number)?;
+        put_word(alloc, out, &self.test)?;
+        put_word(alloc, out, &self.metric)?;
+        put_word(alloc, out, &self.before)?;
+        put_word(alloc, out, &self.after)?;
+        put_state(out, self.state)?;
+        Ok(())
+    }
 }
 
 // Appends a space, a state's word and the end of the line.
@@ -176,48 +197,27 @@ fn put_counts(alloc: Global, out: &mut Vec<u8>, line: &SeriesLine) -> Result<(),
     Ok(())
 }
 
-fn put_job(alloc: Global, out: &mut Vec<u8>, line: &JobLine) -> Result<(), NoMemory>
-    ensures { OnOk result (out.new.items ≡ out.old.items ++ job_text line.now) }
-{
-    put_bytes(out, b"job ")?;
-    put_u64(alloc, out, line.job)?;
-    put_bytes(out, b" range ")?;
-    put_u64(alloc, out, line.range)?;
-    put_bytes(out, b" questions ")?;
-    put_u64(alloc, out, line.questions)?;
-    put_bytes(out, b" ")?;
-    put_told(alloc, out, &line.outcome)?;
-    put_bytes(out, b"\n")?;
-    Ok(())
-}
+impl Row for JobLine {
+    ghost text = { job_text };
 
-fn put_all_series(alloc: Global, out: &mut Vec<u8>, lines: &[SeriesLine]) -> Result<(), NoMemory>
-    ensures { OnOk result (out.new.items ≡ out.old.items ++ flat_map series_text lines.now) }
-{
-    for line in lines {
-        put_series(alloc, out, line)?;
+    fn put(&self, alloc: Global, out: &mut Vec<u8>) -> Result<(), NoMemory> {
+        put_numbered(alloc, out, b"job ", self.job)?;
+        put_numbered(alloc, out, b" range ", self.range)?;
+        put_numbered(alloc, out, b" questions ", self.questions)?;
+        put_bytes(out, b" ")?;
+        put_told(alloc, out, &self.outcome)?;
+        put_bytes(out, b"\n")?;
+        Ok(())
     }
-    Ok(())
 }
 
-fn put_all_regressions(
-    alloc: Global,
-    out: &mut Vec<u8>,
-    lines: &[RegressionLine],
-) -> Result<(), NoMemory>
-    ensures { OnOk result (out.new.items ≡ out.old.items ++ flat_map regression_text lines.now) }
+// Appends the lines, one after another.
+fn put_all<T: Row>(alloc: Global, out: &mut Vec<u8>, rows: &[T]) -> Result<(), NoMemory>
+    ensures { OnOk result
+        (out.new.items ≡ out.old.items ++ flat_map (λ x. T.Row.text x) rows.now) }
 {
-    for line in lines {
-        put_regression(alloc, out, line)?;
-    }
-    Ok(())
-}
-
-fn put_all_jobs(alloc: Global, out: &mut Vec<u8>, lines: &[JobLine]) -> Result<(), NoMemory>
-    ensures { OnOk result (out.new.items ≡ out.old.items ++ flat_map job_text lines.now) }
-{
-    for line in lines {
-        put_job(alloc, out, line)?;
+    for row in rows {
+        row.put(alloc, out)?;
     }
     Ok(())
 }
@@ -230,9 +230,9 @@ pub fn put_text(alloc: Global, out: &mut Vec<u8>, pages: &Pages) -> Result<(), N
     ensures err { OnErr result (out.new.items ≡ out.old.items) }
 {
     let mut text = Vec::new(alloc);
-    put_all_series(alloc, &mut text, pages.series.as_slice())?;
-    put_all_regressions(alloc, &mut text, pages.regressions.as_slice())?;
-    put_all_jobs(alloc, &mut text, pages.jobs.as_slice())?;
+    put_all(alloc, &mut text, pages.series.as_slice())?;
+    put_all(alloc, &mut text, pages.regressions.as_slice())?;
+    put_all(alloc, &mut text, pages.jobs.as_slice())?;
     out.extend_from_slice(&text)?;
     Ok(())
 }

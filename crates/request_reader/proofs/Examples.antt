@@ -1,17 +1,17 @@
 -- Two worked scripts, read by the definitions alone: one ends inside a body, one has more bytes than are read.
-use Rattle.std.proofs.Common.{◌≡◌, ◌≢◌, ℕ, zero, suc, ◌+◌, ◌*◌, ◌^◌, ◌≤◌, true, not, inl, inr, List, [], ◌∷◌, ◌++◌, length, take, replicate, refl, sym, ap, ◌∙◌, arith, append-nil, append_assoc, length-append, Ok}
-use Rattle.std.specs.Prelude.{◌==◌, codes}
+use Rattle.std.proofs.Common.{◌≡◌, ◌≢◌, ℕ, zero, suc, ◌+◌, ◌*◌, ◌^◌, ◌<◌, ◌≤◌, true, not, inl, inr, List, [], ◌∷◌, ◌++◌, length, take, replicate, refl, sym, ap, subst, ◌∙◌, arith, append-nil, append_assoc, length-append, Ok}
+use Rattle.std.specs.Prelude.{◌==◌, ◌&&◌, nat_lt, slice_index, codes}
 use Rattle.std.specs.Fmt.{digits}
 use Rattle.std.specs.List.{list_all, repeat}
-use Rattle.std.specs.Str.{IsAscii}
+use Rattle.std.proofs.lemmas.Bool.{cases_lt}
 use Rattle.std.proofs.lemmas.Bool.Decides.{nat_tests}
-use Rattle.std.proofs.lemmas.List.{length-replicate}
+use Rattle.std.proofs.lemmas.List.{get_or_past, length-replicate}
 use Rattle.std.proofs.lemmas.List.Elements.{All-nil, All-weaker, All-replicate}
 use Rattle.std.proofs.lemmas.List.Sums.{AllPass-from_list_all}
 use Rattle.std.proofs.lemmas.Str.{IsUtf8-from_ascii}
 use Rattle.std.proofs.Math.Seq.{take-append_seam}
 use Rattle.percent_encoding.specs.Percent.{percent_decode}
-use Rattle.line_text.specs.Names.{HasWholeEscapes}
+use Rattle.line_text.specs.Names.{IsName}
 use Rattle.request_model.specs.declared.requests.Request.TheVariants as request
 use Rattle.request_words.specs.Forms.{Form, machine, commit, submit_go, body_length, IsOfForm, IsNamed, SpellsName, IsInRange, HasLength}
 use Rattle.request_words.specs.Bodies.{Item, AsksNamed}
@@ -62,33 +62,34 @@ submit_form : IsOfForm submit_line (submit_go (codes "m1") (codes "a") (codes "r
 unfolding submit_line digits
 submit_form = record { words = refl; numbers = (omega arith, tt); amounts = tt; status = tt }
 
--- the word `m1` spells itself
+-- no byte of a word is `%` or above 127, by a test that computes
+plain_byte : (word : List ℕ) → list_all (λ b. nat_lt b 128 && not (b == 37)) word ≡ true → (k : ℕ) → (slice_index word k < 128) × (slice_index word k ≢ 37)
+plain_byte word test k = elim (cases_lt k (length word)) [
+  | inl within ↦ plain (slice_index word k) (AllPass-from_list_all (λ b. nat_lt b 128 && not (b == 37)) word test k 0 within)
+  | inr past ↦ zero_plain (slice_index word k) (get_or_past word k 0 past)
+]
+  where
+    plain : (b : ℕ) → (nat_lt b 128 && not (b == 37)) ≡ true → (b < 128) × (b ≢ 37)
+    plain b is = (grind (arith, nat_tests), grind (arith, nat_tests))
+
+    zero_plain : (b : ℕ) → b ≡ 0 → (b < 128) × (b ≢ 37)
+    zero_plain b is = (omega (arith, is), λ same. absurd (omega (arith, is, same)))
+
+-- such a word spells itself
+own_word : (word : List ℕ) → list_all (λ b. nat_lt b 128 && not (b == 37)) word ≡ true → percent_decode word ≡ word → 0 < length word → length word ≤ 256 → SpellsName word
+own_word word test same some short = record {
+  escapes = λ k is. absurd ((plain_byte word test k).1 is);
+  decoded = refl;
+  named = subst IsName (sym same) (record { text = IsUtf8-from_ascii word (λ k. (plain_byte word test k).0); some = some; short = short });
+}
+
 m1_word : SpellsName (codes "m1")
 unfolding percent_decode
-m1_word = record { escapes = no_escape; decoded = refl; named = record { text = IsUtf8-from_ascii (codes "m1") ascii; some = omega arith; short = omega arith } }
-  where
-    no_escape : HasWholeEscapes (codes "m1")
-    no_escape zero is = absurd (omega (arith, is))
-    no_escape (suc zero) is = absurd (omega (arith, is))
-    no_escape (suc (suc k)) is = absurd (omega (arith, is))
+m1_word = own_word (codes "m1") refl refl (omega arith) (omega arith)
 
-    ascii : IsAscii (codes "m1")
-    ascii zero = omega arith
-    ascii (suc zero) = omega arith
-    ascii (suc (suc k)) = omega arith
-
--- the word `a` spells itself
 a_word : SpellsName (codes "a")
 unfolding percent_decode
-a_word = record { escapes = no_escape; decoded = refl; named = record { text = IsUtf8-from_ascii (codes "a") ascii; some = omega arith; short = omega arith } }
-  where
-    no_escape : HasWholeEscapes (codes "a")
-    no_escape zero is = absurd (omega (arith, is))
-    no_escape (suc k) is = absurd (omega (arith, is))
-
-    ascii : IsAscii (codes "a")
-    ascii zero = omega arith
-    ascii (suc k) = omega arith
+a_word = own_word (codes "a") refl refl (omega arith) (omega arith)
 
 -- short bytes without a line feed, by a test that computes
 is_line : (bytes : List ℕ) → list_all (λ b. not (b == 10)) bytes ≡ true → length bytes ≤ line_limit → IsLine bytes

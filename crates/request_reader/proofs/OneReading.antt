@@ -6,7 +6,7 @@ use Rattle.std.proofs.lemmas.List.Elements.{All-head, All-tail}
 use Rattle.line_text.specs.Lines.{lines_of, LinesEnd}
 use Rattle.request_words.specs.Bodies.{Item}
 use Rattle.request_words.specs.Items.{Counts, Gives, OneItem}
-use Rattle.request_reader.specs.Scripts.{line_limit, IsLine, Piece, text_of, ArePiecesOf, IsTooLong, IsInside, Ending, Ends, long, last, inside, more, Reads}
+use Rattle.request_reader.specs.Scripts.{line_limit, IsLine, Piece, text_of, IsPiece, ArePiecesOf, IsTooLong, IsInside, Ending, Ends, long, last, inside, more, Reads}
 use Rattle.request_reader.specs.Reading.{OneReading, PiecesAreFirst}
 use Rattle.request_words.proofs.OneForm.{one_count}
 
@@ -110,6 +110,27 @@ front_clash ends all at q qs front back bytes asked items ending pieces is told 
     ends_front ends all at bytes q.line (q.body ++ (pieces.0 ++ back)) (length q.body) items ending split pieces.4.line pieces.4.counted
     (omega (arith, length-append q.body (pieces.0 ++ back))) told
 
+-- the first pieces of the same bytes are of one length, ask the same and end at the same place
+record SameFirst (p q : Piece) (rest behind : List ℕ) : Type 0 where
+  asks : p.asks ≡ q.asks
+  text : length (text_of p) ≡ length (text_of q)
+  left : rest ≡ behind
+
+same_first : LinesEnd → OneItem → (p q : Piece) (fa ba fb bb rest behind : List ℕ) → fa ≡ text_of p ++ rest → fb ≡ text_of q ++ behind → IsPiece p → IsPiece q
+    → fa ++ ba ≡ fb ++ bb → SameFirst p q (rest ++ ba) (behind ++ bb)
+same_first ends one p q fa ba fb bb rest behind is its a b joined =
+    let both : p.line ++ 10 ∷ (p.body ++ (rest ++ ba)) ≡ q.line ++ 10 ∷ (q.body ++ (behind ++ bb)) =
+    sym (piece_split p rest ba) ∙ ap (λ f. f ++ ba) (sym is) ∙ joined ∙ ap (λ f. f ++ bb) its ∙ piece_split q behind bb in
+    let first = first_line ends p.line q.line (p.body ++ (rest ++ ba)) (q.body ++ (behind ++ bb)) a.line.no_feed b.line.no_feed both in
+    let size : length p.body ≡ length q.body = one_count q.line (length p.body) (length q.body) (rw first.0 at a.counted) b.counted in
+    let parts = same_parts p.body q.body (rest ++ ba) (behind ++ bb) size first.1 in
+    let gives : Gives q.line q.body p.asks = rw (first.0, parts.0) at a.gives in
+    record {
+      asks = gives_one one q.line q.body p.asks q.asks gives b.gives;
+      text = omega (arith, length-append p.line (10 ∷ p.body), length-append q.line (10 ∷ q.body), ap length first.0, size);
+      left = parts.1;
+    }
+
 one_pieces : LinesEnd → OneItem → (all : Bool) (base here there : ℕ) (ps qs : List Piece) (fa ba fb bb : List ℕ) (asked told la lb : List Item) (ea eb : Ending)
     → fa ++ ba ≡ fb ++ bb → ArePiecesOf ps fa asked → ArePiecesOf qs fb told → here ≡ base + length fa → there ≡ base + length fb
     → Ends all here ba la ea → Ends all there bb lb eb → (asked ++ la ≡ told ++ lb) × (ea ≡ eb)
@@ -125,20 +146,12 @@ one_pieces ends one all base here there (p ∷ ps) [] fa ba fb bb asked told la 
     let is : fa ++ ba ≡ bb = rw b.0 at joined in
     absurd (front_clash ends all there p ps fa ba bb asked lb eb a (sym is) end_b)
 one_pieces ends one all base here there (p ∷ ps) (q ∷ qs) fa ba fb bb asked told la lb ea eb joined a b pa pb end_a end_b =
-    let is : p.line ++ 10 ∷ (p.body ++ (a.0 ++ ba)) ≡ q.line ++ 10 ∷ (q.body ++ (b.0 ++ bb)) =
-    sym (piece_split p a.0 ba) ∙ ap (λ f. f ++ ba) (sym a.2) ∙ joined ∙ ap (λ f. f ++ bb) b.2 ∙ piece_split q b.0 bb in
-    let first = first_line ends p.line q.line (p.body ++ (a.0 ++ ba)) (q.body ++ (b.0 ++ bb)) a.4.line.no_feed b.4.line.no_feed is in
-    let size : length p.body ≡ length q.body = one_count q.line (length p.body) (length q.body) (rw first.0 at a.4.counted) b.4.counted in
-    let parts = same_parts p.body q.body (a.0 ++ ba) (b.0 ++ bb) size first.1 in
-    let gives : Gives q.line q.body p.asks = rw (first.0, parts.0) at a.4.gives in
-    let asks : p.asks ≡ q.asks = gives_one one q.line q.body p.asks q.asks gives b.4.gives in
+    let same = same_first ends one p q fa ba fb bb a.0 b.0 a.2 b.2 a.4 b.4 joined in
     let next : ℕ = base + length (text_of p) in
-    let text : length (text_of p) ≡ length (text_of q) =
-    omega (arith, length-append p.line (10 ∷ p.body), length-append q.line (10 ∷ q.body), ap length first.0, size) in
     let here_is : here ≡ next + length a.0 = omega (arith, pa, ap length a.2, length-append (text_of p) a.0) in
-    let there_is : there ≡ next + length b.0 = omega (arith, pb, ap length b.2, length-append (text_of q) b.0, text) in
-    let found = one_pieces ends one all next here there ps qs a.0 ba b.0 bb a.1 b.1 la lb ea eb parts.1 a.5 b.5 here_is there_is end_a end_b in (
-      ap (λ xs. xs ++ la) a.3 ∙ append_assoc p.asks a.1 la ∙ ap (λ xs. xs ++ (a.1 ++ la)) asks ∙ ap (λ xs. q.asks ++ xs) found.0
+    let there_is : there ≡ next + length b.0 = omega (arith, pb, ap length b.2, length-append (text_of q) b.0, same.text) in
+    let found = one_pieces ends one all next here there ps qs a.0 ba b.0 bb a.1 b.1 la lb ea eb same.left a.5 b.5 here_is there_is end_a end_b in (
+      ap (λ xs. xs ++ la) a.3 ∙ append_assoc p.asks a.1 la ∙ ap (λ xs. xs ++ (a.1 ++ la)) same.asks ∙ ap (λ xs. q.asks ++ xs) found.0
           ∙ sym (append_assoc q.asks b.1 lb) ∙ ap (λ xs. xs ++ lb) (sym b.3),
       found.1,
     )
@@ -180,20 +193,12 @@ pieces_first ends one all at place (p ∷ ps) [] used rest front back asked told
     let left : used ++ rest ≡ back = rw b.0 at joined in
     absurd (front_clash ends all place p ps used rest back asked lasts ending a (sym left) end)
 pieces_first ends one all at place (p ∷ ps) (q ∷ qs) used rest front back asked told lasts ending joined a b is end =
-    let same : p.line ++ 10 ∷ (p.body ++ (a.0 ++ rest)) ≡ q.line ++ 10 ∷ (q.body ++ (b.0 ++ back)) =
-    sym (piece_split p a.0 rest) ∙ ap (λ f. f ++ rest) (sym a.2) ∙ joined ∙ ap (λ f. f ++ back) b.2 ∙ piece_split q b.0 back in
-    let first = first_line ends p.line q.line (p.body ++ (a.0 ++ rest)) (q.body ++ (b.0 ++ back)) a.4.line.no_feed b.4.line.no_feed same in
-    let size : length p.body ≡ length q.body = one_count q.line (length p.body) (length q.body) (rw first.0 at a.4.counted) b.4.counted in
-    let parts = same_parts p.body q.body (a.0 ++ rest) (b.0 ++ back) size first.1 in
-    let gives : Gives q.line q.body p.asks = rw (first.0, parts.0) at a.4.gives in
-    let asks : p.asks ≡ q.asks = gives_one one q.line q.body p.asks q.asks gives b.4.gives in
+    let same = same_first ends one p q used rest front back a.0 b.0 a.2 b.2 a.4 b.4 joined in
     let next : ℕ = at + length (text_of p) in
-    let text : length (text_of p) ≡ length (text_of q) =
-    omega (arith, length-append p.line (10 ∷ p.body), length-append q.line (10 ∷ q.body), ap length first.0, size) in
-    let there : place ≡ next + length b.0 = omega (arith, is, ap length b.2, length-append (text_of q) b.0, text) in
-    let found = pieces_first ends one all next place ps qs a.0 rest b.0 back a.1 b.1 lasts ending parts.1 a.5 b.5 there end in
+    let there : place ≡ next + length b.0 = omega (arith, is, ap length b.2, length-append (text_of q) b.0, same.text) in
+    let found = pieces_first ends one all next place ps qs a.0 rest b.0 back a.1 b.1 lasts ending same.left a.5 b.5 there end in
     let sum : next + length a.0 ≡ at + length used = omega (arith, ap length a.2, length-append (text_of p) a.0) in
-    let all_told : told ++ lasts ≡ asked ++ found.0 = told_join told lasts asked q.asks b.1 p.asks a.1 found.0 b.3 a.3 asks found.1 in
+    let all_told : told ++ lasts ≡ asked ++ found.0 = told_join told lasts asked q.asks b.1 p.asks a.1 found.0 b.3 a.3 same.asks found.1 in
     (found.0, all_told, subst (λ k. Reads all k rest found.0 ending) sum found.2)
 
 pub pieces_are_first : LinesEnd → OneItem → PiecesAreFirst

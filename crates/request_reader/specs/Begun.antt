@@ -1,8 +1,8 @@
 -- Private: no public contract cites this. A line that has come with its line feed.
-use Rattle.std.specs.Prelude.{◌≡◌, ℕ, ◌+◌, ◌<◌, List, ◌∷◌, ◌++◌, length}
+use Rattle.std.specs.Prelude.{◌≡◌, ℕ, ◌+◌, List, ◌∷◌, ◌++◌, length}
 use Rattle.request_words.specs.declared.head.Head.{Head}
 use Rattle.request_words.specs.Heads.{IsHead}
-use Rattle.request_words.specs.Items.{IsSkipped, Counts, body_limit}
+use Rattle.request_words.specs.Items.{IsSkipped, Counts}
 use Rattle.request_reader.specs.Scripts.{IsLine}
 
 -- the bytes begin with the line, which takes so many of them with its line feed
@@ -32,11 +32,3 @@ pub record HeadIsFirst (bytes : List ℕ) (ended : ℕ) (head : Head) : Type 0 w
   pub has : HasLine bytes ended line
   pub asked : ¬ IsSkipped line
   pub reads : IsHead line head
-
--- the bytes begin with a line to which so many bytes belong, which are too many
-pub record BeginsTooLong (bytes : List ℕ) (ended count : ℕ) : Type 0 where
-  pub line : List ℕ
-  pub has : HasLine bytes ended line
-  pub asked : ¬ IsSkipped line
-  pub counted : Counts line count
-  pub many : body_limit < count

@@ -17,6 +17,11 @@ pub record Gains (old new : Unread) (before after : Option (List ℕ)) (given : 
   pub gave : before ≡ prepend_known given after
   pub within : new.before + length new.kept ≤ input_limit
 
+-- the source gave some bytes, which are kept behind the others, and its count of faults didn't fall
+abbrev pub HasGained : {S : Type 0} → Ghosts S → Unread → Unread → S → S → Type 0
+HasGained g old new from to =
+    ((given : List ℕ) × Gains old new (g.left from) (g.left to) given) × (g.faults from ≤ g.faults to)
+
 -- so many more bytes are kept, none only at the end
 pub record Fills (old new : Unread) (before after : Option (List ℕ)) (count : ℕ) : Type 0 where
   pub given : List ℕ

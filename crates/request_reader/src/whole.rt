@@ -1,6 +1,6 @@
 //! A piece whose line has come: what it asks with the body behind it.
 ghost use Rattle.std.specs.Prelude.{◌≡◌, ◌≤◌, false, IfOk, IfErr};
-ghost use Rattle.request_reader.specs.Begun.{HeadIsFirst, BeginsTooLong};
+ghost use Rattle.request_reader.specs.Begun.{HeadIsFirst};
 ghost use Rattle.request_reader.specs.LineEnds.{BeginsWithLine};
 ghost use Rattle.request_reader.specs.Parts.{TakesFrom, Fails};
 ghost use Rattle.request_reader.specs.Passes.{PieceFrom};
@@ -38,7 +38,7 @@ pub(crate) fn read_whole<S: Source>(
     Ok(Some(read_body(alloc, lines, source, head, len + 1)?))
 }
 
-// Reads the body behind a line that takes so many bytes with its line feed.
+// Reads the body behind a line that takes so many bytes with its line feed, or passes it where it is too long.
 fn read_body<S: Source>(
     alloc: Global,
     lines: &mut Lines,
@@ -58,23 +58,6 @@ fn read_body<S: Source>(
     }
     // (a head is let go of where its type isn't known: see `gather`)
     drop(head);
-    read_long(alloc, lines, source, ended, count)
-}
-
-// Passes a body that is too long, behind a line that takes so many bytes with its line feed.
-fn read_long<S: Source>(
-    alloc: Global,
-    lines: &mut Lines,
-    source: &mut S,
-    ended: usize,
-    count: u64,
-) -> Result<Asked, ReadStop>
-    requires begins { BeginsTooLong lines.old.kept ended count }
-    requires goes_on { lines.old.ended ≡ false }
-    ensures next { IfOk result (TakesFrom S.Source lines.old lines.new source.old source.new) }
-    ensures stops { IfErr result (Fails S.Source lines.old source.old source.new) }
-    ensures counts { S.faults source.old ≤ S.faults source.new }
-{
     let at = lines.before();
     lines.use_up(ended);
     if !pass_bytes(alloc, lines, source, count)? {

@@ -1,17 +1,31 @@
 //! The line of a request.
-ghost use Rattle.std.specs.Prelude.{◌≡◌, ◌++◌, ◌∷◌, [], decimal, OnOk};
+ghost use Rattle.std.specs.Prelude.{◌≡◌, ◌∷◌, ◌++◌, map, option_to_list, decimal, OnOk};
 ghost use Rattle.std.specs.Fmt.{signed_decimal};
 ghost use Rattle.line_text.specs.Names.{spelling};
 ghost use Rattle.request_model.specs.Lines.{line_of};
-ghost use Rattle.request_words.specs.Forms.{words_in};
+ghost use Rattle.request_words.specs.Forms.{words_in, report_word};
 ghost use Rattle.request_words.specs.Forms as form;
+ghost use Rattle.request_text.specs.Words.{next, written};
 ghost use Rattle.request_text.specs.Written.{head_line};
 
 use crate::NoMemory;
+use Word::{Amount, Named, Number, Said};
 use line_text::{Name, put_i128, put_name, put_u64};
-use regression_state::State;
 use request_model::Request;
 use std::alloc::Global;
+
+// A word of a line.
+#[derive(Clone, Copy)]
+enum Word<'a> {
+    // This text.
+    Said(&'a str),
+    // A name, in its spelling.
+    Named(&'a Name),
+    // A number.
+    Number(u64),
+    // A signed number.
+    Amount(i128),
+}
 
 // Appends the line of a request whose body has so many bytes.
 pub(crate) fn put_line(
@@ -23,12 +37,17 @@ pub(crate) fn put_line(
     ensures { OnOk result (out.new.items ≡ out.old.items ++ head_line request.now len) }
 {
     match request {
-        Request::Machine { machine } => put_one(alloc, out, "machine", machine),
+        Request::Machine { machine } => put_words(alloc, out, "machine", &[Named(machine)]),
         Request::Commit {
             machine,
             number,
             name,
-        } => put_commit(alloc, out, machine, *number, name),
+        } => put_words(
+            alloc,
+            out,
+            "commit",
+            &[Named(machine), Number(*number), Named(name)],
+        ),
         Request::Submit {
             machine,
             commit,
@@ -36,10 +55,24 @@ pub(crate) fn put_line(
             stated,
             ..
         } => match stated {
-            None => put_go_line(alloc, out, machine, commit, run, len),
-            Some(_) => put_lnt_line(alloc, out, machine, run, len),
+            None => {
+                let words = [
+                    Said("go"),
+                    Named(machine),
+                    Named(commit),
+                    Named(run),
+                    Number(len),
+                ];
+                put_words(alloc, out, "submit", &words)
+            }
+            Some(_) => {
+                let words = [Said("lnt"), Named(machine), Named(run), Number(len)];
+                put_words(alloc, out, "submit", &words)
+            }
         },
-        Request::Retract { machine, run } => put_two(alloc, out, "retract", machine, run),
+        Request::Retract { machine, run } => {
+            put_words(alloc, out, "retract", &[Named(machine), Named(run)])
+        }
         Request::Tune {
             machine,
             metric,
@@ -51,294 +84,171 @@ pub(crate) fn put_line(
             test,
             metric,
             factor,
-        } => put_three_and_number(alloc, out, "calibrate", machine, test, metric, *factor),
+        } => put_series(
+            alloc,
+            out,
+            "calibrate",
+            machine,
+            test,
+            metric,
+            Some(*factor),
+        ),
         Request::Segment {
             machine,
             test,
             metric,
-        } => put_three(alloc, out, "segment", machine, test, metric),
+        } => put_series(alloc, out, "segment", machine, test, metric, None),
         Request::Changes {
             machine,
             test,
             metric,
-        } => put_three(alloc, out, "changes", machine, test, metric),
+        } => put_series(alloc, out, "changes", machine, test, metric, None),
         Request::Verify {
             machine,
             test,
             metric,
-        } => put_three(alloc, out, "verify", machine, test, metric),
+        } => put_series(alloc, out, "verify", machine, test, metric, None),
         Request::Regress {
             machine,
             test,
             metric,
             change,
-        } => put_three_and_number(alloc, out, "regress", machine, test, metric, *change),
+        } => put_series(alloc, out, "regress", machine, test, metric, Some(*change)),
         Request::SetState {
             machine,
             regression,
             state,
-        } => put_state(alloc, out, machine, *regression, *state),
-        Request::Bisect { machine, lo, hi } => put_three(alloc, out, "bisect", machine, lo, hi),
+        } => {
+            let words = [Named(machine), Number(*regression), Said(state.word())];
+            put_words(alloc, out, "state", &words)
+        }
+        Request::Bisect { machine, lo, hi } => {
+            put_words(
+                alloc,
+                out,
+                "bisect",
+                &[Named(machine), Named(lo), Named(hi)],
+            )
+        }
         Request::Answer {
             machine,
             job,
             commit,
             status,
-        } => put_answer(alloc, out, machine, *job, commit, *status),
-        Request::Resume { machine, job } => put_one_and_number(alloc, out, "resume", machine, *job),
-        Request::Job { machine, job } => put_one_and_number(alloc, out, "job", machine, *job),
-        Request::Runs { machine } => put_one(alloc, out, "runs", machine),
-        Request::Report { machine, json } => put_report_line(alloc, out, machine, *json),
+        } => {
+            let status = Number(u64::from(*status));
+            let words = [Named(machine), Number(*job), Named(commit), status];
+            put_words(alloc, out, "answer", &words)
+        }
+        Request::Resume { machine, job } => {
+            put_words(alloc, out, "resume", &[Named(machine), Number(*job)])
+        }
+        Request::Job { machine, job } => {
+            put_words(alloc, out, "job", &[Named(machine), Number(*job)])
+        }
+        Request::Runs { machine } => put_words(alloc, out, "runs", &[Named(machine)]),
+        Request::Report { machine, json } => {
+            put_words(
+                alloc,
+                out,
+                "report",
+                &[Named(machine), Said(report_kind(*json))],
+            )
+        }
     }
 }
 
-// Appends a space and a name.
-fn put_spelled(alloc: Global, out: &mut Vec<u8>, name: &Name) -> Result<(), NoMemory>
-    ensures { OnOk result (out.new.items ≡ out.old.items ++ (32 ∷ spelling name.now)) }
-{
-    out.push(b' ')?;
-    put_name(alloc, out, name)?;
-    Ok(())
-}
-
-// Appends a space and a number.
-fn put_number(alloc: Global, out: &mut Vec<u8>, n: u64) -> Result<(), NoMemory>
-    ensures { OnOk result (out.new.items ≡ out.old.items ++ (32 ∷ decimal n)) }
-{
-    out.push(b' ')?;
-    put_u64(alloc, out, n)?;
-    Ok(())
-}
-
-// Appends a line of a word and a name.
-fn put_one(alloc: Global, out: &mut Vec<u8>, verb: &str, name: &Name) -> Result<(), NoMemory>
-    ensures { OnOk result
-        (out.new.items ≡ out.old.items ++ line_of (verb.now ∷ spelling name.now ∷ [])) }
-{
-    out.extend_from_slice(verb.as_bytes())?;
-    put_spelled(alloc, out, name)?;
-    out.push(b'\n')?;
-    Ok(())
-}
-
-// Appends a line of a word and two names.
-fn put_two(
+// Appends a line of a first word, the names of a series, and a number if there is one.
+fn put_series<'a>(
     alloc: Global,
     out: &mut Vec<u8>,
-    verb: &str,
-    first: &Name,
-    second: &Name,
+    first: &str,
+    machine: &'a Name,
+    test: &'a Name,
+    metric: &'a Name,
+    number: Option<u64>,
 ) -> Result<(), NoMemory>
-    ensures { OnOk result (out.new.items ≡ out.old.items
-        ++ line_of (verb.now ∷ spelling first.now ∷ spelling second.now ∷ [])) }
+    ensures { OnOk result (out.new.items ≡ out.old.items ++ line_of (first.now
+        ∷ spelling machine.now ∷ spelling test.now ∷ spelling metric.now
+        ∷ map decimal (option_to_list number))) }
 {
-    out.extend_from_slice(verb.as_bytes())?;
-    put_spelled(alloc, out, first)?;
-    put_spelled(alloc, out, second)?;
-    out.push(b'\n')?;
-    Ok(())
-}
-
-// Appends a line of a word and three names.
-fn put_three(
-    alloc: Global,
-    out: &mut Vec<u8>,
-    verb: &str,
-    first: &Name,
-    second: &Name,
-    third: &Name,
-) -> Result<(), NoMemory>
-    ensures { OnOk result (out.new.items ≡ out.old.items ++ line_of
-        (verb.now ∷ spelling first.now ∷ spelling second.now ∷ spelling third.now ∷ [])) }
-{
-    out.extend_from_slice(verb.as_bytes())?;
-    put_spelled(alloc, out, first)?;
-    put_spelled(alloc, out, second)?;
-    put_spelled(alloc, out, third)?;
-    out.push(b'\n')?;
-    Ok(())
-}
-
-// Appends the line of a commit.
-fn put_commit(
-    alloc: Global,
-    out: &mut Vec<u8>,
-    machine: &Name,
-    number: u64,
-    name: &Name,
-) -> Result<(), NoMemory>
-    ensures { OnOk result (out.new.items ≡ out.old.items
-        ++ line_of (words_in (form.commit (spelling machine.now) number (spelling name.now)))) }
-{
-    out.extend_from_slice(b"commit")?;
-    put_spelled(alloc, out, machine)?;
-    put_number(alloc, out, number)?;
-    put_spelled(alloc, out, name)?;
-    out.push(b'\n')?;
-    Ok(())
+    match number {
+        None => {
+            let words = [Named(machine), Named(test), Named(metric)];
+            put_words(alloc, out, first, &words)
+        }
+        Some(n) => {
+            let words = [Named(machine), Named(test), Named(metric), Number(n)];
+            put_words(alloc, out, first, &words)
+        }
+    }
 }
 
 // Appends the line of a penalty.
-fn put_tune(
+fn put_tune<'a>(
     alloc: Global,
     out: &mut Vec<u8>,
-    machine: &Name,
-    metric: &Name,
+    machine: &'a Name,
+    metric: &'a Name,
     penalty: i128,
     given: Option<u8>,
 ) -> Result<(), NoMemory>
     ensures { OnOk result (out.new.items ≡ out.old.items ++ line_of (words_in (form.tune
         (spelling machine.now) (spelling metric.now) (signed_decimal penalty) given))) }
 {
-    out.extend_from_slice(b"tune")?;
-    put_spelled(alloc, out, machine)?;
-    put_spelled(alloc, out, metric)?;
-    out.push(b' ')?;
-    put_i128(alloc, out, penalty)?;
-    if let Some(least) = given {
-        out.push(b' ')?;
-        put_u64(alloc, out, u64::from(least))?;
+    match given {
+        None => {
+            let words = [Named(machine), Named(metric), Amount(penalty)];
+            put_words(alloc, out, "tune", &words)
+        }
+        Some(least) => {
+            let least = Number(u64::from(least));
+            let words = [Named(machine), Named(metric), Amount(penalty), least];
+            put_words(alloc, out, "tune", &words)
+        }
+    }
+}
+
+// The word for a report as JSON or as text.
+fn report_kind(json: bool) -> &'static str
+    ensures { result.now ≡ report_word json }
+{
+    if json { "json" } else { "text" }
+}
+
+// Appends a line of a first word and of these.
+fn put_words(alloc: Global, out: &mut Vec<u8>, first: &str, words: &[Word]) -> Result<(), NoMemory>
+    ensures { OnOk result (out.new.items ≡ out.old.items ++ written first.now words.now) }
+{
+    out.extend_from_slice(first.as_bytes())?;
+    for word in words {
+        put_word(alloc, out, word)?;
     }
     out.push(b'\n')?;
     Ok(())
 }
 
-// Appends a line of a word, three names and a number.
-fn put_three_and_number(
-    alloc: Global,
-    out: &mut Vec<u8>,
-    verb: &str,
-    first: &Name,
-    second: &Name,
-    third: &Name,
-    number: u64,
-) -> Result<(), NoMemory>
-    ensures { OnOk result (out.new.items ≡ out.old.items ++ line_of (verb.now ∷ spelling first.now
-        ∷ spelling second.now ∷ spelling third.now ∷ decimal number ∷ [])) }
+// Appends a space and a word.
+fn put_word(alloc: Global, out: &mut Vec<u8>, word: &Word) -> Result<(), NoMemory>
+    ensures { OnOk result (out.new.items ≡ out.old.items ++ next word.now) }
 {
-    out.extend_from_slice(verb.as_bytes())?;
-    put_spelled(alloc, out, first)?;
-    put_spelled(alloc, out, second)?;
-    put_spelled(alloc, out, third)?;
-    put_number(alloc, out, number)?;
-    out.push(b'\n')?;
-    Ok(())
-}
-
-// Appends a line of a word, a name and a number.
-fn put_one_and_number(
-    alloc: Global,
-    out: &mut Vec<u8>,
-    verb: &str,
-    name: &Name,
-    number: u64,
-) -> Result<(), NoMemory>
-    ensures { OnOk result (out.new.items ≡ out.old.items
-        ++ line_of (verb.now ∷ spelling name.now ∷ decimal number ∷ [])) }
-{
-    out.extend_from_slice(verb.as_bytes())?;
-    put_spelled(alloc, out, name)?;
-    put_number(alloc, out, number)?;
-    out.push(b'\n')?;
-    Ok(())
-}
-
-// Appends the line of a move to a state.
-fn put_state(
-    alloc: Global,
-    out: &mut Vec<u8>,
-    machine: &Name,
-    regression: u64,
-    state: State,
-) -> Result<(), NoMemory>
-    ensures { OnOk result (out.new.items ≡ out.old.items
-        ++ line_of (words_in (form.set_state (spelling machine.now) regression state))) }
-{
-    out.extend_from_slice(b"state")?;
-    put_spelled(alloc, out, machine)?;
-    put_number(alloc, out, regression)?;
     out.push(b' ')?;
-    out.extend_from_slice(state.word().as_bytes())?;
-    out.push(b'\n')?;
-    Ok(())
-}
-
-// Appends the line of an answer.
-fn put_answer(
-    alloc: Global,
-    out: &mut Vec<u8>,
-    machine: &Name,
-    job: u64,
-    commit: &Name,
-    status: u8,
-) -> Result<(), NoMemory>
-    ensures { OnOk result (out.new.items ≡ out.old.items ++ line_of (words_in
-        (form.answer (spelling machine.now) job (spelling commit.now) status))) }
-{
-    out.extend_from_slice(b"answer")?;
-    put_spelled(alloc, out, machine)?;
-    put_number(alloc, out, job)?;
-    put_spelled(alloc, out, commit)?;
-    put_number(alloc, out, u64::from(status))?;
-    out.push(b'\n')?;
-    Ok(())
-}
-
-// Appends the line of a report.
-fn put_report_line(
-    alloc: Global,
-    out: &mut Vec<u8>,
-    machine: &Name,
-    json: bool,
-) -> Result<(), NoMemory>
-    ensures { OnOk result (out.new.items ≡ out.old.items
-        ++ line_of (words_in (form.report (spelling machine.now) json))) }
-{
-    out.extend_from_slice(b"report")?;
-    put_spelled(alloc, out, machine)?;
-    out.push(b' ')?;
-    let kind = if json { "json" } else { "text" };
-    out.extend_from_slice(kind.as_bytes())?;
-    out.push(b'\n')?;
-    Ok(())
-}
-
-// Appends the line of a submission of Go benchmark text.
-fn put_go_line(
-    alloc: Global,
-    out: &mut Vec<u8>,
-    machine: &Name,
-    commit: &Name,
-    run: &Name,
-    len: u64,
-) -> Result<(), NoMemory>
-    ensures { OnOk result (out.new.items ≡ out.old.items ++ line_of (words_in
-        (form.submit_go (spelling machine.now) (spelling commit.now) (spelling run.now) len))) }
-{
-    out.extend_from_slice(b"submit go")?;
-    put_spelled(alloc, out, machine)?;
-    put_spelled(alloc, out, commit)?;
-    put_spelled(alloc, out, run)?;
-    put_number(alloc, out, len)?;
-    out.push(b'\n')?;
-    Ok(())
-}
-
-// Appends the line of a submission of an LNT run.
-fn put_lnt_line(
-    alloc: Global,
-    out: &mut Vec<u8>,
-    machine: &Name,
-    run: &Name,
-    len: u64,
-) -> Result<(), NoMemory>
-    ensures { OnOk result (out.new.items ≡ out.old.items ++ line_of (words_in
-        (form.submit_lnt (spelling machine.now) (spelling run.now) len))) }
-{
-    out.extend_from_slice(b"submit lnt")?;
-    put_spelled(alloc, out, machine)?;
-    put_spelled(alloc, out, run)?;
-    put_number(alloc, out, len)?;
-    out.push(b'\n')?;
-    Ok(())
+    match word {
+        Said(text) => {
+            out.extend_from_slice(text.as_bytes())?;
+            Ok(())
+        }
+        Named(name) => {
+            put_name(alloc, out, name)?;
+            Ok(())
+        }
+        Number(n) => {
+            put_u64(alloc, out, *n)?;
+            Ok(())
+        }
+        Amount(z) => {
+            put_i128(alloc, out, *z)?;
+            Ok(())
+        }
+    }
 }

@@ -1,16 +1,15 @@
 -- What a line of a form asks before its body is read.
-use Rattle.std.proofs.Common.{◌≡◌, ◌≢◌, ℕ, ◌<◌, ◌≤◌, Bool, true, false, inl, inr, List, [], ◌∷◌, length, refl, sym, ap, ◌∙◌, arith, codes}
-use Rattle.std.specs.List.{AllByRecursion}
+use Rattle.std.proofs.Common.{◌≡◌, ◌≢◌, ℕ, ◌<◌, ◌≤◌, Bool, true, false, inl, inr, List, [], ◌∷◌, length, Option, None, refl, sym, ap, ◌∙◌, arith, codes}
 use Rattle.request_words.specs.declared.head.LineFault.TheVariants.{BadRequest, BadName, BadPenalty, BadLength, BodyTooLong}
 use Rattle.request_words.specs.declared.head.Head.TheVariants.{Refused}
-use Rattle.request_words.specs.Forms.{Form, machine, commit, submit_go, submit_lnt, retract, tune, calibrate, of_series, regress, set_state, bisect, answer, of_job, runs, report, series_word, job_word, IsOfForm, HasNoForm, names_in, body_length, SpellsName, HasShortMetric, IsNamed, IsInRange, HasLength}
+use Rattle.request_words.specs.Forms.{Form, machine, commit, submit_go, submit_lnt, retract, tune, calibrate, of_series, regress, set_state, bisect, answer, of_job, runs, report, series_word, job_word, IsOfForm, HasNoForm, names_in, body_length, HasShortMetric, IsNamed, IsInRange, HasLength}
 use Rattle.request_words.specs.Bodies.{Item, AsksNamed}
 use Rattle.request_words.specs.Items.{long, unnamed, wide, off, named, formless, formed, Counts, body_limit}
 use Rattle.line_text.specs.Lines.{words_of}
 use Rattle.request_words.specs.Verbs.{word_of}
 use Rattle.request_words.specs.declared.verb.Verb.{Verb}
 use Rattle.request_words.specs.declared.verb.Verb.TheVariants as verb
-use Rattle.request_words.specs.Heads.{IsHeadOf, IsHead}
+use Rattle.request_words.specs.Heads.{IsHeadOf, IsHead, AreNames, IsFoundIf}
 use Rattle.request_words.specs.declared.verb.SeriesVerb.{SeriesVerb}
 use Rattle.request_words.specs.declared.verb.SeriesVerb.TheVariants.{Segment, Changes, Verify}
 use Rattle.request_words.specs.declared.verb.JobVerb.{JobVerb}
@@ -28,31 +27,38 @@ pub long_head : (line : List ℕ) (form : Form) (count : ℕ) → IsOfForm line 
 long_head line form count is counted above =
     record { counted = counts_form line form count is counted; asks = λ body item told. formed form is (long (omega (arith, above, counted)) told) }
 
-pub unnamed_head : (line : List ℕ) (form : Form) (count : ℕ) → IsOfForm line form → count ≡ body_length form
-    → count ≤ body_limit → (¬ AllByRecursion SpellsName (names_in form)) → IsHead line (Refused BadName count)
-unnamed_head line form count is counted within bad =
-    record { counted = counts_form line form count is counted; asks = λ body item told. formed form is (unnamed (omega (arith, within, counted)) (λ are. bad are.names) told) }
-
-pub named_head : (line : List ℕ) (form : Form) (count : ℕ) (OfBody : List ℕ → Item → Type 0) → IsOfForm line form → HasShortMetric form → IsInRange form → HasLength form → count ≡ body_length form
-    → count ≤ body_limit → AllByRecursion SpellsName (names_in form) → ((body : List ℕ) (item : Item) → OfBody body item → AsksNamed form body item)
-    → IsHeadOf line count OfBody
-named_head line form count OfBody is metric range fits counted within names asks =
-    record { counted = counts_form line form count is counted; asks = λ body item told. formed form is (named (omega (arith, within, counted)) (record { names = names; metric = metric }) range fits (asks body item told)) }
-
-pub long_metric : (line : List ℕ) (form : Form) (count : ℕ) → IsOfForm line form → count ≡ body_length form
+refused_head : (line : List ℕ) (form : Form) (count : ℕ) → IsOfForm line form → count ≡ body_length form
     → count ≤ body_limit → (¬ IsNamed form) → IsHead line (Refused BadName count)
-long_metric line form count is counted within bad =
+refused_head line form count is counted within bad =
     record { counted = counts_form line form count is counted; asks = λ body item told. formed form is (unnamed (omega (arith, within, counted)) bad told) }
 
+-- a word that must be a name is none, or that of a metric a longer one
+pub unnamed_head : {A : Type 0} {found : Option A} (line : List ℕ) (form : Form) (count : ℕ) → IsOfForm line form → count ≡ body_length form
+    → count ≤ body_limit → found ≡ None → IsFoundIf found (AreNames (names_in form) × HasShortMetric form) → IsHead line (Refused BadName count)
+unnamed_head line form count is counted within none told =
+    refused_head line form count is counted within (λ are. (rw none at told) (are.names, are.metric))
+
+-- the one word that must be a name is none
+pub unnamed_machine : {A : Type 0} {found : Option A} (line : List ℕ) (form : Form) (count : ℕ) → IsOfForm line form → count ≡ body_length form
+    → count ≤ body_limit → found ≡ None → IsFoundIf found (AreNames (names_in form)) → IsHead line (Refused BadName count)
+unnamed_machine line form count is counted within none told =
+    refused_head line form count is counted within (λ are. (rw none at told) are.names)
+
+pub named_head : (line : List ℕ) (form : Form) (count : ℕ) (OfBody : List ℕ → Item → Type 0) → IsOfForm line form → IsInRange form → HasLength form → count ≡ body_length form
+    → count ≤ body_limit → AreNames (names_in form) × HasShortMetric form → ((body : List ℕ) (item : Item) → OfBody body item → AsksNamed form body item)
+    → IsHeadOf line count OfBody
+named_head line form count OfBody is range fits counted within are asks =
+    record { counted = counts_form line form count is counted; asks = λ body item told. formed form is (named (omega (arith, within, counted)) (record { names = are.0; metric = are.1 }) range fits (asks body item told)) }
+
 pub wide_head : (line : List ℕ) (form : Form) (count : ℕ) → IsOfForm line form → count ≡ body_length form
-    → count ≤ body_limit → IsNamed form → (¬ IsInRange form) → IsHead line (Refused BadPenalty count)
+    → count ≤ body_limit → AreNames (names_in form) × HasShortMetric form → (¬ IsInRange form) → IsHead line (Refused BadPenalty count)
 wide_head line form count is counted within are out =
-    record { counted = counts_form line form count is counted; asks = λ body item told. formed form is (wide (omega (arith, within, counted)) are out told) }
+    record { counted = counts_form line form count is counted; asks = λ body item told. formed form is (wide (omega (arith, within, counted)) (record { names = are.0; metric = are.1 }) out told) }
 
 pub off_head : (line : List ℕ) (form : Form) (count : ℕ) → IsOfForm line form → count ≡ body_length form
-    → count ≤ body_limit → IsNamed form → IsInRange form → (¬ HasLength form) → IsHead line (Refused BadLength count)
+    → count ≤ body_limit → AreNames (names_in form) × HasShortMetric form → IsInRange form → (¬ HasLength form) → IsHead line (Refused BadLength count)
 off_head line form count is counted within are range out =
-    record { counted = counts_form line form count is counted; asks = λ body item told. formed form is (off (omega (arith, within, counted)) are range out told) }
+    record { counted = counts_form line form count is counted; asks = λ body item told. formed form is (off (omega (arith, within, counted)) (record { names = are.0; metric = are.1 }) range out told) }
 
 -- a line has no form where it hasn't that of its words
 pub formless_behind : {line : List ℕ} {words : List (List ℕ)} → words_of line ≡ words → (¬ IsOfForm line (form_in words)) → IsHead line (Refused BadRequest 0)

@@ -1,5 +1,6 @@
 -- What a request line asks before its body is read.
-use Rattle.std.specs.Prelude.{◌≡◌, ℕ, ◌≤◌, List, ◌∷◌, length, Ok, Err}
+use Rattle.std.specs.Prelude.{◌≡◌, ℕ, ◌≤◌, List, ◌∷◌, Option, Some, None, Ok, Err}
+use Rattle.std.specs.List.{AllByRecursion}
 use Rattle.line_text.specs.Lines.{words_of}
 use Rattle.request_words.specs.declared.head.Head.{Head}
 use Rattle.request_words.specs.declared.head.Head.TheVariants.{Refused, Asked, Go, Lnt}
@@ -7,7 +8,7 @@ use Rattle.request_words.specs.declared.head.LineFault.{LineFault}
 use Rattle.request_words.specs.declared.head.LineFault.TheVariants.{BadRequest, BadName, BadPenalty, BadLength, BodyTooLong}
 use Rattle.request_model.specs.declared.replies.Refusal.{Refusal}
 use Rattle.request_model.specs.declared.replies.Refusal.TheVariants as refusal
-use Rattle.request_words.specs.Forms.{SpellsName, name_of}
+use Rattle.request_words.specs.Forms.{SpellsName}
 use Rattle.request_words.specs.Bodies.{Item, of_go, AsksGo, of_lnt, AsksLnt}
 use Rattle.request_words.specs.Items.{Asks, Counts, body_limit}
 
@@ -37,6 +38,11 @@ IsHead line (Lnt m r len) =
 abbrev pub IsHeadBehind : List ℕ → List (List ℕ) → Head → Type 0
 IsHeadBehind verb words head = (line : List ℕ) → words_of line ≡ verb ∷ words → IsHead line head
 
--- the words spell names, and the third a metric's
-abbrev pub AreSeriesNames : (m test metric : List ℕ) → Type 0
-AreSeriesNames m test metric = SpellsName m × SpellsName test × SpellsName metric × (length (name_of metric) ≤ 64)
+-- the words spell names
+abbrev pub AreNames : List (List ℕ) → Type 0
+AreNames words = AllByRecursion SpellsName words
+
+-- something is found exactly where this holds
+abbrev pub IsFoundIf : {A : Type 0} → Option A → Type 0 → Type 0
+IsFoundIf None P = ¬ P
+IsFoundIf (Some x) P = P

@@ -3,4 +3,5 @@ pub mod Bodies
 pub mod Items
 pub mod Verbs
 pub mod Heads
+pub mod Shortness
 pub mod Refused

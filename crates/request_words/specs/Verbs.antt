@@ -1,8 +1,6 @@
 -- Private: no public contract cites this. The words that a request line begins with.
-use Rattle.std.specs.Prelude.{◌≢◌, ℕ, List, codes}
+use Rattle.std.specs.Prelude.{ℕ, List, codes}
 use Rattle.request_words.specs.Forms.{series_word, job_word}
-use Rattle.request_words.specs.declared.verb.SeriesVerb.{SeriesVerb}
-use Rattle.request_words.specs.declared.verb.JobVerb.{JobVerb}
 use Rattle.request_words.specs.declared.verb.Verb.{Verb}
 use Rattle.request_words.specs.declared.verb.Verb.TheVariants as verb
 
@@ -21,12 +19,3 @@ word_of verb.Answer = codes "answer"
 word_of (verb.Job asked) = job_word asked
 word_of verb.Runs = codes "runs"
 word_of verb.Report = codes "report"
-
--- the word is none of those that ask what is made of a series
-pub record IsNoLaterVerb (word : List ℕ) : Type 0 where
-  pub regress : word ≢ codes "regress"
-  pub state : word ≢ codes "state"
-  pub bisect : word ≢ codes "bisect"
-  pub answer : word ≢ codes "answer"
-  pub series : (asked : SeriesVerb) → word ≢ series_word asked
-  pub job : (asked : JobVerb) → word ≢ job_word asked

@@ -7,7 +7,7 @@ ghost use Rattle.request_words.specs.Heads.{IsHeadBehind};
 
 use crate::NoMemory;
 use crate::head::{Head, formless, three_and_number, unnamed};
-use crate::names::{machine_named, series_named, three_named, two_named};
+use crate::names::{Last, machine_named, three_named, two_named};
 use crate::verb::JobVerb;
 use crate::words::Words;
 use line_text::{Name, Names, read_u64};
@@ -22,7 +22,7 @@ pub(crate) fn regress_head(alloc: Global, names: &mut Names, words: Words) -> Re
     let Some((m, t, x, change)) = three_and_number(words) else {
         return Ok(formless());
     };
-    let Some((machine, test, metric)) = series_named(alloc, names, m, t, x)? else {
+    let Some((machine, test, metric)) = three_named(alloc, names, m, t, x, Last::Metric)? else {
         return Ok(unnamed(0));
     };
     Ok(Head::Asked(Request::Regress {
@@ -74,7 +74,7 @@ pub(crate) fn bisect_head(
     let Some((m, l, h)) = words.three() else {
         return Ok(formless());
     };
-    let Some((machine, lo, hi)) = three_named(alloc, names, m, l, h)? else {
+    let Some((machine, lo, hi)) = three_named(alloc, names, m, l, h, Last::Any)? else {
         return Ok(unnamed(0));
     };
     Ok(Head::Asked(Request::Bisect { machine, lo, hi }))
@@ -87,7 +87,7 @@ pub(crate) fn answer_head(alloc: Global, names: &mut Names, words: Words) -> Res
     let Some((m, job, c, status)) = answer_words(words) else {
         return Ok(formless());
     };
-    let Some((machine, commit)) = two_named(alloc, names, m, c)? else {
+    let Some((machine, commit)) = two_named(alloc, names, m, c, Last::Any)? else {
         return Ok(unnamed(0));
     };
     Ok(Head::Asked(Request::Answer {

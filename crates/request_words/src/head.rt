@@ -12,7 +12,7 @@ use crate::body::{go_asked, lnt_asked};
 use crate::found_head::{
     answer_head, bisect_head, job_head, regress_head, report_head, state_head,
 };
-use crate::names::{machine_named, metric_named, series_named, three_named, two_named};
+use crate::names::{Last, machine_named, three_named, two_named};
 use crate::verb::{SeriesVerb, Verb, read_verb};
 use crate::words::Words;
 use line_text::{Name, Names, is_number, read_u64};
@@ -172,7 +172,7 @@ fn retract_head(alloc: Global, names: &mut Names, mut words: Words) -> Result<He
     let Some((m, r)) = words.two() else {
         return Ok(formless());
     };
-    let Some((machine, run)) = two_named(alloc, names, m, r)? else {
+    let Some((machine, run)) = two_named(alloc, names, m, r, Last::Any)? else {
         return Ok(unnamed(0));
     };
     Ok(Head::Asked(Request::Retract { machine, run }))
@@ -185,7 +185,7 @@ fn tune_head(alloc: Global, names: &mut Names, words: Words) -> Result<Head, NoM
     let Some((m, x, p, given)) = tune_words(words) else {
         return Ok(formless());
     };
-    let Some((machine, metric)) = metric_named(alloc, names, m, x)? else {
+    let Some((machine, metric)) = two_named(alloc, names, m, x, Last::Metric)? else {
         return Ok(unnamed(0));
     };
     let Some(penalty) = penalty_of(p) else {
@@ -231,7 +231,7 @@ fn calibrate_head(alloc: Global, names: &mut Names, words: Words) -> Result<Head
     let Some((m, t, x, factor)) = three_and_number(words) else {
         return Ok(formless());
     };
-    let Some((machine, test, metric)) = series_named(alloc, names, m, t, x)? else {
+    let Some((machine, test, metric)) = three_named(alloc, names, m, t, x, Last::Metric)? else {
         return Ok(unnamed(0));
     };
     if !is_factor(factor) {
@@ -257,7 +257,7 @@ fn series_head(
     let Some((m, t, x)) = words.three() else {
         return Ok(formless());
     };
-    let Some((machine, test, metric)) = series_named(alloc, names, m, t, x)? else {
+    let Some((machine, test, metric)) = three_named(alloc, names, m, t, x, Last::Metric)? else {
         return Ok(unnamed(0));
     };
     Ok(Head::Asked(series_request(asked, machine, test, metric)))
@@ -293,7 +293,7 @@ fn commit_head(alloc: Global, names: &mut Names, words: Words) -> Result<Head, N
     let Some((m, number, n)) = commit_words(words) else {
         return Ok(formless());
     };
-    let Some((machine, name)) = two_named(alloc, names, m, n)? else {
+    let Some((machine, name)) = two_named(alloc, names, m, n, Last::Any)? else {
         return Ok(unnamed(0));
     };
     Ok(Head::Asked(Request::Commit {
@@ -342,7 +342,7 @@ fn go_head(alloc: Global, names: &mut Names, words: Words) -> Result<Head, NoMem
     if len > BODY_LIMIT {
         return Ok(Head::Refused(LineFault::BodyTooLong, len));
     }
-    let Some((machine, commit, run)) = three_named(alloc, names, m, c, r)? else {
+    let Some((machine, commit, run)) = three_named(alloc, names, m, c, r, Last::Any)? else {
         return Ok(unnamed(len));
     };
     Ok(Head::Go(machine, commit, run, len))
@@ -374,7 +374,7 @@ fn lnt_head(alloc: Global, names: &mut Names, words: Words) -> Result<Head, NoMe
     if len > BODY_LIMIT {
         return Ok(Head::Refused(LineFault::BodyTooLong, len));
     }
-    let Some((machine, run)) = two_named(alloc, names, m, r)? else {
+    let Some((machine, run)) = two_named(alloc, names, m, r, Last::Any)? else {
         return Ok(unnamed(len));
     };
     Ok(Head::Lnt(machine, run, len))

@@ -1,7 +1,6 @@
 //! The first words of request lines.
-ghost use Rattle.std.specs.Prelude.{◌≡◌, ◌≢◌, ◌↔◌, codes, IfSome, IfNone, IsTrue};
-ghost use Rattle.request_words.specs.Forms.{job_word, series_word};
-ghost use Rattle.request_words.specs.Verbs.{IsNoLaterVerb, word_of};
+ghost use Rattle.std.specs.Prelude.{◌≡◌, ◌≢◌, IfSome, IfNone};
+ghost use Rattle.request_words.specs.Verbs.{word_of};
 
 /// What is asked of a series by its names alone: a machine, a test and a metric.
 #[derive(Clone, Copy)]
@@ -42,98 +41,30 @@ pub(crate) enum Verb {
     Report,
 }
 
-// Whether the word is `submit`.
-fn is_submit(word: &[u8]) -> bool
-    ensures { IsTrue result ↔ (word.now ≡ codes "submit") }
-{
-    match word {
-        b"submit" => true,
-        _ => false,
-    }
-}
-
-// Whether the word is `commit`.
-fn is_commit(word: &[u8]) -> bool
-    ensures { IsTrue result ↔ (word.now ≡ codes "commit") }
-{
-    match word {
-        b"commit" => true,
-        _ => false,
-    }
-}
-
 // The verb that a word is: first those that most lines begin with.
 pub(crate) fn read_verb(word: &[u8]) -> Option<Verb>
     ensures some { IfSome result (λ verb. word.now ≡ word_of verb) }
     ensures none { IfNone result ((verb : Verb) → word.now ≢ word_of verb) }
 {
-    if is_submit(word) {
-        Some(Verb::Submit)
-    } else if is_commit(word) {
-        Some(Verb::Commit)
-    } else if word == b"machine".as_slice() {
-        Some(Verb::Machine)
-    } else if word == b"retract".as_slice() {
-        Some(Verb::Retract)
-    } else if word == b"tune".as_slice() {
-        Some(Verb::Tune)
-    } else if word == b"calibrate".as_slice() {
-        Some(Verb::Calibrate)
-    } else if word == b"runs".as_slice() {
-        Some(Verb::Runs)
-    } else if word == b"report".as_slice() {
-        Some(Verb::Report)
-    } else {
-        read_later_verb(word)
-    }
-}
-
-// The verb that a word is, of those that ask what is made of a series.
-fn read_later_verb(word: &[u8]) -> Option<Verb>
-    ensures some { IfSome result (λ verb. word.now ≡ word_of verb) }
-    ensures none { IfNone result (IsNoLaterVerb word.now) }
-{
-    if word == b"regress".as_slice() {
-        Some(Verb::Regress)
-    } else if word == b"state".as_slice() {
-        Some(Verb::State)
-    } else if word == b"bisect".as_slice() {
-        Some(Verb::Bisect)
-    } else if word == b"answer".as_slice() {
-        Some(Verb::Answer)
-    } else if let Some(asked) = read_series_verb(word) {
-        Some(Verb::Series(asked))
-    } else {
-        Some(Verb::Job(read_job_verb(word)?))
-    }
-}
-
-// What a word asks of a bisection.
-fn read_job_verb(word: &[u8]) -> Option<JobVerb>
-    ensures some { IfSome result (λ verb. word.now ≡ job_word verb) }
-    ensures none { IfNone result ((verb : JobVerb) → word.now ≢ job_word verb) }
-{
-    if word == b"resume".as_slice() {
-        Some(JobVerb::Resume)
-    } else if word == b"job".as_slice() {
-        Some(JobVerb::Job)
-    } else {
-        None
-    }
-}
-
-// What a word asks of a series.
-fn read_series_verb(word: &[u8]) -> Option<SeriesVerb>
-    ensures some { IfSome result (λ verb. word.now ≡ series_word verb) }
-    ensures none { IfNone result ((verb : SeriesVerb) → word.now ≢ series_word verb) }
-{
-    if word == b"segment".as_slice() {
-        Some(SeriesVerb::Segment)
-    } else if word == b"changes".as_slice() {
-        Some(SeriesVerb::Changes)
-    } else if word == b"verify".as_slice() {
-        Some(SeriesVerb::Verify)
-    } else {
-        None
-    }
+    let verb = match word {
+        b"submit" => Verb::Submit,
+        b"commit" => Verb::Commit,
+        b"machine" => Verb::Machine,
+        b"retract" => Verb::Retract,
+        b"tune" => Verb::Tune,
+        b"calibrate" => Verb::Calibrate,
+        b"runs" => Verb::Runs,
+        b"report" => Verb::Report,
+        b"regress" => Verb::Regress,
+        b"state" => Verb::State,
+        b"bisect" => Verb::Bisect,
+        b"answer" => Verb::Answer,
+        b"segment" => Verb::Series(SeriesVerb::Segment),
+        b"changes" => Verb::Series(SeriesVerb::Changes),
+        b"verify" => Verb::Series(SeriesVerb::Verify),
+        b"resume" => Verb::Job(JobVerb::Resume),
+        b"job" => Verb::Job(JobVerb::Job),
+        _ => return None,
+    };
+    Some(verb)
 }

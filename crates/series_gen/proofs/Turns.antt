@@ -1,26 +1,11 @@
 -- Texts that grow by one part after the other.
-use Rattle.std.proofs.Common.{◌≡◌, ℕ, suc, ◌+◌, List, ◌++◌, length, take, drop, refl, sym, ap, ◌∙◌, arith, Result, Ok, Err}
-use Rattle.std.specs.Prelude.{OnErr}
-use Rattle.std.proofs.Math.Seq.{take-append_seam}
-use Rattle.std.proofs.lemmas.List.{append_assoc, append-nil, take-append-drop}
+use Rattle.std.proofs.Common.{◌≡◌, ℕ, suc, ◌+◌, List, ◌++◌, refl, sym, ap, ◌∙◌, arith}
+use Rattle.std.proofs.lemmas.List.{append_assoc, append-nil}
 use Rattle.series_gen.specs.Script.{in_turn, next, state_after}
 
 -- one part behind another
 pub behind : (before here after one other : List ℕ) → here ≡ before ++ one → after ≡ here ++ other → after ≡ before ++ (one ++ other)
 behind before here after one other e f = f ∙ ap (λ (text : List ℕ). text ++ other) e ∙ append_assoc before one other
-
--- what stands in front of a text still stands where more of it was put, and that stands in front
-pub stays : (before here after more : List ℕ) → here ≡ before ++ more → take (length here) after ≡ here → take (length before) after ≡ before
-stays before here after more e f =
-    let rest = drop (length here) after in
-    let whole : after ≡ before ++ (more ++ rest) =
-    sym (take-append-drop (length here) after) ∙ ap (λ (text : List ℕ). text ++ rest) (f ∙ e) ∙ append_assoc before more rest in
-    ap (take (length before)) whole ∙ take-append_seam before (more ++ rest)
-
--- so it is said of a result
-pub on-err : {T E P : Type 0} (r : Result T E) → P → OnErr r P
-on-err (Ok x) p = tt
-on-err (Err e) p = p
 
 pub none-yet : (text : List ℕ) (made : ℕ → List ℕ) → text ≡ text ++ in_turn made 0
 unfolding in_turn

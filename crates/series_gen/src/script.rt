@@ -1,5 +1,5 @@
 //! Writing the script, part by part.
-ghost use Rattle.std.specs.Prelude.{◌≡◌, ◌<◌, ◌+◌, ◌%◌, ◌==◌, if◌then◌else◌, [], ◌++◌, length, take, OnOk, OnErr};
+ghost use Rattle.std.specs.Prelude.{◌≡◌, ◌<◌, ◌+◌, ◌%◌, ◌==◌, if◌then◌else◌, [], ◌++◌, decimal, OnOk, OnErr};
 ghost use Rattle.series_gen.specs.Script.{script, in_turn, commit_line, submit_line, body_line, place, value, turn, segment_line, retract_line};
 
 use crate::drawn::{next_state, number_of};
@@ -13,19 +13,15 @@ pub fn put_script(alloc: Global, out: &mut Vec<u8>, number: u64) -> Result<(), N
     ensures ok { OnOk result (out.new.items ≡ out.old.items ++ script number) }
     ensures err { OnErr result (out.new.items ≡ out.old.items) }
 {
-    let before = out.len();
-    let put = put_parts(alloc, out, number);
-    if put.is_err() {
-        out.truncate(before);
-    }
-    put
+    let mut text = Vec::new(alloc);
+    put_parts(alloc, &mut text, number)?;
+    out.extend_from_slice(&text)?;
+    Ok(())
 }
 
-// Puts the script, part by part. As with each function below, a part of it may stand behind the bytes where there is no
-// memory.
+// Puts the script, part by part. As with each function below, any of it may be put where there is no memory.
 fn put_parts(alloc: Global, out: &mut Vec<u8>, number: u64) -> Result<(), NoMemory>
-    ensures ok { OnOk result (out.new.items ≡ out.old.items ++ script number) }
-    ensures err { OnErr result (take (length out.old.items) out.new.items ≡ out.old.items) }
+    ensures { OnOk result (out.new.items ≡ out.old.items ++ script number) }
 {
     out.extend_from_slice(b"machine g\n")?;
     put_commits(alloc, out)?;
@@ -39,8 +35,7 @@ fn put_parts(alloc: Global, out: &mut Vec<u8>, number: u64) -> Result<(), NoMemo
 
 // The lines of the 500 commits.
 fn put_commits(alloc: Global, out: &mut Vec<u8>) -> Result<(), NoMemory>
-    ensures ok { OnOk result (out.new.items ≡ out.old.items ++ in_turn commit_line 500) }
-    ensures err { OnErr result (take (length out.old.items) out.new.items ≡ out.old.items) }
+    ensures { OnOk result (out.new.items ≡ out.old.items ++ in_turn commit_line 500) }
 {
     for i in 0..500 {
         put_commit(alloc, out, i)?;
@@ -50,21 +45,17 @@ fn put_commits(alloc: Global, out: &mut Vec<u8>) -> Result<(), NoMemory>
 
 // The line of one commit.
 fn put_commit(alloc: Global, out: &mut Vec<u8>, i: u64) -> Result<(), NoMemory>
-    ensures ok { OnOk result (out.new.items ≡ out.old.items ++ commit_line i) }
-    ensures err { OnErr result (take (length out.old.items) out.new.items ≡ out.old.items) }
+    ensures { OnOk result (out.new.items ≡ out.old.items ++ commit_line i) }
 {
-    out.extend_from_slice(b"commit g ")?;
-    put_u64(alloc, out, i)?;
-    out.extend_from_slice(b" c")?;
-    put_u64(alloc, out, i)?;
+    put_numbered(alloc, out, b"commit g ", i)?;
+    put_numbered(alloc, out, b" c", i)?;
     out.push(b'\n')?;
     Ok(())
 }
 
 // The runs and the segmentations among them.
 fn put_turns(alloc: Global, out: &mut Vec<u8>, number: u64) -> Result<(), NoMemory>
-    ensures ok { OnOk result (out.new.items ≡ out.old.items ++ in_turn (turn number) 2_000) }
-    ensures err { OnErr result (take (length out.old.items) out.new.items ≡ out.old.items) }
+    ensures { OnOk result (out.new.items ≡ out.old.items ++ in_turn (turn number) 2_000) }
 {
     let mut state = number;
     for j in 0..2_000 {
@@ -79,15 +70,11 @@ fn put_turns(alloc: Global, out: &mut Vec<u8>, number: u64) -> Result<(), NoMemo
 // The line that submits a run.
 fn put_submit(alloc: Global, out: &mut Vec<u8>, j: u64) -> Result<(), NoMemory>
     requires { j < 2_000 }
-    ensures ok { OnOk result (out.new.items ≡ out.old.items ++ submit_line j) }
-    ensures err { OnErr result (take (length out.old.items) out.new.items ≡ out.old.items) }
+    ensures { OnOk result (out.new.items ≡ out.old.items ++ submit_line j) }
 {
-    out.extend_from_slice(b"submit go g c")?;
-    put_u64(alloc, out, 271 * j % 500)?;
-    out.extend_from_slice(b" r")?;
-    put_u64(alloc, out, j)?;
-    out.extend_from_slice(b" 24")?;
-    out.push(b'\n')?;
+    put_numbered(alloc, out, b"submit go g c", 271 * j % 500)?;
+    put_numbered(alloc, out, b" r", j)?;
+    out.extend_from_slice(b" 24\n")?;
     Ok(())
 }
 
@@ -101,22 +88,18 @@ fn value_of(j: u64, state: u64) -> u64
 
 // The body of a run.
 fn put_body(alloc: Global, out: &mut Vec<u8>, value: u64) -> Result<(), NoMemory>
-    ensures ok { OnOk result (out.new.items ≡ out.old.items ++ body_line value) }
-    ensures err { OnErr result (take (length out.old.items) out.new.items ≡ out.old.items) }
+    ensures { OnOk result (out.new.items ≡ out.old.items ++ body_line value) }
 {
-    out.extend_from_slice(b"BenchmarkG 1 ")?;
-    put_u64(alloc, out, value)?;
-    out.extend_from_slice(b" ns/op")?;
-    out.push(b'\n')?;
+    put_numbered(alloc, out, b"BenchmarkG 1 ", value)?;
+    out.extend_from_slice(b" ns/op\n")?;
     Ok(())
 }
 
 // The line of a segmentation after each hundredth run.
 fn put_hundredth(out: &mut Vec<u8>, j: u64) -> Result<(), NoMemory>
     requires { j < 2_000 }
-    ensures ok { OnOk result
+    ensures { OnOk result
         (out.new.items ≡ out.old.items ++ (if (j + 1) % 100 == 0 then segment_line else [])) }
-    ensures err { OnErr result (take (length out.old.items) out.new.items ≡ out.old.items) }
 {
     if (j + 1) % 100 == 0 {
         out.extend_from_slice(b"segment g G ns/op\n")?;
@@ -126,23 +109,20 @@ fn put_hundredth(out: &mut Vec<u8>, j: u64) -> Result<(), NoMemory>
 
 // The lines of the ten retractions.
 fn put_retractions(alloc: Global, out: &mut Vec<u8>) -> Result<(), NoMemory>
-    ensures ok { OnOk result (out.new.items ≡ out.old.items ++ in_turn retract_line 10) }
-    ensures err { OnErr result (take (length out.old.items) out.new.items ≡ out.old.items) }
+    ensures { OnOk result (out.new.items ≡ out.old.items ++ in_turn retract_line 10) }
 {
     for i in 0..10 {
-        put_retraction(alloc, out, i)?;
+        put_numbered(alloc, out, b"retract g r", 200 * i)?;
+        out.push(b'\n')?;
     }
     Ok(())
 }
 
-// The line of one retraction.
-fn put_retraction(alloc: Global, out: &mut Vec<u8>, i: u64) -> Result<(), NoMemory>
-    requires { i < 10 }
-    ensures ok { OnOk result (out.new.items ≡ out.old.items ++ retract_line i) }
-    ensures err { OnErr result (take (length out.old.items) out.new.items ≡ out.old.items) }
+// Puts a text, and a number behind it.
+fn put_numbered(alloc: Global, out: &mut Vec<u8>, text: &[u8], n: u64) -> Result<(), NoMemory>
+    ensures { OnOk result (out.new.items ≡ out.old.items ++ (text.now ++ decimal n)) }
 {
-    out.extend_from_slice(b"retract g r")?;
-    put_u64(alloc, out, 200 * i)?;
-    out.push(b'\n')?;
+    out.extend_from_slice(text)?;
+    put_u64(alloc, out, n)?;
     Ok(())
 }

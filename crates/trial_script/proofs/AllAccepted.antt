@@ -1,5 +1,5 @@
 -- The whole script of a number is accepted.
-use Rattle.std.proofs.Common.{◌≡◌, ℕ, pos, suc, ◌+◌, ◌*◌, ◌%◌, ◌<◌, ◌≤◌, Bool, true, false, List, [], ◌∷◌, ◌++◌, refl, subst, arith, None}
+use Rattle.std.proofs.Common.{◌≡◌, ℕ, pos, suc, ◌+◌, ◌*◌, ◌%◌, ◌<◌, ◌≤◌, Bool, true, false, [], ◌∷◌, ◌++◌, refl, subst, arith, None}
 use Rattle.std.specs.Prelude.{◌==◌, if◌then◌else◌}
 use Rattle.std.proofs.lemmas.Bool.Decides.{nat_tests}
 use Rattle.metric_table.specs.Limits.{most}
@@ -9,17 +9,16 @@ use Rattle.segment_model.specs.Brought.{ValuesAreBrought}
 use Rattle.history_model.specs.Allowed.{count_of}
 use Rattle.history_model.specs.Penalties.{SettingIsSet, SettingStays}
 use Rattle.history_model.specs.Laws.{DeclarationsGrow, AcceptancesGrow, RetractionsGrow, LimitsAfterCommit, LimitsAfterRetract, LimitsAfterTune, LimitsAfterPublish, SeriesKeepLimits, CountsAfterAccept, SamplesFit, PositionsFit, FirstKept, RunKeepsLimits, PublicationIsLast, CutsGrow}
-use Rattle.request_model.specs.declared.requests.Request.{Request}
 use Rattle.request_model.specs.declared.requests.Request.TheVariants as request
 use Rattle.track_model.specs.Laws.{CommitIsAdded, RetractIsAdded, TuneIsAdded, TuneMayFollow, PublishIsAdded}
 use Rattle.series_gen.specs.Script.{place, value, state_after}
 use Rattle.trial_script.specs.Requests as asked
-use Rattle.trial_script.specs.Requests.{asked_in_turn}
 use Rattle.trial_script.specs.Accepted.{EachIsAccepted, NoneIsRefused}
 use Rattle.trial_script.specs.Laws.{ScriptIsWhole}
 use Rattle.script_desk.specs.Sessions.{AnswersFor}
 use Rattle.script_loop.specs.Folds.{AreAnswers}
 use Rattle.trial_script.proofs.Reached.{Reached}
+use Rattle.trial_script.proofs.Parts.{machine_asked, commits_asked, tune_asked, runs_asked, retracts_asked, segment_asked, changes_asked}
 use Rattle.trial_script.proofs.Passing.{Passes, Begins, one, behind, begun_then, nothing, in_turn, declared}
 use Rattle.trial_script.proofs.Accepting.{Turned, Ready, commit_good, tune_good, retract_good, submit_good, segment_good, last_good, changes_good}
 
@@ -81,52 +80,45 @@ module _ (declares : DeclarationsGrow) (accepts : AcceptancesGrow) (retracts : R
             (one (asked.submit j v) refl (λ h base o now comes. submit_good declares accepts retracts cuts_grow setting_stays values counts samples_fit positions_fit kept run_limits_kept j v h o few (below j _) now comes))
             (maybe_segment j few ((j + 1) % 100 == 0) refl)
 
-        commits : Passes (Reached 0 0 0 0) (asked_in_turn asked.commit 500) (Reached 500 0 0 0)
+        commits : Passes (Reached 0 0 0 0) commits_asked (Reached 500 0 0 0)
         commits = in_turn (λ n. Reached n 0 0 0) asked.commit 500
             (λ n few. one (request.Commit asked.machine n (asked.commit_name n)) refl
             (λ h base o now comes. commit_good declares accepts retracts cuts_grow setting_stays commit_limits commit_added n h o few now comes))
 
-        tuned : Passes (Reached 500 0 0 0) (request.Tune asked.machine asked.metric (pos 300_000_000_000) None ∷ []) (Reached 500 0 0 1)
+        tuned : Passes (Reached 500 0 0 0) tune_asked (Reached 500 0 0 1)
         tuned = one (request.Tune asked.machine asked.metric (pos 300_000_000_000) None) refl
             (λ h base o now comes. tune_good declares accepts retracts cuts_grow setting_stays tune_limits tune_added tune_may_follow setting_is_set h o now comes)
 
-        runs : (number : ℕ) → Passes (Reached 500 0 0 1) (asked_in_turn (asked.turn number) 2_000) (Reached 500 2_000 0 1)
+        runs : (number : ℕ) → Passes (Reached 500 0 0 1) (runs_asked number) (Reached 500 2_000 0 1)
         runs number = in_turn (λ j. Reached 500 j 0 1) (asked.turn number) 2_000 (turn number)
 
-        retracted : Passes (Reached 500 2_000 0 1) (asked_in_turn asked.retract 10) (Reached 500 2_000 10 1)
+        retracted : Passes (Reached 500 2_000 0 1) retracts_asked (Reached 500 2_000 10 1)
         retracted = in_turn (λ i. Reached 500 2_000 i 1) asked.retract 10
             (λ i few. one (request.Retract asked.machine (asked.run_name (200 * i))) refl
             (λ h base o now comes. retract_good declares accepts retracts cuts_grow setting_stays retract_limits retract_added i h o few now comes))
 
-        segmented : Passes (Reached 500 2_000 10 1) (asked.segment ∷ []) Ready
+        segmented : Passes (Reached 500 2_000 10 1) segment_asked Ready
         segmented = one asked.segment refl (λ h base o now comes. last_good declares accepts retracts cuts_grow setting_stays publish_limits publish_added series_limits is_last h base o now comes)
 
-        changed : Passes Ready (request.Changes asked.machine asked.test asked.metric ∷ []) (λ h. Unit {0})
+        changed : Passes Ready changes_asked (λ h. Unit {0})
         changed = one (request.Changes asked.machine asked.test asked.metric) refl
             (λ h base o now comes. changes_good declares accepts retracts cuts_grow setting_stays publish_limits publish_added series_limits is_last h o now comes)
 
         all : (number : ℕ) → Begins (asked.requests number) (λ h. Unit {0})
         all number =
-            let qm : List Request = request.Machine asked.machine ∷ [] in
-            let qc : List Request = asked_in_turn asked.commit 500 in
-            let qt : List Request = request.Tune asked.machine asked.metric (pos 300_000_000_000) None ∷ [] in
-            let qr : List Request = asked_in_turn (asked.turn number) 2_000 in
-            let qx : List Request = asked_in_turn asked.retract 10 in
-            let qs : List Request = asked.segment ∷ [] in
-            let ql : List Request = request.Changes asked.machine asked.test asked.metric ∷ [] in
-            let first : Begins qm (Reached 0 0 0 0) = declared begun in
-            let second : Begins (qm ++ qc) (Reached 500 0 0 0) = begun_then qm qc first commits in
-            let third : Begins (qm ++ qc ++ qt) (Reached 500 0 0 1) = begun_then (qm ++ qc) qt second tuned in
-            let fourth : Begins (qm ++ qc ++ qt ++ qr) (Reached 500 2_000 0 1) = begun_then (qm ++ qc ++ qt) qr third (runs number) in
-            let fifth : Begins (qm ++ qc ++ qt ++ qr ++ qx) (Reached 500 2_000 10 1) = begun_then (qm ++ qc ++ qt ++ qr) qx fourth retracted in
-            let sixth : Begins (qm ++ qc ++ qt ++ qr ++ qx ++ qs) Ready = begun_then (qm ++ qc ++ qt ++ qr ++ qx) qs fifth segmented in
-            begun_then (qm ++ qc ++ qt ++ qr ++ qx ++ qs) ql sixth changed
+            let first : Begins machine_asked (Reached 0 0 0 0) = declared begun in
+            let second : Begins (machine_asked ++ commits_asked) (Reached 500 0 0 0) = begun_then machine_asked commits_asked first commits in
+            let third : Begins (machine_asked ++ commits_asked ++ tune_asked) (Reached 500 0 0 1) = begun_then (machine_asked ++ commits_asked) tune_asked second tuned in
+            let fourth : Begins (machine_asked ++ commits_asked ++ tune_asked ++ runs_asked number) (Reached 500 2_000 0 1) = begun_then (machine_asked ++ commits_asked ++ tune_asked) (runs_asked number) third (runs number) in
+            let fifth : Begins (machine_asked ++ commits_asked ++ tune_asked ++ runs_asked number ++ retracts_asked) (Reached 500 2_000 10 1) = begun_then (machine_asked ++ commits_asked ++ tune_asked ++ runs_asked number) retracts_asked fourth retracted in
+            let sixth : Begins (machine_asked ++ commits_asked ++ tune_asked ++ runs_asked number ++ retracts_asked ++ segment_asked) Ready = begun_then (machine_asked ++ commits_asked ++ tune_asked ++ runs_asked number ++ retracts_asked) segment_asked fifth segmented in
+            begun_then (machine_asked ++ commits_asked ++ tune_asked ++ runs_asked number ++ retracts_asked ++ segment_asked) changes_asked sixth changed
 
         pub each_is_accepted : EachIsAccepted
         each_is_accepted number before after replies none answers = (all number before after replies none answers).accepted
 
-        pub none_is_refused : ScriptIsWhole → NoneIsRefused
-        none_is_refused is_whole number before after text ending none out =
-            let same : out.items ≡ asked.items number = (is_whole number out.items ending out.script).0 in
-            each_is_accepted number before after out.output.replies none
-            (subst (λ items. AreAnswers AnswersFor before items out.output.replies after) same out.output.answers)
+-- so none is in the output
+pub none_is_refused : EachIsAccepted → ScriptIsWhole → NoneIsRefused
+none_is_refused each is_whole number before after text ending none out =
+    let same : out.items ≡ asked.items number = (is_whole number out.items ending out.script).0 in
+    each number before after out.output.replies none (subst (λ items. AreAnswers AnswersFor before items out.output.replies after) same out.output.answers)

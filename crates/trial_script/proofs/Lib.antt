@@ -2,6 +2,7 @@ mod PlainWords
 mod GoBody
 mod Lines
 mod Turns
+mod Parts
 mod Whole
 mod Lists
 mod Reached

@@ -1,5 +1,5 @@
 -- Each line of the script of a number is a piece, which asks its request.
-use Rattle.std.proofs.Common.{◌≡◌, ℕ, pos, zero, suc, ◌*◌, ◌^◌, ◌<◌, ◌≤◌, inl, List, [], ◌∷◌, ◌++◌, length, refl, sym, ap, ◌∙◌, subst, arith, lit<, length-append, append_assoc, append-nil, None, Ok}
+use Rattle.std.proofs.Common.{◌≡◌, ℕ, pos, zero, suc, ◌*◌, ◌^◌, ◌<◌, ◌≤◌, List, [], ◌∷◌, ◌++◌, length, refl, sym, ap, ◌∙◌, subst, arith, lit<, length-append, append_assoc, append-nil, None, Ok}
 use Rattle.std.specs.Prelude.{codes, decimal}
 use Rattle.std.specs.Str.Parse.{digits_value}
 use Rattle.std.proofs.lemmas.Fmt.{decimal_is_IsNumeral, length-decimal-le}
@@ -9,33 +9,15 @@ use Rattle.line_text.specs.Names.{IsName, NamesAreSpelledBack}
 use Rattle.line_text.specs.Numbers.{IsNumber, NumbersAreSpelled}
 use Rattle.request_model.specs.Lines.{spaced}
 use Rattle.request_model.specs.declared.requests.Request.TheVariants as request
-use Rattle.request_words.specs.Forms.{Form, machine, commit, submit_go, retract, tune, IsOfForm, name_of}
-use Rattle.request_words.specs.Bodies.{Item, AsksNamed}
-use Rattle.request_words.specs.Items.{formed, named}
+use Rattle.request_words.specs.Forms.{machine, commit, submit_go, retract, tune, name_of}
+use Rattle.request_words.specs.Bodies.{AsksNamed}
 use Rattle.request_reader.specs.Scripts.{ArePieces}
-use Rattle.request_words.proofs.Skipped.{skipped_formless}
-use Rattle.request_reader.proofs.WholePieces.{one_piece}
-use Rattle.request_text.proofs.WrittenBack.{IsWritable, written_back}
-use Rattle.request_text.proofs.WrittenLines.{IsShortWord, words_back, line_back, number_word, a_word, machine_word, commit_word, submit_word, go_word, retract_word, tune_word}
+use Rattle.request_text.proofs.WrittenBack.{worded_piece, written_back}
+use Rattle.request_text.proofs.WrittenLines.{IsShortWord, number_word, a_word, machine_word, commit_word, submit_word, go_word, retract_word, tune_word}
 use Rattle.series_gen.specs.Script.{line, place, commit_line, submit_line, body_line, segment_line, retract_line}
 use Rattle.trial_script.specs.Requests as asked
 use Rattle.trial_script.proofs.PlainWords.{IsOwnWord, plain_name, own_word, numbered}
 use Rattle.trial_script.proofs.GoBody.{body_read}
-
-written_piece : WordsGoOn → AreOneWord → (form : Form) (first : List ℕ) (words : List (List ℕ)) (body used : List ℕ) (item : Item)
-    → used ≡ (first ++ spaced words) ++ 10 ∷ body → IsWritable form first words body item → ArePieces used (item ∷ [])
-written_piece go_on one form first words body used item is can =
-    let text : List ℕ = first ++ spaced words in
-    let of_form : IsOfForm text form = record {
-      words = words_back go_on one first words can.first_word can.words_short
-          ∙ sym can.is;
-      numbers = can.numbers;
-      amounts = can.amounts;
-      status = can.status;
-    } in
-    one_piece text body used item is (line_back first words can.first_word can.few can.words_short can.five)
-    (λ skipped. skipped_formless text skipped form of_form) (inl (form, of_form, sym can.counted))
-    (formed form of_form (named can.within (record { names = can.names; metric = can.metric }) can.range can.long can.asks))
 
 -- ---- numbers in words
 
@@ -132,24 +114,10 @@ module _ (names : NamesAreSpelledBack) (numbers : NumbersAreSpelled) (go_on : Wo
   run_name j small = numbered names 114 j refl small
 
   pub machine_piece : ArePieces (line (codes "machine g")) (Ok (request.Machine asked.machine) ∷ [])
-  machine_piece = written_piece go_on one (machine asked.machine) (codes "machine") (asked.machine ∷ []) [] (line (codes "machine g"))
-      (Ok (request.Machine asked.machine)) refl (record {
-        is = refl;
-        first_word = machine_word;
-        few = omega arith;
-        words_short = (m_word.short, tt);
-        five = omega arith;
-        numbers = tt;
-        amounts = tt;
-        status = tt;
-        counted = refl;
-        within = omega arith;
-        names = (m_word.spells, tt);
-        metric = tt;
-        range = tt;
-        long = tt;
-        asks = ap (λ (m : List ℕ). Ok (request.Machine m)) (sym m_word.back);
-      })
+  machine_piece =
+      worded_piece go_on one (machine asked.machine) (codes "machine") (asked.machine ∷ []) [] (line (codes "machine g")) (Ok (request.Machine asked.machine)) refl refl
+      (machine_word, omega arith, (m_word.short, tt), omega arith) tt (m_word.spells, tt) (tt, tt, tt, tt, tt) refl (omega arith)
+      (ap (λ (m : List ℕ). Ok (request.Machine m)) (sym m_word.back))
 
   -- the text of a line as words behind one another
   pub commit_piece : (i : ℕ) → i < 2 ^ 64 → ArePieces (commit_line i) (Ok (request.Commit asked.machine i (asked.commit_name i)) ∷ [])
@@ -160,47 +128,18 @@ module _ (names : NamesAreSpelledBack) (numbers : NumbersAreSpelled) (go_on : Wo
       (append_assoc (decimal i) (codes " c") (decimal i) ∙ ap (λ (bs : List ℕ). decimal i ++ (codes " c" ++ bs)) (sym (append-nil (decimal i)))) in
       let asks : Ok (request.Commit asked.machine i (asked.commit_name i)) ≡ Ok
       (request.Commit (name_of asked.machine) i (name_of (asked.commit_name i))) = rw (m_word.back, name.back) refl in
-      written_piece go_on one (commit asked.machine i (asked.commit_name i)) (codes "commit")
-      (asked.machine ∷ decimal i ∷ asked.commit_name i ∷ []) [] (commit_line i) (Ok (request.Commit asked.machine i (asked.commit_name i))) text (record {
-        is = refl;
-        first_word = commit_word;
-        few = omega arith;
-        words_short = (m_word.short, (number_word i small, (name.short, tt)));
-        five = omega arith;
-        numbers = (small, tt);
-        amounts = tt;
-        status = tt;
-        counted = refl;
-        within = omega arith;
-        names = (m_word.spells, (name.spells, tt));
-        metric = tt;
-        range = tt;
-        long = tt;
-        asks = asks;
-      })
+      worded_piece go_on one (commit asked.machine i (asked.commit_name i)) (codes "commit") (asked.machine ∷ decimal i ∷ asked.commit_name i ∷ []) [] (commit_line i)
+      (Ok (request.Commit asked.machine i (asked.commit_name i))) text refl
+      (commit_word, omega arith, (m_word.short, (number_word i small, (name.short, tt))), omega arith) (small, tt) (m_word.spells, (name.spells, tt)) (tt, tt, tt, tt, tt) refl (omega arith) asks
 
   pub tune_piece : ArePieces (line (codes "tune g ns/op 300000000000")) (Ok (request.Tune asked.machine asked.metric (pos 300_000_000_000) None) ∷ [])
   tune_piece =
       let asks : Ok (request.Tune asked.machine asked.metric (pos 300_000_000_000) None) ≡ Ok
       (request.Tune (name_of asked.machine) (name_of asked.metric) (pos (digits_value 10 penalty)) None) = rw (m_word.back, metric_word.back) refl in
-      written_piece go_on one (tune asked.machine asked.metric penalty None) (codes "tune") (asked.machine ∷ asked.metric ∷ penalty ∷ []) []
-      (line (codes "tune g ns/op 300000000000")) (Ok (request.Tune asked.machine asked.metric (pos 300_000_000_000) None)) refl (record {
-        is = refl;
-        first_word = tune_word;
-        few = omega arith;
-        words_short = (m_word.short, (metric_word.short, (penalty_word, tt)));
-        five = omega arith;
-        numbers = tt;
-        amounts = (penalty_number, tt);
-        status = tt;
-        counted = refl;
-        within = omega arith;
-        names = (m_word.spells, (metric_word.spells, tt));
-        metric = metric_short;
-        range = omega arith;
-        long = tt;
-        asks = asks;
-      })
+      worded_piece go_on one (tune asked.machine asked.metric penalty None) (codes "tune") (asked.machine ∷ asked.metric ∷ penalty ∷ []) []
+      (line (codes "tune g ns/op 300000000000")) (Ok (request.Tune asked.machine asked.metric (pos 300_000_000_000) None)) refl refl
+      (tune_word, omega arith, (m_word.short, (metric_word.short, (penalty_word, tt))), omega arith) tt (m_word.spells, (metric_word.spells, tt))
+      ((penalty_number, tt), tt, metric_short, omega arith, tt) refl (omega arith) asks
 
   pub retract_piece : (i : ℕ) → i < 10 → ArePieces (retract_line i) (Ok (request.Retract asked.machine (asked.run_name (200 * i))) ∷ [])
   retract_piece i few =
@@ -208,24 +147,9 @@ module _ (names : NamesAreSpelledBack) (numbers : NumbersAreSpelled) (go_on : Wo
       let text : retract_line i ≡ (codes "retract" ++ spaced (asked.machine ∷ asked.run_name (200 * i) ∷ [])) ++ 10 ∷ [] = simp append_assoc in
       let asks : Ok (request.Retract asked.machine (asked.run_name (200 * i))) ≡ Ok
       (request.Retract (name_of asked.machine) (name_of (asked.run_name (200 * i)))) = rw (m_word.back, name.back) refl in
-      written_piece go_on one (retract asked.machine (asked.run_name (200 * i))) (codes "retract") (asked.machine ∷ asked.run_name (200 * i) ∷ []) []
-      (retract_line i) (Ok (request.Retract asked.machine (asked.run_name (200 * i)))) text (record {
-        is = refl;
-        first_word = retract_word;
-        few = omega arith;
-        words_short = (m_word.short, (name.short, tt));
-        five = omega arith;
-        numbers = tt;
-        amounts = tt;
-        status = tt;
-        counted = refl;
-        within = omega arith;
-        names = (m_word.spells, (name.spells, tt));
-        metric = tt;
-        range = tt;
-        long = tt;
-        asks = asks;
-      })
+      worded_piece go_on one (retract asked.machine (asked.run_name (200 * i))) (codes "retract") (asked.machine ∷ asked.run_name (200 * i) ∷ []) []
+      (retract_line i) (Ok (request.Retract asked.machine (asked.run_name (200 * i)))) text refl
+      (retract_word, omega arith, (m_word.short, (name.short, tt)), omega arith) tt (m_word.spells, (name.spells, tt)) (tt, tt, tt, tt, tt) refl (omega arith) asks
 
   m_name : IsName asked.machine
   m_name = plain_name asked.machine refl (omega arith) (omega arith)
@@ -255,22 +179,8 @@ module _ (names : NamesAreSpelledBack) (numbers : NumbersAreSpelled) (go_on : Wo
       (append_assoc (decimal (place j) ++ codes " r") (decimal j) (codes " 24") ∙ append_assoc (decimal (place j)) (codes " r") (decimal j ++ codes " 24")) in
       let gives : AsksNamed (submit_go asked.machine (asked.commit_name (place j)) (asked.run_name j) 24) (body_line v) (Ok (asked.submit j v)) =
       rw (m_word.back, c.back, r.back) (asked.sample v ∷ [], 0, record { read = body_read ends v (omega (arith, below)); few = omega arith }, refl) in
-      written_piece go_on one (submit_go asked.machine (asked.commit_name (place j)) (asked.run_name j) 24) (codes "submit") words (body_line v)
-      (submit_line j ++ body_line v) (Ok (asked.submit j v)) text (record {
-        is = ap (λ (w : List ℕ). codes "submit" ∷ codes "go" ∷ asked.machine ∷ asked.commit_name (place j) ∷ asked.run_name j ∷ w ∷ [])
-            (sym (size_word numbers));
-        first_word = submit_word;
-        few = omega arith;
-        words_short = (go_word, (m_word.short, (c.short, (r.short, (subst IsShortWord (sym (size_word numbers)) (number_word 24 (omega arith)), tt)))));
-        five = omega arith;
-        numbers = (omega arith, tt);
-        amounts = tt;
-        status = tt;
-        counted = sym (body_size v above below);
-        within = omega arith;
-        names = (m_word.spells, (c.spells, (r.spells, tt)));
-        metric = tt;
-        range = tt;
-        long = tt;
-        asks = gives;
-      })
+      worded_piece go_on one (submit_go asked.machine (asked.commit_name (place j)) (asked.run_name j) 24) (codes "submit") words (body_line v)
+      (submit_line j ++ body_line v) (Ok (asked.submit j v)) text
+      (ap (λ (w : List ℕ). codes "submit" ∷ codes "go" ∷ asked.machine ∷ asked.commit_name (place j) ∷ asked.run_name j ∷ w ∷ []) (sym (size_word numbers)))
+      (submit_word, omega arith, (go_word, (m_word.short, (c.short, (r.short, (subst IsShortWord (sym (size_word numbers)) (number_word 24 (omega arith)), tt))))), omega arith)
+      (omega arith, tt) (m_word.spells, (c.spells, (r.spells, tt))) (tt, tt, tt, tt, tt) (sym (body_size v above below)) (omega (arith, body_size v above below)) gives

@@ -159,35 +159,37 @@ all_joined : (rs more : List Reply) → AllByRecursion IsAccepted rs → AllByRe
 all_joined [] more all others = others
 all_joined (r ∷ rs) more all others = (all.0, all_joined rs more all.1 others)
 
+-- the same of requests
+parted_requests : (before : State) (qs others : List Request) (replies : List Reply) (after : State) → AreAnswers AnswersFor before (oks (qs ++ others)) replies after
+    → Parted before (oks qs) (oks others) replies after
+parted_requests before qs others replies after answers =
+    parted before (oks qs) (oks others) replies after (subst (λ items. AreAnswers AnswersFor before items replies after) (map-append (λ q. Ok q) qs others) answers)
+
+-- what the first ones came to, and then the others
+passed_on : {Q R : List Entry → Type 0} {before after : State} {items more : List Item} {replies : List Reply} (apart : Parted before items more replies after)
+    → Passed R apart.first apart.between → Passed Q apart.rest after → Passed Q replies after
+passed_on apart first second = record {
+  accepted = subst (AllByRecursion IsAccepted) (sym apart.joined) (all_joined apart.first apart.rest first.accepted second.accepted);
+  last = second.last;
+  on = second.on;
+  holds = second.holds;
+}
+
 pub behind : {P Q R : List Entry → Type 0} (qs others : List Request) → Passes P qs R → Passes R others Q → Passes P (qs ++ others) Q
-behind {Q = Q} qs others one two before after h replies on holds answers =
-    let apart = parted before (oks qs) (oks others) replies after
-    (subst (λ items. AreAnswers AnswersFor before items replies after) (map-append (λ q. Ok q) qs others) answers) in
+behind {Q = Q} {R = R} qs others one two before after h replies on holds answers =
+    let apart = parted_requests before qs others replies after answers in
     let first = one before apart.between h apart.first on holds apart.front in
-    let second = two apart.between after first.last apart.rest first.on first.holds apart.back in
-    record {
-      accepted = subst (AllByRecursion IsAccepted) (sym apart.joined) (all_joined apart.first apart.rest first.accepted second.accepted);
-      last = second.last;
-      on = second.on;
-      holds = second.holds;
-    }
+    passed_on {Q = Q} {R = R} apart first (two apart.between after first.last apart.rest first.on first.holds apart.back)
 
 -- the same from a session without machines
 abbrev pub Begins : List Request → (List Entry → Type 0) → Type 0
 Begins qs Q = (before after : State) (replies : List Reply) → before.tracks ≡ [] → AreAnswers AnswersFor before (oks qs) replies after → Passed Q replies after
 
 pub begun_then : {Q R : List Entry → Type 0} (qs others : List Request) → Begins qs R → Passes R others Q → Begins (qs ++ others) Q
-begun_then {Q = Q} qs others one two before after replies none answers =
-    let apart = parted before (oks qs) (oks others) replies after
-    (subst (λ items. AreAnswers AnswersFor before items replies after) (map-append (λ q. Ok q) qs others) answers) in
+begun_then {Q = Q} {R = R} qs others one two before after replies none answers =
+    let apart = parted_requests before qs others replies after answers in
     let first = one before apart.between apart.first none apart.front in
-    let second = two apart.between after first.last apart.rest first.on first.holds apart.back in
-    record {
-      accepted = subst (AllByRecursion IsAccepted) (sym apart.joined) (all_joined apart.first apart.rest first.accepted second.accepted);
-      last = second.last;
-      on = second.on;
-      holds = second.holds;
-    }
+    passed_on {Q = Q} {R = R} apart first (two apart.between after first.last apart.rest first.on first.holds apart.back)
 
 pub nothing : {P Q : List Entry → Type 0} → ((h : List Entry) → P h → Q h) → Passes P [] Q
 nothing {Q = Q} leads before after h replies on holds answers =

@@ -1,22 +1,20 @@
 -- The script of a number is whole, and asks what it is for.
-use Rattle.std.proofs.Common.{ℕ, pos, suc, ◌+◌, ◌*◌, ◌%◌, ◌^◌, ◌<◌, ◌≤◌, inl, inr, Bool, true, false, List, [], ◌∷◌, ◌++◌, length, refl, sym, arith, length-append, append-nil, None}
+use Rattle.std.proofs.Common.{ℕ, suc, ◌+◌, ◌*◌, ◌%◌, ◌^◌, ◌<◌, ◌≤◌, inl, inr, Bool, true, false, List, [], ◌∷◌, ◌++◌, length, refl, sym, arith, length-append, append-nil}
 use Rattle.std.specs.Prelude.{codes, decimal, ◌==◌, if◌then◌else◌}
 use Rattle.std.proofs.lemmas.Fmt.{length-decimal-le}
 use Rattle.std.proofs.lemmas.List.Elements.{All-nil}
 use Rattle.line_text.specs.Lines.{LinesEnd, WordsGoOn, AreOneWord}
 use Rattle.line_text.specs.Names.{NamesAreSpelledBack}
 use Rattle.line_text.specs.Numbers.{NumbersAreSpelled}
-use Rattle.request_model.specs.declared.requests.Request.{Request}
-use Rattle.request_model.specs.declared.requests.Request.TheVariants as request
 use Rattle.request_words.specs.Bodies.{Item}
 use Rattle.request_reader.specs.Scripts.{ArePieces, IsScript, last, end, input_limit}
 use Rattle.script_session.specs.Laws.{OneScript}
 use Rattle.request_words.proofs.Skipped.{skipped_counts}
-use Rattle.series_gen.specs.Script.{line, place, value, state_after, in_turn, commit_line, submit_line, body_line, segment_line, turn, retract_line, script}
+use Rattle.series_gen.specs.Script.{place, value, state_after, commit_line, submit_line, body_line, segment_line, turn, retract_line, script}
 use Rattle.trial_script.specs.Requests as asked
-use Rattle.trial_script.specs.Requests.{asked_in_turn}
 use Rattle.trial_script.specs.Laws.{ScriptAsks, ScriptIsWhole}
 use Rattle.trial_script.proofs.Lines.{machine_piece, commit_piece, tune_piece, retract_piece, segment_piece, changes_piece, submit_piece, body_size}
+use Rattle.trial_script.proofs.Parts.{machine_text, commit_texts, tune_text, run_texts, retract_texts, changes_text, machine_asked, commits_asked, tune_asked, runs_asked, retracts_asked, segment_asked, changes_asked}
 use Rattle.trial_script.proofs.Turns.{oks, join, none, turns, turns_size}
 
 -- ---- the value of a run has four digits
@@ -85,20 +83,14 @@ turn_size number j few =
 
 script_size : (number : ℕ) → length (script number) ≤ input_limit
 script_size number =
-    let m : List ℕ = line (codes "machine g") in
-    let c : List ℕ = in_turn commit_line 500 in
-    let t : List ℕ = line (codes "tune g ns/op 300000000000") in
-    let r : List ℕ = in_turn (turn number) 2_000 in
-    let x : List ℕ = in_turn retract_line 10 in
-    let l : List ℕ = line (codes "changes g G ns/op") in
     omega (
       arith,
-      length-append (m ++ c ++ t ++ r ++ x ++ segment_line) l,
-      length-append (m ++ c ++ t ++ r ++ x) segment_line,
-      length-append (m ++ c ++ t ++ r) x,
-      length-append (m ++ c ++ t) r,
-      length-append (m ++ c) t,
-      length-append m c,
+      length-append (machine_text ++ commit_texts ++ tune_text ++ run_texts number ++ retract_texts ++ segment_line) changes_text,
+      length-append (machine_text ++ commit_texts ++ tune_text ++ run_texts number ++ retract_texts) segment_line,
+      length-append (machine_text ++ commit_texts ++ tune_text ++ run_texts number) retract_texts,
+      length-append (machine_text ++ commit_texts ++ tune_text) (run_texts number),
+      length-append (machine_text ++ commit_texts) tune_text,
+      length-append machine_text commit_texts,
       turns_size commit_line 500 commit_size,
       turns_size (turn number) 2_000 (turn_size number),
       turns_size retract_line 10 retract_size,
@@ -136,27 +128,14 @@ module _ (names : NamesAreSpelledBack) (numbers : NumbersAreSpelled) (go_on : Wo
 
   script_pieces : (number : ℕ) → ArePieces (script number) (asked.items number)
   script_pieces number =
-      let m : List ℕ = line (codes "machine g") in
-      let c : List ℕ = in_turn commit_line 500 in
-      let t : List ℕ = line (codes "tune g ns/op 300000000000") in
-      let r : List ℕ = in_turn (turn number) 2_000 in
-      let x : List ℕ = in_turn retract_line 10 in
-      let l : List ℕ = line (codes "changes g G ns/op") in
-      let qm : List Request = request.Machine asked.machine ∷ [] in
-      let qc : List Request = asked_in_turn asked.commit 500 in
-      let qt : List Request = request.Tune asked.machine asked.metric (pos 300_000_000_000) None ∷ [] in
-      let qr : List Request = asked_in_turn (asked.turn number) 2_000 in
-      let qx : List Request = asked_in_turn asked.retract 10 in
-      let qs : List Request = asked.segment ∷ [] in
-      let ql : List Request = request.Changes asked.machine asked.test asked.metric ∷ [] in
-      let first = join m c qm qc (machine_piece names numbers go_on one ends)
+      let first = join machine_text commit_texts machine_asked commits_asked (machine_piece names numbers go_on one ends)
       (turns commit_line asked.commit 500 (λ i few. commit_piece names numbers go_on one ends i (omega (arith, few)))) in
-      let tuned = join (m ++ c) t (qm ++ qc) qt first (tune_piece names numbers go_on one ends) in
-      let runs = join (m ++ c ++ t) r (qm ++ qc ++ qt) qr tuned (turns (turn number) (asked.turn number) 2_000 (turn_pieces number)) in
-      let retracted = join (m ++ c ++ t ++ r) x (qm ++ qc ++ qt ++ qr) qx runs
+      let tuned = join (machine_text ++ commit_texts) tune_text (machine_asked ++ commits_asked) tune_asked first (tune_piece names numbers go_on one ends) in
+      let runs = join (machine_text ++ commit_texts ++ tune_text) (run_texts number) (machine_asked ++ commits_asked ++ tune_asked) (runs_asked number) tuned (turns (turn number) (asked.turn number) 2_000 (turn_pieces number)) in
+      let retracted = join (machine_text ++ commit_texts ++ tune_text ++ run_texts number) retract_texts (machine_asked ++ commits_asked ++ tune_asked ++ runs_asked number) retracts_asked runs
       (turns retract_line asked.retract 10 (λ i few. retract_piece names numbers go_on one ends i few)) in
-      let segmented = join (m ++ c ++ t ++ r ++ x) segment_line (qm ++ qc ++ qt ++ qr ++ qx) qs retracted (segment_piece names numbers go_on one ends) in
-      join (m ++ c ++ t ++ r ++ x ++ segment_line) l (qm ++ qc ++ qt ++ qr ++ qx ++ qs) ql segmented (changes_piece names numbers go_on one ends)
+      let segmented = join (machine_text ++ commit_texts ++ tune_text ++ run_texts number ++ retract_texts) segment_line (machine_asked ++ commits_asked ++ tune_asked ++ runs_asked number ++ retracts_asked) segment_asked retracted (segment_piece names numbers go_on one ends) in
+      join (machine_text ++ commit_texts ++ tune_text ++ run_texts number ++ retract_texts ++ segment_line) changes_text (machine_asked ++ commits_asked ++ tune_asked ++ runs_asked number ++ retracts_asked ++ segment_asked) changes_asked segmented (changes_piece names numbers go_on one ends)
 
   pub script_asks : ScriptAsks
   script_asks number = whole (script number) (asked.items number) (script_size number) (script_pieces number)

@@ -1,50 +1,24 @@
-use Rattle.std.proofs.Common.{rules, ◌≡◌, ℕ, ◌<◌, ◌^◌, List, [], ◌∷◌, codes, decimal, refl, sym, ap, ◌∙◌, arith}
-use Rattle.request_model.specs.Factors.{IsFactor}
-use Rattle.request_words.specs.Forms.{calibrate, name_of, IsOfForm}
-use Rattle.request_words.specs.Heads.{AreSeriesNames}
-use Rattle.request_words.proofs.HeadLines.{long_metric, wide_head, named_head, formless_behind}
+use Rattle.std.proofs.Common.{rules, ◌≡◌, ℕ, List, ◌∷◌, codes, refl, sym, ap, ◌∙◌, arith}
+use Rattle.line_text.specs.Lines.{words_of}
+use Rattle.request_words.specs.Forms.{calibrate, IsOfForm}
+use Rattle.request_words.proofs.HeadLines.{unnamed_head, named_head, wide_head, formless_behind}
 use Rattle.request_words.proofs.FormWords.{behind}
+use Rattle.request_words.proofs.head.calibrate_head.Goals.{In-Some}
 use Rattle.request_words.proofs.head.calibrate_head.Goals as goal
 
+-- the line is of the form
+of_form : (c : In-Some) (line : List ℕ) → words_of line ≡ codes "calibrate" ∷ c.args.words → IsOfForm line (calibrate c.in-Some.m.now c.in-Some.t.now c.in-Some.x.now c.in-Some.factor)
+of_form c line verb = record { words = verb ∙ ap (λ xs. codes "calibrate" ∷ xs) c.in-Some.ensures.some; numbers = (search rules, tt); amounts = tt; status = tt }
+
 pub returns-in_default : goal.returns-in_default
-returns-in_default c line verb =
-    rw c.formless.ensures (formless_behind verb (λ of_form. c.in_default.ensures.none _ _ _ _ of_form.numbers.0 (behind (sym verb ∙ of_form.words))))
-
-pub returns-in_default-2 : goal.returns-in_default-2
-returns-in_default-2 c line verb =
-    let m : List ℕ = c.in-Some.m.now in
-    let t : List ℕ = c.in-Some.t.now in
-    let x : List ℕ = c.in-Some.x.now in
-    let factor : ℕ = c.in-Some.factor in
-    let fits : factor < 2 ^ 64 = search rules in
-    let bad : ¬ AreSeriesNames m t x = search rules in
-    let words : c.args.words ≡ m ∷ t ∷ x ∷ decimal factor ∷ [] = search rules in
-    let is : IsOfForm line (calibrate m t x factor) = record { words = verb ∙ ap (λ xs. codes "calibrate" ∷ xs) words; numbers = (fits, tt); amounts = tt; status = tt } in
-    rw c.unnamed.ensures (long_metric line (calibrate m t x factor) 0 is refl (omega arith) (λ named. bad (named.names.0, named.names.1.0, named.names.1.1.0, named.metric)))
-
-pub returns-then-not-is_factor : goal.returns-then-not-is_factor
-returns-then-not-is_factor c line verb =
-    let m : List ℕ = c.in-Some.m.now in
-    let t : List ℕ = c.in-Some.t.now in
-    let x : List ℕ = c.in-Some.x.now in
-    let factor : ℕ = c.in-Some.factor in
-    let fits : factor < 2 ^ 64 = search rules in
-    let spelled : AreSeriesNames m t x = search rules in
-    let out : ¬ IsFactor factor = search rules in
-    let words : c.args.words ≡ m ∷ t ∷ x ∷ decimal factor ∷ [] = search rules in
-    let is : IsOfForm line (calibrate m t x factor) = record { words = verb ∙ ap (λ xs. codes "calibrate" ∷ xs) words; numbers = (fits, tt); amounts = tt; status = tt } in
-    wide_head line (calibrate m t x factor) 0 is refl (omega arith) (record { names = (spelled.0, (spelled.1, (spelled.2, tt))); metric = spelled.3 }) out
+returns-in_default c line verb = rw c.formless.ensures (formless_behind verb (λ of_form. c.in_default.ensures.none _ _ _ _ of_form.numbers.0 (behind (sym verb ∙ of_form.words))))
 
 pub returns : goal.returns
 returns c line verb =
-    let m : List ℕ = c.in-Some.m.now in
-    let t : List ℕ = c.in-Some.t.now in
-    let x : List ℕ = c.in-Some.x.now in
-    let factor : ℕ = c.in-Some.factor in
-    let fits : factor < 2 ^ 64 = search rules in
-    let spelled : AreSeriesNames m t x = search rules in
-    let range : IsFactor factor = search rules in
-    let named : (c.in-Some-2.machine ≡ name_of m) × (c.in-Some-2.test ≡ name_of t) × (c.in-Some-2.metric ≡ name_of x) = search rules in
-    let words : c.args.words ≡ m ∷ t ∷ x ∷ decimal factor ∷ [] = search rules in
-    let is : IsOfForm line (calibrate m t x factor) = record { words = verb ∙ ap (λ xs. codes "calibrate" ∷ xs) words; numbers = (fits, tt); amounts = tt; status = tt } in
-    rw (named.0, named.1, named.2) (named_head line (calibrate m t x factor) 0 _ is spelled.3 range tt refl (omega arith) (spelled.0, (spelled.1, (spelled.2, tt))) (λ body item told. told))
+    let named = rw c.in-Some-2.is at c.in_ok-machine.ensures.some in rw (named.0, named.1, named.2) (named_head line _ 0 _ (of_form (goal.at.returns c).In-Some line verb) (search rules) tt refl (omega arith) (rw c.in-Some-2.is at c.in_ok-machine.ensures.told) (λ body item told. told))
+
+pub returns-then-not-is_factor : goal.returns-then-not-is_factor
+returns-then-not-is_factor c line verb = wide_head line _ 0 (of_form (goal.at.returns-then-not-is_factor c).In-Some line verb) refl (omega arith) (rw c.in-Some-2.is at c.in_ok-machine.ensures.told) (search rules)
+
+pub returns-in_default-2 : goal.returns-in_default-2
+returns-in_default-2 c line verb = rw c.unnamed.ensures (unnamed_head line _ 0 (of_form (goal.at.returns-in_default-2 c).In-Some line verb) refl (omega arith) c.in_default-2.is c.in_ok-machine.ensures.told)

@@ -1,44 +1,24 @@
-use Rattle.std.proofs.Common.{rules, ◌≡◌, ℕ, ◌^◌, ◌<◌, ◌≤◌, List, [], ◌∷◌, codes, decimal, refl, sym, ap, ◌∙◌}
-use Rattle.request_words.specs.Forms.{submit_lnt, SpellsName, name_of, IsOfForm}
-use Rattle.request_words.proofs.HeadLines.{long_head, unnamed_head, named_head, formless_behind}
+use Rattle.std.proofs.Common.{rules, ◌≡◌, ℕ, List, ◌∷◌, codes, refl, sym, ap, ◌∙◌}
+use Rattle.line_text.specs.Lines.{words_of}
+use Rattle.request_words.specs.Forms.{submit_lnt, IsOfForm}
+use Rattle.request_words.proofs.HeadLines.{unnamed_head, named_head, long_head, formless_behind}
 use Rattle.request_words.proofs.FormWords.{behind}
+use Rattle.request_words.proofs.head.lnt_head.Goals.{In-Some}
 use Rattle.request_words.proofs.head.lnt_head.Goals as goal
 
+-- the line is of the form
+of_form : (c : In-Some) (line : List ℕ) → words_of line ≡ codes "submit" ∷ codes "lnt" ∷ c.args.words → IsOfForm line (submit_lnt c.in-Some.m.now c.in-Some.r.now c.in-Some.len)
+of_form c line verb = record { words = verb ∙ ap (λ xs. codes "submit" ∷ codes "lnt" ∷ xs) c.in-Some.ensures.some; numbers = (search rules, tt); amounts = tt; status = tt }
+
 pub returns-in_default : goal.returns-in_default
-returns-in_default c line verb =
-    rw c.formless.ensures (formless_behind verb (λ of_form. c.in_default.ensures.none _ _ _ of_form.numbers.0 (behind (behind (sym verb ∙ of_form.words)))))
-
-pub returns-then-len-gt-BODY_LIMIT : goal.returns-then-len-gt-BODY_LIMIT
-returns-then-len-gt-BODY_LIMIT c line verb =
-    let m : List ℕ = c.in-Some.m.now in
-    let r : List ℕ = c.in-Some.r.now in
-    let len : ℕ = c.in-Some.len in
-    let fits : len < 2 ^ 64 = search rules in
-    let words : c.args.words ≡ m ∷ r ∷ decimal len ∷ [] = search rules in
-    let is : IsOfForm line (submit_lnt m r len) = record { words = verb ∙ ap (λ xs. codes "submit" ∷ codes "lnt" ∷ xs) words; numbers = (fits, tt); amounts = tt; status = tt } in
-    long_head line (submit_lnt m r len) len is refl c.if-len-gt-BODY_LIMIT.true
-
-pub returns-in_default-2 : goal.returns-in_default-2
-returns-in_default-2 c line verb =
-    let m : List ℕ = c.in-Some.m.now in
-    let r : List ℕ = c.in-Some.r.now in
-    let len : ℕ = c.in-Some.len in
-    let fits : len < 2 ^ 64 = search rules in
-    let within : len ≤ 8_388_608 = search rules in
-    let bad : ¬ (SpellsName m × SpellsName r) = search rules in
-    let words : c.args.words ≡ m ∷ r ∷ decimal len ∷ [] = search rules in
-    let is : IsOfForm line (submit_lnt m r len) = record { words = verb ∙ ap (λ xs. codes "submit" ∷ codes "lnt" ∷ xs) words; numbers = (fits, tt); amounts = tt; status = tt } in
-    rw c.unnamed.ensures (unnamed_head line (submit_lnt m r len) len is refl within (λ names. bad (names.0, names.1.0)))
+returns-in_default c line verb = rw c.formless.ensures (formless_behind verb (λ of_form. c.in_default.ensures.none _ _ _ of_form.numbers.0 (behind (behind (sym verb ∙ of_form.words)))))
 
 pub returns : goal.returns
 returns c line verb =
-    let m : List ℕ = c.in-Some.m.now in
-    let r : List ℕ = c.in-Some.r.now in
-    let len : ℕ = c.in-Some.len in
-    let fits : len < 2 ^ 64 = search rules in
-    let within : len ≤ 8_388_608 = search rules in
-    let spelled : SpellsName m × SpellsName r = search rules in
-    let named : (c.in-Some-2.machine ≡ name_of m) × (c.in-Some-2.run' ≡ name_of r) = search rules in
-    let words : c.args.words ≡ m ∷ r ∷ decimal len ∷ [] = search rules in
-    let is : IsOfForm line (submit_lnt m r len) = record { words = verb ∙ ap (λ xs. codes "submit" ∷ codes "lnt" ∷ xs) words; numbers = (fits, tt); amounts = tt; status = tt } in
-    rw (named.0, named.1) (within, named_head line (submit_lnt m r len) len _ is tt tt tt refl within (spelled.0, (spelled.1, tt)) (λ body item told. told))
+    let named = rw c.in-Some-2.is at c.in_ok-machine.ensures.some in rw (named.0, named.1) (c.if-len-gt-BODY_LIMIT.false, named_head line _ c.in-Some.len _ (of_form (goal.at.returns c).In-Some line verb) tt tt refl c.if-len-gt-BODY_LIMIT.false (rw c.in-Some-2.is at c.in_ok-machine.ensures.told) (λ body item told. told))
+
+pub returns-then-len-gt-BODY_LIMIT : goal.returns-then-len-gt-BODY_LIMIT
+returns-then-len-gt-BODY_LIMIT c line verb = long_head line _ c.in-Some.len (of_form (goal.at.returns-then-len-gt-BODY_LIMIT c).In-Some line verb) refl c.if-len-gt-BODY_LIMIT.true
+
+pub returns-in_default-2 : goal.returns-in_default-2
+returns-in_default-2 c line verb = rw c.unnamed.ensures (unnamed_head line _ c.in-Some.len (of_form (goal.at.returns-in_default-2 c).In-Some line verb) refl c.if-len-gt-BODY_LIMIT.false c.in_default-2.is c.in_ok-machine.ensures.told)

@@ -1,26 +1,21 @@
-use Rattle.std.proofs.Common.{rules, ◌≡◌, ℕ, List, [], ◌∷◌, codes, refl, sym, ap, ◌∙◌, arith}
-use Rattle.request_words.specs.Forms.{runs, SpellsName, name_of, IsOfForm}
-use Rattle.request_words.proofs.HeadLines.{unnamed_head, named_head, formless_behind}
+use Rattle.std.proofs.Common.{◌≡◌, ℕ, List, ◌∷◌, codes, refl, sym, ap, ◌∙◌, arith}
+use Rattle.line_text.specs.Lines.{words_of}
+use Rattle.request_words.specs.Forms.{runs, IsOfForm}
+use Rattle.request_words.proofs.HeadLines.{unnamed_machine, named_head, formless_behind}
 use Rattle.request_words.proofs.FormWords.{behind}
+use Rattle.request_words.proofs.head.runs_head.Goals.{In-Some}
 use Rattle.request_words.proofs.head.runs_head.Goals as goal
 
-pub returns-in_default : goal.returns-in_default
-returns-in_default c line verb =
-    rw c.formless.ensures (formless_behind verb (λ of_form. c.in_default.ensures.none _ (behind (sym verb ∙ of_form.words))))
+-- the line is of the form
+of_form : (c : In-Some) (line : List ℕ) → words_of line ≡ codes "runs" ∷ c.args.words → IsOfForm line (runs c.in-Some.m.now)
+of_form c line verb = record { words = verb ∙ ap (λ xs. codes "runs" ∷ xs) c.in-Some.ensures.some; numbers = tt; amounts = tt; status = tt }
 
-pub returns-in_default-2 : goal.returns-in_default-2
-returns-in_default-2 c line verb =
-    let word : List ℕ = c.in-Some.m.now in
-    let bad : ¬ SpellsName word = search rules in
-    let words : c.args.words ≡ word ∷ [] = search rules in
-    let is : IsOfForm line (runs word) = record { words = verb ∙ ap (λ xs. codes "runs" ∷ xs) words; numbers = tt; amounts = tt; status = tt } in
-    rw c.unnamed.ensures (unnamed_head line (runs word) 0 is refl (omega arith) (λ names. bad names.0))
+pub returns-in_default : goal.returns-in_default
+returns-in_default c line verb = rw c.formless.ensures (formless_behind verb (λ of_form. c.in_default.ensures.none _ (behind (sym verb ∙ of_form.words))))
 
 pub returns : goal.returns
 returns c line verb =
-    let word : List ℕ = c.in-Some.m.now in
-    let spelled : SpellsName word = search rules in
-    let named : c.in-Some-2.machine ≡ name_of word = search rules in
-    let words : c.args.words ≡ word ∷ [] = search rules in
-    let is : IsOfForm line (runs word) = record { words = verb ∙ ap (λ xs. codes "runs" ∷ xs) words; numbers = tt; amounts = tt; status = tt } in
-    rw named (named_head line (runs word) 0 _ is tt tt tt refl (omega arith) (spelled, tt) (λ body item told. told))
+    let named = rw c.in-Some-2.is at c.in_ok-machine.ensures.some in rw (named) (named_head line _ 0 _ (of_form (goal.at.returns c).In-Some line verb) tt tt refl (omega arith) (rw c.in-Some-2.is at c.in_ok-machine.ensures.told, tt) (λ body item told. told))
+
+pub returns-in_default-2 : goal.returns-in_default-2
+returns-in_default-2 c line verb = rw c.unnamed.ensures (unnamed_machine line _ 0 (of_form (goal.at.returns-in_default-2 c).In-Some line verb) refl (omega arith) c.in_default-2.is c.in_ok-machine.ensures.told)

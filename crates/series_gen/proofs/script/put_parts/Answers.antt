@@ -1,10 +1,10 @@
 use Rattle.std.proofs.Common.{◌++◌, codes}
 use Rattle.series_gen.specs.Script.{in_turn, line, commit_line, turn, retract_line, segment_line}
-use Rattle.series_gen.proofs.Turns.{stays, on-err, behind}
+use Rattle.series_gen.proofs.Turns.{behind}
 use Rattle.series_gen.proofs.script.put_parts.Goals as goal
 
-pub returns-clause-ok : goal.returns-clause-ok
-returns-clause-ok c =
+pub returns : goal.returns
+returns c =
     let machine = line (codes "machine g") in
     let tune = line (codes "tune g ns/op 300000000000") in
     let changes = line (codes "changes g G ns/op") in
@@ -17,34 +17,10 @@ returns-clause-ok c =
     let s4 = c.put_turns.new.out.items in
     let s5 = c.put_retractions.new.out.items in
     let s6 = c.extend_from_slice-3.new.self.items in
-    let e2 = behind s0 c.extend_from_slice.new.self.items s2 machine commits c.in_ok-extend_from_slice.ensures.items c.in_ok-put_commits.ensures.ok in
+    let e2 = behind s0 c.extend_from_slice.new.self.items s2 machine commits c.in_ok-extend_from_slice.ensures.items c.in_ok-put_commits.ensures in
     let e3 = behind s0 s2 s3 (machine ++ commits) tune e2 c.in_ok-extend_from_slice-2.ensures.items in
-    let e4 = behind s0 s3 s4 (machine ++ commits ++ tune) turns e3 c.in_ok-put_turns.ensures.ok in
-    let e5 = behind s0 s4 s5 (machine ++ commits ++ tune ++ turns) retractions e4 c.in_ok-put_retractions.ensures.ok in
+    let e4 = behind s0 s3 s4 (machine ++ commits ++ tune) turns e3 c.in_ok-put_turns.ensures in
+    let e5 = behind s0 s4 s5 (machine ++ commits ++ tune ++ turns) retractions e4 c.in_ok-put_retractions.ensures in
     let e6 = behind s0 s5 s6 (machine ++ commits ++ tune ++ turns ++ retractions) segment_line e5 c.in_ok-extend_from_slice-3.ensures.items in
     behind s0 s6 c.extend_from_slice-4.new.self.items (machine ++ commits ++ tune ++ turns ++ retractions ++ segment_line) changes e6
     c.in_ok-extend_from_slice-4.ensures.items
-
-pub returns-in_err-put_turns-clause-err : goal.returns-in_err-put_turns-clause-err
-returns-in_err-put_turns-clause-err c =
-    let s0 = c.args.out.now.items in
-    let s1 = c.extend_from_slice.new.self.items in
-    let s2 = c.put_commits.new.out.items in
-    let s3 = c.extend_from_slice-2.new.self.items in
-    let s4 = c.put_turns.new.out.items in
-    let f2 = stays s2 s3 s4 (line (codes "tune g ns/op 300000000000")) c.in_ok-extend_from_slice-2.ensures.items c.in_err-put_turns.ensures.err in
-    let f1 = stays s1 s2 s4 (in_turn commit_line 500) c.in_ok-put_commits.ensures.ok f2 in
-    on-err c.from_residual-in_err-put_turns.result (stays s0 s1 s4 (line (codes "machine g")) c.in_ok-extend_from_slice.ensures.items f1)
-
-pub returns-in_err-put_retractions-clause-err : goal.returns-in_err-put_retractions-clause-err
-returns-in_err-put_retractions-clause-err c =
-    let s0 = c.args.out.now.items in
-    let s1 = c.extend_from_slice.new.self.items in
-    let s2 = c.put_commits.new.out.items in
-    let s3 = c.extend_from_slice-2.new.self.items in
-    let s4 = c.put_turns.new.out.items in
-    let s5 = c.put_retractions.new.out.items in
-    let f3 = stays s3 s4 s5 (in_turn (turn c.args.number) 2_000) c.in_ok-put_turns.ensures.ok c.in_err-put_retractions.ensures.err in
-    let f2 = stays s2 s3 s5 (line (codes "tune g ns/op 300000000000")) c.in_ok-extend_from_slice-2.ensures.items f3 in
-    let f1 = stays s1 s2 s5 (in_turn commit_line 500) c.in_ok-put_commits.ensures.ok f2 in
-    on-err c.from_residual-in_err-put_retractions.result (stays s0 s1 s5 (line (codes "machine g")) c.in_ok-extend_from_slice.ensures.items f1)

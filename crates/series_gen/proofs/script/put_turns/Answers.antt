@@ -1,6 +1,6 @@
 use Rattle.std.proofs.Common.{◌≡◌, ℕ, suc, ◌+◌, ◌%◌, ◌++◌, [], ◌==◌, if◌then◌else◌, ap, ◌∙◌, arith}
 use Rattle.series_gen.specs.Script.{in_turn, submit_line, body_line, segment_line, value, place, turn, state_after}
-use Rattle.series_gen.proofs.Turns.{stays, on-err, none-yet, next-turn, behind, first-state, next-state}
+use Rattle.series_gen.proofs.Turns.{none-yet, next-turn, behind, first-state, next-state}
 use Rattle.series_gen.proofs.script.put_turns.Goals as goal
 
 pub loop-j-init : goal.loop-j-init
@@ -12,40 +12,13 @@ loop-j-preserved c =
     let state : c.next_state-state.result ≡ state_after c.args.number (suc j) =
     c.next_state-state.ensures ∙ next-state c.args.number j c.loop-j.state c.loop-j.invariant.1 in
     let body : c.put_body.new.out.items ≡ c.put_submit.new.out.items ++ body_line (value (place j) (state_after c.args.number (suc j))) =
-    c.in_ok-put_body.ensures.ok ∙ ap (λ (v : ℕ). c.put_submit.new.out.items ++ body_line v) (c.value_of.ensures ∙ ap (value (place j)) state) in
+    c.in_ok-put_body.ensures ∙ ap (λ (v : ℕ). c.put_submit.new.out.items ++ body_line v) (c.value_of.ensures ∙ ap (value (place j)) state) in
     let parts = behind c.loop-j.out.items c.put_submit.new.out.items c.put_body.new.out.items (submit_line j)
-    (body_line (value (place j) (state_after c.args.number (suc j)))) c.in_ok-put_submit.ensures.ok body in
+    (body_line (value (place j) (state_after c.args.number (suc j)))) c.in_ok-put_submit.ensures body in
     let all = behind c.loop-j.out.items c.put_body.new.out.items c.put_hundredth.new.out.items
     (submit_line j ++ body_line (value (place j) (state_after c.args.number (suc j)))) (if (j + 1) % 100 == 0 then segment_line else [])
-    parts c.in_ok-put_hundredth.ensures.ok in
+    parts c.in_ok-put_hundredth.ensures in
     let e : suc j ≡ j + 1 = omega arith in (
       next-turn (turn c.args.number) c.args.out.now.items c.loop-j.out.items c.put_hundredth.new.out.items j c.loop-j.invariant.0 all,
       state ∙ ap (state_after c.args.number) e,
     )
-
-pub returns-in_err-put_submit-clause-err : goal.returns-in_err-put_submit-clause-err
-returns-in_err-put_submit-clause-err c =
-    on-err c.from_residual.result
-    (stays c.args.out.now.items c.loop-j.out.items c.put_submit.new.out.items (in_turn (turn c.args.number) c.loop-j.j) c.loop-j.invariant.0
-    c.in_err-put_submit.ensures.err)
-
-pub returns-in_err-put_body-clause-err : goal.returns-in_err-put_body-clause-err
-returns-in_err-put_body-clause-err c =
-    let submitted = behind c.args.out.now.items c.loop-j.out.items c.put_submit.new.out.items (in_turn (turn c.args.number) c.loop-j.j)
-    (submit_line c.loop-j.j) c.loop-j.invariant.0 c.in_ok-put_submit.ensures.ok in
-    on-err c.from_residual-in_err-put_body.result
-    (stays c.args.out.now.items c.put_submit.new.out.items c.put_body.new.out.items (in_turn (turn c.args.number) c.loop-j.j ++ submit_line c.loop-j.j)
-    submitted c.in_err-put_body.ensures.err)
-
-pub returns-in_err-put_hundredth-clause-err : goal.returns-in_err-put_hundredth-clause-err
-returns-in_err-put_hundredth-clause-err c =
-    let j = c.loop-j.j in
-    let turns = in_turn (turn c.args.number) j in
-    let body = body_line c.value_of.result in
-    let submitted = behind c.args.out.now.items c.loop-j.out.items c.put_submit.new.out.items turns (submit_line j) c.loop-j.invariant.0
-    c.in_ok-put_submit.ensures.ok in
-    let here = behind c.args.out.now.items c.put_submit.new.out.items c.put_body.new.out.items (turns ++ submit_line j) body submitted
-    c.in_ok-put_body.ensures.ok in
-    on-err c.from_residual-in_err-put_hundredth.result
-    (stays c.args.out.now.items c.put_body.new.out.items c.put_hundredth.new.out.items ((turns ++ submit_line j) ++ body) here
-    c.in_err-put_hundredth.ensures.err)
