@@ -21,5 +21,6 @@ pub use head::{Head, read_head};
 pub use history::read_history;
 pub use laws::lines_law;
 pub use lines::{Line, Lines};
+pub use parts::{Parts, first_word};
 pub use std::alloc::AllocError as NoMemory;
 pub use step::read_step;

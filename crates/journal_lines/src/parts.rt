@@ -1,15 +1,17 @@
 //! The first word of bytes, and what stands behind its space.
 ghost use Rattle.std.specs.Prelude.{◌≡◌, ◌≢◌, ◌<◌, ℕ, ◌∷◌, ◌++◌, All, IfSome, IfNone, length, slice_index};
 
-// Bytes parted at their first space.
+/// Bytes parted at their first space.
 #[derive(Drop)]
-pub(crate) struct Parts<'a> {
-    pub(crate) word: &'a [u8],
-    pub(crate) rest: &'a [u8],
+pub struct Parts<'a> {
+    /// Those before it.
+    pub word: &'a [u8],
+    /// Those behind it.
+    pub rest: &'a [u8],
 }
 
-// The bytes before the first space, and those behind it; none exactly where there is no space.
-pub(crate) fn first_word<'a>(bytes: &'a [u8]) -> Option<Parts<'a>>
+/// The bytes before the first space, and those behind it; none exactly where there is no space. Linear in the word.
+pub fn first_word<'a>(bytes: &'a [u8]) -> Option<Parts<'a>>
     ensures some { IfSome result (λ parts.
         bytes.now ≡ parts.word.now ++ 32 ∷ parts.rest.now) }
     ensures first { IfSome result (λ parts. All (λ b. b ≢ 32) parts.word.now) }

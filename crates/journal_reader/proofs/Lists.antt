@@ -3,25 +3,18 @@ use Rattle.std.proofs.Common.{◌≡◌, ℕ, zero, suc, ◌≤◌, ◌<◌, Lis
 use Rattle.std.specs.Prelude.{slice_get}
 use Rattle.std.specs.List.{AllByRecursion}
 
--- the last items of equal lists, and those before them
-pub same_front : {A : Type 0} (xs ys : List A) (x y : A) → xs ++ x ∷ [] ≡ ys ++ y ∷ [] → xs ≡ ys
-same_front [] [] x y e = refl
-same_front [] (z ∷ []) x y e = absurd (omega (arith, ap length e))
-same_front [] (z ∷ w ∷ ys) x y e = absurd (omega (arith, ap length e))
-same_front (z ∷ []) [] x y e = absurd (omega (arith, ap length e))
-same_front (z ∷ w ∷ xs) [] x y e = absurd (omega (arith, ap length e))
-same_front {A = A} (z ∷ xs) (w ∷ ys) x y e =
+-- equal lists have the same last item, and the same before it
+pub same_ends : {A : Type 0} (xs ys : List A) (x y : A) → xs ++ x ∷ [] ≡ ys ++ y ∷ [] → (xs ≡ ys) × (x ≡ y)
+same_ends [] [] x y e = (refl, cc)
+same_ends [] (z ∷ []) x y e = absurd (omega (arith, ap length e))
+same_ends [] (z ∷ w ∷ ys) x y e = absurd (omega (arith, ap length e))
+same_ends (z ∷ []) [] x y e = absurd (omega (arith, ap length e))
+same_ends (z ∷ w ∷ xs) [] x y e = absurd (omega (arith, ap length e))
+same_ends {A = A} (z ∷ xs) (w ∷ ys) x y e =
     let one : z ≡ w = cc in
     let rest : xs ++ x ∷ [] ≡ ys ++ y ∷ [] = cc in
-    ap₂ (λ (a : A) (l : List A). a ∷ l) one (same_front xs ys x y rest)
-
-pub same_last : {A : Type 0} (xs ys : List A) (x y : A) → xs ++ x ∷ [] ≡ ys ++ y ∷ [] → x ≡ y
-same_last [] [] x y e = cc
-same_last [] (z ∷ []) x y e = absurd (omega (arith, ap length e))
-same_last [] (z ∷ w ∷ ys) x y e = absurd (omega (arith, ap length e))
-same_last (z ∷ []) [] x y e = absurd (omega (arith, ap length e))
-same_last (z ∷ w ∷ xs) [] x y e = absurd (omega (arith, ap length e))
-same_last (z ∷ xs) (w ∷ ys) x y e = let rest : xs ++ x ∷ [] ≡ ys ++ y ∷ [] = cc in same_last xs ys x y rest
+    let both : (xs ≡ ys) × (x ≡ y) = same_ends xs ys x y rest in
+    (ap₂ (λ (a : A) (l : List A). a ∷ l) one both.0, both.1)
 
 -- the item behind the first ones
 pub behind_front : {A : Type 0} (xs ys : List A) (x : A) → slice_get (xs ++ x ∷ ys) (length xs) ≡ Some x

@@ -21,7 +21,7 @@ use Rattle.journal_reader.specs.Journals.{AreDifferent, IsJournal, IsOther}
 use Rattle.journal_reader.specs.Laws.{NoneRefused, OneRefusal}
 use Rattle.journal_reader.specs.Reading.{Reading, nothing_read, GoesOn, LeadTo, with_feed, with_feeds}
 use Rattle.journal_reader.proofs.Leading.{entry_lines, feeds_both, led_on, machine_feeds, machine_leads, reading_of}
-use Rattle.journal_reader.proofs.Lists.{same_front, same_last}
+use Rattle.journal_reader.proofs.Lists.{same_ends}
 use Rattle.journal_reader.proofs.Unique.{fits}
 
 -- ---- journals' text leads to them
@@ -127,8 +127,8 @@ module _ (names : NamesAreSpelledBack) (heads : OneHead) (steps : OneStep) (scri
   one_on before one other line (inr a) (inl b) = absurd (omega (arith, a.some_due, b.none_due))
   one_on before one other line (inr a) (inr b) =
       let both : a.front ++ a.last ∷ [] ≡ b.front ++ b.last ∷ [] = sym a.here ∙ b.here in
-      let front : a.front ≡ b.front = same_front a.front b.front a.last b.last both in
-      let last : a.last ≡ b.last = same_last a.front b.front a.last b.last both in
+      let front : a.front ≡ b.front = (same_ends a.front b.front a.last b.last both).0 in
+      let last : a.last ≡ b.last = (same_ends a.front b.front a.last b.last both).1 in
       let more : a.more ≡ b.more = omega (arith, a.some_due, b.some_due) in
       let says : IsStep (length a.last.history + 1) line b.entry = subst (λ (j : Journal). IsStep (length j.history + 1) line b.entry) (sym last) b.says in
       let entry : a.entry ≡ b.entry = steps (length a.last.history + 1) line a.entry b.entry a.says says in

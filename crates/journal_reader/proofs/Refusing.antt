@@ -25,7 +25,7 @@ use Rattle.journal_reader.specs.Judging.{AreAllowed}
 use Rattle.journal_reader.specs.Next.{IsNewHead, IsRead, IsNext, IsRefusedNext}
 use Rattle.journal_reader.specs.Reading.{Reading, nothing_read, GoesOn, LeadTo, Refuses, IsRefusedAt, IsRefusedBehind, with_feeds}
 use Rattle.journal_reader.proofs.Leading.{reading_of, entry_lines, entry_count, machine_leads, machine_feeds, led_on, feeds_both}
-use Rattle.journal_reader.proofs.Lists.{same_last, parts_at, some_at, map_at, map_take, take_size, take_all, all_take, all_at}
+use Rattle.journal_reader.proofs.Lists.{same_ends, parts_at, some_at, map_at, map_take, take_size, take_all, all_take, all_at}
 use Rattle.journal_reader.proofs.Sorting.{KeptFirst, kept_first}
 
 -- ---- a machine's line
@@ -50,9 +50,15 @@ next_refused scripts before old l number refused = record {
 
 -- ---- the line of an entry
 
+-- the journal that goes on has this history
+last_history : (before front : List Journal) (m : List ℕ) (h : List Placed) (last : Journal) → before ++ record { machine = m; history = h } ∷ [] ≡ front ++ last ∷ [] → h ≡ last.history
+last_history before front m h last here = ap (λ (j : Journal). j.history) (same_ends before front (record { machine = m; history = h }) last here).1
+
 -- the text of a line that goes on
-entry_text_of : (rest line next : List ℕ) (step : ℕ) (p : Placed) → rest ≡ line ++ 10 ∷ next → line ++ 10 ∷ [] ≡ entry_line step p → rest ≡ entry_line step p ++ next
-entry_text_of rest line next step p split text = split ∙ sym (append_assoc line (10 ∷ []) next) ∙ ap (λ (l : List ℕ). l ++ next) text
+entry_text_of : (rest line next : List ℕ) (h l : List Placed) (p : Placed) → h ≡ l → rest ≡ line ++ 10 ∷ next → line ++ 10 ∷ [] ≡ entry_line (length l + 1) p → rest ≡ entry_line (length h + 1) p ++ next
+entry_text_of rest line next h l p same split text =
+    split ∙ sym (append_assoc line (10 ∷ []) next)
+    ∙ ap (λ (t : List ℕ). t ++ next) (text ∙ ap (λ (k : List Placed). entry_line (length k + 1) p) (sym same))
 
 module _ (names : NamesAreSpelledBack) (numbers : NumbersAreSpelled) (one : IsOneEntry) where
   -- an entry that isn't allowed comes next
@@ -64,11 +70,8 @@ module _ (names : NamesAreSpelledBack) (numbers : NumbersAreSpelled) (one : IsOn
       no_line : (bytes next : List ℕ) (after : Reading) → rest ≡ bytes ++ 10 ∷ next → ¬ GoesOn scripts (reading_of before m h (suc due)) bytes after
       no_line bytes next after split (inl a) = omega (arith, a.none_due)
       no_line bytes next after split (inr a) =
-          let last : ◌≡◌ {A = Journal} (record { machine = m; history = h }) a.last = same_last before a.front _ a.last a.here in
-          let history : h ≡ a.last.history = ap (λ (j : Journal). j.history) last in
-          let size : length a.last.history + 1 ≡ length h + 1 = ap (λ (l : List Placed). length l + 1) (sym history) in
-          let text : rest ≡ entry_line (length h + 1) a.entry ++ next =
-          entry_text_of rest bytes next (length h + 1) a.entry split (a.says.text ∙ ap (λ (n : ℕ). entry_line n a.entry) size) in
+          let history : h ≡ a.last.history = last_history before a.front m h a.last a.here in
+          let text : rest ≡ entry_line (length h + 1) a.entry ++ next = entry_text_of rest bytes next h a.last.history a.entry history split a.says.text in
           let same : SameStep p a.entry more next =
           one_step names numbers one (length h + 1) p a.entry more next line.author a.says.author line.entry a.says.entry (sym is ∙ text) in
           never (subst (λ (q : Placed). Allowed (entries_of h) q.entry) (sym same.entry_is) (subst (λ (l : List Placed). Allowed (entries_of l) a.entry.entry) (sym history) a.allowed))
@@ -81,12 +84,10 @@ none_refused scripts before m h due rest none = record { no_line = no_line; no_e
     no_line : (bytes next : List ℕ) (after : Reading) → rest ≡ bytes ++ 10 ∷ next → ¬ GoesOn scripts (reading_of before m h (suc due)) bytes after
     no_line bytes next after split (inl a) = omega (arith, a.none_due)
     no_line bytes next after split (inr a) =
-        let last : ◌≡◌ {A = Journal} (record { machine = m; history = h }) a.last = same_last before a.front _ a.last a.here in
-        let history : h ≡ a.last.history = ap (λ (j : Journal). j.history) last in
-        let size : length a.last.history + 1 ≡ length h + 1 = ap (λ (l : List Placed). length l + 1) (sym history) in
+        let history : h ≡ a.last.history = last_history before a.front m h a.last a.here in
         none a.entry next (record { author = a.says.author; entry = a.says.entry })
         (subst (λ (l : List Placed). MayCome scripts l a.entry) (sym history) a.may)
-        (entry_text_of rest bytes next (length h + 1) a.entry split (a.says.text ∙ ap (λ (n : ℕ). entry_line n a.entry) size))
+        (entry_text_of rest bytes next h a.last.history a.entry history split a.says.text)
 
 -- ---- a journal
 

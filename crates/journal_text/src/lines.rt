@@ -1,26 +1,27 @@
 //! The lines of a journal.
-ghost use Rattle.std.specs.Prelude.{◌≡◌, ◌∷◌, ◌++◌, OnOk, decimal};
+ghost use Rattle.std.specs.Prelude.{◌≡◌, ◌∷◌, ◌++◌, OnOk, decimal, length};
 ghost use Rattle.journal_text.specs.Journals.{author_word, entry_line, head_line};
 
 use crate::NoMemory;
 use history_model::{Author, Placed};
-use line_text::{Name, put_name, put_u64};
+use line_text::{put_name, put_u64};
+use machine_state::MachineState;
 use std::alloc::Global;
 use track_entry::put_entry;
 
-// Appends the line of a machine with so many entries.
+// Appends the line of a machine.
 pub(crate) fn put_head(
     alloc: Global,
     out: &mut Vec<u8>,
-    machine: &Name,
-    count: u64,
+    track: &MachineState,
 ) -> Result<(), NoMemory>
-    ensures { OnOk result (out.new.items ≡ out.old.items ++ head_line machine.now count) }
+    ensures { OnOk result (out.new.items
+        ≡ out.old.items ++ head_line track.now.machine (length track.now.history)) }
 {
     out.extend_from_slice(b"machine ")?;
-    put_name(alloc, out, machine)?;
+    put_name(alloc, out, track.machine())?;
     out.extend_from_slice(b" steps ")?;
-    put_u64(alloc, out, count)?;
+    put_u64(alloc, out, track.len())?;
     out.push(b'\n')?;
     Ok(())
 }

@@ -32,7 +32,7 @@ fn write_journal<O: Sink>(alloc: Global, track: &MachineState, out: &mut O) -> R
     ensures { Writes O.Sink out.old out.new (journal_text track.now) result }
 {
     let mut text = Vec::new(alloc);
-    put_head(alloc, &mut text, track.machine(), track.len())?;
+    put_head(alloc, &mut text, track)?;
     let mut step = 0;
     while step < track.len() {
         step += 1;

@@ -1,5 +1,5 @@
 //! Replies, compared with a transcript.
-ghost use Rattle.std.specs.Prelude.{◌≡◌, ◌≢◌, ◌<◌, ◌^◌, ◌∷◌, ◌++◌, ℕ, List, All, IfOk, IfSome, IfNone, drop, false, length, true};
+ghost use Rattle.std.specs.Prelude.{◌≡◌, ◌≢◌, ◌<◌, ◌^◌, ◌++◌, ℕ, List, IfOk, IfSome, IfNone, drop, false, length, true};
 ghost use Rattle.reply_text.specs.Replies.{text_of};
 ghost use Rattle.reply_laws.specs.Kinds.{Names, asks_only, tells_by_letter};
 ghost use Rattle.track_model.specs.Outcomes.{refuses};
@@ -7,6 +7,7 @@ ghost use Rattle.track_model.specs.Replies as replies;
 ghost use Rattle.play_audit.specs.Texts.{BeginsWith};
 
 use crate::NoMemory;
+use journal_lines::first_word;
 use line_text::read_u64;
 use reply_text::put_reply;
 use request_model::{Answer, Refusal, Reply, Request};
@@ -106,31 +107,6 @@ pub(crate) fn first_named(transcript: &[u8]) -> Option<Named>
         step,
         letter: *letter,
     })
-}
-
-// Bytes parted at their first space.
-#[derive(Drop)]
-struct Parts<'a> {
-    word: &'a [u8],
-    rest: &'a [u8],
-}
-
-// The bytes before the first space, and those behind it; none exactly where there is no space.
-fn first_word<'a>(bytes: &'a [u8]) -> Option<Parts<'a>>
-    ensures some { IfSome result (λ parts.
-        bytes.now ≡ parts.word.now ++ 32 ∷ parts.rest.now) }
-    ensures first { IfSome result (λ parts. All (λ b. b ≢ 32) parts.word.now) }
-    ensures none { IfNone result (All (λ b. b ≢ 32) bytes.now) }
-{
-    for (i, byte) in bytes.iter().enumerate() {
-        if *byte == b' ' {
-            return Some(Parts {
-                word: &bytes[..i],
-                rest: &bytes[i + 1..],
-            });
-        }
-    }
-    None
 }
 
 // Whether an answer that begins with this byte tells of no new entry.

@@ -11,7 +11,7 @@ use Rattle.play_fits.specs.Passes.{Sight, journal_of, count_of, IsMadeBy, SeesMo
 use Rattle.request_model.specs.declared.replies.Reply.{Reply}
 use Rattle.request_words.specs.Bodies.{Item}
 use Rattle.request_model.specs.Requests.{machine_of}
-use Rattle.play_model.specs.Replies.{is_of_history, IsReplyWhere}
+use Rattle.play_model.specs.Replies.{Adds, is_of_history, IsReplyWhere}
 use Rattle.play_model.proofs.Replies.{replies-stay, adds-stay}
 use Rattle.play_fits.specs.Scripts.{IsAnswer, Exchange, known_after, IsAdded}
 use Rattle.play_fits.specs.Workers.{Crew, MayAdd}
@@ -74,6 +74,12 @@ whole log w = record { seen = log; mark = w.sight.mark }
 sees-whole : (crew : Crew) (log : List ℕ → List (Marked Placed)) (w : Joined) → GoesOn crew log w → SeesMore w.sight (whole log w)
 sees-whole crew log w goes = record { marks = λ m. refl; more = goes.rest; seen = goes.seen }
 
+-- what a request added is so in another journal too, if the request adds it there
+added-in : (author : Author) (m : List ℕ) (j k : List Placed) (had has : ℕ) (xs : List Exchange) (place : ℕ) (a : IsAdded author m j had xs place)
+    → Adds author k (known_after has m (take a.before xs)) a.request a.exchange.reply → IsAdded author m k has xs place
+added-in author m j k had has xs place a adds =
+    record { before = a.before; exchange = a.exchange; here = a.here; request = a.request; asked = a.asked; about = a.about; adds = adds; its_step = a.its_step }
+
 pub seen-parts-fit : (crew : Crew) (machines : List (List ℕ)) (kept : List ℕ → List Placed) (log : List ℕ → List (Marked Placed)) (parts : List Joined) (w : Joined) (before : Sight) (xs : List Exchange)
     → AreAll crew kept log parts → Contains parts w → w.author ≢ author.Kept → ((m : List ℕ) → count_of before m ≡ count_in kept m) → IsSeenPart w.author machines before xs w.sight
     → FitsIn w.author machines (journals_of log) (count_in kept) xs
@@ -87,18 +93,10 @@ seen-parts-fit crew machines kept log parts w before xs all one new counts part 
       own = λ m place e declared is.
           let made : (count_in kept m ≤ place) × IsMadeBy w.sight m place (record { author = w.author; entry = e }) = made-by crew kept log parts w all one new m place (record { author = w.author; entry = e }) refl is in
           let added : IsAdded w.author m (journal_of w.sight m) (count_of before m) xs place = part.made m place (record { author = w.author; entry = e }) (omega (arith, made.0, counts m)) made.1 in
-          record {
-            before = added.before;
-            exchange = added.exchange;
-            here = added.here;
-            request = added.request;
-            asked = added.asked;
-            about = added.about;
-            adds = adds-later w.author w.sight (whole log w) sees m (known_after (count_of before m) m (take added.before xs)) (known_after (count_in kept m) m (take added.before xs))
-                (let same : known_after (count_of before m) m (take added.before xs) ≡ known_after (count_in kept m) m (take added.before xs) = ap (λ k. known_after k m (take added.before xs)) (counts m) in omega (arith, same))
-                added.request added.exchange.reply added.adds;
-            its_step = added.its_step;
-          };
+          added-in w.author m (journal_of w.sight m) (journals_of log m) (count_of before m) (count_in kept m) xs place added
+          (adds-later w.author w.sight (whole log w) sees m (known_after (count_of before m) m (take added.before xs)) (known_after (count_in kept m) m (take added.before xs))
+          (let same : known_after (count_of before m) m (take added.before xs) ≡ known_after (count_in kept m) m (take added.before xs) = ap (λ k. known_after k m (take added.before xs)) (counts m) in omega (arith, same))
+          added.request added.exchange.reply added.adds);
     }
 
 -- ---- authors
@@ -145,15 +143,7 @@ parts-stay author machines journal more kept xs others fits =
           by-order place (length (journal m))
           (λ within.
           let added : IsAdded author m (journal m) (kept m) xs place = fits.own m place e declared (sym (stays-before (journal m) (more m) place within) ∙ is) in
-          record {
-            before = added.before;
-            exchange = added.exchange;
-            here = added.here;
-            request = added.request;
-            asked = added.asked;
-            about = added.about;
-            adds = adds-stay author (journal m) (more m) (known_after (kept m) m (take added.before xs)) added.request added.exchange.reply added.adds;
-            its_step = added.its_step;
-          })
+          added-in author m (journal m) (longer journal more m) (kept m) (kept m) xs place added
+          (adds-stay author (journal m) (more m) (known_after (kept m) m (take added.before xs)) added.request added.exchange.reply added.adds))
           (λ behind. absurd (others m (place - length (journal m)) (record { author = author; entry = e }) (stands-behind (journal m) (more m) place (record { author = author; entry = e }) behind is) refl));
     }

@@ -76,25 +76,22 @@ pub fn work_at_once<R: Threads + Wait + Sync, W: Worker<R, T> + Send, T: Send>(
     requires { AllCanWork W.can_work workers.old tools.old }
     ensures { AllWorked W.work_gives workers.old tools.old workers.new tools.new }
 {
-    let Some((worker, rest)) = workers.split_first_mut() else {
-        return;
-    };
-    let Some((tool, others)) = tools.split_first_mut() else {
-        unreachable!()
-    };
-    join_mut(
-        rt,
-        &mut ||
-            requires { W.can_work worker.now tool.now }
-            ensures { W.work_gives worker.entry.now tool.entry.now worker.exit.now tool.exit.now }
-        { worker.work(rt, tool) },
-        &mut ||
-            requires shared { IsSync R.row }
-            requires work { AllCanWork W.can_work rest.now others.now }
-            ensures { AllWorked W.work_gives rest.entry.now others.entry.now
-                rest.exit.now others.exit.now }
-        { work_at_once(rt, rest, others) },
-    );
+    run_with_workers::<R, Idle, Idle, W, T, _>(rt, &|| {}, &mut [], &mut [], workers, tools);
+}
+
+// A job that does nothing.
+#[derive(Drop)]
+struct Idle;
+
+impl<R> Job<R> for Idle {
+    ghost can_run = { λ job. Unit };
+
+    ghost comes_to = { λ old new. Unit };
+
+    fn run(&mut self, _: &R)
+    where
+        R: Wait,
+    {}
 }
 
 /// As [`run_with_helpers`], with workers beside the helpers, each of which is lent the tool in its place.
