@@ -7,12 +7,4 @@
 #![tactic(auto)]
 
 #[cfg(test)]
-mod of_go_bench_text;
-#[cfg(test)]
-mod of_json_text;
-#[cfg(test)]
-mod of_lnt_report;
-#[cfg(test)]
-mod of_report_pages;
-#[cfg(test)]
-mod tree_text;
+mod tests;

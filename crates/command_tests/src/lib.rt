@@ -7,34 +7,4 @@
 #![tactic(auto)]
 
 #[cfg(test)]
-mod closed;
-#[cfg(test)]
-mod cutting;
-#[cfg(test)]
-mod drip;
-#[cfg(test)]
-mod failing;
-#[cfg(test)]
-mod following;
-#[cfg(test)]
-mod limits;
-#[cfg(test)]
-mod older;
-#[cfg(test)]
-mod paths;
-#[cfg(test)]
-mod publications;
-#[cfg(test)]
-mod run;
-#[cfg(test)]
-mod scripts;
-#[cfg(test)]
-mod stated_calls;
-#[cfg(test)]
-mod stores;
-#[cfg(test)]
-mod texts;
-#[cfg(test)]
-mod too_long;
-#[cfg(test)]
-mod trials;
+mod tests;

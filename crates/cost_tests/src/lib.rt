@@ -6,20 +6,4 @@
 #![tactic(auto)]
 
 #[cfg(test)]
-mod given;
-#[cfg(test)]
-mod of_absolute_cost;
-#[cfg(test)]
-mod of_absolute_cut;
-#[cfg(test)]
-mod of_change_list;
-#[cfg(test)]
-mod of_part_core;
-#[cfg(test)]
-mod of_pelt_core;
-#[cfg(test)]
-mod of_penalty_path;
-#[cfg(test)]
-mod of_point_list;
-#[cfg(test)]
-mod of_segment_cost;
+mod tests;

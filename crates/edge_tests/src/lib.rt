@@ -7,12 +7,4 @@
 #![tactic(auto)]
 
 #[cfg(test)]
-mod of_command_words;
-#[cfg(test)]
-mod of_history_lock;
-#[cfg(test)]
-mod of_side_by_side;
-#[cfg(test)]
-mod of_store_rows;
-#[cfg(test)]
-mod of_track_outside;
+mod tests;

@@ -20,8 +20,8 @@ const FOUND: Outcome = Outcome::Found { lo: 5, hi: 6 };
 
 const FIRST: Outcome = Outcome::Found { lo: 0, hi: 1 };
 
-/// Neighbours among nine commits; what ends a bisection and keeps its ends; each other status is bad; two commits.
-const CASES: [Case; 10] = [
+/// Neighbours among nine commits; a commit that is given up, which ends a bisection and keeps its ends; two commits.
+const CASES: [Case; 3] = [
     (
         &[0, 1, 2, 3, 4, 5, 6, 7, 8],
         &[
@@ -37,78 +37,17 @@ const CASES: [Case; 10] = [
     ),
     (
         FIVE,
-        &[(
-            2,
-            Some(125),
-            Answered::Ok,
-            Outcome::Undecided {
-                place: 2,
-                status: 125,
-            },
-        )],
-        (0, 10, 50),
-        Some(30),
-    ),
-    (
-        FIVE,
-        &[(
-            2,
-            Some(128),
-            Answered::Ok,
-            Outcome::Undecided {
-                place: 2,
-                status: 128,
-            },
-        )],
-        (0, 10, 50),
-        Some(30),
-    ),
-    (
-        FIVE,
-        &[(
-            2,
-            Some(255),
-            Answered::Ok,
-            Outcome::Undecided {
-                place: 2,
-                status: 255,
-            },
-        )],
-        (0, 10, 50),
-        Some(30),
-    ),
-    (
-        FIVE,
         &[(2, None, Answered::Ok, Outcome::Faulted { place: 2 })],
         (0, 10, 50),
         Some(30),
     ),
-    (
-        THREE,
-        &[(1, Some(1), Answered::Ok, FIRST)],
-        (1, 10, 20),
-        None,
-    ),
-    (
-        THREE,
-        &[(1, Some(124), Answered::Ok, FIRST)],
-        (1, 10, 20),
-        None,
-    ),
-    (
-        THREE,
-        &[(1, Some(126), Answered::Ok, FIRST)],
-        (1, 10, 20),
-        None,
-    ),
-    (
-        THREE,
-        &[(1, Some(127), Answered::Ok, FIRST)],
-        (1, 10, 20),
-        None,
-    ),
     (&[7, 9], &[], (0, 7, 9), None),
 ];
+
+/// Statuses that leave a commit undecided, which ends a bisection and keeps its ends; and those by which it is bad.
+const UNDECIDED: [u8; 3] = [125, 128, 255];
+
+const BAD: [u8; 4] = [1, 124, 126, 127];
 
 /// Whether the commits rise.
 pub fn is_rising(commits: &[u64]) -> bool
@@ -159,9 +98,28 @@ fn goes(alloc: Global, case: &Case) -> bool {
     }
 }
 
+// Whether the middle one of five commits is undecided by this status.
+fn is_undecided(alloc: Global, status: u8) -> bool {
+    let outcome = Outcome::Undecided { place: 2, status };
+    let turns = [(2, Some(status), Answered::Ok, outcome)];
+    goes(alloc, &(FIVE, &turns, (0, 10, 50), Some(30)))
+}
+
+// Whether the middle one of three is bad by it.
+fn is_bad(alloc: Global, status: u8) -> bool {
+    let turns = [(1, Some(status), Answered::Ok, FIRST)];
+    goes(alloc, &(THREE, &turns, (1, 10, 20), None))
+}
+
 #[test]
 fn bisections_go_by_their_turns(rt: HostRuntime) {
     for (row, case) in CASES.iter().enumerate() {
         assert!(rt; goes(rt.alloc(), case), "row {row}");
+    }
+    for status in &UNDECIDED {
+        assert!(rt; is_undecided(rt.alloc(), *status), "status {status}");
+    }
+    for status in &BAD {
+        assert!(rt; is_bad(rt.alloc(), *status), "status {status}");
     }
 }

@@ -2,6 +2,7 @@
 use path_command::{PathEnd, path_points};
 use std::alloc::Global;
 use std::test::Fail;
+use test_supplies::{PATH_OF_FOUR, PATH_OF_NONE, PATH_OF_TEN};
 use track_outside::{MemSink, MemSource};
 
 /// The least and the greatest penalty, the input, how it ends, and what it prints.
@@ -13,34 +14,16 @@ const ROWS: [Row; 7] = [
         120,
         "1 0\n2 0\n3 10\n4 10\n",
         PathEnd::Done,
-        "stretches 2\n\
-        stretch 0 99\n\
-        points 4\npenalty 0\ncuts 2\ntotal 0\nleast 0 0 0 0 0\nback 0 0 0 2 2\npruned 3 3 0 0 0\n\
-        points 4\npenalty 99\ncuts 2\ntotal 99\nleast -99 0 0 67 99\nback 0 0 0 0 2\npruned 0 0 0 0 0\n\
-        stretch 100 120\n\
-        points 4\npenalty 100\ncuts\ntotal 100\nleast -100 0 0 67 100\nback 0 0 0 0 0\npruned 0 0 0 0 0\n\
-        points 4\npenalty 120\ncuts\ntotal 100\nleast -120 0 0 67 100\nback 0 0 0 0 0\npruned 0 0 0 0 0\n",
+        PATH_OF_FOUR,
     ),
     (
         8,
         8,
         "1 0\n2 0\n3 4\n4 4\n5 2\n6 2\n7 2\n8 2\n9 2\n10 2\n",
         PathEnd::Done,
-        "stretches 1\n\
-        stretch 8 8\n\
-        points 10\npenalty 8\ncuts\ntotal 16\n\
-        least -8 0 0 8 8 11 12 13 14 15 16\nback 0 0 0 2 2 2 2 2 2 2 0\npruned 0 4 0 0 0 0 0 0 0 0 0\n",
+        PATH_OF_TEN,
     ),
-    (
-        5,
-        9,
-        "",
-        PathEnd::Done,
-        "stretches 1\n\
-        stretch 5 9\n\
-        points 0\npenalty 5\ncuts\ntotal 0\nleast -5\nback 0\npruned 0\n\
-        points 0\npenalty 9\ncuts\ntotal 0\nleast -9\nback 0\npruned 0\n",
-    ),
+    (5, 9, "", PathEnd::Done, PATH_OF_NONE),
     (
         5,
         5,

@@ -6,18 +6,4 @@
 #![tactic(auto)]
 
 #[cfg(test)]
-mod audits;
-#[cfg(test)]
-mod closes;
-#[cfg(test)]
-mod hunts;
-#[cfg(test)]
-mod long;
-#[cfg(test)]
-mod real;
-#[cfg(test)]
-mod run;
-#[cfg(test)]
-mod runs;
-#[cfg(test)]
-mod workers;
+mod tests;

@@ -10,14 +10,4 @@
 #![tactic(auto)]
 
 #[cfg(test)]
-mod of_bodies;
-#[cfg(test)]
-mod of_histories;
-#[cfg(test)]
-mod of_outside;
-#[cfg(test)]
-mod of_scripts;
-#[cfg(test)]
-mod of_segmentation;
-#[cfg(test)]
-mod of_texts;
+mod tests;

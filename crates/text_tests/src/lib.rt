@@ -7,20 +7,4 @@
 #![tactic(auto)]
 
 #[cfg(test)]
-mod of_fixed_value;
-#[cfg(test)]
-mod of_line_text;
-#[cfg(test)]
-mod of_metric_table;
-#[cfg(test)]
-mod of_metric_value;
-#[cfg(test)]
-mod of_regression_state;
-#[cfg(test)]
-mod of_reply_text;
-#[cfg(test)]
-mod of_request_text;
-#[cfg(test)]
-mod of_series_gen;
-#[cfg(test)]
-mod of_track_entry;
+mod tests;

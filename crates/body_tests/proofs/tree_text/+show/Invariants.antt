@@ -1,4 +1,0 @@
-use Rattle.body_tests.proofs.tree_text.+show.Given as goal
-
-abbrev pub decreases-show : goal.decreases-show
-decreases-show l = l.depth
