@@ -10,7 +10,7 @@ ghost use Rattle.bisect_core.specs.declared.outcome.Answered.TheVariants as answ
 
 use crate::outcome::{Answered, BadRange, Outcome};
 use crate::progress::{Progress, outcome_between};
-use line_text::{NoMemory, Numbers};
+use line_text::{Duplicate, NoMemory, Numbers};
 use std::alloc::Global;
 use std::marker::Model;
 
@@ -18,7 +18,7 @@ use std::marker::Model;
 ///
 /// Contracts see where it stands. While it is open it keeps its list; a closed one has let the list go, and keeps the
 /// commits of its ends and of the place that ended it.
-#[derive(Drop)]
+#[derive(Clone, Drop)]
 pub struct Job {
     commits: Option<Numbers>,
     progress: Progress,
@@ -186,20 +186,6 @@ impl Job {
         Answered::Ok
     }
 
-    /// An equal bisection of its own. Linear in the number of its commits.
-    pub fn copy(&self, alloc: Global) -> Result<Job, NoMemory>
-        ensures { IfOk result (λ made. made ≡ self.now) }
-    {
-        let commits = match &self.commits {
-            Some(commits) => Some(commits.copy(alloc)?),
-            None => None,
-        };
-        Ok(Job {
-            commits,
-            progress: self.progress,
-        })
-    }
-
     // Goes on from where an answer leads; a closed job lets its list go.
     fn go_on(&mut self, progress: Progress)
         requires { IsSound (seen (kept_by self.old.commits progress.outcome) progress) }
@@ -208,6 +194,13 @@ impl Job {
         let commits = self.commits.take();
         self.commits = kept_while_open(commits, progress.outcome);
         self.progress = progress;
+    }
+}
+
+/// An equal bisection of its own. Linear in the number of its commits.
+impl Duplicate for Job {
+    fn copy(&self, _alloc: Global) -> Result<Job, NoMemory> {
+        self.clone()
     }
 }
 

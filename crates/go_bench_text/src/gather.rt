@@ -8,7 +8,7 @@ use crate::fault::LineFault;
 use crate::line::head_of;
 use crate::pairs::{Pair, Pairs, read_pairs};
 use crate::sample::{shared_name, test_fits, test_name};
-use line_text::{Name, Names};
+use line_text::{Duplicate, Name, Names};
 use metric_table::Limit;
 use sample_model::{NoMemory, Sample, Samples};
 use std::alloc::Global;

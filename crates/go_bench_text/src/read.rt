@@ -14,7 +14,7 @@ use crate::fault::LineFault;
 use crate::gather::{Gathered, add_measured};
 use crate::line::{begins, first_line};
 use crate::pairs::Pairs;
-use line_text::Names;
+use line_text::{Duplicate, Names};
 use metric_table::Limit;
 use metric_value::value_law;
 use sample_model::{NoMemory, Samples};
@@ -29,7 +29,7 @@ const FEW: usize = 64;
 const MANY: usize = 4_096;
 
 /// What a text of benchmark output has.
-#[derive(Debug, Drop)]
+#[derive(Clone, Debug, Drop)]
 pub struct GoRun {
     /// The samples, in order of the text.
     pub samples: Samples,
@@ -37,15 +37,10 @@ pub struct GoRun {
     pub ignored: u64,
 }
 
-impl GoRun {
-    /// An equal run of its own. Linear in the number of samples.
-    pub fn copy(&self, alloc: Global) -> Result<GoRun, NoMemory>
-        ensures { IfOk result (λ made. made ≡ self.now) }
-    {
-        Ok(GoRun {
-            samples: self.samples.copy(alloc)?,
-            ignored: self.ignored,
-        })
+/// An equal run of its own. Linear in the number of samples.
+impl Duplicate for GoRun {
+    fn copy(&self, _alloc: Global) -> Result<GoRun, NoMemory> {
+        self.clone()
     }
 }
 

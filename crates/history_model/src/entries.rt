@@ -1,11 +1,10 @@
 //! The kinds of entries of a history, who made them, and what is read from them.
-ghost use Rattle.std.specs.Prelude.{◌≡◌, IfOk};
 
 use crate::NoMemory;
 use crate::events::{JobEvent, RegressionEvent};
 use crate::publication::Publication;
 use crate::run::Run;
-use line_text::{Boxed, Name};
+use line_text::{Boxed, Duplicate, Name};
 use std::alloc::Global;
 
 /// Who made an entry.
@@ -22,7 +21,7 @@ pub enum Author {
 }
 
 /// What a machine's history is made of.
-#[derive(Debug, Drop)]
+#[derive(Clone, Debug, Drop)]
 pub enum Entry {
     /// A commit was declared, with its number in the order of commits.
     Commit {
@@ -57,57 +56,15 @@ pub enum Entry {
     },
 }
 
-impl Entry {
-    /// An equal entry of its own. Linear in the number of a run's samples and of a publication's cuts, else constant time.
-    pub fn copy(&self, alloc: Global) -> Result<Entry, NoMemory>
-        ensures { IfOk result (λ made. made ≡ self.now) }
-    {
-        match self {
-            Entry::Commit { number, name } => {
-                let number = *number;
-                let name = name.copy(alloc)?;
-                Ok(Entry::Commit { number, name })
-            }
-            Entry::Accept { run } => {
-                let run = run.copy(alloc)?;
-                Ok(Entry::Accept { run })
-            }
-            Entry::Retract { run } => {
-                let run = run.copy(alloc)?;
-                Ok(Entry::Retract { run })
-            }
-            Entry::Tune {
-                metric,
-                penalty,
-                length,
-            } => {
-                let metric = metric.copy(alloc)?;
-                let penalty = Boxed::new(alloc, *penalty.get())?;
-                let length = *length;
-                Ok(Entry::Tune {
-                    metric,
-                    penalty,
-                    length,
-                })
-            }
-            Entry::Publish { publication } => {
-                let publication = Boxed::new(alloc, publication.get().copy(alloc)?)?;
-                Ok(Entry::Publish { publication })
-            }
-            Entry::Regression { event } => {
-                let event = event.copy(alloc)?;
-                Ok(Entry::Regression { event })
-            }
-            Entry::Job { event } => {
-                let event = *event;
-                Ok(Entry::Job { event })
-            }
-        }
+/// An equal entry of its own. Linear in the number of a run's samples and of a publication's cuts, else constant time.
+impl Duplicate for Entry {
+    fn copy(&self, _alloc: Global) -> Result<Entry, NoMemory> {
+        self.clone()
     }
 }
 
 /// An entry with its author.
-#[derive(Debug, Drop)]
+#[derive(Clone, Debug, Drop)]
 pub struct Placed {
     /// Who made it.
     pub author: Author,
@@ -115,20 +72,15 @@ pub struct Placed {
     pub entry: Entry,
 }
 
-impl Placed {
-    /// An equal one of its own, in the time that the copy of its entry takes.
-    pub fn copy(&self, alloc: Global) -> Result<Placed, NoMemory>
-        ensures { IfOk result (λ made. made ≡ self.now) }
-    {
-        Ok(Placed {
-            author: self.author,
-            entry: self.entry.copy(alloc)?,
-        })
+/// An equal one of its own, in the time that the copy of its entry takes.
+impl Duplicate for Placed {
+    fn copy(&self, _alloc: Global) -> Result<Placed, NoMemory> {
+        self.clone()
     }
 }
 
 /// A commit, with the step at which it was declared.
-#[derive(Debug, Drop)]
+#[derive(Clone, Debug, Drop)]
 pub struct Declaration {
     /// The number of its entry in the history, from 1.
     pub step: u64,
@@ -138,21 +90,15 @@ pub struct Declaration {
     pub name: Name,
 }
 
-impl Declaration {
-    /// An equal one of its own. The names share their text, so it takes constant time.
-    pub fn copy(&self, alloc: Global) -> Result<Declaration, NoMemory>
-        ensures { IfOk result (λ made. made ≡ self.now) }
-    {
-        Ok(Declaration {
-            step: self.step,
-            number: self.number,
-            name: self.name.copy(alloc)?,
-        })
+/// An equal one of its own. The names share their text, so it takes constant time.
+impl Duplicate for Declaration {
+    fn copy(&self, _alloc: Global) -> Result<Declaration, NoMemory> {
+        self.clone()
     }
 }
 
 /// A run, with the step at which it was accepted.
-#[derive(Debug, Drop)]
+#[derive(Clone, Debug, Drop)]
 pub struct Acceptance {
     /// The number of its entry in the history, from 1.
     pub step: u64,
@@ -160,14 +106,9 @@ pub struct Acceptance {
     pub run: Run,
 }
 
-impl Acceptance {
-    /// An equal one of its own. Linear in the number of samples.
-    pub fn copy(&self, alloc: Global) -> Result<Acceptance, NoMemory>
-        ensures { IfOk result (λ made. made ≡ self.now) }
-    {
-        Ok(Acceptance {
-            step: self.step,
-            run: self.run.copy(alloc)?,
-        })
+/// An equal one of its own. Linear in the number of samples.
+impl Duplicate for Acceptance {
+    fn copy(&self, _alloc: Global) -> Result<Acceptance, NoMemory> {
+        self.clone()
     }
 }

@@ -1,13 +1,12 @@
 //! What becomes of a regression, and of a bisection.
-ghost use Rattle.std.specs.Prelude.{◌≡◌, IfOk};
 
 use crate::NoMemory;
-use line_text::Name;
+use line_text::{Duplicate, Name};
 use regression_state::State;
 use std::alloc::Global;
 
 /// A change of a series that was raised as a regression.
-#[derive(Debug, Drop)]
+#[derive(Clone, Debug, Drop)]
 pub struct Raised {
     /// The test of the series.
     pub test: Name,
@@ -19,22 +18,15 @@ pub struct Raised {
     pub after: u64,
 }
 
-impl Raised {
-    /// An equal one of its own. The names share their text, so it takes constant time.
-    pub fn copy(&self, alloc: Global) -> Result<Raised, NoMemory>
-        ensures { IfOk result (λ made. made ≡ self.now) }
-    {
-        Ok(Raised {
-            test: self.test.copy(alloc)?,
-            metric: self.metric.copy(alloc)?,
-            before: self.before,
-            after: self.after,
-        })
+/// An equal one of its own. The names share their text, so it takes constant time.
+impl Duplicate for Raised {
+    fn copy(&self, _alloc: Global) -> Result<Raised, NoMemory> {
+        self.clone()
     }
 }
 
 /// What becomes of a regression.
-#[derive(Debug, Drop)]
+#[derive(Clone, Debug, Drop)]
 pub enum RegressionEvent {
     /// It is raised. Regressions are numbered from 1, as they are raised.
     Raise { raised: Raised },
@@ -42,22 +34,10 @@ pub enum RegressionEvent {
     Move { regression: u64, state: State },
 }
 
-impl RegressionEvent {
-    /// An equal one of its own, in constant time.
-    pub fn copy(&self, alloc: Global) -> Result<RegressionEvent, NoMemory>
-        ensures { IfOk result (λ made. made ≡ self.now) }
-    {
-        match self {
-            RegressionEvent::Raise { raised } => {
-                let raised = raised.copy(alloc)?;
-                Ok(RegressionEvent::Raise { raised })
-            }
-            RegressionEvent::Move { regression, state } => {
-                let regression = *regression;
-                let state = *state;
-                Ok(RegressionEvent::Move { regression, state })
-            }
-        }
+/// An equal one of its own, in constant time.
+impl Duplicate for RegressionEvent {
+    fn copy(&self, _alloc: Global) -> Result<RegressionEvent, NoMemory> {
+        self.clone()
     }
 }
 

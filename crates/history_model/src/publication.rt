@@ -1,12 +1,11 @@
 //! A publication: the segmentation of a series at a version of the history.
-ghost use Rattle.std.specs.Prelude.{◌≡◌, IfOk};
 
 use crate::NoMemory;
-use line_text::{Name, Numbers};
+use line_text::{Duplicate, Name, Numbers};
 use std::alloc::Global;
 
 /// A published segmentation: of which series, of which version of the history, and what was found.
-#[derive(Debug, Drop)]
+#[derive(Clone, Debug, Drop)]
 pub struct Publication {
     /// The test of the series.
     pub test: Name,
@@ -22,18 +21,9 @@ pub struct Publication {
     pub cuts: Numbers,
 }
 
-impl Publication {
-    /// An equal publication of its own. Linear in the number of cuts.
-    pub fn copy(&self, alloc: Global) -> Result<Publication, NoMemory>
-        ensures { IfOk result (λ made. made ≡ self.now) }
-    {
-        Ok(Publication {
-            test: self.test.copy(alloc)?,
-            metric: self.metric.copy(alloc)?,
-            version: self.version,
-            base: self.base,
-            total: self.total,
-            cuts: self.cuts.copy(alloc)?,
-        })
+/// An equal publication of its own. Linear in the number of cuts.
+impl Duplicate for Publication {
+    fn copy(&self, _alloc: Global) -> Result<Publication, NoMemory> {
+        self.clone()
     }
 }

@@ -3,7 +3,7 @@ ghost use Rattle.std.specs.Prelude.{IsTrue};
 ghost use Rattle.std.specs.List.Sorted.{IsStrictlyIncreasing};
 
 use bisect_core::{Answered, Job, Outcome};
-use line_text::Numbers;
+use line_text::{Duplicate, Numbers};
 use std::alloc::Global;
 
 /// A place, its status (none: it is given up), what is answered, and the outcome then.

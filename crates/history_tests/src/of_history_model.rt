@@ -1,6 +1,6 @@
 //! Entries and what is read from a history, copied with ample memory. `submit` copies runs.
 use history_model::{Acceptance, Author, Declaration, Entry, Placed, Run};
-use line_text::{Boxed, Name};
+use line_text::{Boxed, Duplicate, Name};
 use sample_model::Samples;
 use std::alloc::Global;
 

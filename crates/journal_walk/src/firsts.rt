@@ -6,7 +6,7 @@ ghost use Rattle.journal_walk.specs.declared.firsts.SeriesVersion.{SeriesVersion
 
 use crate::NoMemory;
 use history_model::{Entry, Placed, Publication};
-use line_text::Name;
+use line_text::{Duplicate, Name};
 use std::alloc::Global;
 use std::collections::BTreeMap;
 use std::marker::Model;

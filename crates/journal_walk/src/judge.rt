@@ -5,7 +5,7 @@ use crate::laws::along_law;
 use crate::walk::Walk;
 use history_model::Placed;
 use journal_reader::Judge;
-use line_text::Name;
+use line_text::{Duplicate, Name};
 use std::alloc::Global;
 
 /// Says which entries are allowed by adding them.

@@ -15,7 +15,7 @@ use crate::ahead::Ahead;
 use crate::start::{Start, start_at};
 use crate::version::Version;
 use history_model::{Placed, Publication, Setting, publication_law};
-use line_text::Name;
+use line_text::{Duplicate, Name};
 use machine_state::MachineState;
 use point_list::{FrozenPoints, common_prefix};
 use segment_cost::Done;

@@ -4,7 +4,7 @@ ghost use Rattle.std.specs.Prelude.{◌≡◌};
 use crate::NoMemory;
 use crate::start::Start;
 use history_model::Publication;
-use line_text::Name;
+use line_text::{Duplicate, Name};
 use machine_state::MachineState;
 use std::alloc::Global;
 use std::collections::BTreeMap;

@@ -15,7 +15,7 @@ use crate::now::version_now;
 use crate::steps::publish_next;
 use crate::tables::Tables;
 use history_model::{Author, Entry, Placed};
-use line_text::Name;
+use line_text::{Duplicate, Name};
 use machine_state::MachineState;
 use request_model::{Reply, Request};
 use std::alloc::Global;

@@ -48,11 +48,18 @@ impl<T: Drop> Boxed<T> {
     }
 }
 
-impl<T: Duplicate> Boxed<T> {
-    /// An equal value in memory of its own, at the cost of the value's copy.
-    pub fn copy(&self, alloc: Global) -> Result<Boxed<T>, NoMemory>
-        ensures { IfOk result (λ made. made ≡ self.now) }
-    {
-        Boxed::new(alloc, self.get().duplicate(alloc)?)
+/// An equal value in memory of its own, at the cost of the value's clone.
+impl<T: Duplicate> Clone for Boxed<T> {
+    ghost is_clone = { λ value clone. clone ≡ value };
+
+    fn clone(&self) -> Result<Boxed<T>, NoMemory> {
+        let alloc = *Box::allocator(&self.value);
+        Boxed::new(alloc, self.get().copy(alloc)?)
+    }
+}
+
+impl<T: Duplicate> Duplicate for Boxed<T> {
+    fn copy(&self, _alloc: Global) -> Result<Boxed<T>, NoMemory> {
+        self.clone()
     }
 }

@@ -1,5 +1,5 @@
 //! Lists that contracts see as lists.
-ghost use Rattle.std.specs.Prelude.{◌≡◌, ◌↔◌, IsTrue, List, [], ◌∷◌, ◌++◌, length, OnOk, OnErr, IfOk, slice_get, option_copied};
+ghost use Rattle.std.specs.Prelude.{◌≡◌, ◌↔◌, IsTrue, List, [], ◌∷◌, ◌++◌, length, OnOk, OnErr, slice_get, option_copied};
 
 use crate::NoMemory;
 use crate::duplicate::Duplicate;
@@ -85,13 +85,19 @@ impl<T: Drop> Items<T> {
     }
 }
 
-impl<T: Duplicate> Items<T> {
-    /// An equal list of its own. Takes one block of memory and what a copy of each item takes. Linear in the length.
-    pub fn copy(&self, alloc: Global) -> Result<Items<T>, NoMemory>
-        ensures { IfOk result (λ made. made ≡ self.now) }
-    {
+/// An equal list of its own. Takes one block of memory and what a clone of each item takes. Linear in the length.
+impl<T: Duplicate> Clone for Items<T> {
+    ghost is_clone = { λ list clone. clone ≡ list };
+
+    fn clone(&self) -> Result<Items<T>, NoMemory> {
         Ok(Items {
-            items: T::duplicates(alloc, &self.items)?,
+            items: T::duplicates(*self.items.allocator(), &self.items)?,
         })
+    }
+}
+
+impl<T: Duplicate> Duplicate for Items<T> {
+    fn copy(&self, _alloc: Global) -> Result<Items<T>, NoMemory> {
+        self.clone()
     }
 }

@@ -133,7 +133,7 @@ impl Names {
         let place = self.place_of(hash);
         if let Some(free) = self.places.get_mut(place) {
             if free.is_none() {
-                *free = Some(Kept::new(name.copy(alloc)?, hash));
+                *free = Some(Kept::new(name.clone()?, hash));
             }
         }
         Ok(())
@@ -157,7 +157,7 @@ fn shared(alloc: Global, name: &Name) -> Result<Name, NameError>
     ensures same { IfOk result (λ made. made ≡ name.now) }
     ensures never_bad { result ≢ Err NameError.BadName }
 {
-    match name.copy(alloc) {
+    match name.clone() {
         Ok(made) => Ok(made),
         Err(_) => Err(NameError::NoMemory),
     }

@@ -1,14 +1,14 @@
 //! Why bytes are no LNT run that can be read.
-ghost use Rattle.std.specs.Prelude.{◌≡◌, IfOk};
+ghost use Rattle.std.specs.Prelude.{◌≡◌};
 ghost use Rattle.lnt_report.specs.declared.fault.ReportFault.TheVariants as fault;
 
 use crate::NoMemory;
-use line_text::Text;
+use line_text::{Duplicate, Text};
 use metric_table::Limit;
 use std::alloc::Global;
 
 /// Why bytes are no LNT run that can be read. Places in the bytes count from 0.
-#[derive(Debug, Drop)]
+#[derive(Clone, Debug, Drop)]
 pub enum ReportFault {
     /// The bytes are UTF-8 up to this place.
     NotText(u64),
@@ -46,25 +46,9 @@ impl From<NoMemory> for ReportFault {
     }
 }
 
-impl ReportFault {
-    /// An equal fault of its own. Linear in the length of its words.
-    pub fn copy(&self, alloc: Global) -> Result<ReportFault, NoMemory>
-        ensures { IfOk result (λ made. made ≡ self.now) }
-    {
-        match self {
-            ReportFault::NotText(place) => Ok(ReportFault::NotText(*place)),
-            ReportFault::NotJson(place) => Ok(ReportFault::NotJson(*place)),
-            ReportFault::TooDeep(place) => Ok(ReportFault::TooDeep(*place)),
-            ReportFault::NotReport { rule, member } => Ok(ReportFault::NotReport {
-                rule: *rule,
-                member: member.copy(alloc)?,
-            }),
-            ReportFault::OutOfRange { test, metric } => Ok(ReportFault::OutOfRange {
-                test: test.copy(alloc)?,
-                metric: metric.copy(alloc)?,
-            }),
-            ReportFault::Full(limit) => Ok(ReportFault::Full(*limit)),
-            ReportFault::NoMemory => Ok(ReportFault::NoMemory),
-        }
+/// An equal fault of its own. Linear in the length of its words.
+impl Duplicate for ReportFault {
+    fn copy(&self, _alloc: Global) -> Result<ReportFault, NoMemory> {
+        self.clone()
     }
 }

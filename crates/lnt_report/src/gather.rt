@@ -12,7 +12,7 @@ use crate::fault::ReportFault;
 use crate::gathered::Gathered;
 use crate::look::name_at;
 use json_text::{Json, Member, Shape};
-use line_text::{Name, NameError, Text};
+use line_text::{Duplicate, Name, NameError, Text};
 use metric_table::Limit;
 use metric_value::value_of;
 use sample_model::{Sample, Samples};

@@ -1,6 +1,6 @@
 //! What an LNT run says.
 use crate::NoMemory;
-use line_text::Name;
+use line_text::{Duplicate, Name};
 use sample_model::Samples;
 use std::alloc::Global;
 use std::marker::Model;
@@ -10,7 +10,7 @@ use std::marker::Model;
 /// Contracts see a record of the names' bytes, the list of samples and the count. The type keeps that
 /// no sample's metric is `name`: the member of that key is the test's name, so such a sample has no
 /// place in a run.
-#[derive(Debug, Drop)]
+#[derive(Clone, Debug, Drop)]
 pub struct LntRun {
     /// The machine that was measured.
     pub machine: Name,
@@ -48,16 +48,11 @@ impl LntRun {
     {
         let _ = &self.samples;
     }
+}
 
-    /// An equal run of its own. Linear in the number of samples.
-    pub fn copy(&self, alloc: Global) -> Result<LntRun, NoMemory>
-        ensures { IfOk result (λ made. made ≡ self.now) }
-    {
-        Ok(LntRun {
-            machine: self.machine.copy(alloc)?,
-            commit: self.commit.copy(alloc)?,
-            samples: self.samples.copy(alloc)?,
-            ignored: self.ignored,
-        })
+/// An equal run of its own. Linear in the number of samples.
+impl Duplicate for LntRun {
+    fn copy(&self, _alloc: Global) -> Result<LntRun, NoMemory> {
+        self.clone()
     }
 }

@@ -1,5 +1,5 @@
 //! The indexes after an entry.
-ghost use Rattle.std.specs.Prelude.{◌≡◌, ℕ, List, ◌++◌, [], ◌∷◌, OnOk, OnErr, option_to_list, None, if◌then◌else◌};
+ghost use Rattle.std.specs.Prelude.{◌≡◌, ℕ, List, ◌++◌, [], ◌∷◌, OnOk, OnErr, option_to_list, None};
 ghost use Rattle.history_model.specs.Commits.{declaration};
 ghost use Rattle.history_model.specs.Runs.{Series};
 ghost use Rattle.history_model.specs.declared.entries.Entry.TheVariants as entry;
@@ -14,7 +14,7 @@ ghost use Rattle.machine_state.specs.Indexes.{IsReady, TakesIn, runs_after, give
 use crate::NoMemory;
 use crate::following::{Following, follow_job, follow_regression};
 use history_model::{Entry, Run, Setting};
-use line_text::Name;
+use line_text::{Duplicate, Name};
 use order_index::OrderIndex;
 use publication_index::SettingIndex;
 use sample_store::SampleStore;

@@ -5,6 +5,7 @@ ghost use Rattle.machine_state.specs.Following.{RegressionFits, RegressionHappen
 use crate::NoMemory;
 use follow_index::{JobIndex, RegressionIndex};
 use history_model::{JobEvent, RegressionEvent, between_law};
+use line_text::Duplicate;
 use order_index::OrderIndex;
 use std::alloc::Global;
 

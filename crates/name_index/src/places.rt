@@ -4,7 +4,7 @@ ghost use Rattle.name_index.specs.Placed.{slot, IsAt, AreFound, AreDistinct, Sta
 
 use crate::NoMemory;
 use crate::hashes::{hard_hash, quick_hash};
-use line_text::Name;
+use line_text::{Duplicate, Name};
 use std::alloc::Global;
 use std::collections::BTreeMap;
 

@@ -9,7 +9,7 @@ use crate::declared::Declared;
 use crate::mapped::{self, keys_between, places_of};
 use crate::rising::{self, is_above_all};
 use history_model::Declaration;
-use line_text::{Name, Numbers};
+use line_text::{Duplicate, Name, Numbers};
 use metric_table::Limit;
 use name_index::NameIndex;
 use std::alloc::Global;

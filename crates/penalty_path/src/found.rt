@@ -9,6 +9,7 @@ ghost use Rattle.penalty_path.specs.Crossing.{Crosses, Parts};
 use crate::checked::{are_equal, same_cuts};
 use crate::laws::{path_law, points_law};
 use crate::stretch::{Stretch, Stretches};
+use line_text::Duplicate;
 use pelt_core::segmentation;
 use segment_cost::{Cert, NoMemory, Points};
 use segment_model::cost_law;
@@ -29,7 +30,7 @@ pub fn path(alloc: Global, points: &Points, low: i128, high: i128) -> Result<Str
 }
 
 /// A path, and how many tables were made for it.
-#[derive(Drop)]
+#[derive(Clone, Drop)]
 pub struct Counted {
     /// The path.
     pub stretches: Stretches,
@@ -37,15 +38,10 @@ pub struct Counted {
     pub tables: u64,
 }
 
-impl Counted {
-    /// An equal path of its own, with the number of its tables. Takes the time of [`Cert::copy`] for each stretch.
-    pub fn copy(&self, alloc: Global) -> Result<Counted, NoMemory>
-        ensures { IfOk result (λ made. made ≡ self.now) }
-    {
-        Ok(Counted {
-            stretches: self.stretches.copy(alloc)?,
-            tables: self.tables,
-        })
+/// An equal path of its own, with the number of its tables. Takes the time of [`Cert::copy`] for each stretch.
+impl Duplicate for Counted {
+    fn copy(&self, _alloc: Global) -> Result<Counted, NoMemory> {
+        self.clone()
     }
 }
 

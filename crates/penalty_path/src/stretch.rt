@@ -1,12 +1,11 @@
 //! A stretch of penalties with one best cut list.
-ghost use Rattle.std.specs.Prelude.{◌≡◌, IfOk};
 
 use line_text::Duplicate;
 use segment_cost::{Cert, NoMemory};
 use std::alloc::Global;
 
 /// Penalties with one best cut list, and the certificates at the least and the greatest of them.
-#[derive(Drop)]
+#[derive(Clone, Drop)]
 pub struct Stretch {
     /// The least penalty.
     pub from: i128,
@@ -21,22 +20,9 @@ pub struct Stretch {
 /// A list of stretches.
 pub type Stretches = line_text::Items<Stretch>;
 
-impl Stretch {
-    /// An equal stretch of its own. Takes the time of [`Cert::copy`].
-    pub fn copy(&self, alloc: Global) -> Result<Stretch, NoMemory>
-        ensures { IfOk result (λ made. made ≡ self.now) }
-    {
-        Ok(Stretch {
-            from: self.from,
-            to: self.to,
-            first: self.first.copy(alloc)?,
-            last: self.last.copy(alloc)?,
-        })
-    }
-}
-
+/// An equal stretch of its own. Takes the time of [`Cert::copy`].
 impl Duplicate for Stretch {
-    fn duplicate(&self, alloc: Global) -> Result<Stretch, NoMemory> {
-        self.copy(alloc)
+    fn copy(&self, _alloc: Global) -> Result<Stretch, NoMemory> {
+        self.clone()
     }
 }

@@ -1,5 +1,5 @@
 //! A script's way along the journal of a machine.
-ghost use Rattle.std.specs.Prelude.{◌≡◌, ◌≤◌, ◌<◌, ◌+◌, ◌-◌, ◌^◌, ◌↔◌, ◌⊎◌, ◌||◌, ℕ, set, Some, false, true, length, IfOk, IfSome, IfNone, IsTrue, OnOk};
+ghost use Rattle.std.specs.Prelude.{◌≡◌, ◌≤◌, ◌<◌, ◌+◌, ◌-◌, ◌^◌, ◌↔◌, ◌⊎◌, ◌||◌, set, Some, false, true, length, IfOk, IfSome, IfNone, IsTrue, OnOk};
 ghost use Rattle.history_model.specs.declared.entries.Author.TheVariants as made_by;
 ghost use Rattle.play_model.specs.Replies.{Adds, Tells, stands_alone};
 ghost use Rattle.request_model.specs.Requests.{machine_of};
@@ -15,7 +15,7 @@ use crate::segment::{published_behind, unpublished};
 use crate::text::{Named, first_named, is_only_asked, tells_none};
 use history_model::{Author, Placed};
 use journal_walk::{Walk, along_law};
-use line_text::Name;
+use line_text::{Duplicate, Name};
 use play_model::replies_law;
 use reply_laws::{kinds_law, texts_law};
 use request_model::Request;

@@ -5,7 +5,7 @@ ghost use Rattle.publication_index.specs.Standing.{IsKeptTable, table_for};
 
 use crate::NoMemory;
 use crate::held::Held;
-use line_text::{Boxed, Name};
+use line_text::{Boxed, Duplicate, Name};
 use pelt_core::Table;
 use segment_cost::{Done, Square};
 use std::alloc::Global;

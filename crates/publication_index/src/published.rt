@@ -9,7 +9,7 @@ ghost use Rattle.publication_index.specs.Standing.{IsKeptTable, table_for};
 use crate::NoMemory;
 use crate::held::Held;
 use crate::metrics::MetricIndex;
-use line_text::Name;
+use line_text::{Duplicate, Name};
 use pelt_core::Table;
 use segment_cost::{Done, Square};
 use std::alloc::Global;

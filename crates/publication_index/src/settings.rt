@@ -4,7 +4,7 @@ ghost use Rattle.publication_index.specs.Given.{given};
 
 use crate::NoMemory;
 use history_model::Setting;
-use line_text::Name;
+use line_text::{Duplicate, Name};
 use metric_table::default_penalty;
 use std::alloc::Global;
 use std::collections::BTreeMap;

@@ -3,7 +3,7 @@ ghost use Rattle.std.specs.Prelude.{◌≡◌, IfOk};
 ghost use Rattle.report_lines.specs.NumberedLines.{name_at, IsDeclared};
 
 use crate::NoMemory;
-use line_text::Name;
+use line_text::{Duplicate, Name};
 use order_index::OrderIndex;
 use std::alloc::Global;
 

@@ -6,6 +6,7 @@ ghost use Rattle.report_lines.specs.NumberedLines.{followed_line, HasEnds};
 use crate::NoMemory;
 use crate::names::name_of;
 use follow_index::{Followed, RegressionIndex};
+use line_text::Duplicate;
 use order_index::OrderIndex;
 use report_model::{RegressionLine, RegressionLines};
 use std::alloc::Global;

@@ -9,6 +9,7 @@ ghost use Rattle.report_lines.specs.SeriesLines.{AreLines, IsLine, IsOfKept};
 
 use crate::NoMemory;
 use change_list::last_centre;
+use line_text::Duplicate;
 use publication_index::PublicationIndex;
 use report_model::{SeriesLine, SeriesLines};
 use series_index::{SeriesIndex, SeriesName};

@@ -1,5 +1,4 @@
 //! What a report says of a series, a regression and a bisection.
-ghost use Rattle.std.specs.Prelude.{◌≡◌, IfOk};
 
 use crate::NoMemory;
 use crate::told::Told;
@@ -8,7 +7,7 @@ use regression_state::State;
 use std::alloc::Global;
 
 /// What a report says of a series.
-#[derive(Debug, Drop)]
+#[derive(Clone, Debug, Drop)]
 pub struct SeriesLine {
     /// The test.
     pub test: Name,
@@ -24,8 +23,15 @@ pub struct SeriesLine {
     pub centre: Option<i64>,
 }
 
+/// An equal line of its own. Constant time.
+impl Duplicate for SeriesLine {
+    fn copy(&self, _alloc: Global) -> Result<SeriesLine, NoMemory> {
+        self.clone()
+    }
+}
+
 /// What a report says of a regression.
-#[derive(Debug, Drop)]
+#[derive(Clone, Debug, Drop)]
 pub struct RegressionLine {
     /// Its number.
     pub number: u64,
@@ -41,8 +47,15 @@ pub struct RegressionLine {
     pub state: State,
 }
 
+/// An equal line of its own. Constant time.
+impl Duplicate for RegressionLine {
+    fn copy(&self, _alloc: Global) -> Result<RegressionLine, NoMemory> {
+        self.clone()
+    }
+}
+
 /// What a report says of a bisection.
-#[derive(Debug, Drop)]
+#[derive(Clone, Debug, Drop)]
 pub struct JobLine {
     /// Its number.
     pub job: u64,
@@ -54,6 +67,13 @@ pub struct JobLine {
     pub outcome: Told,
 }
 
+/// An equal line of its own. Constant time.
+impl Duplicate for JobLine {
+    fn copy(&self, _alloc: Global) -> Result<JobLine, NoMemory> {
+        self.clone()
+    }
+}
+
 /// What a report says of each series.
 pub type SeriesLines = Items<SeriesLine>;
 
@@ -62,67 +82,3 @@ pub type RegressionLines = Items<RegressionLine>;
 
 /// What a report says of each bisection.
 pub type JobLines = Items<JobLine>;
-
-impl SeriesLine {
-    /// An equal line of its own. Constant time.
-    pub fn copy(&self, alloc: Global) -> Result<SeriesLine, NoMemory>
-        ensures { IfOk result (λ made. made ≡ self.now) }
-    {
-        Ok(SeriesLine {
-            test: self.test.copy(alloc)?,
-            metric: self.metric.copy(alloc)?,
-            samples: self.samples,
-            positions: self.positions,
-            changes: self.changes,
-            centre: self.centre,
-        })
-    }
-}
-
-impl RegressionLine {
-    /// An equal line of its own. Constant time.
-    pub fn copy(&self, alloc: Global) -> Result<RegressionLine, NoMemory>
-        ensures { IfOk result (λ made. made ≡ self.now) }
-    {
-        Ok(RegressionLine {
-            number: self.number,
-            test: self.test.copy(alloc)?,
-            metric: self.metric.copy(alloc)?,
-            before: self.before.copy(alloc)?,
-            after: self.after.copy(alloc)?,
-            state: self.state,
-        })
-    }
-}
-
-impl JobLine {
-    /// An equal line of its own. Constant time.
-    pub fn copy(&self, alloc: Global) -> Result<JobLine, NoMemory>
-        ensures { IfOk result (λ made. made ≡ self.now) }
-    {
-        Ok(JobLine {
-            job: self.job,
-            range: self.range,
-            questions: self.questions,
-            outcome: self.outcome.copy(alloc)?,
-        })
-    }
-}
-
-impl Duplicate for SeriesLine {
-    fn duplicate(&self, alloc: Global) -> Result<SeriesLine, NoMemory> {
-        self.copy(alloc)
-    }
-}
-
-impl Duplicate for RegressionLine {
-    fn duplicate(&self, alloc: Global) -> Result<RegressionLine, NoMemory> {
-        self.copy(alloc)
-    }
-}
-
-impl Duplicate for JobLine {
-    fn duplicate(&self, alloc: Global) -> Result<JobLine, NoMemory> {
-        self.copy(alloc)
-    }
-}

@@ -1,5 +1,4 @@
 //! The facts of a report.
-ghost use Rattle.std.specs.Prelude.{◌≡◌, IfOk};
 
 use crate::NoMemory;
 use crate::items::{JobLines, RegressionLines, SeriesLines};
@@ -7,7 +6,7 @@ use line_text::{Duplicate, Name};
 use std::alloc::Global;
 
 /// The facts of a report on a machine.
-#[derive(Debug, Drop)]
+#[derive(Clone, Debug, Drop)]
 pub struct Pages {
     /// The machine.
     pub machine: Name,
@@ -23,24 +22,9 @@ pub struct Pages {
     pub jobs: JobLines,
 }
 
-impl Pages {
-    /// Equal facts of their own. Linear in the number of series, regressions and bisections.
-    pub fn copy(&self, alloc: Global) -> Result<Pages, NoMemory>
-        ensures { IfOk result (λ made. made ≡ self.now) }
-    {
-        Ok(Pages {
-            machine: self.machine.copy(alloc)?,
-            step: self.step,
-            json: self.json,
-            series: self.series.copy(alloc)?,
-            regressions: self.regressions.copy(alloc)?,
-            jobs: self.jobs.copy(alloc)?,
-        })
-    }
-}
-
+/// Equal facts of their own. Linear in the number of series, regressions and bisections.
 impl Duplicate for Pages {
-    fn duplicate(&self, alloc: Global) -> Result<Pages, NoMemory> {
-        self.copy(alloc)
+    fn copy(&self, _alloc: Global) -> Result<Pages, NoMemory> {
+        self.clone()
     }
 }

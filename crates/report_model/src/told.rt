@@ -1,12 +1,11 @@
 //! Where a bisection stands, by name.
-ghost use Rattle.std.specs.Prelude.{◌≡◌, IfOk};
 
 use crate::NoMemory;
-use line_text::Name;
+use line_text::{Duplicate, Name};
 use std::alloc::Global;
 
 /// Where a bisection stands, with its commits by name.
-#[derive(Debug, Drop)]
+#[derive(Clone, Debug, Drop)]
 pub enum Told {
     /// It is open, and asks for a test of this commit.
     Asks(Name),
@@ -28,22 +27,9 @@ pub enum Told {
     Faulted(Name),
 }
 
-impl Told {
-    /// An equal value of its own. Constant time.
-    pub fn copy(&self, alloc: Global) -> Result<Told, NoMemory>
-        ensures { IfOk result (λ made. made ≡ self.now) }
-    {
-        Ok(match self {
-            Told::Asks(commit) => Told::Asks(commit.copy(alloc)?),
-            Told::Found { lo, hi } => Told::Found {
-                lo: lo.copy(alloc)?,
-                hi: hi.copy(alloc)?,
-            },
-            Told::Undecided { commit, status } => Told::Undecided {
-                commit: commit.copy(alloc)?,
-                status: *status,
-            },
-            Told::Faulted(commit) => Told::Faulted(commit.copy(alloc)?),
-        })
+/// An equal value of its own. Constant time.
+impl Duplicate for Told {
+    fn copy(&self, _alloc: Global) -> Result<Told, NoMemory> {
+        self.clone()
     }
 }

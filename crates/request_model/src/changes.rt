@@ -1,11 +1,10 @@
 //! The changes of a publication, as a reply lists them.
-ghost use Rattle.std.specs.Prelude.{◌≡◌, IfOk};
 
 use line_text::{Duplicate, Items, Name, NoMemory};
 use std::alloc::Global;
 
 /// A change at a cut, its commits by name.
-#[derive(Drop)]
+#[derive(Clone, Drop)]
 pub struct NamedChange {
     /// The last commit before the cut.
     pub before: Name,
@@ -22,23 +21,9 @@ pub struct NamedChange {
 /// Changes, in order of their cuts.
 pub type NamedChanges = Items<NamedChange>;
 
-impl NamedChange {
-    /// An equal change of its own. Constant time.
-    pub fn copy(&self, alloc: Global) -> Result<NamedChange, NoMemory>
-        ensures { IfOk result (λ made. made ≡ self.now) }
-    {
-        Ok(NamedChange {
-            before: self.before.copy(alloc)?,
-            after: self.after.copy(alloc)?,
-            left: self.left,
-            right: self.right,
-            worse: self.worse,
-        })
-    }
-}
-
+/// An equal change of its own. Constant time.
 impl Duplicate for NamedChange {
-    fn duplicate(&self, alloc: Global) -> Result<NamedChange, NoMemory> {
-        self.copy(alloc)
+    fn copy(&self, _alloc: Global) -> Result<NamedChange, NoMemory> {
+        self.clone()
     }
 }

@@ -1,9 +1,8 @@
 //! What a request is answered: the answer itself, why it is refused, and the reply that has it.
-ghost use Rattle.std.specs.Prelude.{◌≡◌, IfOk};
 
 use crate::changes::NamedChanges;
 use crate::runs::Runs;
-use line_text::{Boxed, Name, NoMemory, Text};
+use line_text::{Boxed, Duplicate, Name, NoMemory, Text};
 use metric_table::Limit;
 use regression_state::State;
 use report_model::{Pages, Told};
@@ -11,7 +10,7 @@ use segment_cost::Cert;
 use std::alloc::Global;
 
 /// Where a value is out of range.
-#[derive(Drop)]
+#[derive(Clone, Drop)]
 pub enum RangePlace {
     /// On this line of Go benchmark text, from 1.
     Line(u64),
@@ -24,8 +23,15 @@ pub enum RangePlace {
     },
 }
 
+/// An equal place of its own. Linear in the length of its words.
+impl Duplicate for RangePlace {
+    fn copy(&self, _alloc: Global) -> Result<RangePlace, NoMemory> {
+        self.clone()
+    }
+}
+
 /// Why a request is refused, in the order of the refusals' numbers.
-#[derive(Drop)]
+#[derive(Clone, Drop)]
 pub enum Refusal {
     /// The line has no form of a request.
     BadRequest,
@@ -104,8 +110,15 @@ pub enum Refusal {
     BadLength,
 }
 
+/// An equal refusal of its own. Linear in the length of its words; constant time where it has none.
+impl Duplicate for Refusal {
+    fn copy(&self, _alloc: Global) -> Result<Refusal, NoMemory> {
+        self.clone()
+    }
+}
+
 /// What a request is answered.
-#[derive(Drop)]
+#[derive(Clone, Drop)]
 pub enum Answer {
     /// The machine is declared.
     Machine {
@@ -217,8 +230,15 @@ pub enum Answer {
     Refused(Refusal),
 }
 
+/// An equal answer of its own. Linear in the length of its lists.
+impl Duplicate for Answer {
+    fn copy(&self, _alloc: Global) -> Result<Answer, NoMemory> {
+        self.clone()
+    }
+}
+
 /// An answer, with the number of entries of the machine's history behind the request.
-#[derive(Drop)]
+#[derive(Clone, Drop)]
 pub struct Reply {
     /// The number of entries; 0 where the answer names no machine.
     pub step: u64,
@@ -226,175 +246,9 @@ pub struct Reply {
     pub answer: Answer,
 }
 
-impl RangePlace {
-    /// An equal place of its own. Linear in the length of its words.
-    pub fn copy(&self, alloc: Global) -> Result<RangePlace, NoMemory>
-        ensures { IfOk result (λ made. made ≡ self.now) }
-    {
-        match self {
-            RangePlace::Line(line) => Ok(RangePlace::Line(*line)),
-            RangePlace::Sample { test, metric } => Ok(RangePlace::Sample {
-                test: test.copy(alloc)?,
-                metric: metric.copy(alloc)?,
-            }),
-        }
-    }
-}
-
-impl Refusal {
-    /// An equal refusal of its own. Linear in the length of its words; constant time where it has none.
-    pub fn copy(&self, alloc: Global) -> Result<Refusal, NoMemory>
-        ensures { IfOk result (λ made. made ≡ self.now) }
-    {
-        match self {
-            Refusal::BadRequest => Ok(Refusal::BadRequest),
-            Refusal::BadName => Ok(Refusal::BadName),
-            Refusal::UnknownMachine => Ok(Refusal::UnknownMachine),
-            Refusal::UnknownCommit => Ok(Refusal::UnknownCommit),
-            Refusal::CommitTaken { number, name } => Ok(Refusal::CommitTaken {
-                number: *number,
-                name: name.copy(alloc)?,
-            }),
-            Refusal::NotText(place) => Ok(Refusal::NotText(*place)),
-            Refusal::NotJson(place) => Ok(Refusal::NotJson(*place)),
-            Refusal::NotReport { rule, member } => Ok(Refusal::NotReport {
-                rule: *rule,
-                member: member.copy(alloc)?,
-            }),
-            Refusal::OutOfRange(place) => Ok(Refusal::OutOfRange(place.copy(alloc)?)),
-            Refusal::IdentityClash(step) => Ok(Refusal::IdentityClash(*step)),
-            Refusal::UnknownRun => Ok(Refusal::UnknownRun),
-            Refusal::AlreadyRetracted(step) => Ok(Refusal::AlreadyRetracted(*step)),
-            Refusal::UnknownSeries => Ok(Refusal::UnknownSeries),
-            Refusal::NothingPublished => Ok(Refusal::NothingPublished),
-            Refusal::NoSuchChange(count) => Ok(Refusal::NoSuchChange(*count)),
-            Refusal::UnknownRegression => Ok(Refusal::UnknownRegression),
-            Refusal::IllegalMove { from, to } => Ok(Refusal::IllegalMove {
-                from: *from,
-                to: *to,
-            }),
-            Refusal::UnknownJob => Ok(Refusal::UnknownJob),
-            Refusal::NotAsked(commit) => Ok(Refusal::NotAsked(commit.copy(alloc)?)),
-            Refusal::BadRange => Ok(Refusal::BadRange),
-            Refusal::Full(limit) => Ok(Refusal::Full(*limit)),
-            Refusal::BadPenalty => Ok(Refusal::BadPenalty),
-            Refusal::TooFewPoints(count) => Ok(Refusal::TooFewPoints(*count)),
-            Refusal::Stale(version) => Ok(Refusal::Stale(*version)),
-            Refusal::JobClosed(told) => Ok(Refusal::JobClosed(told.copy(alloc)?)),
-            Refusal::BodyTooLong => Ok(Refusal::BodyTooLong),
-            Refusal::OnlyAlone => Ok(Refusal::OnlyAlone),
-            Refusal::TooDeep(place) => Ok(Refusal::TooDeep(*place)),
-            Refusal::JobOpen(commit) => Ok(Refusal::JobOpen(commit.copy(alloc)?)),
-            Refusal::BadLength => Ok(Refusal::BadLength),
-        }
-    }
-}
-
-impl Answer {
-    /// An equal answer of its own. Linear in the length of its lists.
-    pub fn copy(&self, alloc: Global) -> Result<Answer, NoMemory>
-        ensures { IfOk result (λ made. made ≡ self.now) }
-    {
-        match self {
-            Answer::Machine { machine } => Ok(Answer::Machine {
-                machine: machine.copy(alloc)?,
-            }),
-            Answer::Commit { number, name } => Ok(Answer::Commit {
-                number: *number,
-                name: name.copy(alloc)?,
-            }),
-            Answer::Duplicate { step } => Ok(Answer::Duplicate { step: *step }),
-            Answer::Accepted {
-                run,
-                samples,
-                ignored,
-            } => Ok(Answer::Accepted {
-                run: run.copy(alloc)?,
-                samples: *samples,
-                ignored: *ignored,
-            }),
-            Answer::Retracted { run } => Ok(Answer::Retracted {
-                run: run.copy(alloc)?,
-            }),
-            Answer::Tuned {
-                metric,
-                penalty,
-                length,
-            } => Ok(Answer::Tuned {
-                metric: metric.copy(alloc)?,
-                penalty: *penalty,
-                length: *length,
-            }),
-            Answer::Segmented {
-                version,
-                base,
-                points,
-                cuts,
-                redone,
-                total,
-            } => Ok(Answer::Segmented {
-                version: *version,
-                base: *base,
-                points: *points,
-                cuts: *cuts,
-                redone: *redone,
-                total: *total,
-            }),
-            Answer::Changes {
-                version,
-                metric,
-                items,
-            } => Ok(Answer::Changes {
-                version: *version,
-                metric: metric.copy(alloc)?,
-                items: items.copy(alloc)?,
-            }),
-            Answer::Verified { version, cert } => Ok(Answer::Verified {
-                version: *version,
-                cert: cert.copy(alloc)?,
-            }),
-            Answer::Raised { regression } => Ok(Answer::Raised {
-                regression: *regression,
-            }),
-            Answer::Moved {
-                regression,
-                from,
-                to,
-            } => Ok(Answer::Moved {
-                regression: *regression,
-                from: *from,
-                to: *to,
-            }),
-            Answer::Job {
-                job,
-                range,
-                questions,
-                outcome,
-            } => Ok(Answer::Job {
-                job: *job,
-                range: *range,
-                questions: *questions,
-                outcome: outcome.copy(alloc)?,
-            }),
-            Answer::Runs { runs } => Ok(Answer::Runs {
-                runs: runs.copy(alloc)?,
-            }),
-            Answer::Report { pages } => Ok(Answer::Report {
-                pages: pages.copy(alloc)?,
-            }),
-            Answer::Refused(refusal) => Ok(Answer::Refused(refusal.copy(alloc)?)),
-        }
-    }
-}
-
-impl Reply {
-    /// An equal reply of its own. Takes the time of [`Answer::copy`].
-    pub fn copy(&self, alloc: Global) -> Result<Reply, NoMemory>
-        ensures { IfOk result (λ made. made ≡ self.now) }
-    {
-        Ok(Reply {
-            step: self.step,
-            answer: self.answer.copy(alloc)?,
-        })
+/// An equal reply of its own. Takes the time of [`Answer::copy`].
+impl Duplicate for Reply {
+    fn copy(&self, _alloc: Global) -> Result<Reply, NoMemory> {
+        self.clone()
     }
 }

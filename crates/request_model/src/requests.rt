@@ -1,14 +1,14 @@
 //! Requests of a script, as they are once they were read.
-ghost use Rattle.std.specs.Prelude.{◌≡◌, IfOk};
+ghost use Rattle.std.specs.Prelude.{◌≡◌};
 ghost use Rattle.request_model.specs.Requests.{machine_of};
 
-use line_text::{Name, NoMemory};
+use line_text::{Duplicate, Name, NoMemory};
 use regression_state::State;
 use sample_model::Samples;
 use std::alloc::Global;
 
 /// A request of a script, read.
-#[derive(Drop)]
+#[derive(Clone, Drop)]
 pub enum Request {
     /// Declares a machine.
     Machine {
@@ -188,153 +188,11 @@ impl Request {
             Request::Report { machine, .. } => machine,
         }
     }
-
-    /// An equal request of its own. Takes the time of [`Samples::copy`] for a run, else constant time.
-    pub fn copy(&self, alloc: Global) -> Result<Request, NoMemory>
-        ensures { IfOk result (λ made. made ≡ self.now) }
-    {
-        match self {
-            Request::Machine { machine } => Ok(Request::Machine {
-                machine: machine.copy(alloc)?,
-            }),
-            Request::Commit {
-                machine,
-                number,
-                name,
-            } => Ok(Request::Commit {
-                machine: machine.copy(alloc)?,
-                number: *number,
-                name: name.copy(alloc)?,
-            }),
-            Request::Submit {
-                machine,
-                commit,
-                run,
-                samples,
-                ignored,
-                stated,
-            } => Ok(Request::Submit {
-                machine: machine.copy(alloc)?,
-                commit: commit.copy(alloc)?,
-                run: run.copy(alloc)?,
-                samples: samples.copy(alloc)?,
-                ignored: *ignored,
-                stated: same_name(alloc, stated)?,
-            }),
-            Request::Retract { machine, run } => Ok(Request::Retract {
-                machine: machine.copy(alloc)?,
-                run: run.copy(alloc)?,
-            }),
-            Request::Tune {
-                machine,
-                metric,
-                penalty,
-                length,
-            } => Ok(Request::Tune {
-                machine: machine.copy(alloc)?,
-                metric: metric.copy(alloc)?,
-                penalty: *penalty,
-                length: *length,
-            }),
-            Request::Calibrate {
-                machine,
-                test,
-                metric,
-                factor,
-            } => Ok(Request::Calibrate {
-                machine: machine.copy(alloc)?,
-                test: test.copy(alloc)?,
-                metric: metric.copy(alloc)?,
-                factor: *factor,
-            }),
-            Request::Segment {
-                machine,
-                test,
-                metric,
-            } => Ok(Request::Segment {
-                machine: machine.copy(alloc)?,
-                test: test.copy(alloc)?,
-                metric: metric.copy(alloc)?,
-            }),
-            Request::Changes {
-                machine,
-                test,
-                metric,
-            } => Ok(Request::Changes {
-                machine: machine.copy(alloc)?,
-                test: test.copy(alloc)?,
-                metric: metric.copy(alloc)?,
-            }),
-            Request::Verify {
-                machine,
-                test,
-                metric,
-            } => Ok(Request::Verify {
-                machine: machine.copy(alloc)?,
-                test: test.copy(alloc)?,
-                metric: metric.copy(alloc)?,
-            }),
-            Request::Regress {
-                machine,
-                test,
-                metric,
-                change,
-            } => Ok(Request::Regress {
-                machine: machine.copy(alloc)?,
-                test: test.copy(alloc)?,
-                metric: metric.copy(alloc)?,
-                change: *change,
-            }),
-            Request::SetState {
-                machine,
-                regression,
-                state,
-            } => Ok(Request::SetState {
-                machine: machine.copy(alloc)?,
-                regression: *regression,
-                state: *state,
-            }),
-            Request::Bisect { machine, lo, hi } => Ok(Request::Bisect {
-                machine: machine.copy(alloc)?,
-                lo: lo.copy(alloc)?,
-                hi: hi.copy(alloc)?,
-            }),
-            Request::Answer {
-                machine,
-                job,
-                commit,
-                status,
-            } => Ok(Request::Answer {
-                machine: machine.copy(alloc)?,
-                job: *job,
-                commit: commit.copy(alloc)?,
-                status: *status,
-            }),
-            Request::Resume { machine, job } => Ok(Request::Resume {
-                machine: machine.copy(alloc)?,
-                job: *job,
-            }),
-            Request::Job { machine, job } => Ok(Request::Job {
-                machine: machine.copy(alloc)?,
-                job: *job,
-            }),
-            Request::Runs { machine } => Ok(Request::Runs {
-                machine: machine.copy(alloc)?,
-            }),
-            Request::Report { machine, json } => Ok(Request::Report {
-                machine: machine.copy(alloc)?,
-                json: *json,
-            }),
-        }
-    }
 }
 
-// The same name once more, where there is one.
-fn same_name(alloc: Global, name: &Option<Name>) -> Result<Option<Name>, NoMemory>
-    ensures { IfOk result (λ made. made ≡ name.now) }
-{
-    match name {
-        Some(name) => Ok(Some(name.copy(alloc)?)),
-        None => Ok(None),
+/// An equal request of its own. Takes the time of [`Samples::copy`] for a run, else constant time.
+impl Duplicate for Request {
+    fn copy(&self, _alloc: Global) -> Result<Request, NoMemory> {
+        self.clone()
     }
 }

@@ -1,11 +1,10 @@
 //! The runs of a machine, as a reply lists them.
-ghost use Rattle.std.specs.Prelude.{◌≡◌, IfOk};
 
 use line_text::{Duplicate, Items, Name, NoMemory};
 use std::alloc::Global;
 
 /// A run, as a list of runs has it.
-#[derive(Drop)]
+#[derive(Clone, Drop)]
 pub struct RunLine {
     /// The run.
     pub run: Name,
@@ -20,22 +19,9 @@ pub struct RunLine {
 /// Runs, in order of acceptance.
 pub type Runs = Items<RunLine>;
 
-impl RunLine {
-    /// An equal line of its own. Constant time.
-    pub fn copy(&self, alloc: Global) -> Result<RunLine, NoMemory>
-        ensures { IfOk result (λ made. made ≡ self.now) }
-    {
-        Ok(RunLine {
-            run: self.run.copy(alloc)?,
-            commit: self.commit.copy(alloc)?,
-            samples: self.samples,
-            live: self.live,
-        })
-    }
-}
-
+/// An equal line of its own. Constant time.
 impl Duplicate for RunLine {
-    fn duplicate(&self, alloc: Global) -> Result<RunLine, NoMemory> {
-        self.copy(alloc)
+    fn copy(&self, _alloc: Global) -> Result<RunLine, NoMemory> {
+        self.clone()
     }
 }

@@ -1,16 +1,14 @@
 //! The text of a request.
 ghost use Rattle.std.specs.Prelude.{◌≡◌, ℕ, List, ◌++◌, None, Some, All, length, IfOk, IfSome, IfNone, OnOk, OnErr, IsTrue, ◌↔◌, codes};
-ghost use Rattle.go_bench_text.specs.Readings.{IsRead};
-ghost use Rattle.go_bench_text.specs.Spellings.{AreSpelled, IsFirstUnspelled};
 ghost use Rattle.lnt_report.specs.Runs.{IsGiven};
 ghost use Rattle.lnt_report.specs.Written.{compact, run_tree};
-ghost use Rattle.request_text.specs.Written.{head_line, IsBody, IsBodyOf, IsWritten, IsFirstNamed, IsFirstUnwritten, HasNoText, WrittenIsReadBack, IsReadAs, AsksBack};
+ghost use Rattle.request_text.specs.Written.{head_line, IsBody, IsBodyOf, IsFirstNamed, IsFirstUnwritten, HasNoText, WrittenIsReadBack, IsReadAs, AsksBack};
 
 use crate::NoMemory;
 use crate::sound::sound;
 use crate::write_line::put_line;
 use go_bench_text::{PutFault, put_go};
-use line_text::{Name, names_law, numbers_law, words_law};
+use line_text::{Duplicate, Name, names_law, numbers_law, words_law};
 use lnt_report::{LntRun, put_report};
 use request_model::Request;
 use sample_model::{Sample, Samples};

@@ -1,5 +1,4 @@
 //! A sample: one measured value.
-ghost use Rattle.std.specs.Prelude.{◌≡◌, IfOk};
 ghost use Rattle.sample_model.specs.Samples.{IsSample};
 
 use crate::NoMemory;
@@ -11,7 +10,7 @@ use std::marker::Model;
 ///
 /// Contracts see a record of the names' bytes and the value. The type keeps that the metric has at most 64 bytes, and
 /// the value a magnitude of at most 10^16.
-#[derive(Debug, Drop)]
+#[derive(Clone, Debug, Drop)]
 pub struct Sample {
     /// What was measured.
     pub test: Name,
@@ -40,21 +39,11 @@ impl Sample {
         self.test.bytes_law();
         self.metric.bytes_law();
     }
-
-    /// An equal sample. The names share their text, so it takes constant time.
-    pub fn copy(&self, alloc: Global) -> Result<Sample, NoMemory>
-        ensures { IfOk result (λ made. made ≡ self.now) }
-    {
-        Ok(Sample {
-            test: self.test.copy(alloc)?,
-            metric: self.metric.copy(alloc)?,
-            value: self.value,
-        })
-    }
 }
 
+/// An equal sample. The names share their text, so it takes constant time.
 impl Duplicate for Sample {
-    fn duplicate(&self, alloc: Global) -> Result<Sample, NoMemory> {
-        self.copy(alloc)
+    fn copy(&self, _alloc: Global) -> Result<Sample, NoMemory> {
+        self.clone()
     }
 }

@@ -132,15 +132,23 @@ impl Samples {
     {
         self.as_slice().get(i)
     }
+}
 
-    /// An equal list of its own. Constant time for a list that is shared, else linear in the length.
-    pub fn copy(&self, alloc: Global) -> Result<Samples, NoMemory>
-        ensures { IfOk result (λ made. made ≡ self.now) }
-    {
+/// An equal list of its own. Constant time for a list that is shared, else linear in the length.
+impl Clone for Samples {
+    ghost is_clone = { λ samples clone. clone ≡ samples };
+
+    fn clone(&self) -> Result<Samples, NoMemory> {
         let items = match &self.items {
-            Items::Own(own) => Items::Own(Sample::duplicates(alloc, own)?),
+            Items::Own(own) => Items::Own(Sample::duplicates(*own.allocator(), own)?),
             Items::Shared(shared) => Items::Shared(shared.clone()?),
         };
         Ok(Samples { items })
+    }
+}
+
+impl Duplicate for Samples {
+    fn copy(&self, _alloc: Global) -> Result<Samples, NoMemory> {
+        self.clone()
     }
 }

@@ -8,7 +8,7 @@ ghost use Rattle.sample_store.specs.Judged.{judged, retraction};
 use crate::NoMemory;
 use crate::answers::{Accepted, Retracted};
 use history_model::Run;
-use line_text::Name;
+use line_text::{Duplicate, Name};
 use metric_table::Limit;
 use name_index::NameIndex;
 use sample_model::Sample;
@@ -16,7 +16,7 @@ use std::alloc::Global;
 use std::marker::Model;
 
 /// A run, with the steps at which it was accepted and taken back.
-#[derive(Debug, Drop)]
+#[derive(Clone, Debug, Drop)]
 pub struct Stored {
     /// The step at which it was accepted.
     pub step: u64,
@@ -26,16 +26,10 @@ pub struct Stored {
     pub retracted: Option<u64>,
 }
 
-impl Stored {
-    /// An equal run of its own, with its steps. Takes the time of [`Run::copy`].
-    pub fn copy(&self, alloc: Global) -> Result<Stored, NoMemory>
-        ensures { IfOk result (λ made. made ≡ self.now) }
-    {
-        Ok(Stored {
-            step: self.step,
-            run: self.run.copy(alloc)?,
-            retracted: self.retracted,
-        })
+/// An equal run of its own, with its steps. Takes the time of [`Run::copy`].
+impl Duplicate for Stored {
+    fn copy(&self, _alloc: Global) -> Result<Stored, NoMemory> {
+        self.clone()
     }
 }
 

@@ -8,7 +8,7 @@ ghost use Rattle.script_desk.specs.Sessions.{added, unknown, Answers};
 use crate::NoMemory;
 use history_model::Author;
 use keep_rows::place_of;
-use line_text::Name;
+use line_text::{Duplicate, Name};
 use machine_state::MachineState;
 use metric_table::Limit;
 use pelt_core::Steps;

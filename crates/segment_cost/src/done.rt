@@ -1,11 +1,11 @@
 //! A finished segmentation of a series.
-ghost use Rattle.std.specs.Prelude.{◌≡◌, IfOk, pos, ◌≤ℤ◌, ◌^◌};
+ghost use Rattle.std.specs.Prelude.{pos, ◌≤ℤ◌, ◌^◌};
 ghost use Rattle.segment_model.specs.Limits.{IsLength};
 ghost use Rattle.segment_cost.specs.Certificate.{StandsFor};
 
 use crate::cert::Cert;
 use crate::{FrozenPoints, NoMemory};
-use line_text::Name;
+use line_text::{Duplicate, Name};
 use std::alloc::Global;
 
 /// A finished segmentation of a series, as it is published.
@@ -29,11 +29,9 @@ pub struct Done {
         × IsLength cert.length × StandsFor points cert.penalty cert.length cert ∥₁ },
 }
 
-impl Done {
-    /// An equal segmentation of its own, whose positions are shared. Takes the time of [`Cert::copy`].
-    pub fn copy(&self, alloc: Global) -> Result<Done, NoMemory>
-        ensures { IfOk result (λ made. made ≡ self.now) }
-    {
+/// An equal segmentation of its own, whose positions are shared. Takes the time that a clone of the certificate takes.
+impl Duplicate for Done {
+    fn copy(&self, alloc: Global) -> Result<Done, NoMemory> {
         Ok(Done {
             test: self.test.copy(alloc)?,
             metric: self.metric.copy(alloc)?,

@@ -17,7 +17,7 @@ use std::collections::BTreeMap;
 use std::marker::Model;
 
 /// A series by name. Contracts see the series.
-#[derive(Debug, Drop)]
+#[derive(Clone, Debug, Drop)]
 pub struct SeriesName {
     test: Name,
     metric: Name,
@@ -48,21 +48,12 @@ impl SeriesName {
     {
         &self.metric
     }
-
-    /// The same series once more. Constant time.
-    pub fn copy(&self, alloc: Global) -> Result<SeriesName, NoMemory>
-        ensures { IfOk result (λ made. made ≡ self.now) }
-    {
-        Ok(SeriesName {
-            test: self.test.copy(alloc)?,
-            metric: self.metric.copy(alloc)?,
-        })
-    }
 }
 
+/// The same series once more. Constant time.
 impl Duplicate for SeriesName {
-    fn duplicate(&self, alloc: Global) -> Result<SeriesName, NoMemory> {
-        self.copy(alloc)
+    fn copy(&self, _alloc: Global) -> Result<SeriesName, NoMemory> {
+        self.clone()
     }
 }
 

@@ -5,7 +5,7 @@ ghost use Rattle.series_index.specs.Seen.{is_same, seen_of, with_sample, taken_o
 
 use crate::NoMemory;
 use crate::tracked::Tracked;
-use line_text::{Boxed, Name};
+use line_text::{Boxed, Duplicate, Name};
 use point_list::FrozenPoints;
 use std::alloc::Global;
 use std::collections::BTreeMap;

@@ -10,7 +10,7 @@ ghost use Rattle.series_index.specs.Taken.{of_series, with_samples, HasRoomFor};
 use crate::NoMemory;
 use crate::metrics::MetricIndex;
 use crate::tracked::Tracked;
-use line_text::Name;
+use line_text::{Duplicate, Name};
 use name_index::NameIndex;
 use point_list::{FrozenPoints, Points};
 use sample_model::Sample;

@@ -1,5 +1,5 @@
 //! The machines that a shared run begins with.
-ghost use Rattle.std.specs.Prelude.{◌≡◌, ◌≢◌, ◌≤◌, ℕ, false, length, IfOk, IfErr, OnOk, Ok, Err, None, MatchBool};
+ghost use Rattle.std.specs.Prelude.{◌≡◌, ◌≢◌, ◌≤◌, ℕ, false, length, IfOk, IfErr, OnOk, Ok, Err, MatchBool};
 ghost use Rattle.command_words.specs.Texts.{shown_if};
 ghost use Rattle.shared_run.specs.Beginnings.{AreStored, Begins, MayBeStarted, NoneCause, StoreCause, WasStarted};
 ghost use Rattle.shared_run.specs.declared.stop.RunStop.TheVariants as stop;
@@ -11,7 +11,7 @@ ghost use Rattle.metric_table.specs.declared.limits.Limit.TheVariants.{Machines}
 use crate::stop::RunStop;
 use command_words::PlayPlan;
 use keep_rows::{Loaded, load, place_of};
-use line_text::Name;
+use line_text::{Duplicate, Name};
 use machine_state::MachineState;
 use metric_table::Limit;
 use std::alloc::{AllocError, Global};

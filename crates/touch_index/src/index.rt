@@ -8,6 +8,7 @@ ghost use Rattle.touch_index.specs.declared.key.SeriesKey.{SeriesKey};
 use crate::NoMemory;
 use crate::key::SeriesKey;
 use crate::mark::{Claim, Mark};
+use line_text::Duplicate;
 use std::alloc::Global;
 use std::collections::BTreeMap;
 use std::marker::Model;

@@ -2,11 +2,11 @@
 ghost use Rattle.std.specs.Prelude.{◌≡◌, IfOk};
 
 use crate::NoMemory;
-use line_text::Name;
+use line_text::{Duplicate, Name};
 use std::alloc::Global;
 
 /// A series: a test and a metric. Series are in order of the bytes of the test, then of the metric.
-#[derive(Debug, PartialEq, Eq, PartialOrd, Ord, Drop)]
+#[derive(Clone, Debug, PartialEq, Eq, PartialOrd, Ord, Drop)]
 pub struct SeriesKey {
     /// Its test.
     pub test: Name,
@@ -24,11 +24,11 @@ impl SeriesKey {
             metric: metric.copy(alloc)?,
         })
     }
+}
 
-    /// An equal one of its own, in constant time.
-    pub fn copy(&self, alloc: Global) -> Result<SeriesKey, NoMemory>
-        ensures { IfOk result (λ key. key ≡ self.now) }
-    {
-        SeriesKey::of(alloc, &self.test, &self.metric)
+/// An equal one of its own, in constant time.
+impl Duplicate for SeriesKey {
+    fn copy(&self, _alloc: Global) -> Result<SeriesKey, NoMemory> {
+        self.clone()
     }
 }

@@ -13,7 +13,7 @@ ghost use Rattle.track_model.specs.Tracks.{IsStep};
 use crate::NoMemory;
 use bisect_core::Job;
 use history_model::{Author, Entry, JobEvent, between_law, growth_law, jobs_law};
-use line_text::Name;
+use line_text::{Duplicate, Name};
 use machine_state::MachineState;
 use metric_table::Limit;
 use report_lines::{asked, told};

@@ -10,7 +10,7 @@ ghost use Rattle.track_follow.specs.Raised.{raised_from};
 use crate::NoMemory;
 use change_list::commits_beside;
 use history_model::{Author, Entry, Raised, RegressionEvent};
-use line_text::Name;
+use line_text::{Duplicate, Name};
 use machine_state::MachineState;
 use metric_table::Limit;
 use regression_state::{State, may_move};

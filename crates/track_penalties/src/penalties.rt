@@ -8,7 +8,7 @@ ghost use Rattle.track_model.specs.Tracks.{IsStep};
 
 use crate::NoMemory;
 use history_model::{Author, Entry, limits_law};
-use line_text::{Boxed, Name};
+use line_text::{Boxed, Duplicate, Name};
 use machine_state::MachineState;
 use metric_table::Limit;
 use request_model::{Answer, Refusal, Reply};

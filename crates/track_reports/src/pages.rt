@@ -9,6 +9,7 @@ ghost use Rattle.track_model.specs.Tracks.{IsTold};
 
 use crate::NoMemory;
 use history_model::{jobs_law, regressions_law};
+use line_text::Duplicate;
 use machine_state::MachineState;
 use report_model::{JobLines, Pages, RegressionLines, SeriesLines};
 use request_model::{Answer, Boxed, Reply};

@@ -9,7 +9,7 @@ ghost use Rattle.track_reports.specs.Lines.{named_by, HasNames};
 use crate::NoMemory;
 use change_list::Change;
 use history_model::runs_law;
-use line_text::Name;
+use line_text::{Duplicate, Name};
 use machine_state::MachineState;
 use order_index::OrderIndex;
 use request_model::{Answer, Boxed, NamedChange, NamedChanges, Reply};

@@ -9,7 +9,7 @@ use crate::NoMemory;
 use crate::act::Act;
 use crate::guarded::Guarded;
 use history_lock::{HistoryLock, InUse, Pass};
-use line_text::Name;
+use line_text::{Duplicate, Name};
 use std::alloc::Global;
 use std::marker::Model;
 use std::sync::Wait;

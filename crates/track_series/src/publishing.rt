@@ -9,6 +9,7 @@ ghost use Rattle.track_series.specs.Publications.{IsAdded, IsPublished, later, p
 
 use crate::NoMemory;
 use history_model::{Author, Publication, publication_law, within_law};
+use line_text::Duplicate;
 use machine_state::MachineState;
 use metric_table::Limit;
 use pelt_core::Table;

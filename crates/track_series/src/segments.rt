@@ -1,5 +1,5 @@
 //! Segmentations of series: what is segmented, and what is told of it.
-ghost use Rattle.std.specs.Prelude.{◌≡◌, ◌≤◌, ◌≤ℤ◌, ◌^◌, IfOk, OnOk, OnErr, pos, length};
+ghost use Rattle.std.specs.Prelude.{◌≡◌, IfOk, OnOk, OnErr, length};
 ghost use Rattle.history_model.specs.Entries.{entries_of};
 ghost use Rattle.track_model.specs.Counts.{CountsOf};
 ghost use Rattle.track_model.specs.Outcomes.{Outcome};
@@ -12,7 +12,7 @@ use crate::computing::compute;
 use crate::publishing::{Published, put};
 use crate::snapshot::Snapshot;
 use history_model::{Author, publication_law};
-use line_text::Name;
+use line_text::{Duplicate, Name};
 use machine_state::MachineState;
 use pelt_core::Steps;
 use point_list::FrozenPoints;

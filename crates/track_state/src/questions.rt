@@ -2,14 +2,14 @@
 ghost use Rattle.std.specs.Prelude.{◌≡◌, IfOk, IsSome, OnErr, ◌==◌, filter, find, not};
 ghost use Rattle.history_model.specs.Entries.{entries_of};
 ghost use Rattle.history_model.specs.Jobs.{asked, job_in, jobs};
-ghost use Rattle.track_state.specs.Questions.{IsFirstQuestion, IsQuestion, NoneIsAsked, Settles, TakesNext, is_claimed, jobs_after};
-ghost use Rattle.track_state.specs.Work.{IsSame, history_of};
+ghost use Rattle.track_state.specs.Questions.{IsQuestion, Settles, TakesNext, is_claimed, jobs_after};
+ghost use Rattle.track_state.specs.Work.{history_of};
 ghost use Rattle.track_state.specs.Asking.{IsOpenQuestion};
 
 use crate::NoMemory;
 use crate::state::TrackState;
 use history_model::{Author, growth_law, jobs_law, publication_law};
-use line_text::Name;
+use line_text::{Duplicate, Name};
 use machine_state::MachineState;
 use report_lines::asked as asked_commit;
 use std::alloc::Global;
@@ -17,7 +17,7 @@ use touch_model::{stale_law, touch_law};
 use track_follow::{Settled, settle};
 
 /// What an open job asks.
-#[derive(Debug, Drop)]
+#[derive(Clone, Debug, Drop)]
 pub struct Question {
     /// The job's number.
     pub job: u64,
@@ -27,16 +27,10 @@ pub struct Question {
     pub commit: Name,
 }
 
-impl Question {
-    /// An equal question of its own. Constant time.
-    pub fn copy(&self, alloc: Global) -> Result<Question, NoMemory>
-        ensures { IfOk result (λ made. made ≡ self.now) }
-    {
-        Ok(Question {
-            job: self.job,
-            place: self.place,
-            commit: self.commit.copy(alloc)?,
-        })
+/// An equal question of its own. Constant time.
+impl Duplicate for Question {
+    fn copy(&self, _alloc: Global) -> Result<Question, NoMemory> {
+        self.clone()
     }
 }
 

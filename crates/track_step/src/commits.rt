@@ -7,7 +7,7 @@ ghost use Rattle.track_model.specs.Tracks.{IsStep};
 
 use crate::NoMemory;
 use history_model::{Author, Declaration, Entry};
-use line_text::Name;
+use line_text::{Duplicate, Name};
 use machine_state::MachineState;
 use metric_table::Limit;
 use request_model::{Answer, Refusal, Reply};

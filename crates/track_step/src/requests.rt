@@ -11,6 +11,7 @@ use crate::commits::{commit, retract};
 use crate::run_lines::runs;
 use crate::submissions::submit;
 use history_model::Author;
+use line_text::Duplicate;
 use machine_state::MachineState;
 use pelt_core::Steps;
 use request_model::{Answer, Reply, Request};

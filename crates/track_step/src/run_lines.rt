@@ -9,6 +9,7 @@ ghost use Rattle.track_step.specs.Lines.{line_of};
 
 use crate::NoMemory;
 use history_model::runs_law;
+use line_text::Duplicate;
 use machine_state::MachineState;
 use order_index::OrderIndex;
 use request_model::{Answer, Reply, RunLine, Runs};

@@ -9,7 +9,7 @@ ghost use Rattle.track_step.specs.Told.{told_of};
 
 use crate::NoMemory;
 use history_model::{Author, Entry, Run, accept_law, retraction_law, within_law};
-use line_text::{Name, Text};
+use line_text::{Duplicate, Name, Text};
 use machine_state::MachineState;
 use request_model::{Answer, Refusal, Reply};
 use sample_model::Samples;

@@ -1,6 +1,6 @@
 //! Lines, texts and samples, with what they are read as and what is written of them.
 use go_bench_text::{GoRun, LineKind, PutFault, line_kind, put_go, read_go};
-use line_text::Name;
+use line_text::{Duplicate, Name};
 use sample_model::{Sample, Samples};
 use std::alloc::{AllocError, Global};
 

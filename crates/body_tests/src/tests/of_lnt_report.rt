@@ -1,4 +1,5 @@
 //! Texts and what they are read as, runs and what is written of them.
+use line_text::Duplicate;
 use lnt_report::{LntRun, ReportFault, put_report, read_report};
 use sample_model::Sample;
 use std::alloc::{AllocError, Global};

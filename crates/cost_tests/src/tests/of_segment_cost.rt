@@ -1,5 +1,6 @@
 //! Costs and centres of some values, and a copy of a certificate.
 use crate::tests::given::{has_text, points_of};
+use line_text::Duplicate;
 use part_core::part;
 use segment_cost::{Cert, Cost, Square};
 use std::alloc::Global;

@@ -2,7 +2,7 @@
 
 use go_bench_text::{GoFault, GoRun, LineKind, PutFault, line_kind, put_go, read_go};
 use json_text::{Json, JsonFault, JsonList, JsonMembers, Member, read_json};
-use line_text::{Name, NoMemory, Text};
+use line_text::{Duplicate, Name, NoMemory, Text};
 use lnt_report::{LntRun, ReportFault, put_report, read_report};
 use metric_table::Limit;
 use sample_store::{Accepted, Retracted, Run, Sample, SampleStore, Samples};

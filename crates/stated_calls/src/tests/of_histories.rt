@@ -1,7 +1,7 @@
 //! Regressions, bisections, commits, entries.
 
 use bisect_core::{Answered, BadRange, Job, Outcome};
-use line_text::{Name, NoMemory, Numbers};
+use line_text::{Duplicate, Name, NoMemory, Numbers};
 use order_index::{Declared, OrderIndex};
 use regression_state::{IllegalMove, State, may_move, read_state};
 use std::alloc::Global;

@@ -1,7 +1,7 @@
 //! Scripts: requests and replies as text, and what they say.
 ghost use Rattle.std.specs.Prelude.{◌≡◌, false};
 
-use line_text::{Name, NoMemory};
+use line_text::{Duplicate, Name, NoMemory};
 use reply_text::put_reply;
 use report_pages::{JobLine, Pages, RegressionLine, SeriesLine, Told, put_json, put_text};
 use request_model::{

@@ -7,7 +7,7 @@ use absolute_cost::Absolute;
 use change_list::{Change, ChangeItems, changes};
 use checkpoint_redo::redo;
 use cost_certificate::{check, put_cert};
-use line_text::{Name, NoMemory, Numbers};
+use line_text::{Duplicate, Name, NoMemory, Numbers};
 use part_core::part;
 use pelt_core::{Steps, Table};
 use penalty_path::{Stretch, Stretches, check_path, path};

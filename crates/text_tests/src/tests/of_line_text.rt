@@ -1,4 +1,5 @@
 //! Each call with ample memory, and values from outside.
+use line_text::Duplicate;
 use line_text::*;
 use std::alloc::Global;
 

@@ -1,4 +1,5 @@
 //! Texts that are entries, and texts that are none.
+use line_text::Duplicate;
 use std::alloc::Global;
 use track_entry::{Entry, EntryFault, put_entry, read_entry, read_entry_v1};
 
