@@ -1,12 +1,14 @@
 -- How the count of open bisections changes with one of them, and which one asks a place.
 use Rattle.std.proofs.Common.{◌≡◌, ℕ, zero, suc, ◌+◌, ◌-◌, ◌≤◌, Bool, true, false, cond, not, List, [], ◌∷◌, ◌++◌, length, set, get_or, Option, Some, None, refl, sym, subst, ap, ◌∙◌, arith, eq-eqb, ne_eqb}
 use Rattle.std.specs.Prelude.{◌==◌, filter}
-use Rattle.follow_index.specs.Numbered.{open_from, open_numbers}
+use Rattle.follow_index.specs.Numbered.{open_from, open_numbers, GoesOn}
 use Rattle.std.proofs.lemmas.Option.{get_or_from_slice_get}
 use Rattle.std.specs.List.{slice_get}
-use Rattle.bisect_core.specs.Bisections.{Bisection, is_open, asked_by, answer_to}
+use Rattle.bisect_core.specs.Bisections.{Bisection, IsRecorded, is_open, asked_by, answer_to}
+use Rattle.bisect_core.specs.Turns.{Turn}
 use Rattle.bisect_core.specs.declared.outcome.Outcome.{Outcome}
 use Rattle.bisect_core.specs.declared.outcome.Outcome.TheVariants.{Asks, Found, Undecided, Faulted}
+use Rattle.bisect_core.specs.declared.outcome.Answered.{Answered}
 use Rattle.bisect_core.specs.declared.outcome.Answered.TheVariants as answered
 use Rattle.history_model.specs.Jobs.{job_in, place_asked, is_under_way, open_count}
 
@@ -35,13 +37,14 @@ pub few : (xs : List Bisection) → open_count xs ≤ length xs
 few [] = omega arith
 few (x ∷ xs) = omega (arith, counted x xs, at_most x, few xs)
 
+-- none is in an empty list
+in-none : (i : ℕ) (one : Bisection) → slice_get [] i ≡ Some one → ⊥
+in-none i one is = cc
+
 -- an open one that another takes the place of
 pub replaced : (xs : List Bisection) (i : ℕ) (one later : Bisection) → slice_get xs i ≡ Some one → is_under_way one ≡ true
     → open_count (set xs i later) + 1 ≡ open_count xs + open_count (later ∷ [])
-replaced [] i one later there under_way = absurd (none i there)
-  where
-    none : (i : ℕ) → slice_get {X = Bisection} [] i ≡ Some one → ⊥
-    none i is = cc
+replaced [] i one later there under_way = absurd (in-none i one there)
 replaced (x ∷ xs) zero one later there under_way =
     let same : x ≡ one = cc in
     omega (arith, counted later xs, counted x xs, one_open x (ap is_under_way same ∙ under_way))
@@ -49,10 +52,7 @@ replaced (x ∷ xs) (suc i) one later there under_way =
     omega (arith, counted x (set xs i later), counted x xs, replaced xs i one later there under_way)
 
 pub some_open : (xs : List Bisection) (i : ℕ) (one : Bisection) → slice_get xs i ≡ Some one → is_under_way one ≡ true → 1 ≤ open_count xs
-some_open [] i one there under_way = absurd (none i there)
-  where
-    none : (i : ℕ) → slice_get {X = Bisection} [] i ≡ Some one → ⊥
-    none i is = cc
+some_open [] i one there under_way = absurd (in-none i one there)
 some_open (x ∷ xs) zero one there under_way =
     let same : x ≡ one = cc in
     omega (arith, counted x xs, one_open x (ap is_under_way same ∙ under_way))
@@ -131,10 +131,7 @@ none-below m k (x ∷ xs) le =
 -- an open one that an open one takes the place of
 pub open-stays : (k : ℕ) (xs : List Bisection) (i : ℕ) (one later : Bisection) → slice_get xs i ≡ Some one → is_under_way one ≡ true → is_under_way later ≡ true
     → open_from k (set xs i later) ≡ open_from k xs
-open-stays k [] i one later there under_way stays = absurd (nothing i there)
-  where
-    nothing : (i : ℕ) → slice_get {X = Bisection} [] i ≡ Some one → ⊥
-    nothing i is = cc
+open-stays k [] i one later there under_way stays = absurd (in-none i one there)
 open-stays k (x ∷ xs) zero one later there under_way stays =
     let same : x ≡ one = cc in
     rw (stays, ap is_under_way same ∙ under_way) refl
@@ -144,10 +141,7 @@ open-stays k (x ∷ xs) (suc i) one later there under_way stays =
 -- and one that a closed one takes the place of
 pub open-leaves : (k : ℕ) (xs : List Bisection) (i : ℕ) (one later : Bisection) → slice_get xs i ≡ Some one → is_under_way one ≡ true → is_under_way later ≡ false
     → open_from k (set xs i later) ≡ filter (λ (n : ℕ). not (n == k + i)) (open_from k xs)
-open-leaves k [] i one later there under_way ends = absurd (nothing i there)
-  where
-    nothing : (i : ℕ) → slice_get {X = Bisection} [] i ≡ Some one → ⊥
-    nothing i is = cc
+open-leaves k [] i one later there under_way ends = absurd (in-none i one there)
 open-leaves k (x ∷ xs) zero one later there under_way ends =
     let same : x ≡ one = cc in
     let asks : is_under_way x ≡ true = ap is_under_way same ∙ under_way in
@@ -182,3 +176,23 @@ open-after (suc i) xs one later there under_way =
     by false is it =
         open-leaves 1 xs i one later there under_way is ∙ ap (λ (m : ℕ). filter (λ (n : ℕ). not (n == m)) (open_numbers xs)) it
         ∙ sym (ap (λ c. cond c (open_numbers xs) (filter (λ (n : ℕ). not (n == suc i)) (open_numbers xs))) is)
+
+-- ---- one that goes on: what asks a place, and its turn's answer
+module _ (number place : ℕ) {now xs : List Bisection} {one : Bisection} (later : Bisection) (are : xs ≡ now) (asks : place_asked (job_in number now) ≡ Some place)
+    (read : one ≡ get_or xs (number - 1) one) where
+  pub numbers-after : (ns ms : List ℕ) → ns ≡ open_numbers xs → ms ≡ cond (is_under_way later) ns (filter (λ (n : ℕ). not (n == number)) ns) → ms ≡ open_numbers (set xs (number - 1) later)
+  numbers-after ns ms before after =
+      let o = asks_place number place now xs one are asks read in
+      after ∙ ap (λ (ns : List ℕ). cond (is_under_way later) ns (filter (λ (n : ℕ). not (n == number)) ns)) before
+      ∙ sym (open-after number xs one later o.there o.under_way)
+
+  pub goes-on : (turn : Turn) (told : Answered) → told ≡ answer_to one.outcome place → (told ≡ answered.Ok → IsRecorded turn one later) → GoesOn number turn now (set xs (number - 1) later)
+  goes-on turn told is recorded =
+      let o = asks_place number place now xs one are asks read in
+      record {
+        one = one;
+        later = later;
+        there = subst (λ ys. job_in number ys ≡ Some one) are o.there;
+        recorded = recorded (is ∙ o.answers);
+        gone_on = ap (λ ys. set ys (number - 1) later) are;
+      }

@@ -68,10 +68,7 @@ impl JobIndex {
     pub fn get(&self, number: u64) -> Option<&Job>
         ensures { option_copied result ≡ job_in number self.now }
     {
-        if number == 0 {
-            return None;
-        }
-        self.items.get((number - 1) as usize)
+        self.items.get(number.checked_sub(1)? as usize)
     }
 
     /// Begins a bisection of two commits at least; changes nothing where there is no memory. Constant time, but for growing.

@@ -56,10 +56,7 @@ impl RegressionIndex {
     pub fn get(&self, number: u64) -> Option<&Followed>
         ensures { option_copied result ≡ followed_in number self.now }
     {
-        if number == 0 {
-            return None;
-        }
-        self.items.get((number - 1) as usize)
+        self.items.get(number.checked_sub(1)? as usize)
     }
 
     /// Adds a change that is raised, which is detected; changes nothing where there is no memory. Constant time, but for

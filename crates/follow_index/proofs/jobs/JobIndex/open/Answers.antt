@@ -1,7 +1,6 @@
-use Rattle.std.proofs.Common.{◌≡◌, ℕ, List, length, ap, arith}
+use Rattle.std.proofs.Common.{ℕ, List, length, ap, arith}
 use Rattle.bisect_core.specs.Bisections.{Bisection}
 use Rattle.history_model.specs.Jobs.{open_count}
-use Rattle.follow_index.specs.Numbered.{open_numbers}
 use Rattle.follow_index.proofs.Counts.{counted_open}
 use Rattle.follow_index.proofs.jobs.JobIndex.open.Goals as goal
 
