@@ -1,5 +1,5 @@
 -- The compact text of a tree is a text of it, and UTF-8.
-use Rattle.std.proofs.Common.{◌≡◌, ℕ, List, [], ◌∷◌, ◌++◌, true, false, ◌<◌, refl, sym, nat_lt}
+use Rattle.std.proofs.Common.{◌≡◌, ℕ, List, [], ◌∷◌, ◌++◌, true, false, ◌<◌, refl, sym, ap, nat_lt}
 use Rattle.std.proofs.lemmas.List.{append-nil}
 use Rattle.std.specs.Str.{IsUtf8}
 use Rattle.std.specs.List.{list_all}
@@ -41,6 +41,16 @@ bare_member : (Value : List ℕ → Type 0) (key value : List ℕ) → IsUtf8 ke
 bare_member Value key value u v =
     (quoted key, value, refl, bare (λ inside. IsQuoted inside key) (quoted key) (quoted-is key u), bare Value value v)
 
+-- a member before others, and the same behind a comma
+first_member : (key : List ℕ) (tree : Tree) (members : Members) → IsUtf8 key → IsValue (compact tree) tree → MoreMembers (more_members members) members
+    → IsMembers (compact_members (member key tree members)) (member key tree members)
+first_member key tree members u v more =
+    (quoted key ++ byte.colon ∷ compact tree, more_members members, refl, bare_member (λ inside. IsValue inside tree) key (compact tree) u v, more)
+
+later_member : (key : List ℕ) (tree : Tree) (members : Members) → IsMembers (compact_members (member key tree members)) (member key tree members)
+    → MoreMembers (more_members (member key tree members)) (member key tree members)
+later_member key tree _ (one, more, is, fits, others) = (one, more, ap (λ (bytes : List ℕ). byte.comma ∷ bytes) is, fits, others)
+
 mutual
   value_is : (tree : Tree) → IsFine tree → IsValue (compact tree) tree
   value_is null h = refl
@@ -63,23 +73,11 @@ mutual
 
   members_are : (members : Members) → HasFine members → IsMembers (compact_members members) members
   members_are no_members h = tt
-  members_are (member key tree members) h = (
-    quoted key ++ byte.colon ∷ compact tree,
-    more_members members,
-    refl,
-    bare_member (λ inside. IsValue inside tree) key (compact tree) h.0 (value_is tree h.1),
-    more_members_are members h.2,
-  )
+  members_are (member key tree members) h = first_member key tree members h.0 (value_is tree h.1) (more_members_are members h.2)
 
   more_members_are : (members : Members) → HasFine members → MoreMembers (more_members members) members
   more_members_are no_members h = refl
-  more_members_are (member key tree members) h = (
-    quoted key ++ byte.colon ∷ compact tree,
-    more_members members,
-    refl,
-    bare_member (λ inside. IsValue inside tree) key (compact tree) h.0 (value_is tree h.1),
-    more_members_are members h.2,
-  )
+  more_members_are (member key tree members) h = later_member key tree members (first_member key tree members h.0 (value_is tree h.1) (more_members_are members h.2))
 
 pub compact-text : (tree : Tree) → IsFine tree → IsText (compact tree) tree
 compact-text tree h = bare (λ inside. IsValue inside tree) (compact tree) (value_is tree h)
