@@ -1,6 +1,6 @@
 -- What holds of a search after any rounds that were taken.
 use Rattle.std.proofs.Common.{◌≡◌, ℕ, zero, suc, ◌+◌, ◌-◌, ◌*◌, ◌/◌, ◌^◌, ◌<◌, ◌≤◌, max, min, Bool, true, false, not, ◌&&◌, ◌||◌, cond, eqb, ltb, List, [], ◌∷◌, ◌++◌, length, get_or, map, filter, Option, Some, None, ◌⊎◌, inl, inr, refl, sym, ap, ◌∙◌, arith, subst}
-use Rattle.std.specs.Prelude.{Contains}
+use Rattle.std.specs.Prelude.{Contains, fold}
 use Rattle.std.specs.List.{range_with_len, All}
 use Rattle.std.proofs.lemmas.Bool.{cases_Bool, cases_lt, eqb-true, eqb-false, le-ltb, lt-ltb, or_cases}
 use Rattle.std.proofs.lemmas.List.{append-nil, append_assoc, map-append, length-append}
@@ -11,7 +11,7 @@ use Rattle.std.proofs.lemmas.Grind.{pow_more}
 use Rattle.std.proofs.Math.Nat.{mul-le-mul_right, mul_assoc, mul_comm, pow-zero}
 use Rattle.wide_bisect.specs.declared.said.Said.{Said}
 use Rattle.wide_bisect.specs.declared.outcome.WideOutcome.TheVariants.{Asks, Found}
-use Rattle.wide_bisect.specs.Answers.{is_good, is_bad, place_of, good_places, bad_places, skipped_places, ending, is_among, least, greatest}
+use Rattle.wide_bisect.specs.Answers.{is_good, is_bad, place_of, good_places, bad_places, skipped_places, ending, is_among}
 use Rattle.wide_bisect.specs.Searches.{Search, begun, settled, asks, asked, place_in_round, said_of, end_by, high_by, low_by, stays, open_by, moved, ended, after_end, after, after_all}
 use Rattle.wide_bisect.specs.Sound.{IsSound}
 use Rattle.wide_bisect.specs.Laws.{all_said, one_if_skipped, skipping, AreTaken, CanBegin, testable_between, IsWithinBound, EndsWereAnswered, OpenAreTestable, FoundAreNeighbours, EachIsWithinBound, OneIsHalfWay}
@@ -62,24 +62,15 @@ max_either a b = elim (cases_lt a b) [ inl h ↦ inr (omega arith) | inr h ↦ i
 min_either : (a b : ℕ) → (min a b ≡ a) ⊎ (min a b ≡ b)
 min_either a b = elim (cases_lt a b) [ inl h ↦ inl (omega arith) | inr h ↦ inr (omega arith) ]
 
-greatest_stands : (n : ℕ) (xs : List ℕ) → (greatest n xs ≡ n) ⊎ Contains xs (greatest n xs)
-greatest_stands n [] = inl refl
-greatest_stands n (x ∷ xs) = elim (greatest_stands (max n x) xs) [
-  | inl e ↦ elim (max_either n x) [
-    | inl f ↦ inl (e ∙ f)
-    | inr f ↦ inr (contains_first x xs (greatest (max n x) xs) (e ∙ f))
+-- what is folded to is where it began, or one of the list
+fold_stands : (f : ℕ → ℕ → ℕ) → ((a b : ℕ) → (f a b ≡ a) ⊎ (f a b ≡ b)) → (n : ℕ) (xs : List ℕ) → (fold f n xs ≡ n) ⊎ Contains xs (fold f n xs)
+fold_stands f either n [] = inl refl
+fold_stands f either n (x ∷ xs) = elim (fold_stands f either (f n x) xs) [
+  | inl e ↦ elim (either n x) [
+    | inl same ↦ inl (e ∙ same)
+    | inr other ↦ inr (contains_first x xs (fold f (f n x) xs) (e ∙ other))
   ]
-  | inr k ↦ inr (contains_later x xs (greatest (max n x) xs) k)
-]
-
-least_stands : (n : ℕ) (xs : List ℕ) → (least n xs ≡ n) ⊎ Contains xs (least n xs)
-least_stands n [] = inl refl
-least_stands n (x ∷ xs) = elim (least_stands (min n x) xs) [
-  | inl e ↦ elim (min_either n x) [
-    | inl f ↦ inl (e ∙ f)
-    | inr f ↦ inr (contains_first x xs (least (min n x) xs) (e ∙ f))
-  ]
-  | inr k ↦ inr (contains_later x xs (least (min n x) xs) k)
+  | inr k ↦ inr (contains_later x xs (fold f (f n x) xs) k)
 ]
 
 -- what was said already is said still
@@ -235,14 +226,14 @@ step_moved n k s said r x h asking statuses gone =
       rounds = ap (λ (y : ℕ). y + 1) h.rounds;
       few = omega (arith, h.few, one_few (said_of s statuses));
       some = rw (places_append, length-append) (omega (arith, h.some, one_some (said_of s statuses)));
-      low = elim (greatest_stands s.low (filter (λ (place : ℕ). ltb place (high_by s (said_of s statuses))) (good_places (said_of s statuses)))) [
+      low = elim (fold_stands max max_either s.low (filter (λ (place : ℕ). ltb place (high_by s (said_of s statuses))) (good_places (said_of s statuses)))) [
         | inl same ↦ elim h.low [
           | inl first ↦ inl (same ∙ first)
           | inr was ↦ inr (before_among is_good said (said_of s statuses) (low_by s (said_of s statuses)) (subst (λ (y : ℕ). Contains (good_places said) y) (sym same) was))
         ]
         | inr here ↦ inr (behind_among is_good said (said_of s statuses) (low_by s (said_of s statuses)) (contains_filter (λ (place : ℕ). ltb place (high_by s (said_of s statuses))) (good_places (said_of s statuses)) (low_by s (said_of s statuses)) here))
       ];
-      high = elim (least_stands s.high (bad_places (said_of s statuses))) [
+      high = elim (fold_stands min min_either s.high (bad_places (said_of s statuses))) [
         | inl same ↦ elim h.high [
           | inl last ↦ inl (same ∙ last)
           | inr was ↦ inr (before_among is_bad said (said_of s statuses) (high_by s (said_of s statuses)) (subst (λ (y : ℕ). Contains (bad_places said) y) (sym same) was))

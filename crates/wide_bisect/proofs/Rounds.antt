@@ -12,7 +12,7 @@ use Rattle.wide_bisect.specs.declared.said.Said.{Said}
 use Rattle.wide_bisect.specs.declared.outcome.WideOutcome.{WideOutcome}
 use Rattle.wide_bisect.specs.declared.outcome.WideOutcome.TheVariants.{Asks}
 use Rattle.wide_bisect.specs.Answers.{status_is, is_end, is_good, is_bad, is_skipped, place_of, good_places, bad_places, skipped_places, ending, is_among, least, greatest}
-use Rattle.wide_bisect.specs.Searches.{Search, begun, settled, asks, place_in_round, said_at, said_of, high_by, low_by, stays, open_by, moved}
+use Rattle.wide_bisect.specs.Searches.{Search, search_of, begun, settled, asks, place_in_round, said_at, said_of, high_by, low_by, stays, open_by, moved}
 use Rattle.wide_bisect.specs.Sound.{IsBetween, IsSound, GoesOn}
 use Rattle.wide_bisect.proofs.Lists.{least-le, least-among, greatest-among, least-above, greatest-below, among_filter, among_said, all_said, filter-lt}
 
@@ -199,10 +199,6 @@ goes_sound s sound said on = rw on.of_round (moved_sound s sound on.running on.s
 
 pub goes_apart : (s : Search) → IsSound s → (said : List Said) → GoesOn s said → low_by s said < high_by s said
 goes_apart s sound said on = rw on.of_round (ends_apart s sound on.running on.statuses)
-
--- a search of these parts
-abbrev pub search_of : ℕ → ℕ → ℕ → List ℕ → ℕ → WideOutcome → Search
-search_of width low high left rounds outcome = record { width = width; low = low; high = high; left = left; rounds = rounds; outcome = outcome }
 
 -- what the code makes is the search after the round
 pub made_is : (s : Search) (said : List Said) (low high : ℕ) (left : List ℕ) (outcome : WideOutcome)

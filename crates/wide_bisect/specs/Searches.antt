@@ -21,6 +21,17 @@ pub record Search : Type 0 where
   pub rounds : ℕ
   pub outcome : WideOutcome
 
+-- a search of these parts
+abbrev pub search_of : (width low high : ℕ) (left : List ℕ) (rounds : ℕ) (outcome : WideOutcome) → Search
+search_of width low high left rounds outcome = record {
+  width = width;
+  low = low;
+  high = high;
+  left = left;
+  rounds = rounds;
+  outcome = outcome;
+}
+
 abbrev pub is_running : WideOutcome → Bool
 is_running Asks = true
 is_running (Found lo hi skipped) = false

@@ -30,28 +30,15 @@ pub struct Wide {
 }
 
 impl Model for Wide {
-    ghost use Rattle.wide_bisect.specs.Searches.{Search};
+    ghost use Rattle.wide_bisect.specs.Searches.{Search, search_of};
     ghost use Rattle.wide_bisect.specs.Sound.{IsSound};
 
     ghost Value = { Search };
 
-    ghost view = { λ w. record {
-      width = w.width;
-      low = w.low;
-      high = w.high;
-      left = w.left.items;
-      rounds = w.rounds;
-      outcome = w.outcome;
-    } };
+    ghost view = { λ w. search_of w.width w.low w.high w.left.items w.rounds w.outcome };
 
-    ghost invariant = { λ w. IsSound (record {
-      width = w.width;
-      low = w.low;
-      high = w.high;
-      left = w.left.items;
-      rounds = w.rounds;
-      outcome = w.outcome;
-    }) };
+    ghost invariant = { λ w.
+        IsSound (search_of w.width w.low w.high w.left.items w.rounds w.outcome) };
 }
 
 impl Wide {
