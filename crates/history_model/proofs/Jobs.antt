@@ -3,7 +3,6 @@ use Rattle.std.proofs.Common.{◌≡◌, ◌≢◌, ℕ, zero, suc, ◌+◌, ◌
 use Rattle.std.specs.Prelude.{option_to_list, slice_get, Some, None}
 use Rattle.std.specs.List.{AllByRecursion}
 use Rattle.std.proofs.lemmas.Bool.{cases_Bool, eqb-true, ne_eqb}
-use Rattle.std.proofs.lemmas.List.{length-append}
 use Rattle.std.proofs.Math.Seq.{take-append_seam}
 use Rattle.std.proofs.lemmas.Option.{slice_get_within}
 use Rattle.bisect_core.specs.Bisections.{Bisection, bisection, IsRecorded}
@@ -20,19 +19,16 @@ use Rattle.history_model.specs.Followed.{IsOfNoJob}
 use Rattle.history_model.specs.Publications.{publication}
 use Rattle.history_model.specs.Jobs.{Begun, begun, begins, said, turns, commits_of, standing_from, jobs, job_in, place_asked, asked, open_count}
 use Rattle.history_model.proofs.Chosen.{chosen-push, chosen-skip}
-use Rattle.history_model.proofs.Growth.{legal-each}
+use Rattle.history_model.proofs.OfKind.{by-kind}
 use Rattle.history_model.proofs.Others.{limits-other}
+use Rattle.history_model.proofs.Silent.{silent}
 use Rattle.history_model.proofs.Standings.{IsUpTo, all-past, commits-same, standing-same, jobs-stay}
 
 -- ---- an entry of no job
 pub jobs-kept : (h : List Entry) (e : Entry) → IsOfNoJob e → jobs (h ++ e ∷ []) ≡ jobs h
-jobs-kept h (entry.Commit number name) other = jobs-stay h (entry.Commit number name) refl (λ n. refl)
-jobs-kept h (entry.Accept run) other = jobs-stay h (entry.Accept run) refl (λ n. refl)
-jobs-kept h (entry.Retract run) other = jobs-stay h (entry.Retract run) refl (λ n. refl)
-jobs-kept h (entry.Tune metric penalty len) other = jobs-stay h (entry.Tune metric penalty len) refl (λ n. refl)
-jobs-kept h (entry.Publish p) other = jobs-stay h (entry.Publish p) refl (λ n. refl)
-jobs-kept h (entry.Regression e) other = jobs-stay h (entry.Regression e) refl (λ n. refl)
-jobs-kept h (entry.Job e) other = absurd other
+jobs-kept h = by-kind (λ (e : Entry). IsOfNoJob e → jobs (h ++ e ∷ []) ≡ jobs h)
+    (λ e plain other. jobs-stay h e (plain.begins (length h + 1)) (λ n. plain.says n (length h + 1)))
+    (λ p other. jobs-stay h (entry.Publish p) refl (λ n. refl)) (λ e other. jobs-stay h (entry.Regression e) refl (λ n. refl)) (λ e other. absurd other)
 
 -- ---- the jobs that are there
 pub standing-count : (h : List Entry) (k : ℕ) (bs : List Begun) → length (standing_from h k bs) ≡ length bs
@@ -61,39 +57,24 @@ asked-there h (suc k) place asks =
     at (Some b) is some = slice_get_within (jobs h) k b is
 
 -- ---- nothing is said of a job before it is begun
-Untold : List Entry → Type 0
-Untold h = (number : ℕ) → length (begins h) < number → turns number h ≡ []
-
--- an entry that says nothing of jobs above those begun so far
-untold-on : (h : List Entry) (e : Entry) → ((number : ℕ) → length (begins h) < number → said number (length h + 1) e ≡ None) → Untold h → Untold (h ++ e ∷ [])
-unfolding Untold
-untold-on h e none before number above =
-    let grown : length (begins (h ++ e ∷ [])) ≡ length (begins h) + length (option_to_list (begun (length h + 1) e)) =
-    ap length (chosen-push begun h e) ∙ length-append (begins h) (option_to_list (begun (length h + 1) e)) in
-    let over : length (begins h) < number = omega (arith, grown, above) in
-    chosen-skip (said number) h e (none number over) ∙ before number over
-
 other-job : (job n : ℕ) (turn : Turn) → job ≢ n → cond (job == n) (Some turn) None ≡ None
 other-job job n turn apart = ap (λ b. cond b (Some turn) None) (ne_eqb job n apart)
 
-untold-grown : (h : List Entry) (e : Entry) → Allowed h e → Untold h → Untold (h ++ e ∷ [])
-untold-grown h (entry.Commit number name) allowed before = untold-on h (entry.Commit number name) (λ n above. refl) before
-untold-grown h (entry.Accept run) allowed before = untold-on h (entry.Accept run) (λ n above. refl) before
-untold-grown h (entry.Retract run) allowed before = untold-on h (entry.Retract run) (λ n above. refl) before
-untold-grown h (entry.Tune metric penalty len) allowed before = untold-on h (entry.Tune metric penalty len) (λ n above. refl) before
-untold-grown h (entry.Publish p) allowed before = untold-on h (entry.Publish p) (λ n above. refl) before
-untold-grown h (entry.Regression e) allowed before = untold-on h (entry.Regression e) (λ n above. refl) before
-untold-grown h (entry.Job (event.Begin lo hi)) allowed before = untold-on h (entry.Job (event.Begin lo hi)) (λ n above. refl) before
-untold-grown h (entry.Job (event.Answer job place status)) allowed before =
-    let there = asked-there h job place allowed.0 in
-    untold-on h (entry.Job (event.Answer job place status)) (λ n above. other-job job n (tested place status) (λ e. omega (arith, e, above, there))) before
-untold-grown h (entry.Job (event.GiveUp job place)) allowed before =
-    let there = asked-there h job place allowed.0 in
-    untold-on h (entry.Job (event.GiveUp job place)) (λ n above. other-job job n (given_up place) (λ e. omega (arith, e, above, there))) before
+none-said : (h : List Entry) (e : Entry) → Allowed h e → (n : ℕ) → length (begins h) < n → said n (length h + 1) e ≡ None
+none-said h = by-kind (λ (e : Entry). Allowed h e → (n : ℕ) → length (begins h) < n → said n (length h + 1) e ≡ None)
+    (λ e plain allowed n above. plain.says n (length h + 1)) (λ p allowed n above. refl) (λ e allowed n above. refl) of-job
+  where
+    of-job : (e : JobEvent) → Allowed h (entry.Job e) → (n : ℕ) → length (begins h) < n → said n (length h + 1) (entry.Job e) ≡ None
+    of-job (event.Begin lo hi) allowed n above = refl
+    of-job (event.Answer job place status) allowed n above =
+        let there = asked-there h job place allowed.0 in
+        other-job job n (tested place status) (λ e. omega (arith, e, above, there))
+    of-job (event.GiveUp job place) allowed n above =
+        let there = asked-there h job place allowed.0 in
+        other-job job n (given_up place) (λ e. omega (arith, e, above, there))
 
 pub untold : (h : List Entry) (number : ℕ) → Legal h → length (begins h) < number → turns number h ≡ []
-unfolding Untold
-untold h number legal above = legal-each Untold (λ n above. refl) untold-grown h legal number above
+untold h number legal above = silent begun said none-said h legal number above
 
 -- ---- a job is begun
 pub commits-begun : (h : List Entry) (lo hi : ℕ)

@@ -2,6 +2,8 @@ pub mod Cases
 pub mod Lists
 pub mod Chosen
 pub mod Commit
+pub mod OfKind
+mod Silent
 mod Standings
 mod Others
 mod Growth

@@ -5,12 +5,14 @@ use Rattle.std.proofs.lemmas.List.Elements.{All-nil, All-push, All-weaker}
 use Rattle.history_model.specs.declared.entries.Entry.{Entry}
 use Rattle.history_model.specs.declared.entries.Entry.TheVariants as entry
 use Rattle.history_model.specs.declared.events.Raised.{Raised}
+use Rattle.history_model.specs.declared.events.RegressionEvent.{RegressionEvent}
 use Rattle.history_model.specs.declared.events.RegressionEvent.TheVariants as event
 use Rattle.history_model.specs.Allowed.{Allowed, Legal}
 use Rattle.history_model.specs.Commits.{name_of}
 use Rattle.history_model.specs.Regressions.{raised, regressions}
 use Rattle.history_model.proofs.Chosen.{chosen-push, chosen-skip}
 use Rattle.history_model.proofs.Growth.{legal-each}
+use Rattle.history_model.proofs.OfKind.{by-kind}
 use Rattle.history_model.proofs.Named.{still-named}
 
 abbrev Ends : List Entry → Raised → Type 0
@@ -26,19 +28,17 @@ skipped : (h : List Entry) (e : Entry) → raised (length h + 1) e ≡ None → 
 unfolding Claim
 skipped h e none claim = subst (λ (rs : List Raised). All (Ends (h ++ e ∷ [])) rs) (sym (chosen-skip raised h e none)) (still-ends h e claim)
 
-grown : (h : List Entry) (e : Entry) → Allowed h e → Claim h → Claim (h ++ e ∷ [])
+of-regression : (h : List Entry) (e : RegressionEvent) → Allowed h (entry.Regression e) → Claim h → Claim (h ++ entry.Regression e ∷ [])
 unfolding Claim
-grown h (entry.Commit number name) allowed claim = skipped h (entry.Commit number name) refl claim
-grown h (entry.Accept run) allowed claim = skipped h (entry.Accept run) refl claim
-grown h (entry.Retract run) allowed claim = skipped h (entry.Retract run) refl claim
-grown h (entry.Tune metric penalty len) allowed claim = skipped h (entry.Tune metric penalty len) refl claim
-grown h (entry.Publish p) allowed claim = skipped h (entry.Publish p) refl claim
-grown h (entry.Job said) allowed claim = skipped h (entry.Job said) refl claim
-grown h (entry.Regression (event.Move number state)) allowed claim = skipped h (entry.Regression (event.Move number state)) refl claim
-grown h (entry.Regression (event.Raise r)) allowed claim =
+of-regression h (event.Move number state) allowed claim = skipped h (entry.Regression (event.Move number state)) refl claim
+of-regression h (event.Raise r) allowed claim =
     let e : Entry = entry.Regression (event.Raise r) in
     subst (λ (rs : List Raised). All (Ends (h ++ e ∷ [])) rs) (sym (chosen-push raised h e))
     (All-push (Ends (h ++ e ∷ [])) (regressions h) r (still-ends h e claim) (still-named h e r.before allowed.0.1, still-named h e r.after allowed.0.2))
+
+grown : (h : List Entry) (e : Entry) → Allowed h e → Claim h → Claim (h ++ e ∷ [])
+grown h = by-kind (λ (e : Entry). Allowed h e → Claim h → Claim (h ++ e ∷ [])) (λ e plain allowed claim. skipped h e (plain.raises (length h + 1)) claim)
+    (λ p allowed claim. skipped h (entry.Publish p) refl claim) (of-regression h) (λ e allowed claim. skipped h (entry.Job e) refl claim)
 
 pub regressions-named : (h : List Entry) → Legal h → All (λ (r : Raised). IsSome (name_of r.before h) × IsSome (name_of r.after h)) (regressions h)
 unfolding Claim

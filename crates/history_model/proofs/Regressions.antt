@@ -1,9 +1,8 @@
 -- A history with an entry more: its regressions, the state of each, and its limits.
-use Rattle.std.proofs.Common.{◌≡◌, ℕ, ◌+◌, ◌≤◌, ◌<◌, Bool, true, false, ◌&&◌, ◌==◌, nat_le, cond, List, [], ◌∷◌, ◌++◌, length, refl, ap, ◌∙◌, arith, Option}
+use Rattle.std.proofs.Common.{◌≡◌, ℕ, ◌+◌, ◌≤◌, ◌<◌, Bool, true, false, ◌&&◌, nat_le, cond, List, [], ◌∷◌, ◌++◌, length, refl, ap, ◌∙◌, arith, Option}
 use Rattle.std.specs.Prelude.{option_to_list, unwrap_or, Some, None}
 use Rattle.std.specs.List.{last_or}
 use Rattle.std.proofs.lemmas.Bool.{ne_eqb, leb-true}
-use Rattle.std.proofs.lemmas.List.{length-append}
 use Rattle.metric_table.specs.Limits.{most}
 use Rattle.metric_table.specs.declared.limits.Limit.TheVariants as limit
 use Rattle.regression_state.specs.declared.states.State.{State}
@@ -17,8 +16,9 @@ use Rattle.history_model.specs.Entries.{chosen}
 use Rattle.history_model.specs.Publications.{publication}
 use Rattle.history_model.specs.Regressions.{raised, regressions, moved, state_of}
 use Rattle.history_model.proofs.Chosen.{chosen-push, chosen-skip}
-use Rattle.history_model.proofs.Growth.{legal-each}
+use Rattle.history_model.proofs.OfKind.{by-kind}
 use Rattle.history_model.proofs.Others.{limits-other}
+use Rattle.history_model.proofs.Silent.{silent}
 use Rattle.history_model.proofs.Standings.{jobs-stay}
 use Rattle.history_model.proofs.Tunings.{last-push}
 
@@ -33,43 +33,23 @@ pub state-stays : (h : List Entry) (e : Entry) (number : ℕ) → moved number (
 state-stays h e number none = ap (λ (ms : List State). unwrap_or (last_or None ms) Detected) (chosen-skip (moved number) h e none)
 
 -- ---- one that is not raised has not moved
-Unmoved : List Entry → Type 0
-Unmoved h = (number : ℕ) → length (regressions h) < number → chosen (moved number) h ≡ []
-
--- an entry that moves none above those raised so far
-unmoved-on : (h : List Entry) (e : Entry) → ((number : ℕ) → length (regressions h) < number → moved number (length h + 1) e ≡ None) → Unmoved h → Unmoved (h ++ e ∷ [])
-unfolding Unmoved
-unmoved-on h e none before number above =
-    let grown : length (regressions (h ++ e ∷ [])) ≡ length (regressions h) + length (option_to_list (raised (length h + 1) e)) =
-    ap length (chosen-push raised h e) ∙ length-append (regressions h) (option_to_list (raised (length h + 1) e)) in
-    let over : length (regressions h) < number = omega (arith, grown, above) in
-    chosen-skip (moved number) h e (none number over) ∙ before number over
-
-unmoved-grown : (h : List Entry) (e : Entry) → Allowed h e → Unmoved h → Unmoved (h ++ e ∷ [])
-unmoved-grown h (entry.Commit number name) allowed before = unmoved-on h (entry.Commit number name) (λ n above. refl) before
-unmoved-grown h (entry.Accept run) allowed before = unmoved-on h (entry.Accept run) (λ n above. refl) before
-unmoved-grown h (entry.Retract run) allowed before = unmoved-on h (entry.Retract run) (λ n above. refl) before
-unmoved-grown h (entry.Tune metric penalty len) allowed before = unmoved-on h (entry.Tune metric penalty len) (λ n above. refl) before
-unmoved-grown h (entry.Publish p) allowed before = unmoved-on h (entry.Publish p) (λ n above. refl) before
-unmoved-grown h (entry.Job e) allowed before = unmoved-on h (entry.Job e) (λ n above. refl) before
-unmoved-grown h (entry.Regression (event.Raise r)) allowed before = unmoved-on h (entry.Regression (event.Raise r)) (λ n above. refl) before
-unmoved-grown h (entry.Regression (event.Move regression state)) allowed before =
-    unmoved-on h (entry.Regression (event.Move regression state)) (λ n above. other n above) before
+none-moved : (h : List Entry) (e : Entry) → Allowed h e → (n : ℕ) → length (regressions h) < n → moved n (length h + 1) e ≡ None
+none-moved h = by-kind (λ (e : Entry). Allowed h e → (n : ℕ) → length (regressions h) < n → moved n (length h + 1) e ≡ None)
+    (λ e plain allowed n above. plain.moves n (length h + 1)) (λ p allowed n above. refl) of-regression (λ e allowed n above. refl)
   where
     second : (a b : Bool) → (a && b) ≡ true → b ≡ true
     second true b both = both
     second false b both = absurd (let no : false ≡ true = both in cc)
 
-    there : regression ≤ length (regressions h)
-    there = leb-true regression (length (regressions h)) (second (nat_le 1 regression) (nat_le regression (length (regressions h))) allowed.0.0)
-
-    other : (n : ℕ) → length (regressions h) < n → cond (regression == n) (Some state) None ≡ None
-    other n above = ap (λ b. cond b (Some state) None) (ne_eqb regression n (λ e. omega (arith, e, above, there)))
+    of-regression : (e : RegressionEvent) → Allowed h (entry.Regression e) → (n : ℕ) → length (regressions h) < n → moved n (length h + 1) (entry.Regression e) ≡ None
+    of-regression (event.Raise r) allowed n above = refl
+    of-regression (event.Move regression state) allowed n above =
+        let there : regression ≤ length (regressions h) =
+        leb-true regression (length (regressions h)) (second (nat_le 1 regression) (nat_le regression (length (regressions h))) allowed.0.0) in
+        ap (λ b. cond b (Some state) None) (ne_eqb regression n (λ e. omega (arith, e, above, there)))
 
 pub new-detected : (h : List Entry) (number : ℕ) → Legal h → length (regressions h) < number → state_of number h ≡ Detected
-unfolding Unmoved
-new-detected h number legal above =
-    ap (λ (ms : List State). unwrap_or (last_or None ms) Detected) (legal-each Unmoved (λ n above. refl) unmoved-grown h legal number above)
+new-detected h number legal above = ap (λ (ms : List State). unwrap_or (last_or None ms) Detected) (silent raised moved none-moved h legal number above)
 
 -- ---- limits
 pub limits-regression : (h : List Entry) (e : RegressionEvent) → KeepsLimits h → length h + 1 ≤ most limit.Steps → KeepsLimits (h ++ entry.Regression e ∷ [])

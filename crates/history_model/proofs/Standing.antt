@@ -1,5 +1,5 @@
 -- The publications of a legal history stand in it, since each version of it stays.
-use Rattle.std.proofs.Common.{◌≡◌, ℕ, ◌+◌, ◌≤◌, Bool, true, false, ◌&&◌, ◌||◌, cond, List, [], ◌∷◌, ◌++◌, length, All, refl, sym, ap, ◌∙◌, subst, arith, inl, inr}
+use Rattle.std.proofs.Common.{◌≡◌, ℕ, ◌+◌, ◌≤◌, Bool, true, ◌&&◌, ◌||◌, cond, List, [], ◌∷◌, ◌++◌, length, All, refl, sym, ap, ◌∙◌, subst, arith, inl, inr}
 use Rattle.std.specs.Prelude.{Some, None, take, drop, bytes_eq, option_to_list}
 use Rattle.std.specs.List.{list_any}
 use Rattle.std.proofs.lemmas.Bool.{cases_Bool}
@@ -15,7 +15,7 @@ use Rattle.history_model.specs.Publications.{publication, publications, publicat
 use Rattle.history_model.specs.Runs.{Series, acceptance, acceptances, is_known, is_of}
 use Rattle.history_model.proofs.Chosen.{chosen-push, chosen-skip}
 use Rattle.history_model.proofs.Growth.{legal-each}
-use Rattle.history_model.proofs.Lists.{same-bytes}
+use Rattle.history_model.proofs.OfKind.{by-kind, published-of}
 use Rattle.history_model.proofs.Publishing.{published-last, published-stays}
 
 pub versions-stay : (h more : List Entry) (version : ℕ) → version ≤ length h → take version (h ++ more) ≡ take version h
@@ -60,17 +60,15 @@ publications-stand h legal = legal-each AllStand (All-nil (Stands [])) grown h l
         let P : List Publication → Type 0 = λ ps. All (Stands (h ++ e ∷ [])) ps in
         subst P (sym (chosen-skip publication h e none)) (weaker h e all)
 
-    grown : (h : List Entry) (e : Entry) → Allowed h e → AllStand h → AllStand (h ++ e ∷ [])
-    grown h (entry.Commit number name) allowed all = skipped h (entry.Commit number name) refl all
-    grown h (entry.Accept run) allowed all = skipped h (entry.Accept run) refl all
-    grown h (entry.Retract run) allowed all = skipped h (entry.Retract run) refl all
-    grown h (entry.Tune metric penalty len) allowed all = skipped h (entry.Tune metric penalty len) refl all
-    grown h (entry.Regression event) allowed all = skipped h (entry.Regression event) refl all
-    grown h (entry.Job event) allowed all = skipped h (entry.Job event) refl all
-    grown h (entry.Publish p) allowed all =
+    published-too : (h : List Entry) (p : Publication) → Allowed h (entry.Publish p) → AllStand h → AllStand (h ++ entry.Publish p ∷ [])
+    published-too h p allowed all =
         let e : Entry = entry.Publish p in
         let P : List Publication → Type 0 = λ ps. All (Stands (h ++ e ∷ [])) ps in
         subst P (sym (chosen-push publication h e)) (All-push (Stands (h ++ e ∷ [])) (publications h) p (weaker h e all) (stands-later h e p allowed.0.0))
+
+    grown : (h : List Entry) (e : Entry) → Allowed h e → AllStand h → AllStand (h ++ e ∷ [])
+    grown h = by-kind (λ (e : Entry). Allowed h e → AllStand h → AllStand (h ++ e ∷ [])) (λ e plain allowed all. skipped h e (plain.publishes (length h + 1)) all)
+        (published-too h) (λ e allowed all. skipped h (entry.Regression e) refl all) (λ e allowed all. skipped h (entry.Job e) refl all)
 
 -- ---- the last one of a series
 module _ (s : Series) where
@@ -83,19 +81,6 @@ module _ (s : Series) where
       let two = last p (sym (published-stays h e s none) ∙ is) in
       (two.0, stands-later h e p two.1)
 
-  of-series : (q : Publication) → (bytes_eq q.test s.test && bytes_eq q.metric s.metric) ≡ true → published q ≡ s
-  of-series q both =
-      let halves = split (bytes_eq q.test s.test) (bytes_eq q.metric s.metric) both in
-      let tests : q.test ≡ s.test = same-bytes q.test s.test halves.0 in
-      let metrics : q.metric ≡ s.metric = same-bytes q.metric s.metric halves.1 in
-      ap (λ (t : List ℕ). let k : Series = record { test = t; metric = q.metric } in k) tests
-      ∙ ap (λ (m : List ℕ). let k : Series = record { test = s.test; metric = m } in k) metrics
-    where
-      split : (a b : Bool) → (a && b) ≡ true → (a ≡ true) × (b ≡ true)
-      split true true both = (refl, refl)
-      split true false both = absurd (cc)
-      split false b both = absurd (cc)
-
   publishes : (h : List Entry) (q : Publication) → Stands h q → LastOne h → LastOne (h ++ entry.Publish q ∷ [])
   unfolding LastOne
   publishes h q stands last = elim (cases_Bool (bytes_eq q.test s.test && bytes_eq q.metric s.metric)) [
@@ -104,7 +89,7 @@ module _ (s : Series) where
         let last_is : Some q ≡ Some p = sym (published-last h e s q (ap (λ b. cond b (Some q) None) hit)) ∙ is in
         let same : q ≡ p = cc in
         let P : Publication → Type 0 = λ p. (published p ≡ s) × Stands (h ++ e ∷ []) p in
-        subst P same (of-series q hit, stands-later h e q stands))
+        subst P same (published-of s q hit, stands-later h e q stands))
     | inr miss ↦ skips h (entry.Publish q) (ap (λ b. cond b (Some q) None) miss) last
   ]
 
@@ -113,13 +98,8 @@ module _ (s : Series) where
   last-stands-of h legal = legal-each LastOne (λ p is. absurd (let no : None ≡ Some p = is in cc)) grown h legal
     where
       grown : (h : List Entry) (e : Entry) → Allowed h e → LastOne h → LastOne (h ++ e ∷ [])
-      grown h (entry.Commit number name) allowed last = skips h (entry.Commit number name) refl last
-      grown h (entry.Accept run) allowed last = skips h (entry.Accept run) refl last
-      grown h (entry.Retract run) allowed last = skips h (entry.Retract run) refl last
-      grown h (entry.Tune metric penalty len) allowed last = skips h (entry.Tune metric penalty len) refl last
-      grown h (entry.Regression event) allowed last = skips h (entry.Regression event) refl last
-      grown h (entry.Job event) allowed last = skips h (entry.Job event) refl last
-      grown h (entry.Publish p) allowed last = publishes h p allowed.0.0 last
+      grown h = by-kind (λ (e : Entry). Allowed h e → LastOne h → LastOne (h ++ e ∷ [])) (λ e plain allowed last. skips h e (plain.publishes_of s (length h + 1)) last)
+          (λ p allowed last. publishes h p allowed.0.0 last) (λ e allowed last. skips h (entry.Regression e) refl last) (λ e allowed last. skips h (entry.Job e) refl last)
 
 pub last-stands : (h : List Entry) (s : Series) (p : Publication) → Legal h → last_publication s h ≡ Some p → (published p ≡ s) × Stands h p
 unfolding LastOne

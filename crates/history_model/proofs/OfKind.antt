@@ -1,0 +1,48 @@
+-- Entries by their kinds: most tell of commits, runs and settings, and others of publications, regressions or bisections.
+use Rattle.std.proofs.Common.{◌≡◌, ℕ, Bool, true, false, ◌&&◌, List, refl, ap, ◌∙◌}
+use Rattle.std.specs.Prelude.{None, bytes_eq}
+use Rattle.history_model.specs.declared.entries.Entry.{Entry}
+use Rattle.history_model.specs.declared.entries.Entry.TheVariants as entry
+use Rattle.history_model.specs.declared.events.JobEvent.{JobEvent}
+use Rattle.history_model.specs.declared.events.RegressionEvent.{RegressionEvent}
+use Rattle.history_model.specs.declared.publication.Publication.{Publication}
+use Rattle.history_model.specs.Jobs.{begun, said}
+use Rattle.history_model.specs.Publications.{publication, publication_of, published}
+use Rattle.history_model.specs.Regressions.{raised, moved}
+use Rattle.history_model.specs.Runs.{Series}
+use Rattle.history_model.proofs.Lists.{same-bytes}
+
+-- it publishes nothing, and tells of no regression and no bisection
+pub record IsPlain (e : Entry) : Type 0 where
+  pub publishes : (step : ℕ) → publication step e ≡ None
+  pub publishes_of : (s : Series) (step : ℕ) → publication_of s step e ≡ None
+  pub raises : (step : ℕ) → raised step e ≡ None
+  pub moves : (number step : ℕ) → moved number step e ≡ None
+  pub begins : (step : ℕ) → begun step e ≡ None
+  pub says : (number step : ℕ) → said number step e ≡ None
+
+pub by-kind : (P : Entry → Type 0) → ((e : Entry) → IsPlain e → P e) → ((p : Publication) → P (entry.Publish p)) → ((e : RegressionEvent) → P (entry.Regression e))
+    → ((e : JobEvent) → P (entry.Job e)) → (e : Entry) → P e
+by-kind P plain publish regression job (entry.Publish p) = publish p
+by-kind P plain publish regression job (entry.Regression e) = regression e
+by-kind P plain publish regression job (entry.Job e) = job e
+by-kind P plain publish regression job (entry.Commit number name) =
+    plain _ (record { publishes = λ s. refl; publishes_of = λ t s. refl; raises = λ s. refl; moves = λ n s. refl; begins = λ s. refl; says = λ n s. refl })
+by-kind P plain publish regression job (entry.Accept run) =
+    plain _ (record { publishes = λ s. refl; publishes_of = λ t s. refl; raises = λ s. refl; moves = λ n s. refl; begins = λ s. refl; says = λ n s. refl })
+by-kind P plain publish regression job (entry.Retract run) =
+    plain _ (record { publishes = λ s. refl; publishes_of = λ t s. refl; raises = λ s. refl; moves = λ n s. refl; begins = λ s. refl; says = λ n s. refl })
+by-kind P plain publish regression job (entry.Tune metric penalty len) =
+    plain _ (record { publishes = λ s. refl; publishes_of = λ t s. refl; raises = λ s. refl; moves = λ n s. refl; begins = λ s. refl; says = λ n s. refl })
+
+-- a publication of the test and the metric of a series is one of the series
+pub published-of : (s : Series) (p : Publication) → (bytes_eq p.test s.test && bytes_eq p.metric s.metric) ≡ true → published p ≡ s
+published-of s p both =
+    let halves = split (bytes_eq p.test s.test) (bytes_eq p.metric s.metric) both in
+    ap (λ (t : List ℕ). let k : Series = record { test = t; metric = p.metric } in k) (same-bytes p.test s.test halves.0)
+    ∙ ap (λ (m : List ℕ). let k : Series = record { test = s.test; metric = m } in k) (same-bytes p.metric s.metric halves.1)
+  where
+    split : (a b : Bool) → (a && b) ≡ true → (a ≡ true) × (b ≡ true)
+    split true true both = (refl, refl)
+    split true false both = absurd (cc)
+    split false b both = absurd (cc)
