@@ -4,7 +4,7 @@ use Rattle.segment_model.specs.Segments.{Position}
 use Rattle.segment_model.specs.Cuts.{Agree}
 use Rattle.segment_model.specs.Values.{values_by_position, cost_between}
 use Rattle.segment_cost.specs.declared.cert.Cert.{Cert}
-use Rattle.segment_cost.specs.Certificate.{IsCertificate}
+use Rattle.segment_cost.specs.Certificate.{IsCertificate, HaveOne, StandIfCertified, AreCertified}
 use Rattle.distance_model.specs.Distances.{IsAbsoluteCost, least_distances_of}
 use Rattle.cost_certificate.specs.Text.{text_of}
 
@@ -28,9 +28,7 @@ CostIsUnique = (points : List Position) (one other : ℕ → ℕ → ℤ) → Is
 
 -- no points, penalty and least length have two certificates that stand for them
 abbrev pub OneCertificate : Type 0
-OneCertificate =
-    (points : List Position) (penalty : ℤ) (len : ℕ) (one other : Cert)
-    → StandsFor points penalty len one → StandsFor points penalty len other → one ≡ other
+OneCertificate = HaveOne StandsFor
 
 -- the least sums of distances of the points' segments, as they are computed
 abbrev pub distances_between : List Position → ℕ → ℕ → ℤ
@@ -38,12 +36,8 @@ distances_between points = cost_between least_distances_of (values_by_position p
 
 -- a certificate for them stands for the points
 abbrev pub CertificateStands : Type 0
-CertificateStands =
-    (points : List Position) (penalty : ℤ) (len : ℕ) (cert : Cert)
-    → IsCertificate (distances_between points) (length points) penalty len cert → StandsFor points penalty len cert
+CertificateStands = StandIfCertified distances_between StandsFor
 
 -- and one that stands for the points is one for them
 abbrev pub StandingIsCertificate : Type 0
-StandingIsCertificate =
-    (points : List Position) (penalty : ℤ) (len : ℕ) (cert : Cert)
-    → StandsFor points penalty len cert → IsCertificate (distances_between points) (length points) penalty len cert
+StandingIsCertificate = AreCertified distances_between StandsFor

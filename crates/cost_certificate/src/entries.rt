@@ -1,12 +1,12 @@
 //! Single entries of the tables, and pairs of places.
 ghost use Rattle.std.specs.Prelude.{◌≡◌, ◌≢◌, ℕ, ◌+◌, ◌^◌, ◌<◌, ◌≤◌, pos, ◌≤ℤ◌, ◌<ℤ◌, ◌↔◌, IfSome, IfNone, IsTrue, ◌*◌, ◌⊎◌, neg_ℤ, ◌+ℤ◌};
 ghost use Rattle.segment_model.specs.Limits.{IsLength};
-ghost use Rattle.segment_model.specs.Tables.{MayBegin, IsCandidate, IsMark, IsSettled};
+ghost use Rattle.segment_model.specs.Tables.{MayBegin, IsMark, IsSettled};
 ghost use Rattle.cost_certificate.specs.Totals.{AreTotals};
 ghost use Rattle.cost_certificate.specs.Checks.{IsFloor, MarkHolds, OrderHolds, PairHolds, RowHolds, cost_in, last_place, total_at};
 
 use crate::tables::Tables;
-use segment_cost::Cost;
+use segment_cost::{Cost, is_candidate};
 
 const LEAST_TOTAL: i128 = -1_000_000_000_000_000_000_000_000_000_000_000_000;
 
@@ -33,19 +33,6 @@ pub fn made_from(tables: &Tables, s: usize, t: usize) -> i128
     ensures high { result ≤ℤ pos (2 * 10 ^ 37) }
 {
     tables.least[s] + tables.square.cost(s, t)
-}
-
-// Whether the last segment of t positions may begin at place s.
-fn is_candidate(len: usize, t: usize, s: usize) -> bool
-    ensures { IsTrue result ↔ IsCandidate len t s }
-{
-    if s >= t {
-        return false;
-    }
-    if s == 0 {
-        return true;
-    }
-    len <= s && len <= t - s
 }
 
 // Whether the last cut of place t is one of its candidates and makes its total.

@@ -26,7 +26,6 @@ mod from_points;
 mod rows;
 mod steps;
 mod table;
-mod walk;
 
 pub use from_points::{certificate_by, segmentation};
 pub use steps::Steps;

@@ -4,9 +4,8 @@ ghost use Rattle.segment_model.specs.Values.{AreWithinLimits, values_by_position
 
 use crate::rows::Rows;
 use crate::steps::Steps;
-use crate::walk::cuts_back;
 use line_text::Numbers;
-use segment_cost::{Cert, Cost, Costs, NoMemory, Places, Points};
+use segment_cost::{Cert, Cost, Costs, NoMemory, Places, Points, cuts_back};
 use segment_model::{
     agreeing_costs_law, best_list_law, table_law, value_costs_law, values_law, walk_law,
 };

@@ -1,3 +1,3 @@
-mod OneCertificate
+pub mod Certified
 mod Segmentations
 mod Squares

@@ -9,9 +9,8 @@ use segment_model::{
 pub fn one_certificate_law()
     ensures { OneCertificate }
 {
-    cost_law();
+    certificate_law();
     best_list_law();
-    agreeing_costs_law();
     table_law();
 }
 

@@ -13,12 +13,14 @@
 
 mod cert;
 mod cost;
+mod cuts;
 mod done;
 mod laws;
 mod square;
 
 pub use cert::Cert;
 pub use cost::Cost;
+pub use cuts::{cuts_back, is_candidate};
 pub use done::Done;
 pub use laws::{certificate_law, one_certificate_law};
 pub use point_list::{FrozenPoints, PointFault, Points};
