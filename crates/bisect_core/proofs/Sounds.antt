@@ -55,28 +55,39 @@ questions_fit n low high q b more small =
     let c : q < 2 ^ q = below_pow q in
     omega (arith, b.left)
 
+-- what is known there: the bounds apart, the commits, and that the place is half-way between the bounds
+record There (commits : Option (List ℕ)) (p : Progress) (place commit : ℕ) : Type 0 where
+  half : IsHalfWay p.low p.high place
+  more : p.low + 1 < p.high
+  list : List ℕ
+  listed : IsListed (seen commits p) list
+  is : commit ≡ slice_index list place
+
+there : (commits : Option (List ℕ)) (p : Progress) (place commit : ℕ) → IsAsked commits p place commit → There commits p place commit
+there commits p place commit a =
+    let half : IsHalfWay p.low p.high place = asked_half commits p place commit a in
+    let b : IsWithinBound p.range p.low p.high p.questions = a.sound.bound in
+    let list = listed commits p place commit a in
+    record { half = half; more = omega (arith, b.apart, half.apart); list = list.0; listed = list.1; is = a.is list.0 list.1.list }
+
 sound_good : (commits : Option (List ℕ)) (p : Progress) (place commit : ℕ) → IsAsked commits p place commit
     → IsSound (seen (kept_by commits (after_good p place commit).outcome) (after_good p place commit))
 sound_good commits p place commit a =
-    let half : IsHalfWay p.low p.high place = asked_half commits p place commit a in
-    let b : IsWithinBound p.range p.low p.high p.questions = a.sound.bound in
-    let more : p.low + 1 < p.high = omega (arith, b.apart, half.apart) in
-    let list : (list : List ℕ) × IsListed (seen commits p) list = listed commits p place commit a in
-    let is : commit ≡ slice_index list.0 place = a.is list.0 list.1.list in
-    let below : slice_index list.0 place < slice_index list.0 p.high = rises_to list.0 place p.high list.1.rising (omega (arith, half.half_way)) (omega (arith, list.1.count, b.inside)) in
+    let t = there commits p place commit a in
+    let below : slice_index t.list place < slice_index t.list p.high = rises_to t.list place p.high t.listed.rising (omega (arith, t.half.half_way)) (omega (arith, t.listed.count, a.sound.bound.inside)) in
     record {
-      bound = rw half.half_way (up p.range p.low p.high p.questions b more);
+      bound = rw t.half.half_way (up p.range p.low p.high p.questions a.sound.bound t.more);
       small = a.sound.small;
-      ends = omega (arith, is, below, list.1.high);
+      ends = omega (arith, t.is, below, t.listed.high);
       asks = λ (opened : is_open (between place p.high) ≡ true). refl;
       listed = λ (opened : is_open (between place p.high) ≡ true). (
-        list.0,
+        t.list,
         record {
-          list = rw opened list.1.list;
-          rising = list.1.rising;
-          count = list.1.count;
-          low = is;
-          high = list.1.high;
+          list = rw opened t.listed.list;
+          rising = t.listed.rising;
+          count = t.listed.count;
+          low = t.is;
+          high = t.listed.high;
         },
       );
     }
@@ -84,25 +95,21 @@ sound_good commits p place commit a =
 sound_bad : (commits : Option (List ℕ)) (p : Progress) (place commit : ℕ) → IsAsked commits p place commit
     → IsSound (seen (kept_by commits (after_bad p place commit).outcome) (after_bad p place commit))
 sound_bad commits p place commit a =
-    let half : IsHalfWay p.low p.high place = asked_half commits p place commit a in
-    let b : IsWithinBound p.range p.low p.high p.questions = a.sound.bound in
-    let more : p.low + 1 < p.high = omega (arith, b.apart, half.apart) in
-    let list : (list : List ℕ) × IsListed (seen commits p) list = listed commits p place commit a in
-    let is : commit ≡ slice_index list.0 place = a.is list.0 list.1.list in
-    let above : slice_index list.0 p.low < slice_index list.0 place = rises_to list.0 p.low place list.1.rising (omega (arith, half.half_way)) (omega (arith, half.half_way, list.1.count, b.inside)) in
+    let t = there commits p place commit a in
+    let above : slice_index t.list p.low < slice_index t.list place = rises_to t.list p.low place t.listed.rising (omega (arith, t.half.half_way)) (omega (arith, t.half.half_way, t.listed.count, a.sound.bound.inside)) in
     record {
-      bound = rw half.half_way (down p.range p.low p.high p.questions b more);
+      bound = rw t.half.half_way (down p.range p.low p.high p.questions a.sound.bound t.more);
       small = a.sound.small;
-      ends = omega (arith, is, above, list.1.low);
+      ends = omega (arith, t.is, above, t.listed.low);
       asks = λ (opened : is_open (between p.low place) ≡ true). refl;
       listed = λ (opened : is_open (between p.low place) ≡ true). (
-        list.0,
+        t.list,
         record {
-          list = rw opened list.1.list;
-          rising = list.1.rising;
-          count = list.1.count;
-          low = list.1.low;
-          high = is;
+          list = rw opened t.listed.list;
+          rising = t.listed.rising;
+          count = t.listed.count;
+          low = t.listed.low;
+          high = t.is;
         },
       );
     }

@@ -9,23 +9,21 @@ use Rattle.bisect_core.specs.Bounds.{IsWithinBound}
 use Rattle.bisect_core.specs.Laws.{AreAsked, Agrees, EachIsWithinBound, EndsWereAnswered, FoundIsFirstBad}
 use Rattle.bisect_core.proofs.Lists.{greatest_push, least_push, greatest_stands, least_stands, least-le}
 use Rattle.bisect_core.proofs.Halving.{up, down}
-use Rattle.bisect_core.specs.Turns.{Turn, tested, given_up, is_good, is_bad, is_untestable, place_of, good_places, bad_places, ending}
+use Rattle.bisect_core.specs.Turns.{Turn, tested, given_up, is_good, is_bad, is_untestable, place_of, places_by, good_places, bad_places, ending}
+
+places_push : (is : ℕ → Bool) (turns : List Turn) (t : Turn) → places_by is (turns ++ t ∷ []) ≡ places_by is turns ++ places_by is (t ∷ [])
+places_push is [] t = refl
+places_push is (tested place status ∷ turns) t = elim (is status) as (λ g. cond g (place ∷ places_by is (turns ++ t ∷ [])) (places_by is (turns ++ t ∷ [])) ≡ cond g (place ∷ places_by is turns) (places_by is turns) ++ places_by is (t ∷ [])) [
+  | true ↦ ap (λ (xs : List ℕ). place ∷ xs) (places_push is turns t)
+  | false ↦ places_push is turns t
+]
+places_push is (given_up place ∷ turns) t = places_push is turns t
 
 pub good_push : (turns : List Turn) (t : Turn) → good_places (turns ++ t ∷ []) ≡ good_places turns ++ good_places (t ∷ [])
-good_push [] t = refl
-good_push (tested place status ∷ turns) t = elim (is_good status) as (λ g. cond g (place ∷ good_places (turns ++ t ∷ [])) (good_places (turns ++ t ∷ [])) ≡ cond g (place ∷ good_places turns) (good_places turns) ++ good_places (t ∷ [])) [
-  | true ↦ ap (λ (xs : List ℕ). place ∷ xs) (good_push turns t)
-  | false ↦ good_push turns t
-]
-good_push (given_up place ∷ turns) t = good_push turns t
+good_push = places_push is_good
 
 pub bad_push : (turns : List Turn) (t : Turn) → bad_places (turns ++ t ∷ []) ≡ bad_places turns ++ bad_places (t ∷ [])
-bad_push [] t = refl
-bad_push (tested place status ∷ turns) t = elim (is_bad status) as (λ g. cond g (place ∷ bad_places (turns ++ t ∷ [])) (bad_places (turns ++ t ∷ [])) ≡ cond g (place ∷ bad_places turns) (bad_places turns) ++ bad_places (t ∷ [])) [
-  | true ↦ ap (λ (xs : List ℕ). place ∷ xs) (bad_push turns t)
-  | false ↦ bad_push turns t
-]
-bad_push (given_up place ∷ turns) t = bad_push turns t
+bad_push = places_push is_bad
 
 -- nothing ended it before
 pub ending_push : (turns : List Turn) (t : Turn) → ending turns ≡ None → ending (turns ++ t ∷ []) ≡ ending (t ∷ [])

@@ -27,17 +27,18 @@ abbrev pub is_end : Turn → Bool
 is_end (tested place status) = is_untestable status
 is_end (given_up place) = true
 
--- the places answered good, in order
-abbrev pub good_places : List Turn → List ℕ
-good_places [] = []
-good_places (tested place status ∷ turns) = if is_good status then place ∷ good_places turns else good_places turns
-good_places (given_up place ∷ turns) = good_places turns
+-- the places whose tests gave such a status, in order
+abbrev pub places_by : (ℕ → Bool) → List Turn → List ℕ
+places_by is [] = []
+places_by is (tested place status ∷ turns) = if is status then place ∷ places_by is turns else places_by is turns
+places_by is (given_up place ∷ turns) = places_by is turns
 
--- the places answered bad, in order
+-- the places answered good, and those answered bad
+abbrev pub good_places : List Turn → List ℕ
+good_places turns = places_by is_good turns
+
 abbrev pub bad_places : List Turn → List ℕ
-bad_places [] = []
-bad_places (tested place status ∷ turns) = if is_bad status then place ∷ bad_places turns else bad_places turns
-bad_places (given_up place ∷ turns) = bad_places turns
+bad_places turns = places_by is_bad turns
 
 -- the turn that ended it, if there is one
 abbrev pub ending : List Turn → Option Turn
