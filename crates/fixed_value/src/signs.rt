@@ -7,11 +7,7 @@ pub(crate) fn with_sign(negative: bool, magnitude: u64) -> i64
     requires { magnitude ≤ 10 ^ 16 }
     ensures { result ≡ signed negative magnitude }
 {
-    if negative {
-        -(magnitude as i64)
-    } else {
-        magnitude as i64
-    }
+    power_with_sign(negative, u128::from(magnitude)) as i64
 }
 
 // The power of this magnitude, below 0 where `negative`.

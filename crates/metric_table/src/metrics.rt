@@ -33,9 +33,8 @@ const SECONDS: Columns = Columns {
 
 /// A rate, of which more is better.
 const RATE: Columns = Columns {
-    decimals: 4,
     larger_is_better: true,
-    default_penalty: 2_500_000_000,
+    ..COMMON
 };
 
 // Whether the metric is the time of an operation, as most are.
