@@ -1,23 +1,21 @@
-use Rattle.std.proofs.Common.{◌≡◌, ◌∙◌, ◌+◌, ℕ, List, arith, get_or, ap, sym, subst}
-use Rattle.json_text.specs.Machine.{first_key, next_key, colon, ended}
+use Rattle.std.proofs.Common.{◌≡◌, ◌∙◌, ℕ, List, arith, get_or, ap, sym, subst}
+use Rattle.json_text.specs.Machine.{first_key, next_key, colon}
 use Rattle.json_text.specs.Tree.{Tree, Members, no_members}
 use Rattle.json_text.specs.Tree as trees
 use Rattle.json_text.specs.Reached.{Stands}
 use Rattle.json_text.specs.States.{frames_of}
-use Rattle.json_text.proofs.Reach.{object_ends, key_alike, key_arrives, key_fails, fault_handed}
+use Rattle.json_text.proofs.Reach.{object_ends, closed_stands, key_alike, key_arrives, key_fails, fault_handed}
 use Rattle.json_text.proofs.Runs.{stands_alike}
 use Rattle.json_text.proofs.Variants.{tree_of-object}
 use Rattle.json_text.proofs.machine.first_key.Goals as goal
 
 pub returns-then-as_bytes-place-eq125-clause-arrives : goal.returns-then-as_bytes-place-eq125-clause-arrives
-returns-then-as_bytes-place-eq125-clause-arrives c =
-    let stack = c.args.stack.now.items in
-    let here : get_or c.args.text.now c.args.place.now 0 ≡ 125 = subst (λ (xs : List ℕ). get_or xs c.args.place.now 0 ≡ 125) c.as_bytes.ensures.value c.if-as_bytes-place-eq125.true in (
-      omega arith,
-      subst (λ (held : Tree). Stands c.args.text.now (c.args.place.now + 1) (ended held, frames_of stack)) (sym (tree_of-object c.new-members.result ∙ ap trees.object c.new-members.ensures))
-          (object_ends c.args.text.now c.args.place.now stack c.requires.stands c.requires.some here c.requires.room),
-      omega (arith, c.requires.room),
-    )
+returns-then-as_bytes-place-eq125-clause-arrives c = (
+  omega arith,
+  closed_stands c.args.text.now _ c.args.place.now 125 c.args.stack.now.items _ _ c.as_bytes.ensures.value c.if-as_bytes-place-eq125.true (tree_of-object c.new-members.result ∙ ap trees.object c.new-members.ensures)
+      (λ here. object_ends c.args.text.now c.args.place.now c.args.stack.now.items c.requires.stands c.requires.some here c.requires.room),
+  omega (arith, c.requires.room),
+)
 
 pub returns-clause-arrives : goal.returns-clause-arrives
 returns-clause-arrives c =
