@@ -3,8 +3,8 @@ use Rattle.std.proofs.Common.{◌≡◌, ℕ, ◌≤◌, ◌<◌, ◌⊎◌, inl
 use Rattle.std.specs.Prelude.{codes}
 use Rattle.std.proofs.lemmas.List.{append-nil}
 use Rattle.go_bench_text.specs.Gathering.{Keeps, Gains, AddsLine}
-use Rattle.go_bench_text.specs.Lines.{begins, ArePairs, IsResult, IsResultLine}
-use Rattle.go_bench_text.specs.Pairs.{IsHead, ReadsPairs, samples_of}
+use Rattle.go_bench_text.specs.Lines.{begins, ArePairs, IsHead, IsResult, IsResultLine}
+use Rattle.go_bench_text.specs.Pairs.{ReadsPairs, samples_of}
 use Rattle.go_bench_text.specs.Readings.{HasLarge, PairsGive, IsOver, pkg_of, test_of}
 use Rattle.go_bench_text.specs.Readings.LineGives.{measured, broken}
 use Rattle.go_bench_text.specs.declared.gather.Gathered.{Gathered}
@@ -16,11 +16,11 @@ gains_none before given keeps = subst (Keeps before) (sym (append-nil given)) ke
 
 -- a line that begins as a result line does and goes on with pairs is one
 pub is_whole : (line name : List ℕ) (fields : List (List ℕ)) → IsHead line name fields → 0 < length fields → ArePairs fields → IsResult line name fields
-is_whole line name fields head some paired = record { count = head.count; first = head.first; fields = head.fields; named = head.named; counted = head.counted; some = some; paired = paired }
+is_whole line name fields head some paired = record { head = head; some = some; paired = paired }
 
 -- only a result line is out of range
 pub silent_in_range : (before : List (List ℕ)) (line : List ℕ) → begins line ≡ false → ¬ IsOver before line
-silent_in_range before line off over = not_both (begins line) over.is.first off
+silent_in_range before line off over = not_both (begins line) over.is.head.first off
 
 pub over_parts : (before : List (List ℕ)) (line name : List ℕ) (pairs : List (List ℕ)) → IsResult line name pairs → IsOver before line → (256 < length (test_of (pkg_of before) name)) ⊎ HasLarge pairs
 over_parts before line name pairs is over =
@@ -35,7 +35,7 @@ none_over test pairs short small (inr h) = small h
 -- its fields behind the count are these
 pub is_headed : (line name : List ℕ) (fields : List (List ℕ)) → IsHead line name fields → IsResultLine line → (0 < length fields) × ArePairs fields
 is_headed line name fields head is =
-    let both : (codes "Benchmark" ++ name) ∷ head.count ∷ fields ≡ (codes "Benchmark" ++ is.0) ∷ is.2.count ∷ is.1 = sym head.fields ∙ is.2.fields in
+    let both : (codes "Benchmark" ++ name) ∷ head.count ∷ fields ≡ (codes "Benchmark" ++ is.0) ∷ is.2.head.count ∷ is.1 = sym head.fields ∙ is.2.head.fields in
     let same : fields ≡ is.1 = cc in
     (subst (λ (fs : List (List ℕ)). 0 < length fs) (sym same) is.2.some, subst ArePairs (sym same) is.2.paired)
 

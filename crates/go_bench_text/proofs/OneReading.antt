@@ -36,7 +36,7 @@ pub record SameParts (name other : List ℕ) (pairs others : List (List ℕ)) : 
 
 pub same_parts : (line name other : List ℕ) (pairs others : List (List ℕ)) → IsResult line name pairs → IsResult line other others → SameParts name other pairs others
 same_parts line name other pairs others one two =
-    let e : (codes "Benchmark" ++ name) ∷ one.count ∷ pairs ≡ (codes "Benchmark" ++ other) ∷ two.count ∷ others = sym one.fields ∙ two.fields in
+    let e : (codes "Benchmark" ++ name) ∷ one.head.count ∷ pairs ≡ (codes "Benchmark" ++ other) ∷ two.head.count ∷ others = sym one.head.fields ∙ two.head.fields in
     let heads : codes "Benchmark" ++ name ≡ codes "Benchmark" ++ other = cc in
     record { names = append_cancel_left (codes "Benchmark") name other heads; both = cc }
 
@@ -52,11 +52,11 @@ one_line before line samples others ignored count values (measured name pairs is
     subst (λ (ps : List (List ℕ)). PairsGive (test_of (pkg_of before) name) ps others) same.both (subst (λ (n : List ℕ). PairsGive (test_of (pkg_of before) n) more others) same.names given) in
     (one_list (test_of (pkg_of before) name) pairs samples others values gives there, e ∙ sym f)
 one_line before line samples others ignored count values (measured name pairs is gives e) (broken not_is f g) = absurd (not_is.1 (name, pairs, is))
-one_line before line samples others ignored count values (measured name pairs is gives e) (silent off f g) = absurd (not_both (begins line) is.first off)
+one_line before line samples others ignored count values (measured name pairs is gives e) (silent off f g) = absurd (not_both (begins line) is.head.first off)
 one_line before line samples others ignored count values (broken not_is e f) (measured name pairs is gives g) = absurd (not_is.1 (name, pairs, is))
 one_line before line samples others ignored count values (broken not_is e f) (broken also g h) = (e ∙ sym g, f ∙ sym h)
 one_line before line samples others ignored count values (broken not_is e f) (silent off g h) = absurd (not_both (begins line) not_is.0 off)
-one_line before line samples others ignored count values (silent off e f) (measured name pairs is gives g) = absurd (not_both (begins line) is.first off)
+one_line before line samples others ignored count values (silent off e f) (measured name pairs is gives g) = absurd (not_both (begins line) is.head.first off)
 one_line before line samples others ignored count values (silent off e f) (broken not_is g h) = absurd (not_both (begins line) not_is.0 off)
 one_line before line samples others ignored count values (silent off e f) (silent also g h) = (e ∙ sym g, f ∙ sym h)
 

@@ -170,11 +170,7 @@ some_value sample back = at_length (value_text sample.metric sample.value) back.
 is_result : (name : List ℕ) (sample : Measurement) → MayPut name (value_text sample.metric sample.value) sample.metric → is_name (chars name) ≡ true → IsReadBackBy sample.metric sample.value → length sample.metric ≤ 64
     → IsResult (result_line name sample) name (value_text sample.metric sample.value ∷ sample.metric ∷ [])
 is_result name sample may named back short = record {
-  count = 49 ∷ [];
-  first = refl;
-  fields = put_fields name (value_text sample.metric sample.value) sample.metric may;
-  named = named;
-  counted = (omega arith, (lit< tt, tt));
+  head = record { count = 49 ∷ []; first = refl; fields = put_fields name (value_text sample.metric sample.value) sample.metric may; named = named; counted = (omega arith, (lit< tt, tt)) };
   some = omega arith;
   paired = ((back.reads.numeral, back.reads.spells), short, tt);
 }

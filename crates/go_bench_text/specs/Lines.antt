@@ -53,13 +53,17 @@ ArePairs [] = Unit {0}
 ArePairs (value ∷ []) = ⊥
 ArePairs (value ∷ unit ∷ more) = HasNumeral value × (length unit ≤ 64) × ArePairs more
 
--- the line's first character begins the field `Benchmark` NAME, a field of digits follows, and then one or more pairs
-pub record IsResult (line name : List ℕ) (pairs : List (List ℕ)) : Type 0 where
+-- the line's first character begins the field `Benchmark` NAME, a field of digits follows, and then these fields
+pub record IsHead (line name : List ℕ) (behind : List (List ℕ)) : Type 0 where
   pub count : List ℕ
   pub first : begins line ≡ true
-  pub fields : fields_of line ≡ (codes "Benchmark" ++ name) ∷ count ∷ pairs
+  pub fields : fields_of line ≡ (codes "Benchmark" ++ name) ∷ count ∷ behind
   pub named : is_name (chars name) ≡ true
   pub counted : AreDigits count
+
+-- and these are one or more pairs
+pub record IsResult (line name : List ℕ) (pairs : List (List ℕ)) : Type 0 where
+  pub head : IsHead line name pairs
   pub some : 0 < length pairs
   pub paired : ArePairs pairs
 

@@ -1,12 +1,9 @@
 -- Private: no public contract cites this. The pairs of a line, as they are read.
-use Rattle.std.specs.Prelude.{◌≡◌, true, ℕ, ◌<◌, ◌≤◌, ◌^◌, List, ◌∷◌, ◌++◌, map, length, codes, All, unsigned_abs}
-use Rattle.std.specs.Str.{chars}
-use Rattle.fixed_value.specs.Numerals.{AreDigits, HasNumeral}
+use Rattle.std.specs.Prelude.{◌≡◌, ℕ, ◌<◌, ◌≤◌, ◌^◌, List, map, length, All, unsigned_abs}
+use Rattle.fixed_value.specs.Numerals.{HasNumeral}
 use Rattle.metric_value.specs.Values.{IsValueOf, HasNoneInRange}
 use Rattle.sample_model.specs.Samples.{Measurement}
-use Rattle.go_bench_text.specs.Characters.{is_name}
-use Rattle.go_bench_text.specs.Fields.{fields_of}
-use Rattle.go_bench_text.specs.Lines.{begins, ArePairs}
+use Rattle.go_bench_text.specs.Lines.{ArePairs}
 use Rattle.go_bench_text.specs.Readings.{PairsGive, HasLarge}
 use Rattle.go_bench_text.specs.declared.pairs.Pair.{Pair}
 use Rattle.go_bench_text.specs.declared.pairs.PairRead.{PairRead}
@@ -51,11 +48,3 @@ pub record ReadsPairs (fields : List (List ℕ)) (pairs : List Pair) : Type 0 wh
 -- the fields are pairs, and one has a value out of range
 abbrev pub HasLargePair : List (List ℕ) → Type 0
 HasLargePair fields = ArePairs fields × HasLarge fields
-
--- a line begins as a result line does: the field `Benchmark` NAME, a field of digits, and these fields behind it
-pub record IsHead (line name : List ℕ) (behind : List (List ℕ)) : Type 0 where
-  pub count : List ℕ
-  pub first : begins line ≡ true
-  pub fields : fields_of line ≡ (codes "Benchmark" ++ name) ∷ count ∷ behind
-  pub named : is_name (chars name) ≡ true
-  pub counted : AreDigits count

@@ -3,8 +3,7 @@ ghost use Rattle.std.specs.Prelude.{◌≡◌, ◌∷◌, ◌++◌, ◌↔◌, �
 ghost use Rattle.std.specs.Str.{IsUtf8};
 ghost use Rattle.line_text.specs.Lines.{lines_of};
 ghost use Rattle.go_bench_text.specs.Fields.{fields_of};
-ghost use Rattle.go_bench_text.specs.Lines.{begins, ArePairs, IsResultLine, IsKind};
-ghost use Rattle.go_bench_text.specs.Pairs.{IsHead};
+ghost use Rattle.go_bench_text.specs.Lines.{IsHead, begins, ArePairs, IsResultLine, IsKind};
 
 use crate::characters::is_name;
 use crate::config::setting_of;

@@ -95,11 +95,7 @@ named = ap is_name (chars-IsAscii test (ascii_word test refl)) ∙ upper_case
 
 is_result : (v : ℕ) → v < 2 ^ 64 → IsResult (result v) test (decimal v ∷ metric ∷ [])
 is_result v small = record {
-  count = 49 ∷ [];
-  first = refl;
-  fields = put_fields test (decimal v) metric (may_put v small);
-  named = named;
-  counted = (omega arith, (lit< tt, tt));
+  head = record { count = 49 ∷ []; first = refl; fields = put_fields test (decimal v) metric (may_put v small); named = named; counted = (omega arith, (lit< tt, tt)) };
   some = omega arith;
   paired = ((numeral v, numeral_text v small), omega arith, tt);
 }
