@@ -480,10 +480,12 @@ object_ends bytes i stack stands short is room =
     (takes bytes i (first_key, frames_of stack) (ended (trees.object no_members), frames_of stack) stands short (subst (λ b. step b first_key (frames_of stack) ≡ Some (ended (trees.object no_members), frames_of stack)) (sym is) refl) (omega (arith, room, size)))
 
 -- what was made of none, where the closing byte stands in bytes that are the text
-pub closed_stands : (text seen : List ℕ) (i closing : ℕ) (stack : List Open) (none made : Tree) → seen ≡ text → get_or seen i 0 ≡ closing → made ≡ none
-    → (get_or text i 0 ≡ closing → Stands text (i + 1) (ended none, frames_of stack)) → Stands text (i + 1) (ended made, frames_of stack)
-closed_stands text seen i closing stack none made is here same stands =
-    subst (λ (held : Tree). Stands text (i + 1) (ended held, frames_of stack)) (sym same) (stands (subst (λ (xs : List ℕ). get_or xs i 0 ≡ closing) is here))
+pub closed_arrives : (text seen : List ℕ) (i closing : ℕ) (stack : List Open) (none made : Tree) → seen ≡ text → get_or seen i 0 ≡ closing → made ≡ none
+    → length stack < most_levels → (get_or text i 0 ≡ closing → Stands text (i + 1) (ended none, frames_of stack))
+    → (i < i + 1) × Stands text (i + 1) (ended made, frames_of stack) × (0 + length stack ≤ most_levels)
+closed_arrives text seen i closing stack none made is here same room stands =
+    let ends = stands (subst (λ (xs : List ℕ). get_or xs i 0 ≡ closing) is here) in
+    (omega arith, subst (λ (held : Tree). Stands text (i + 1) (ended held, frames_of stack)) (sym same) ends, omega (arith, room))
 
 -- the same of white space in bytes that are a text
 pub blank_passed_in : (bytes text : List ℕ) (i j : ℕ) (awaits : Awaits) (stack : List Open) → bytes ≡ text → Stands text i (mode_of awaits, frames_of stack) → i ≤ j → j ≤ length bytes → ((k : ℕ) → i ≤ k → k < j → IsTrue (is_blank (get_or bytes k 0)))

@@ -1,23 +1,20 @@
-use Rattle.std.proofs.Common.{◌≡◌, ◌∙◌, ◌∷◌, ℕ, List, arith, get_or, ap, sym, subst}
+use Rattle.std.proofs.Common.{◌≡◌, ◌∙◌, ◌∷◌, ℕ, List, get_or, ap, sym, subst}
 use Rattle.json_text.specs.Machine.{Frame, in_list, value, first_item}
 use Rattle.json_text.specs.Tree.{Tree, no_items}
 use Rattle.json_text.specs.Tree as trees
 use Rattle.json_text.specs.Reached.{Stands}
 use Rattle.json_text.specs.States.{frames_of}
 use Rattle.json_text.specs.declared.state.Open.TheVariants as open_frame
-use Rattle.json_text.proofs.Reach.{list_ends, closed_stands, item_alike}
+use Rattle.json_text.proofs.Reach.{list_ends, closed_arrives, item_alike}
 use Rattle.json_text.proofs.Runs.{stands_alike}
 use Rattle.json_text.proofs.Stack.{frames_end}
 use Rattle.json_text.proofs.Variants.{tree_of-list}
 use Rattle.json_text.proofs.machine.first_item.Goals as goal
 
 pub returns-then-as_bytes-place-eq93-clause-arrives : goal.returns-then-as_bytes-place-eq93-clause-arrives
-returns-then-as_bytes-place-eq93-clause-arrives c = (
-  omega arith,
-  closed_stands c.args.text.now _ c.args.place.now 93 c.args.stack.now.items _ _ c.as_bytes.ensures.value c.if-as_bytes-place-eq93.true (tree_of-list c.new-items.result ∙ ap trees.list c.new-items.ensures)
-      (λ here. list_ends c.args.text.now c.args.place.now c.args.stack.now.items c.requires.stands c.requires.some here c.requires.room),
-  omega (arith, c.requires.room),
-)
+returns-then-as_bytes-place-eq93-clause-arrives c =
+    closed_arrives c.args.text.now _ c.args.place.now 93 c.args.stack.now.items _ _ c.as_bytes.ensures.value c.if-as_bytes-place-eq93.true (tree_of-list c.new-items.result ∙ ap trees.list c.new-items.ensures)
+    c.requires.room (λ here. list_ends c.args.text.now c.args.place.now c.args.stack.now.items c.requires.stands c.requires.some here c.requires.room)
 
 pub begin-requires-clause-stands : goal.begin-requires-clause-stands
 begin-requires-clause-stands c =

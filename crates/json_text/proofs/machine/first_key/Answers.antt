@@ -4,18 +4,15 @@ use Rattle.json_text.specs.Tree.{Tree, Members, no_members}
 use Rattle.json_text.specs.Tree as trees
 use Rattle.json_text.specs.Reached.{Stands}
 use Rattle.json_text.specs.States.{frames_of}
-use Rattle.json_text.proofs.Reach.{object_ends, closed_stands, key_alike, key_arrives, key_fails, fault_handed}
+use Rattle.json_text.proofs.Reach.{object_ends, closed_arrives, key_alike, key_arrives, key_fails, fault_handed}
 use Rattle.json_text.proofs.Runs.{stands_alike}
 use Rattle.json_text.proofs.Variants.{tree_of-object}
 use Rattle.json_text.proofs.machine.first_key.Goals as goal
 
 pub returns-then-as_bytes-place-eq125-clause-arrives : goal.returns-then-as_bytes-place-eq125-clause-arrives
-returns-then-as_bytes-place-eq125-clause-arrives c = (
-  omega arith,
-  closed_stands c.args.text.now _ c.args.place.now 125 c.args.stack.now.items _ _ c.as_bytes.ensures.value c.if-as_bytes-place-eq125.true (tree_of-object c.new-members.result ∙ ap trees.object c.new-members.ensures)
-      (λ here. object_ends c.args.text.now c.args.place.now c.args.stack.now.items c.requires.stands c.requires.some here c.requires.room),
-  omega (arith, c.requires.room),
-)
+returns-then-as_bytes-place-eq125-clause-arrives c =
+    closed_arrives c.args.text.now _ c.args.place.now 125 c.args.stack.now.items _ _ c.as_bytes.ensures.value c.if-as_bytes-place-eq125.true (tree_of-object c.new-members.result ∙ ap trees.object c.new-members.ensures)
+    c.requires.room (λ here. object_ends c.args.text.now c.args.place.now c.args.stack.now.items c.requires.stands c.requires.some here c.requires.room)
 
 pub returns-clause-arrives : goal.returns-clause-arrives
 returns-clause-arrives c =
