@@ -1,15 +1,17 @@
 -- What a line of a form asks before its body is read.
 use Rattle.std.proofs.Common.{◌≡◌, ◌≢◌, ℕ, ◌<◌, ◌≤◌, Bool, true, false, inl, inr, List, [], ◌∷◌, length, Option, None, refl, sym, ap, ◌∙◌, arith, codes}
 use Rattle.request_words.specs.declared.head.LineFault.TheVariants.{BadRequest, BadName, BadPenalty, BadLength, BodyTooLong}
-use Rattle.request_words.specs.declared.head.Head.TheVariants.{Refused}
-use Rattle.request_words.specs.Forms.{Form, machine, commit, submit_go, submit_lnt, retract, tune, calibrate, of_series, regress, set_state, bisect, answer, of_job, runs, report, series_word, job_word, IsOfForm, HasNoForm, names_in, body_length, HasShortMetric, IsNamed, IsInRange, HasLength}
-use Rattle.request_words.specs.Bodies.{Item, AsksNamed}
+use Rattle.request_words.specs.declared.head.Head.TheVariants.{Refused, Asked}
+use Rattle.request_words.specs.Forms.{Form, machine, commit, submit_go, submit_lnt, retract, tune, calibrate, of_series, regress, set_state, bisect, answer, of_job, runs, report, machine_word, machine_form, series_word, job_word, name_of, IsOfForm, HasNoForm, names_in, body_length, HasShortMetric, IsNamed, IsInRange, HasLength}
+use Rattle.request_words.specs.Bodies.{Item, AsksNamed, machine_request}
 use Rattle.request_words.specs.Items.{long, unnamed, wide, off, named, formless, formed, Counts, body_limit}
 use Rattle.line_text.specs.Lines.{words_of}
 use Rattle.request_words.specs.Verbs.{word_of}
 use Rattle.request_words.specs.declared.verb.Verb.{Verb}
 use Rattle.request_words.specs.declared.verb.Verb.TheVariants as verb
 use Rattle.request_words.specs.Heads.{IsHeadOf, IsHead, AreNames, IsFoundIf}
+use Rattle.request_words.specs.declared.verb.MachineVerb.{MachineVerb}
+use Rattle.request_words.specs.declared.verb.MachineVerb.TheVariants as of_machine
 use Rattle.request_words.specs.declared.verb.SeriesVerb.{SeriesVerb}
 use Rattle.request_words.specs.declared.verb.SeriesVerb.TheVariants.{Segment, Changes, Verify}
 use Rattle.request_words.specs.declared.verb.JobVerb.{JobVerb}
@@ -76,6 +78,24 @@ no_submission {line} {kind} {words} is no_go no_lnt = formless_behind is (λ of_
 -- the word alone is no submission
 pub no_more : {line : List ℕ} → words_of line ≡ codes "submit" ∷ [] → IsHead line (Refused BadRequest 0)
 no_more {line} is = formless_behind is (λ of_form. absurd (omega (arith, ap length (sym is ∙ of_form.words))))
+
+-- what is asked of a machine, by each of its words
+pub machine_behind : {line m : List ℕ} {words : List (List ℕ)} (asked : MachineVerb) → words_of line ≡ machine_word asked ∷ words → words ≡ m ∷ [] → IsOfForm line (machine_form asked m)
+machine_behind of_machine.Machine verb is = record { words = verb ∙ ap (λ xs. codes "machine" ∷ xs) is; numbers = tt; amounts = tt; status = tt }
+machine_behind of_machine.Runs verb is = record { words = verb ∙ ap (λ xs. codes "runs" ∷ xs) is; numbers = tt; amounts = tt; status = tt }
+
+pub machine_formless : {line : List ℕ} {words : List (List ℕ)} (asked : MachineVerb) → words_of line ≡ machine_word asked ∷ words → ((m : List ℕ) → words ≢ m ∷ []) → IsHead line (Refused BadRequest 0)
+machine_formless of_machine.Machine verb none = formless_behind verb (λ of_form. none _ (behind (sym verb ∙ of_form.words)))
+machine_formless of_machine.Runs verb none = formless_behind verb (λ of_form. none _ (behind (sym verb ∙ of_form.words)))
+
+pub machine_unnamed : {A : Type 0} {found : Option A} (asked : MachineVerb) (line m : List ℕ) → IsOfForm line (machine_form asked m) → found ≡ None → IsFoundIf found (AreNames (m ∷ []))
+    → IsHead line (Refused BadName 0)
+machine_unnamed of_machine.Machine line m is none told = unnamed_machine line (machine m) 0 is refl (omega arith) none told
+machine_unnamed of_machine.Runs line m is none told = unnamed_machine line (runs m) 0 is refl (omega arith) none told
+
+pub machine_asks : (asked : MachineVerb) (line m : List ℕ) → IsOfForm line (machine_form asked m) → AreNames (m ∷ []) → IsHead line (Asked (machine_request asked (name_of m)))
+machine_asks of_machine.Machine line m is are = named_head line (machine m) 0 _ is tt tt refl (omega arith) (are, tt) (λ body item told. told)
+machine_asks of_machine.Runs line m is are = named_head line (runs m) 0 _ is tt tt refl (omega arith) (are, tt) (λ body item told. told)
 
 -- what is asked of a series, or of a bisection, by each of its words
 pub series_form : {line : List ℕ} {words : List (List ℕ)} (asked : SeriesVerb) (form : Form) → words_of line ≡ series_word asked ∷ words → IsOfForm line form

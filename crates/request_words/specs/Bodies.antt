@@ -18,6 +18,8 @@ use Rattle.request_model.specs.declared.replies.Refusal.{Refusal}
 use Rattle.request_model.specs.declared.replies.Refusal.TheVariants as refusal
 use Rattle.request_words.specs.Forms.{Form, machine, commit, submit_go, submit_lnt, retract, tune, calibrate, of_series, regress, set_state, bisect, answer, of_job, runs, report, name_of}
 use Rattle.request_words.specs.declared.verb.JobVerb.{JobVerb}
+use Rattle.request_words.specs.declared.verb.MachineVerb.{MachineVerb}
+use Rattle.request_words.specs.declared.verb.MachineVerb.TheVariants as of_machine
 use Rattle.request_words.specs.declared.verb.JobVerb.TheVariants.{Resume, Job}
 use Rattle.request_words.specs.declared.verb.SeriesVerb.{SeriesVerb}
 use Rattle.request_words.specs.declared.verb.SeriesVerb.TheVariants.{Segment, Changes, Verify}
@@ -72,6 +74,11 @@ AsksLnt body submitted (Ok q) = (run : Report) × IsDue body (Ok run) × (q ≡ 
 AsksLnt body submitted (Err r) = IsDue body (Err (fault_of r))
 
 -- ---- all forms, whose words are names
+
+-- what is asked of a machine
+abbrev pub machine_request : MachineVerb → (m : List ℕ) → Request
+machine_request of_machine.Machine m = request.Machine m
+machine_request of_machine.Runs m = request.Runs m
 
 -- what is asked of a series
 abbrev pub series_request : SeriesVerb → (m test metric : List ℕ) → Request

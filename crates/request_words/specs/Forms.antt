@@ -12,6 +12,8 @@ use Rattle.segment_model.specs.Limits.{IsLength}
 use Rattle.request_model.specs.Factors.{IsFactor}
 use Rattle.request_words.specs.declared.verb.JobVerb.{JobVerb}
 use Rattle.request_words.specs.declared.verb.JobVerb.TheVariants.{Resume, Job}
+use Rattle.request_words.specs.declared.verb.MachineVerb.{MachineVerb}
+use Rattle.request_words.specs.declared.verb.MachineVerb.TheVariants as of_machine
 use Rattle.request_words.specs.declared.verb.SeriesVerb.{SeriesVerb}
 use Rattle.request_words.specs.declared.verb.SeriesVerb.TheVariants.{Segment, Changes, Verify}
 
@@ -32,6 +34,15 @@ pub data Form : Type 0 where
   of_job : (asked : JobVerb) (m : List ℕ) (job : ℕ) → Form
   runs : (m : List ℕ) → Form
   report : (m : List ℕ) (json : Bool) → Form
+
+-- the word by which a machine is made or its runs are listed, and the form of such a line
+abbrev pub machine_word : MachineVerb → List ℕ
+machine_word of_machine.Machine = codes "machine"
+machine_word of_machine.Runs = codes "runs"
+
+abbrev pub machine_form : MachineVerb → List ℕ → Form
+machine_form of_machine.Machine m = machine m
+machine_form of_machine.Runs m = runs m
 
 -- the word by which a series is segmented, its changes are listed or its certificate is shown
 abbrev pub series_word : SeriesVerb → List ℕ

@@ -1,8 +1,8 @@
 //! The head of a request: what its line asks before its body is read.
 ghost use Rattle.std.specs.Prelude.{◌≡◌, ◌≢◌, ℕ, ◌^◌, ◌<◌, List, [], ◌∷◌, map, option_to_list, Option, decimal, codes, IfOk, IfSome, IfNone};
 ghost use Rattle.line_text.specs.Numbers.{IsNumber};
-ghost use Rattle.request_words.specs.Forms.{series_word};
-ghost use Rattle.request_words.specs.Bodies.{series_request};
+ghost use Rattle.request_words.specs.Forms.{machine_word, series_word};
+ghost use Rattle.request_words.specs.Bodies.{machine_request, series_request};
 ghost use Rattle.request_words.specs.Heads.{IsHead, IsHeadBehind, line_refusal};
 ghost use Rattle.request_words.specs.Items.{Asks, Counts};
 
@@ -13,7 +13,7 @@ use crate::found_head::{
     answer_head, bisect_head, job_head, regress_head, report_head, state_head,
 };
 use crate::names::{Last, machine_named, three_named, two_named};
-use crate::verb::{SeriesVerb, Verb, read_verb};
+use crate::verb::{MachineVerb, SeriesVerb, Verb, read_verb};
 use crate::words::Words;
 use line_text::{Name, Names, is_number, read_u64};
 use request_model::{Refusal, Request};
@@ -64,7 +64,7 @@ pub fn read_head(alloc: Global, names: &mut Names, line: &[u8]) -> Result<Head, 
         return Ok(formless());
     };
     match verb {
-        Verb::Machine => machine_head(alloc, names, words),
+        Verb::Machine => machine_head(alloc, names, words, MachineVerb::Machine),
         Verb::Commit => commit_head(alloc, names, words),
         Verb::Submit => submit_head(alloc, names, words),
         Verb::Retract => retract_head(alloc, names, words),
@@ -76,7 +76,7 @@ pub fn read_head(alloc: Global, names: &mut Names, line: &[u8]) -> Result<Head, 
         Verb::Bisect => bisect_head(alloc, names, words),
         Verb::Answer => answer_head(alloc, names, words),
         Verb::Job(asked) => job_head(alloc, names, words, asked),
-        Verb::Runs => runs_head(alloc, names, words),
+        Verb::Runs => machine_head(alloc, names, words, MachineVerb::Runs),
         Verb::Report => report_head(alloc, names, words),
     }
 }
@@ -139,9 +139,14 @@ pub(crate) fn unnamed(count: u64) -> Head
     Head::Refused(LineFault::BadName, count)
 }
 
-// `machine M`.
-fn machine_head(alloc: Global, names: &mut Names, mut words: Words) -> Result<Head, NoMemory>
-    ensures { IfOk result (λ head. IsHeadBehind (codes "machine") words.entry head) }
+// `machine M` and `runs M`.
+fn machine_head(
+    alloc: Global,
+    names: &mut Names,
+    mut words: Words,
+    asked: MachineVerb,
+) -> Result<Head, NoMemory>
+    ensures { IfOk result (λ head. IsHeadBehind (machine_word asked) words.entry head) }
 {
     let Some(m) = words.one() else {
         return Ok(formless());
@@ -149,20 +154,17 @@ fn machine_head(alloc: Global, names: &mut Names, mut words: Words) -> Result<He
     let Some(machine) = machine_named(alloc, names, m)? else {
         return Ok(unnamed(0));
     };
-    Ok(Head::Asked(Request::Machine { machine }))
+    Ok(Head::Asked(machine_request(asked, machine)))
 }
 
-// `runs M`.
-fn runs_head(alloc: Global, names: &mut Names, mut words: Words) -> Result<Head, NoMemory>
-    ensures { IfOk result (λ head. IsHeadBehind (codes "runs") words.entry head) }
+// What is asked of a machine.
+fn machine_request(asked: MachineVerb, machine: Name) -> Request
+    ensures { result ≡ machine_request asked machine }
 {
-    let Some(m) = words.one() else {
-        return Ok(formless());
-    };
-    let Some(machine) = machine_named(alloc, names, m)? else {
-        return Ok(unnamed(0));
-    };
-    Ok(Head::Asked(Request::Runs { machine }))
+    match asked {
+        MachineVerb::Machine => Request::Machine { machine },
+        MachineVerb::Runs => Request::Runs { machine },
+    }
 }
 
 // `retract M RUN`.

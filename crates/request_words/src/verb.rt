@@ -22,6 +22,13 @@ pub enum JobVerb {
     Job,
 }
 
+// What is asked of a machine by its name alone: to be there, or its runs.
+#[derive(Clone, Copy)]
+pub(crate) enum MachineVerb {
+    Machine,
+    Runs,
+}
+
 // The first word of a request line.
 #[derive(Clone, Copy)]
 pub(crate) enum Verb {

@@ -1,21 +1,13 @@
-use Rattle.std.proofs.Common.{◌≡◌, ℕ, List, ◌∷◌, codes, refl, sym, ap, ◌∙◌, arith}
-use Rattle.line_text.specs.Lines.{words_of}
-use Rattle.request_words.specs.Forms.{machine, IsOfForm}
-use Rattle.request_words.proofs.HeadLines.{unnamed_machine, named_head, formless_behind}
-use Rattle.request_words.proofs.FormWords.{behind}
-use Rattle.request_words.proofs.head.machine_head.Goals.{In-Some}
+use Rattle.request_words.proofs.HeadLines.{machine_behind, machine_formless, machine_unnamed, machine_asks}
 use Rattle.request_words.proofs.head.machine_head.Goals as goal
 
--- the line is of the form
-of_form : (c : In-Some) (line : List ℕ) → words_of line ≡ codes "machine" ∷ c.args.words → IsOfForm line (machine c.in-Some.m.now)
-of_form c line verb = record { words = verb ∙ ap (λ xs. codes "machine" ∷ xs) c.in-Some.ensures.some; numbers = tt; amounts = tt; status = tt }
-
 pub returns-in_default : goal.returns-in_default
-returns-in_default c line verb = rw c.formless.ensures (formless_behind verb (λ of_form. c.in_default.ensures.none _ (behind (sym verb ∙ of_form.words))))
+returns-in_default c line verb = rw c.formless.ensures (machine_formless c.args.asked verb c.in_default.ensures.none)
 
 pub returns : goal.returns
 returns c line verb =
-    let named = rw c.in-Some-2.is at c.in_ok-machine.ensures.some in rw (named) (named_head line _ 0 _ (of_form (goal.at.returns c).In-Some line verb) tt tt refl (omega arith) (rw c.in-Some-2.is at c.in_ok-machine.ensures.told, tt) (λ body item told. told))
+    let named = rw c.in-Some-2.is at c.in_ok-machine.ensures.some in
+    rw (c.machine_request.ensures, named) (machine_asks c.args.asked line c.in-Some.m.now (machine_behind c.args.asked verb c.in-Some.ensures.some) (rw c.in-Some-2.is at c.in_ok-machine.ensures.told))
 
 pub returns-in_default-2 : goal.returns-in_default-2
-returns-in_default-2 c line verb = rw c.unnamed.ensures (unnamed_machine line _ 0 (of_form (goal.at.returns-in_default-2 c).In-Some line verb) refl (omega arith) c.in_default-2.is c.in_ok-machine.ensures.told)
+returns-in_default-2 c line verb = rw c.unnamed.ensures (machine_unnamed c.args.asked line _ (machine_behind c.args.asked verb c.in-Some.ensures.some) c.in_default-2.is c.in_ok-machine.ensures.told)
