@@ -1,19 +1,13 @@
 -- The first machine that has something to take.
-use Rattle.std.proofs.Common.{◌≡◌, ℕ, zero, suc, ◌+◌, ◌<◌, ◌≤◌, List, [], ◌∷◌, ◌++◌, length, take, drop, set, get_or, refl, sym, ap, subst, ◌∙◌, Option, Some, None, arith}
-use Rattle.std.specs.Prelude.{IfSome, slice_get}
+use Rattle.std.proofs.Common.{◌≡◌, ℕ, zero, suc, ◌+◌, ◌<◌, ◌≤◌, List, [], ◌∷◌, ◌++◌, length, take, drop, set, get_or, refl, sym, ap, subst, ◌∙◌, Some, None, arith}
+use Rattle.std.specs.Prelude.{slice_get}
 use Rattle.std.specs.List.{AllZip}
 use Rattle.std.proofs.lemmas.List.{length-map}
 use Rattle.track_room.specs.Rooms.{AreSame, IsPassOf, badge}
 use Rattle.track_room.specs.Sights.{Home, Sight, SeesMore, Visits}
 use Rattle.history_model.specs.declared.entries.Entry.{Entry}
-use Rattle.history_model.specs.Allowed.{Legal}
-use Rattle.history_model.specs.Entries.{entries_of}
-use Rattle.track_model.specs.Tracks.{Track}
-use Rattle.track_state.specs.Work.{Work, history_of, series_of}
-use Rattle.track_state.specs.declared.questions.Question.{Question}
-use Rattle.track_state.specs.declared.taking.TakenSeries.{TakenSeries}
-use Rattle.track_state.proofs.Snapped.{entries-taken}
-use Rattle.track_room.specs.Taking.{IsQuestion, IsTaken, OfSeen, TakesAt, TakesFirst, TakesJob, TakesSeries, seen_of}
+use Rattle.track_state.specs.Work.{Work}
+use Rattle.track_room.specs.Taking.{OfSeen, TakesAt, seen_of}
 use Rattle.track_room.proofs.Places.{zip-push}
 use Rattle.track_room.proofs.Standing.{all-same, all-sees-set, get-at, same-map, sees-badge, set-at, still-of}
 
@@ -144,19 +138,6 @@ module _ {Nothing : Work → Work → Type 0} {i : ℕ} {room : List Home} {old 
   pub takes-next : (This : Work → Work → Type 0) → Visits This (get_or now i p) new → TakesAt Nothing This i old (set now i new)
   takes-next This visit = takes-at Nothing old now i next.before.3 p new stood stands This (subst (λ (s : Sight). Visits This s new) (sym next.is) visit)
 
--- ---- what the pass knows of what was taken
-pub known-series : (found : Option (ℕ × TakenSeries)) (old new : List Sight) → TakesFirst TakesSeries found old new → IfSome found (λ t. OfSeen t.0 new (λ h. IsTaken h t.1))
-known-series None old new is = tt
-known-series (Some x) old new is =
-    let v = is.this in
-    let same : history_of v.before ≡ seen_of is.after =
-    sym (entries-taken v.before.track (series_of x.1.key) v.after.track v.does.0.track) ∙ ap (λ (t : Track). entries_of t.history) v.left in
-    (is.after, is.here, (v.before.track, same, v.does.0.snapshot, subst (λ (h : List Entry). Legal h) same v.does.1))
-
-pub known-question : (found : Option (ℕ × Question)) (old new : List Sight) → TakesFirst TakesJob found old new → IfSome found (λ t. OfSeen t.0 new (λ h. IsQuestion h t.1))
-known-question None old new is = tt
-known-question (Some x) old new is =
-    let v = is.this in
-    let same : history_of v.before ≡ seen_of is.after =
-    ap (λ (t : Track). entries_of t.history) (sym v.does.0.track) ∙ ap (λ (t : Track). entries_of t.history) v.left in
-    (is.after, is.here, subst (λ (h : List Entry). IsQuestion h x.1) same (v.does.0.first.question, v.does.1))
+  -- what is known of it is known at its place
+  pub knows-next : (Knows : List Entry → Type 0) → Knows (seen_of new) → OfSeen i (set now i new) Knows
+  knows-next Knows knows = (new, stands, knows)

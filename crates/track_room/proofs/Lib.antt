@@ -2,6 +2,7 @@ pub mod Known
 pub mod Places
 pub mod Splits
 pub mod Visiting
+pub mod Visited
 pub mod Replying
 pub mod Standing
 pub mod Segments

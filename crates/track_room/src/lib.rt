@@ -27,6 +27,7 @@ mod passes;
 mod place;
 mod room;
 mod states;
+mod take;
 mod taking;
 mod visits;
 mod work;

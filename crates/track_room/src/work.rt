@@ -1,5 +1,5 @@
 //! What workers take of a room, and what they hand in.
-ghost use Rattle.std.specs.Prelude.{◌≡◌, ◌<◌, ◌≤◌, IfOk, IfSome, OnErr, length};
+ghost use Rattle.std.specs.Prelude.{◌≡◌, ◌<◌, ◌≤◌, IfOk, IfSome, OnErr, Some, length, slice_get};
 ghost use Rattle.std.specs.List.{AllZip};
 ghost use Rattle.metric_table.specs.Limits.{most};
 ghost use Rattle.metric_table.specs.declared.limits.Limit.TheVariants.{Machines};
@@ -8,14 +8,19 @@ ghost use Rattle.machine_state.specs.Made.{IsMadeFrom};
 ghost use Rattle.track_room.specs.Asked.{ChangesAt};
 ghost use Rattle.track_room.specs.Claims.{all_placed, taken_with, EndsClaim, IsOf};
 ghost use Rattle.track_room.specs.Rooms.{AreSame, IsPassOf};
-ghost use Rattle.track_room.specs.Sights.{SeesMore, Visits};
+ghost use Rattle.track_room.specs.Sights.{SeesMore, Sight, Visits};
+ghost use Rattle.track_state.specs.Work.{Work};
+ghost use Rattle.track_room.specs.Visits.{IsFound};
 ghost use Rattle.track_room.specs.Taking.{HasJob, IsQuestion, IsTaken, OfSeen, Publishes, Releases, Settles, TakesFirst, TakesJob, TakesSeries};
 
 use crate::NoMemory;
+use crate::act::Act;
 use crate::claim::SeriesClaim;
 use crate::machine::{MachineLock, MachinePass};
 use crate::room::{Room, RoomPass};
-use history_model::Author;
+use crate::take::Take;
+use crate::taking::{OpenQuestion, Publishing, Releasing, Settling, StaleSeries};
+use history_model::{Author, publication_law};
 use std::alloc::Global;
 use std::sync::Wait;
 use touch_index::SeriesKey;
@@ -23,52 +28,43 @@ use track_follow::Settled;
 use track_series::{Published, Redone, Snapshot};
 use track_state::{Question, TakenSeries};
 
-// Takes a series of the first machine that has one.
-fn first_series<R: Wait>(
+// Takes some work of the first machine that has some.
+fn take_first<R: Wait, T: Take>(
     rt: &R,
     machines: &[MachineLock],
     passes: &mut [MachinePass],
-) -> Result<Option<(u8, TakenSeries)>, NoMemory>
+) -> Result<Option<(u8, T::Taken)>, NoMemory>
     requires locks { IsPassOf machines.now passes.old }
     requires few { length machines.now ≤ most Machines }
     ensures locks { IsPassOf machines.now passes.new }
     ensures same { AreSame passes.old passes.new }
     ensures sees { AllZip SeesMore passes.old passes.new }
-    ensures taken { IfOk result (λ found.
-        TakesFirst TakesSeries found passes.old passes.new) }
-    ensures known { IfOk result (λ found. IfSome found (λ t.
-        OfSeen t.0 passes.new (λ h. IsTaken h t.1))) }
+    ensures taken { IfOk result (λ found. TakesFirst T.takes found passes.old passes.new) }
+    ensures known { IfOk result (λ found. IfSome found (λ t. OfSeen t.0 passes.new (T.knows t.1))) }
 {
     for i in 0..machines.len() {
-        if let Some(taken) = machines[i].take_series(rt, &mut passes[i])? {
+        if let Some(taken) = machines[i].take::<R, T>(rt, &mut passes[i])? {
             return Ok(Some((i as u8, taken)));
         }
     }
     Ok(None)
 }
 
-// Takes a question of the first machine that has one.
-fn first_question<R: Wait>(
-    rt: &R,
-    machines: &[MachineLock],
-    passes: &mut [MachinePass],
-) -> Result<Option<(u8, Question)>, NoMemory>
-    requires locks { IsPassOf machines.now passes.old }
-    requires few { length machines.now ≤ most Machines }
-    ensures locks { IsPassOf machines.now passes.new }
-    ensures same { AreSame passes.old passes.new }
-    ensures sees { AllZip SeesMore passes.old passes.new }
-    ensures taken { IfOk result (λ found. TakesFirst TakesJob found passes.old passes.new) }
-{
-    for i in 0..machines.len() {
-        if let Some(question) = machines[i].take_question(rt, &mut passes[i])? {
-            return Ok(Some((i as u8, question)));
-        }
-    }
-    Ok(None)
-}
-
 impl Room {
+    // Enters the machine at a place, does this to the state that is found there, and leaves the machine again.
+    fn visit<R: Wait, A: Act>(&self, rt: &R, pass: &mut RoomPass, machine: u8, act: A) -> A::Told
+        requires room { IsPassOf self.now pass.old }
+        requires there { machine < length pass.old }
+        requires needs { (s : Sight) → slice_get pass.old machine ≡ Some s
+            → (w : Work) → IsFound s w → A.needs act w }
+        ensures room { IsPassOf self.now pass.new }
+        ensures same { AreSame pass.old pass.new }
+        ensures visits { ChangesAt machine (Visits (A.does act result)) pass.old pass.new }
+    {
+        let i = machine as usize;
+        self.machines[i].visit(rt, &mut pass.machines[i], act)
+    }
+
     /// Takes the first stale series that nobody claims, of the first machine that has one, and claims it. Enters each machine
     /// up to that one, and may wait for other passes.
     pub fn take_series<R: Wait>(
@@ -87,7 +83,9 @@ impl Room {
             OfSeen t.0.machine pass.new (λ h. IsTaken h (taken_with t)))) }
     {
         let _ = alloc;
-        let Some((machine, taken)) = first_series(rt, &self.machines, &mut pass.machines)? else {
+        let machines = &mut pass.machines;
+        let Some((machine, taken)) = take_first::<R, StaleSeries>(rt, &self.machines, machines)?
+        else {
             return Ok(None);
         };
         let TakenSeries { key, snapshot } = taken;
@@ -156,9 +154,14 @@ impl Room {
             (Visits (Publishes author redone.done told)) pass.old pass.new) }
         ensures err { OnErr result (AllZip SeesMore pass.old pass.new) }
     {
-        let i = machine as usize;
+        publication_law();
         let Redone { done, table } = redone;
-        self.machines[i].publish(rt, &mut pass.machines[i], author, done, table)
+        let publishing = Publishing {
+            author,
+            done,
+            table,
+        };
+        self.visit(rt, pass, machine, publishing)
     }
 
     // Ends the claim on a series of a machine, if there is one.
@@ -170,8 +173,7 @@ impl Room {
         ensures sees { ChangesAt machine SeesMore pass.old pass.new }
         ensures released { ChangesAt machine (Visits (Releases key.now)) pass.old pass.new }
     {
-        let i = machine as usize;
-        self.machines[i].release(rt, &mut pass.machines[i], key);
+        self.visit(rt, pass, machine, Releasing { key });
     }
 
     /// Takes the question of the open job of the smallest number that nobody claims, of the first machine that has one, with
@@ -191,7 +193,7 @@ impl Room {
             OfSeen t.0 pass.new (λ h. IsQuestion h t.1))) }
     {
         let _ = alloc;
-        first_question(rt, &self.machines, &mut pass.machines)
+        take_first::<R, OpenQuestion>(rt, &self.machines, &mut pass.machines)
     }
 
     /// Settles what was said of a place of a job that the pass has seen; none as status gives it up. May wait for other
@@ -213,7 +215,11 @@ impl Room {
             (Visits (Settles author question.now status told)) pass.old pass.new) }
         ensures err { OnErr result (AllZip SeesMore pass.old pass.new) }
     {
-        let i = machine as usize;
-        self.machines[i].settle(rt, &mut pass.machines[i], author, question, status)
+        let settling = Settling {
+            author,
+            question,
+            status,
+        };
+        self.visit(rt, pass, machine, settling)
     }
 }
