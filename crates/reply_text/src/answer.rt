@@ -56,7 +56,13 @@ pub(crate) fn put_answer(alloc: Global, out: &mut Vec<u8>, answer: &Answer) -> R
             total,
         } => {
             put_version(alloc, out, "segmented", *version)?;
-            put_sizes(alloc, out, *base, *points, *cuts)?;
+            put_three(
+                alloc,
+                out,
+                ("base", *base),
+                ("points", *points),
+                ("cuts", *cuts),
+            )?;
             put_effort(alloc, out, *redone, *total)
         }
         Answer::Changes { version, items, .. } => {
@@ -84,7 +90,8 @@ pub(crate) fn put_answer(alloc: Global, out: &mut Vec<u8>, answer: &Answer) -> R
             questions,
             outcome,
         } => {
-            put_job(alloc, out, *job, *range, *questions)?;
+            let questions = ("questions", *questions);
+            put_three(alloc, out, ("job", *job), ("range", *range), questions)?;
             put_outcome(alloc, out, outcome)
         }
         Answer::Runs { runs } => {
@@ -155,21 +162,21 @@ fn put_listed(
     put_counted(alloc, out, "lines", lines)
 }
 
-// Appends what a segmentation began with, and how many positions and cuts it has.
-fn put_sizes(
+// Appends three numbers, each behind the word for it.
+fn put_three(
     alloc: Global,
     out: &mut Vec<u8>,
-    base: u64,
-    points: u64,
-    cuts: u64,
+    first: (&str, u64),
+    second: (&str, u64),
+    third: (&str, u64),
 ) -> Result<(), NoMemory>
     ensures { Puts result out.old.items out.new.items
-        (spaced (codes "base" ∷ decimal base ∷ codes "points" ∷ decimal points
-        ∷ codes "cuts" ∷ decimal cuts ∷ [])) }
+        (spaced (first.entry.0.now ∷ decimal first.entry.1 ∷ second.entry.0.now
+        ∷ decimal second.entry.1 ∷ third.entry.0.now ∷ decimal third.entry.1 ∷ [])) }
 {
-    put_counted(alloc, out, "base", base)?;
-    put_counted(alloc, out, "points", points)?;
-    put_counted(alloc, out, "cuts", cuts)
+    put_counted(alloc, out, first.0, first.1)?;
+    put_counted(alloc, out, second.0, second.1)?;
+    put_counted(alloc, out, third.0, third.1)
 }
 
 // Appends how many positions were looked at anew, and the total.
@@ -180,23 +187,6 @@ fn put_effort(alloc: Global, out: &mut Vec<u8>, redone: u64, total: i128) -> Res
     put_counted(alloc, out, "redone", redone)?;
     put_word(out, "total")?;
     put_amount(alloc, out, total)
-}
-
-// Appends a job, the range of its commits, and how many questions were answered.
-fn put_job(
-    alloc: Global,
-    out: &mut Vec<u8>,
-    job: u64,
-    range: u64,
-    questions: u64,
-) -> Result<(), NoMemory>
-    ensures { Puts result out.old.items out.new.items
-        (spaced (codes "job" ∷ decimal job ∷ codes "range" ∷ decimal range
-        ∷ codes "questions" ∷ decimal questions ∷ [])) }
-{
-    put_counted(alloc, out, "job", job)?;
-    put_counted(alloc, out, "range", range)?;
-    put_counted(alloc, out, "questions", questions)
 }
 
 // Appends how many lines a report has.

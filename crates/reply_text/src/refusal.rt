@@ -1,8 +1,7 @@
 //! The words of a refusal.
 ghost use Rattle.std.specs.Prelude.{◌∷◌, ◌++◌, [], decimal};
-ghost use Rattle.line_text.specs.Names.{spelling};
 ghost use Rattle.request_model.specs.Lines.{spaced};
-ghost use Rattle.reply_text.specs.Replies.{at, place_words, refusal_words};
+ghost use Rattle.reply_text.specs.Replies.{place_words, refusal_words};
 ghost use Rattle.request_model.specs.declared.replies.Refusal.TheVariants as refusal;
 ghost use Rattle.reply_text.specs.Puts.{Puts};
 
@@ -34,15 +33,15 @@ pub(crate) fn put_refusal(
             Ok(())
         }
         Refusal::OutOfRange(place) => put_out_of_range(alloc, out, place),
-        Refusal::IdentityClash(step) => put_stepped(alloc, out, "E10", "IdentityClash", *step),
+        Refusal::IdentityClash(step) => {
+            put_kind(out, "E10", "IdentityClash")?;
+            put_step(alloc, out, *step)
+        }
         Refusal::UnknownRun => put_kind(out, "E11", "UnknownRun"),
-        Refusal::AlreadyRetracted(step) => put_stepped(
-            alloc,
-            out,
-            "E12",
-            "AlreadyRetracted",
-            *step,
-        ),
+        Refusal::AlreadyRetracted(step) => {
+            put_kind(out, "E12", "AlreadyRetracted")?;
+            put_step(alloc, out, *step)
+        }
         Refusal::UnknownSeries => put_kind(out, "E13", "UnknownSeries"),
         Refusal::NothingPublished => put_kind(out, "E14", "NothingPublished"),
         Refusal::NoSuchChange(count) => put_numbered(alloc, out, "E15", "NoSuchChange", *count),
@@ -52,7 +51,10 @@ pub(crate) fn put_refusal(
             put_move(out, *from, *to)
         }
         Refusal::UnknownJob => put_kind(out, "E18", "UnknownJob"),
-        Refusal::NotAsked(commit) => put_of_commit(alloc, out, "E19", "NotAsked", commit),
+        Refusal::NotAsked(commit) => {
+            put_kind(out, "E19", "NotAsked")?;
+            put_spelled(alloc, out, commit)
+        }
         Refusal::BadRange => put_kind(out, "E20", "BadRange"),
         Refusal::Full(limit) => {
             put_kind(out, "E21", "Full")?;
@@ -68,7 +70,10 @@ pub(crate) fn put_refusal(
         Refusal::BodyTooLong => put_kind(out, "E26", "BodyTooLong"),
         Refusal::OnlyAlone => put_kind(out, "E27", "OnlyAlone"),
         Refusal::TooDeep(offset) => put_numbered(alloc, out, "E28", "TooDeep", *offset),
-        Refusal::JobOpen(commit) => put_of_commit(alloc, out, "E29", "JobOpen", commit),
+        Refusal::JobOpen(commit) => {
+            put_kind(out, "E29", "JobOpen")?;
+            put_spelled(alloc, out, commit)
+        }
         Refusal::BadLength => put_kind(out, "E30", "BadLength"),
     }
 }
@@ -94,36 +99,6 @@ fn put_numbered(
 {
     put_kind(out, number, word)?;
     put_number(alloc, out, told)
-}
-
-// Appends a kind of refusal, and a step.
-fn put_stepped(
-    alloc: Global,
-    out: &mut Vec<u8>,
-    number: &str,
-    word: &str,
-    step: u64,
-) -> Result<(), NoMemory>
-    ensures { Puts result out.old.items out.new.items
-        (spaced (number.now ∷ word.now ∷ at step ∷ [])) }
-{
-    put_kind(out, number, word)?;
-    put_step(alloc, out, step)
-}
-
-// Appends a kind of refusal, and a commit.
-fn put_of_commit(
-    alloc: Global,
-    out: &mut Vec<u8>,
-    number: &str,
-    word: &str,
-    commit: &Name,
-) -> Result<(), NoMemory>
-    ensures { Puts result out.old.items out.new.items
-        (spaced (number.now ∷ word.now ∷ spelling commit.now ∷ [])) }
-{
-    put_kind(out, number, word)?;
-    put_spelled(alloc, out, commit)
 }
 
 // Appends the refusal of a commit that is taken, with the pair that takes it.

@@ -47,9 +47,7 @@ pub(crate) fn put_text(alloc: Global, out: &mut Vec<u8>, text: &str) -> Result<(
 pub(crate) fn put_number(alloc: Global, out: &mut Vec<u8>, n: u64) -> Result<(), NoMemory>
     ensures { Puts result out.old.items out.new.items (32 ∷ decimal n) }
 {
-    out.push(b' ')?;
-    put_u64(alloc, out, n)?;
-    Ok(())
+    put_marked(alloc, out, b' ', n)
 }
 
 // Appends a space and a signed number.
@@ -78,8 +76,15 @@ pub(crate) fn put_worth(
 pub(crate) fn put_at(alloc: Global, out: &mut Vec<u8>, step: u64) -> Result<(), NoMemory>
     ensures { Puts result out.old.items out.new.items (at step) }
 {
-    out.push(b'@')?;
-    put_u64(alloc, out, step)?;
+    put_marked(alloc, out, b'@', step)
+}
+
+// Appends a byte, and a number behind it.
+fn put_marked(alloc: Global, out: &mut Vec<u8>, mark: u8, n: u64) -> Result<(), NoMemory>
+    ensures { Puts result out.old.items out.new.items (mark ∷ decimal n) }
+{
+    out.push(mark)?;
+    put_u64(alloc, out, n)?;
     Ok(())
 }
 

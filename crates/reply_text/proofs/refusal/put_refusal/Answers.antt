@@ -1,8 +1,18 @@
-use Rattle.std.proofs.Common.{[], ◌∷◌, codes}
+use Rattle.std.proofs.Common.{[], ◌∷◌, codes, append-nil}
+use Rattle.request_model.specs.Lines.{spaced}
 use Rattle.regression_state.specs.Moves.{word}
 use Rattle.report_model.specs.Outcomes.{outcome_text}
+use Rattle.reply_text.specs.Puts.{Puts}
+use Rattle.reply_text.specs.Replies.{at}
 use Rattle.reply_text.proofs.WordsBehind.{puts_more}
 use Rattle.reply_text.proofs.refusal.put_refusal.Goals as goal
+
+pub returns-in_ok-put_kind-in-IdentityClash : goal.returns-in_ok-put_kind-in-IdentityClash
+returns-in_ok-put_kind-in-IdentityClash c =
+    let told : Puts c.put_step.result c.put_kind-in-IdentityClash.new.out.items c.put_step.new.out.items (spaced (at c.in-IdentityClash.step ∷ [])) =
+    rw append-nil c.put_step.ensures in
+    rw c.in-IdentityClash.is (puts_more c.put_step.result _ _ _ (codes "E10" ∷ codes "IdentityClash" ∷ []) (at c.in-IdentityClash.step ∷ [])
+    c.in_ok-put_kind-in-IdentityClash.ensures told)
 
 pub returns-in_ok-put_kind-in-IllegalMove : goal.returns-in_ok-put_kind-in-IllegalMove
 returns-in_ok-put_kind-in-IllegalMove c =
