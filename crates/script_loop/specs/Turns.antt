@@ -15,7 +15,7 @@ use Rattle.script_loop.specs.declared.stop.Stop.{Stop}
 use Rattle.script_loop.specs.declared.stop.Stop.TheVariants.{WriteFault, NoMemory}
 use Rattle.script_loop.specs.Outputs.{AsksFirst, IsOutput}
 use Rattle.script_loop.specs.Endings.{HasRead}
-use Rattle.script_loop.specs.Paced.{IsLeft, TookThrough}
+use Rattle.script_loop.specs.Paced.{IsLeft, IsSplit, TookThrough}
 
 -- items are answered, and the text of their replies is gathered behind what was
 pub record Adds {S : Type 0} (does : S → Request → Option Reply → S → Type 0) (before : S)
@@ -62,20 +62,10 @@ IsPending g old new front back pending =
     ⊎ ((pending ≡ []) × TookThrough g old new front back)
 
 -- all items but one at most have whole replies, which the sink took
-pub record Splits {O S : Type 0} (g : sink.Ghosts O) (old new : O)
-    (does : S → Request → Option Reply → S → Type 0) (before : S) (items : List Item)
-    (text : List ℕ) (after : S) (pending : List ℕ) : Type 0 where
-  pub whole : List Item
-  pub last : List Item
-  pub items_are : items ≡ whole ++ last
-  pub one : length last ≤ 1
-  pub front : List ℕ
-  pub back : List ℕ
-  pub text_is : text ≡ front ++ back
-  pub between : S
-  pub first : IsOutput does before whole front between
-  pub second : IsOutput does between last back after
-  pub took : IsPending g old new front back pending
+abbrev pub Splits : {O S : Type 0} → sink.Ghosts O → (old new : O)
+    → (S → Request → Option Reply → S → Type 0) → S → List Item → List ℕ → S → List ℕ → Type 0
+Splits g old new does before items text after pending =
+    IsSplit does before items text after (λ front back. IsPending g old new front back pending)
 
 -- some items were read and answered, and their text was written but what is gathered
 pub record Answers {I O S : Type 0} (g : source.Ghosts I) (h : sink.Ghosts O) (first now : I)

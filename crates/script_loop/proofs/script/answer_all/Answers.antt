@@ -1,10 +1,46 @@
-use Rattle.std.proofs.Common.{◌≡◌, inl, inr, true, false, [], ◌++◌, refl, ap, sym, ◌∙◌}
+use Rattle.std.proofs.Common.{◌≡◌, ◌+◌, inl, inr, true, false, [], ◌++◌, refl, ap, sym, ◌∙◌}
+use Rattle.std.specs.Prelude.{IfSome}
+use Rattle.track_outside.specs.Calls.{GaveAtMost}
+use Rattle.request_reader.specs.Scripts.{AsksFirst, input_limit}
+use Rattle.script_loop.specs.Outputs.{IsOutput}
+use Rattle.script_loop.specs.Turns.{Gathers}
 use Rattle.std.proofs.lemmas.Result.{err_from_is_err_and}
 use Rattle.request_reader.specs.Next.{items_of}
 use Rattle.script_loop.proofs.Answering.{output_none, output_join, gathers_none, gathers_more, gathers_on, failed_on, stands_read, written_read}
 use Rattle.script_loop.proofs.Each.{one_item, splits-all, splits-last, lost-answers, pending-of, pending-failed}
 use Rattle.script_loop.proofs.Sources.{taken_none, taken_next, asks_none, asks_these, asks_more, ends_here, nothing_left, stops, few_stop, few_next}
+use Rattle.script_loop.proofs.script.answer_all.Given.{Over}
+use Rattle.script_loop.proofs.script.answer_all.Goals.{In_ok-asked, In-Ok-answer_next}
 use Rattle.script_loop.proofs.script.answer_all.Goals as goal
+
+module _ (g : Over) (c : In_ok-asked g) where
+  -- the source gave no more than may be read, and one byte
+  few : GaveAtMost (input_limit + 1) (g.I.Source.left c.args.input.now) (g.I.Source.left c.read_request.new.source)
+  few =
+      let inv = c.loop-lines.invariant in
+      few_next g.I.Source c.args.input.now c.loop-lines.input c.read_request.new.source c.loop-lines.lines c.read_request.new.lines inv.items inv.taken c.in_ok-asked.ensures.gave
+
+  -- what was read is asked first
+  asks : IfSome (g.I.Source.left c.args.input.now) (λ bytes. AsksFirst bytes (c.loop-lines.invariant.items ++ items_of c.in_ok-asked.asked))
+  asks =
+      let inv = c.loop-lines.invariant in
+      asks_more g.I.Source c.args.input.now c.loop-lines.input c.read_request.new.source c.loop-lines.lines c.read_request.new.lines inv.items inv.taken c.pieces_law.ensures.first c.pieces_law.ensures.join c.in_ok-asked.asked
+      (c.in_ok-asked.ensures.next inv.more) c.in_ok-asked.ensures.gave c.in_ok-asked.ensures.counts
+
+module _ (g : Over) (c : In-Ok-answer_next g) where
+  -- it is answered behind what was read before
+  output : IsOutput g.D.Desk.answers c.args.desk.now (c.loop-lines.invariant.items ++ items_of c.in_ok-asked.asked) (c.loop-lines.invariant.text ++ c.in-Ok-answer_next.ensures.ok.text) c.answer_next.new.desk
+  output =
+      let inv = c.loop-lines.invariant in
+      let told = c.in-Ok-answer_next.ensures.ok in
+      output_join g.D.Desk.answers c.args.desk.now c.loop-lines.desk c.answer_next.new.desk inv.items (items_of c.in_ok-asked.asked) inv.text told.text inv.output told.output
+
+  -- and its text is gathered
+  wrote : Gathers g.O.Sink c.args.out.now c.loop-lines.out (c.loop-lines.invariant.text ++ c.in-Ok-answer_next.ensures.ok.text) c.answer_next.new.replies
+  wrote =
+      let inv = c.loop-lines.invariant in
+      let told = c.in-Ok-answer_next.ensures.ok in
+      gathers_more g.O.Sink c.args.out.now c.loop-lines.out inv.text c.loop-lines.replies told.text c.answer_next.new.replies inv.wrote told.gathered
 
 pub returns-in_default-clause-ends : goal.returns-in_default-clause-ends
 returns-in_default-clause-ends g c = record {
@@ -62,14 +98,11 @@ returns-in_default-answer_next-clause-ends g c =
     lost-answers g.I.Source g.O.Sink c.args.input.now c.read_request.new.source c.args.out.now c.loop-lines.out g.D.Desk.answers g.D.Desk.fails g.P.Pace.each c.args.desk.now c.loop-lines.desk c.answer_next.new.desk
     c.loop-lines.replies c.answer_next.new.replies inv.items inv.text asked inv.output inv.wrote inv.handed c.in_default-answer_next.ensures.err
     (asks_these g.I.Source c.args.input.now c.loop-lines.input c.loop-lines.input c.loop-lines.lines c.loop-lines.lines inv.items inv.taken)
-    (asks_more g.I.Source c.args.input.now c.loop-lines.input c.read_request.new.source c.loop-lines.lines c.read_request.new.lines inv.items inv.taken c.pieces_law.ensures.first c.pieces_law.ensures.join asked
-    (c.in_ok-asked.ensures.next inv.more) c.in_ok-asked.ensures.gave c.in_ok-asked.ensures.counts)
+    (asks g (goal.at.returns-in_default-answer_next-clause-ends g c).In_ok-asked)
     c.in_default-answer_next.ensures.lost
 
 pub returns-in_default-answer_next-clause-few : goal.returns-in_default-answer_next-clause-few
-returns-in_default-answer_next-clause-few g c =
-    let inv = c.loop-lines.invariant in
-    few_next g.I.Source c.args.input.now c.loop-lines.input c.read_request.new.source c.loop-lines.lines c.read_request.new.lines inv.items inv.taken c.in_ok-asked.ensures.gave
+returns-in_default-answer_next-clause-few g c = few g (goal.at.returns-in_default-answer_next-clause-few g c).In_ok-asked
 
 pub returns-then-has_ended-clause-ends : goal.returns-then-has_ended-clause-ends
 returns-then-has_ended-clause-ends g c =
@@ -86,20 +119,17 @@ returns-then-has_ended-clause-ends g c =
         nothing_left g.I.Source c.args.input.now c.loop-lines.input c.read_request.new.source c.loop-lines.lines c.read_request.new.lines inv.items inv.taken asked
             (c.in_ok-asked.ensures.next inv.more) c.in_ok-asked.ensures.gave ended,
       );
-      asks = asks_more g.I.Source c.args.input.now c.loop-lines.input c.read_request.new.source c.loop-lines.lines c.read_request.new.lines inv.items inv.taken c.pieces_law.ensures.first c.pieces_law.ensures.join asked
-          (c.in_ok-asked.ensures.next inv.more) c.in_ok-asked.ensures.gave c.in_ok-asked.ensures.counts;
+      asks = asks g (goal.at.returns-then-has_ended-clause-ends g c).In_ok-asked;
       after = c.answer_next.new.desk;
-      output = output_join g.D.Desk.answers c.args.desk.now c.loop-lines.desk c.answer_next.new.desk inv.items (items_of asked) inv.text told.text inv.output told.output;
+      output = output g (goal.at.returns-then-has_ended-clause-ends g c).In-Ok-answer_next;
       stands = refl;
-      wrote = gathers_more g.O.Sink c.args.out.now c.loop-lines.out inv.text c.loop-lines.replies told.text c.answer_next.new.replies inv.wrote told.gathered;
+      wrote = wrote g (goal.at.returns-then-has_ended-clause-ends g c).In-Ok-answer_next;
       by_each = λ is. splits-last g.O.Sink g.D.Desk.answers c.args.out.now c.loop-lines.out c.args.desk.now c.loop-lines.desk c.answer_next.new.desk inv.items (items_of asked) inv.text told.text c.answer_next.new.replies
           inv.output told.output (one_item asked) (inl (pending-of g.O.Sink c.args.out.now c.loop-lines.out inv.text told.text c.loop-lines.replies c.answer_next.new.replies inv.wrote (inv.handed is) told.gathered));
     }
 
 pub returns-then-has_ended-clause-few : goal.returns-then-has_ended-clause-few
-returns-then-has_ended-clause-few g c =
-    let inv = c.loop-lines.invariant in
-    few_next g.I.Source c.args.input.now c.loop-lines.input c.read_request.new.source c.loop-lines.lines c.read_request.new.lines inv.items inv.taken c.in_ok-asked.ensures.gave
+returns-then-has_ended-clause-few g c = few g (goal.at.returns-then-has_ended-clause-few g c).In_ok-asked
 
 pub returns-in_err-hand_out_in_time-clause-ends : goal.returns-in_err-hand_out_in_time-clause-ends
 returns-in_err-hand_out_in_time-clause-ends g c =
@@ -108,27 +138,24 @@ returns-in_err-hand_out_in_time-clause-ends g c =
     let asked = c.in_ok-asked.asked in
     let told = c.in-Ok-answer_next.ensures.ok in
     let fails = c.in_err-hand_out_in_time.ensures.err in
-    let asks = asks_more g.I.Source c.args.input.now c.loop-lines.input c.read_request.new.source c.loop-lines.lines c.read_request.new.lines inv.items inv.taken c.pieces_law.ensures.first c.pieces_law.ensures.join asked
-    (c.in_ok-asked.ensures.next inv.more) c.in_ok-asked.ensures.gave c.in_ok-asked.ensures.counts in
+    let at = goal.at.returns-in_err-hand_out_in_time-clause-ends g c in
     rw (p.1, p.2, fails.is) (record {
       items = inv.items ++ items_of asked;
       text = inv.text ++ told.text;
-      read = asks;
-      asks = asks;
+      read = asks g at.In_ok-asked;
+      asks = asks g at.In_ok-asked;
       after = c.answer_next.new.desk;
-      output = output_join g.D.Desk.answers c.args.desk.now c.loop-lines.desk c.answer_next.new.desk inv.items (items_of asked) inv.text told.text inv.output told.output;
+      output = output g at.In-Ok-answer_next;
       stands = refl;
       by_each = λ is. splits-last g.O.Sink g.D.Desk.answers c.args.out.now c.hand_out_in_time.new.out c.args.desk.now c.loop-lines.desk c.answer_next.new.desk inv.items (items_of asked) inv.text told.text c.hand_out_in_time.new.replies
           inv.output told.output (one_item asked) (inr (pending-failed g.O.Sink c.args.out.now c.loop-lines.out c.hand_out_in_time.new.out inv.text told.text c.loop-lines.replies c.answer_next.new.replies c.hand_out_in_time.new.replies
           inv.wrote (inv.handed is) told.gathered fails.failed c.in_err-hand_out_in_time.ensures.failed));
       wrote = failed_on g.O.Sink c.args.out.now c.loop-lines.out c.hand_out_in_time.new.out (inv.text ++ told.text) c.answer_next.new.replies
-          (gathers_more g.O.Sink c.args.out.now c.loop-lines.out inv.text c.loop-lines.replies told.text c.answer_next.new.replies inv.wrote told.gathered) fails.failed;
+          (wrote g at.In-Ok-answer_next) fails.failed;
     })
 
 pub returns-in_err-hand_out_in_time-clause-few : goal.returns-in_err-hand_out_in_time-clause-few
-returns-in_err-hand_out_in_time-clause-few g c =
-    let inv = c.loop-lines.invariant in
-    few_next g.I.Source c.args.input.now c.loop-lines.input c.read_request.new.source c.loop-lines.lines c.read_request.new.lines inv.items inv.taken c.in_ok-asked.ensures.gave
+returns-in_err-hand_out_in_time-clause-few g c = few g (goal.at.returns-in_err-hand_out_in_time-clause-few g c).In_ok-asked
 
 pub loop-lines-preserved : goal.loop-lines-preserved
 loop-lines-preserved g c =
@@ -141,9 +168,9 @@ loop-lines-preserved g c =
       text = inv.text ++ told.text;
       taken = taken_next g.I.Source c.args.input.now c.loop-lines.input c.read_request.new.source c.loop-lines.lines c.read_request.new.lines inv.items inv.taken c.pieces_law.ensures.join asked
           (c.in_ok-asked.ensures.next inv.more) c.in_ok-asked.ensures.gave c.in_ok-asked.ensures.counts goes;
-      output = output_join g.D.Desk.answers c.args.desk.now c.loop-lines.desk c.answer_next.new.desk inv.items (items_of asked) inv.text told.text inv.output told.output;
+      output = output g (goal.at.loop-lines-preserved g c).In-Ok-answer_next;
       wrote = gathers_on g.O.Sink c.args.out.now c.loop-lines.out c.hand_out_in_time.new.out (inv.text ++ told.text) c.answer_next.new.replies
-          (gathers_more g.O.Sink c.args.out.now c.loop-lines.out inv.text c.loop-lines.replies told.text c.answer_next.new.replies inv.wrote told.gathered)
+          (wrote g (goal.at.loop-lines-preserved g c).In-Ok-answer_next)
           c.hand_out_in_time.new.replies c.in_ok-hand_out_in_time.ensures.ok;
       goes_on = c.in_ok-asked.ensures.stopped;
       more = goes;
