@@ -1,9 +1,8 @@
 -- What a session leaves of the tracks that it began with.
-use Rattle.std.proofs.Common.{◌≡◌, ℕ, suc, ◌<◌, Bool, true, false, cond, List, [], ◌∷◌, ◌++◌, length, Option, None, Some, Ok, Err, refl, sym, ap, subst, ◌∙◌, arith, append_assoc, append-nil, length-append}
-use Rattle.std.specs.Prelude.{find, bytes_eq, nat_eq, nat_le}
+use Rattle.std.proofs.Common.{◌≡◌, ℕ, ◌<◌, Bool, true, false, cond, List, [], ◌∷◌, ◌++◌, length, Option, None, Some, Ok, Err, refl, sym, ap, subst, ◌∙◌, arith, append_assoc, append-nil, length-append}
+use Rattle.std.specs.Prelude.{find, nat_eq, nat_le}
 use Rattle.std.specs.List.{AllByRecursion}
 use Rattle.std.proofs.lemmas.Bool.{leb-false}
-use Rattle.std.specs.Cmp.Lexicographic.{nat_list_eq_equiv}
 use Rattle.metric_table.specs.Limits.{most}
 use Rattle.metric_table.specs.declared.limits.Limit.TheVariants.{Machines}
 use Rattle.request_model.specs.declared.requests.Request.{Request}
@@ -24,7 +23,8 @@ use Rattle.request_model.specs.declared.replies.Answer.{Answer}
 use Rattle.track_model.specs.Tracks.{Track, base_of, with_added, with_answered, with_home, with_segmented, with_taken}
 use Rattle.script_desk.specs.Sessions.{Answered, is_track, changed, untouched, new_track, added, unknown, AnswersAbout, Answers, State, AnswersFor}
 use Rattle.script_loop.specs.Folds.{AnswersItem}
-use Rattle.script_desk.specs.Growth.{AreBy, Continues, IsNew, Grows, IsOther, AreDifferent, names_of, Stays, SessionsStay}
+use Rattle.keep_rows.proofs.Among.{different_last, changed_names, changed_length}
+use Rattle.script_desk.specs.Growth.{AreBy, Continues, IsNew, Grows, AreDifferent, Stays, SessionsStay}
 
 by_join : (author : Author) (xs ys : List Placed) → AreBy author xs → AreBy author ys → AreBy author (xs ++ ys)
 by_join author [] ys one two = two
@@ -105,27 +105,11 @@ module _ (author : Author) where
         by true rest = (continues t, grows_same tracks)
         by false rest = (continues_same t, rest)
 
-    changed_names : (tracks : List Track) → names_of (changed machine change tracks) ≡ names_of tracks
-    changed_names [] = refl
-    changed_names (t ∷ tracks) = by (is_track machine t) (changed_names tracks)
-      where
-        by : (b : Bool) → names_of (changed machine change tracks) ≡ names_of tracks → names_of (cond b (change t ∷ tracks) (t ∷ changed machine change tracks)) ≡ t.machine ∷ names_of tracks
-        by true rest = ap (λ n. n ∷ names_of tracks) ((continues t).machine)
-        by false rest = ap (λ ns. t.machine ∷ ns) rest
-
-    changed_length : (tracks : List Track) → length (changed machine change tracks) ≡ length tracks
-    changed_length [] = refl
-    changed_length (t ∷ tracks) = by (is_track machine t) (changed_length tracks)
-      where
-        by : (b : Bool) → length (changed machine change tracks) ≡ length tracks → length (cond b (change t ∷ tracks) (t ∷ changed machine change tracks)) ≡ suc (length tracks)
-        by true rest = refl
-        by false rest = ap suc rest
-
     changed_stays : (tracks : List Track) → Stays author tracks (changed machine change tracks)
     changed_stays tracks = record {
       grows = changed_grows tracks;
-      different = λ d. subst AreDifferent (sym (changed_names tracks)) d;
-      few = λ f. omega (arith, f, changed_length tracks);
+      different = λ d. subst AreDifferent (sym (changed_names machine change (λ t. (continues t).machine) tracks)) d;
+      few = λ f. omega (arith, f, changed_length machine change tracks);
     }
 
   stays_same : (tracks : List Track) → Stays author tracks tracks
@@ -139,20 +123,6 @@ module _ (author : Author) where
   push_grows machine [] = ((refl, tt), tt)
   push_grows machine (t ∷ tracks) = (continues_same t, push_grows machine tracks)
 
-  push_other : (machine name : List ℕ) (tracks : List Track) → bytes_eq machine name ≡ false → AllByRecursion (IsOther name) (names_of tracks)
-      → AllByRecursion (IsOther name) (names_of (tracks ++ new_track machine ∷ []))
-  push_other machine name [] miss others = (miss, tt)
-  push_other machine name (t ∷ tracks) miss others = (others.0, push_other machine name tracks miss others.1)
-
-  push_different : (machine : List ℕ) (tracks : List Track) → find (is_track machine) tracks ≡ None → AreDifferent (names_of tracks)
-      → AreDifferent (names_of (tracks ++ new_track machine ∷ []))
-  push_different machine [] none different = (tt, tt)
-  push_different machine (t ∷ tracks) none different = by (is_track machine t) refl (λ miss. push_different machine tracks miss different.1) none
-    where
-      by : (b : Bool) → is_track machine t ≡ b → (find (is_track machine) tracks ≡ None → AreDifferent (names_of (tracks ++ new_track machine ∷ []))) → cond b (Some t) (find (is_track machine) tracks) ≡ None → AreDifferent (t.machine ∷ names_of (tracks ++ new_track machine ∷ []))
-      by true is rest miss = absurd cc
-      by false is rest miss = (push_other machine t.machine tracks (nat_list_eq_equiv.symm machine t.machine ∙ is) different.0, rest miss)
-
   added_stays : (machine : List ℕ) (tracks : List Track) → find (is_track machine) tracks ≡ None → Stays author tracks (added tracks machine).tracks
   added_stays machine tracks none = by (nat_le (most Machines) (length tracks)) refl
     where
@@ -161,7 +131,7 @@ module _ (author : Author) where
       by true is = stays_same tracks
       by false is = record {
         grows = push_grows machine tracks;
-        different = push_different machine tracks none;
+        different = different_last (new_track machine) tracks none;
         few = λ f. let less : length tracks < most Machines = leb-false (most Machines) (length tracks) is in omega (arith, less, length-append tracks (new_track machine ∷ []));
       }
 

@@ -3,12 +3,12 @@ ghost use Rattle.std.specs.Prelude.{◌≡◌, IfOk, OnErr};
 ghost use Rattle.std.specs.List.{AllZip};
 ghost use Rattle.track_model.specs.Counts.{Counts};
 ghost use Rattle.track_model.specs.Tracks.{IsSameButTables};
-ghost use Rattle.script_desk.specs.Sessions.{added, unknown, Answers};
+ghost use Rattle.script_desk.specs.Sessions.{unknown, Answers};
 
 use crate::NoMemory;
 use history_model::Author;
 use keep_rows::place_of;
-use line_text::{Duplicate, Name};
+use line_text::Duplicate;
 use machine_state::MachineState;
 use metric_table::Limit;
 use pelt_core::Steps;
@@ -37,7 +37,7 @@ pub(crate) fn answer_request<L: Ledger>(
     answer_unknown(alloc, machines, request)
 }
 
-// Answers a request about a machine that isn't declared.
+// Answers a request about a machine that isn't declared: declares it, if that is asked and there are fewer than may be.
 fn answer_unknown(
     alloc: Global,
     machines: &mut Vec<MachineState>,
@@ -48,23 +48,9 @@ fn answer_unknown(
         ≡ unknown machines.old.items request.now) }
     ensures err { OnErr result (machines.new.items ≡ machines.old.items) }
 {
-    match request {
-        Request::Machine { machine } => add_machine(alloc, machines, machine),
-        _ => Ok(apart(Answer::Refused(Refusal::UnknownMachine))),
-    }
-}
-
-// Declares a machine, if there are fewer than there may be.
-fn add_machine(
-    alloc: Global,
-    machines: &mut Vec<MachineState>,
-    machine: &Name,
-) -> Result<Reply, NoMemory>
-    ensures ok { IfOk result (λ reply.
-        record { reply = reply; tracks = machines.new.items }
-        ≡ added machines.old.items machine.now) }
-    ensures err { OnErr result (machines.new.items ≡ machines.old.items) }
-{
+    let Request::Machine { machine } = request else {
+        return Ok(apart(Answer::Refused(Refusal::UnknownMachine)));
+    };
     if machines.len() as u64 >= Limit::Machines.most() {
         return Ok(apart(Answer::Refused(Refusal::Full(Limit::Machines))));
     }

@@ -26,13 +26,12 @@ pub struct Session {
 }
 
 impl Model for Session {
-    ghost use Rattle.std.specs.Coded.{codes};
-    ghost use Rattle.track_model.specs.Tracks.{coded_home};
+    ghost use Rattle.keep_rows.specs.Codes.{track_codes};
     ghost use Rattle.script_desk.specs.Sessions.{State};
 
     ghost Value = { State };
 
-    ghost coded = { Prim.hlevel (codes, coded_home) };
+    ghost coded = { Prim.hlevel track_codes };
 
     ghost view = { λ s. record { author = s.author; tracks = s.machines.items } };
 }
