@@ -1,5 +1,5 @@
 -- Private: no public contract cites this. What a script comes to at a desk whose requests are asked beside others.
-use Rattle.std.proofs.Common.{◌≡◌, ℕ, ◌+◌, inl, inr, Bool, true, false, List, [], ◌∷◌, ◌++◌, length, map, take, Option, None, Some, Ok, Err, refl, sym, ap, subst, ◌∙◌, arith, append_assoc, append-nil, length-append}
+use Rattle.std.proofs.Common.{◌≡◌, ℕ, inl, inr, Bool, true, false, List, [], ◌∷◌, ◌++◌, length, map, take, Option, None, Some, Ok, Err, refl, sym, ap, subst, ◌∙◌, arith}
 use Rattle.std.specs.Prelude.{Result, IfSome, option_to_list}
 use Rattle.std.specs.Io.KnownBytes.{append_known}
 use Rattle.std.specs.List.{flat_map}
@@ -11,7 +11,7 @@ use Rattle.history_model.specs.declared.entries.Author.{Author}
 use Rattle.request_model.specs.declared.requests.Request.{Request}
 use Rattle.request_model.specs.declared.replies.Reply.{Reply}
 use Rattle.request_words.specs.Bodies.{Item}
-use Rattle.request_reader.specs.Scripts.{AsksFirst, IsScript, Ending, end, cut_off, unfinished, ArePieces, Ends, long, last, inside, more}
+use Rattle.request_reader.specs.Scripts.{AsksFirst, IsScript, Ending, end, cut_off, unfinished}
 use Rattle.reply_text.specs.Replies.{text_of}
 use Rattle.track_model.specs.Outcomes.{refuses}
 use Rattle.track_model.specs.Replies.{apart}
@@ -19,6 +19,7 @@ use Rattle.script_loop.specs.Folds.{AreAnswers, AnswersItem}
 use Rattle.script_loop.specs.Outputs.{IsOutput}
 use Rattle.script_loop.specs.Endings.{GaveOpen}
 use Rattle.script_loop.specs.Paced.{IsLeft, IsEach, Paced}
+use Rattle.script_loop.proofs.Opened.{open_first}
 use Rattle.script_loop.specs.declared.stop.Stop.{Stop}
 use Rattle.script_loop.specs.declared.stop.Stop.TheVariants as stop
 use Rattle.play_fits.specs.Passes.{Sight, AsksItem, AsksAll, IsSeenPart}
@@ -101,27 +102,9 @@ asks-join author machines before between after [] ys one two = subst (λ (s : Si
 asks-join author machines before between after (x ∷ xs) ys one two = (one.0, one.1, asks-join author machines one.0 between after xs ys one.2 two)
 
 -- ---- what was read, as what is asked first
-open-first : (bytes : List ℕ) (after : Option (List ℕ)) (items : List Item) → GaveOpen bytes after items → AsksFirst bytes items
-open-first bytes after items told =
-    let reads = told.reads in
-    let whole : items ≡ reads.asked = reads.told ∙ ap (λ xs. reads.asked ++ xs) (none-behind (0 + length reads.front) reads.back reads.last reads.ends) ∙ append-nil reads.asked in
-    inl (
-      reads.front,
-      reads.back ++ told.rest,
-      told.gave ∙ ap (λ bs. bs ++ told.rest) reads.split ∙ append_assoc reads.front reads.back told.rest,
-      omega (arith, told.within, ap length reads.split, length-append reads.front reads.back),
-      subst (ArePieces reads.front) (sym whole) reads.pieces,
-    )
-  where
-    none-behind : (at : ℕ) (back : List ℕ) (rest : List Item) → Ends false at back rest unfinished → rest ≡ []
-    none-behind at back rest (long l empty is) = absurd cc
-    none-behind at back rest (last all l c g is) = absurd cc
-    none-behind at back rest (inside all l empty is) = absurd cc
-    none-behind at back rest (more all l empty is) = empty
-
 some-open : (bytes after : Option (List ℕ)) (items : List Item) → IfSome bytes (λ bs. GaveOpen bs after items) → IfSome bytes (λ bs. AsksFirst bs items)
 some-open None after items told = tt
-some-open (Some bytes) after items told = open-first bytes after items told
+some-open (Some bytes) after items told = open_first bytes after items told
 
 -- ---- what an empty transcript took
 took-text : (old new : Option (List ℕ)) (text : List ℕ) → IsEmpty old → new ≡ append_known old text → IfSome new (λ t. t ≡ text)

@@ -65,14 +65,8 @@ module _ {O : Type 0} (g : Ghosts O) where
   nothing-part old new bytes same = rw same (record { part = (0, omega arith, sym (known-nil (g.taken old))); counts = omega arith })
 
   pub part-first : (old new : O) (part more : List ℕ) → TookPart g old new part → TookPart g old new (part ++ more)
-  part-first old new part more some = record {
-    part = (
-      some.part.0,
-      omega (arith, some.part.1, length-append part more),
-      some.part.2 ∙ ap (append_known (g.taken old)) (sym (take-append-le some.part.0 part more some.part.1)),
-    );
-    counts = some.counts;
-  }
+  part-first old new part more some =
+      record { part = (some.part.0, omega (arith, some.part.1, length-append part more), some.part.2 ∙ ap (append_known (g.taken old)) (sym (take-append-le some.part.0 part more some.part.1))); counts = some.counts }
 
   -- all that is gathered was handed out
   pub took-whole : (old new : O) (text pending : List ℕ) → Gathers g old new text pending → pending ≡ [] → Took g old new text
@@ -103,34 +97,25 @@ module _ {O : Type 0} (g : Ghosts O) where
     -- ---- at the end
     pub each-of : (old between new : O) (before : S) (items : List Item) (text : List ℕ) (after : S) (pending : List ℕ)
         → Splits g old between does before items text after pending → TookPart g between new pending → IsEach g old new does before items text after
-    each-of old between new before items text after pending told some = record {
-      whole = told.whole;
-      last = told.last;
-      items_are = told.items_are;
-      one = told.one;
-      front = told.front;
-      back = told.back;
-      text_is = told.text_is;
-      between = told.between;
-      first = told.first;
-      second = told.second;
-      took = pending-through old between new told.front told.back pending told.took some;
-    }
+    each-of old between new before items text after pending told some =
+        record { split = told.split; took = pending-through old between new told.front told.back pending told.took some }
 
     -- ---- between turns
     pub splits-all : (old new : O) (before : S) (items : List Item) (text : List ℕ) (after : S) (pending : List ℕ)
         → IsOutput does before items text after → Gathers g old new text pending → pending ≡ [] → Splits g old new does before items text after pending
     splits-all old new before items text after pending output told none = record {
-      whole = items;
-      last = [];
-      items_are = sym (append-nil items);
-      one = omega arith;
-      front = text;
-      back = [];
-      text_is = sym (append-nil text);
-      between = after;
-      first = output;
-      second = output_none does after;
+      split = record {
+        whole = items;
+        last = [];
+        items_are = sym (append-nil items);
+        one = omega arith;
+        front = text;
+        back = [];
+        text_is = sym (append-nil text);
+        between = after;
+        first = output;
+        second = output_none does after;
+      };
       took = inl (none, took-whole old new text pending told none);
     }
 
@@ -138,16 +123,7 @@ module _ {O : Type 0} (g : Ghosts O) where
         → IsOutput does before items text between → IsOutput does between last back after → length last ≤ 1 → IsPending g old new text back pending
         → Splits g old new does before (items ++ last) (text ++ back) after pending
     splits-last old new before between after items last text back pending first second one took = record {
-      whole = items;
-      last = last;
-      items_are = refl;
-      one = one;
-      front = text;
-      back = back;
-      text_is = refl;
-      between = between;
-      first = first;
-      second = second;
+      split = record { whole = items; last = last; items_are = refl; one = one; front = text; back = back; text_is = refl; between = between; first = first; second = second };
       took = took;
     }
 

@@ -1,6 +1,7 @@
 mod Answering
 mod Each
 mod Ending
+pub mod Opened
 mod Landed
 mod Reading
 mod Sources

@@ -23,10 +23,9 @@ abbrev pub TookThrough : {O : Type 0} → sink.Ghosts O → O → O → List ℕ
 TookThrough g old new front back =
     (n : ℕ) × (n ≤ length back) × (g.taken new ≡ append_known (g.taken old) (front ++ take n back))
 
--- all items but one at most have whole replies, and this holds of their text and of the last one's
+-- all items but one at most have whole replies, and the last one has the rest of the text
 pub record IsSplit {S : Type 0} (does : S → Request → Option Reply → S → Type 0) (before : S)
-    (items : List Item) (text : List ℕ) (after : S) (Took : (front back : List ℕ) → Type 0)
-    : Type 0 where
+    (items : List Item) (text : List ℕ) (after : S) : Type 0 where
   pub whole : List Item
   pub last : List Item
   pub items_are : items ≡ whole ++ last
@@ -37,13 +36,14 @@ pub record IsSplit {S : Type 0} (does : S → Request → Option Reply → S →
   pub between : S
   pub first : IsOutput does before whole front between
   pub second : IsOutput does between last back after
-  pub took : Took front back
 
 -- the sink took the whole replies, and a part of the last one
-abbrev pub IsEach : {O S : Type 0} → sink.Ghosts O → (old new : O)
-    → (S → Request → Option Reply → S → Type 0) → S → List Item → List ℕ → S → Type 0
-IsEach g old new does before items text after =
-    IsSplit does before items text after (TookThrough g old new)
+pub record IsEach {O S : Type 0} (g : sink.Ghosts O) (old new : O)
+    (does : S → Request → Option Reply → S → Type 0) (before : S) (items : List Item)
+    (text : List ℕ) (after : S) : Type 0 where
+  pub split : IsSplit does before items text after
+  pub open split use *
+  pub took : TookThrough g old new front back
 
 -- a script was answered, up to this result
 pub record Paced {I O S : Type 0} (g : source.Ghosts I) (h : sink.Ghosts O) (first now : I)

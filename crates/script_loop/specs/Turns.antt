@@ -62,10 +62,12 @@ IsPending g old new front back pending =
     ⊎ ((pending ≡ []) × TookThrough g old new front back)
 
 -- all items but one at most have whole replies, which the sink took
-abbrev pub Splits : {O S : Type 0} → sink.Ghosts O → (old new : O)
-    → (S → Request → Option Reply → S → Type 0) → S → List Item → List ℕ → S → List ℕ → Type 0
-Splits g old new does before items text after pending =
-    IsSplit does before items text after (λ front back. IsPending g old new front back pending)
+pub record Splits {O S : Type 0} (g : sink.Ghosts O) (old new : O)
+    (does : S → Request → Option Reply → S → Type 0) (before : S) (items : List Item)
+    (text : List ℕ) (after : S) (pending : List ℕ) : Type 0 where
+  pub split : IsSplit does before items text after
+  pub open split use *
+  pub took : IsPending g old new front back pending
 
 -- some items were read and answered, and their text was written but what is gathered
 pub record Answers {I O S : Type 0} (g : source.Ghosts I) (h : sink.Ghosts O) (first now : I)

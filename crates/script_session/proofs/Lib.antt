@@ -1,4 +1,3 @@
-mod Opening
 mod Once
 mod Parted
 mod Computed
