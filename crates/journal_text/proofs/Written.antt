@@ -18,14 +18,8 @@ module _ {O : Type 0} (g : Ghosts O) where
   }
 
   part-first : (old new : O) (part more : List ℕ) → TookPart g old new part → TookPart g old new (part ++ more)
-  part-first old new part more some = record {
-    part = (
-      some.part.0,
-      omega (arith, some.part.1, length-append part more),
-      some.part.2 ∙ ap (append_known (g.taken old)) (sym (take-append-le some.part.0 part more some.part.1)),
-    );
-    counts = some.counts;
-  }
+  part-first old new part more some =
+      record { part = (some.part.0, omega (arith, some.part.1, length-append part more), some.part.2 ∙ ap (append_known (g.taken old)) (sym (take-append-le some.part.0 part more some.part.1))); counts = some.counts }
 
   -- memory was wanting for more
   pub pends-part : (old new : O) (text pending rest whole : List ℕ) → Pends g old new text pending → whole ≡ text ++ rest → TookPart g old new whole
