@@ -17,9 +17,10 @@ use Rattle.request_model.specs.declared.replies.Reply.{Reply}
 use Rattle.track_model.specs.Outcomes.{Outcome}
 use Rattle.track_model.specs.Tracks.{IsStep, Track, with_added, with_entry}
 use Rattle.track_replay.specs.Replays.{IsReplayed}
+use Rattle.journal_lines.specs.Authors.{IsPublication}
 use Rattle.journal_walk.specs.Ahead.{AllMet, IsReady, KeepsAhead}
 use Rattle.journal_walk.specs.Steps.{Publishes}
-use Rattle.journal_walk.specs.Walks.{GoesOn, IsAlong, IsPublishedNext, IsStuck, PublishesNothing, Walked}
+use Rattle.journal_walk.specs.Walks.{GoesOn, IsAlong, IsPublishedNext, IsStuck, PublishesNothing, Walked, coming}
 use Rattle.journal_walk.specs.declared.ahead.Ahead.{Ahead}
 use Rattle.journal_walk.proofs.Adding.{grown, stays}
 use Rattle.journal_walk.proofs.Along.{along-entries, coming-entry}
@@ -40,6 +41,14 @@ pub record Met (history : List Placed) (now : Track) (a : Ahead) (self : Walked)
 pub met-now : (history : List Placed) (before now : Track) (a : Ahead) (self : Walked) → KeepsAhead (entries_of history) (entries_of before.history) a
     → AllMet (entries_of before.history) a → now ≡ before → walk history before ≡ self → Met history now a self
 met-now history before now a self kept met same view = subst (λ (t : Track). Met history t a self) (sym same) (record { kept = kept; met = met; is = view })
+
+-- a publication comes next that isn't added
+pub stuck-published : (w : Walked) (p : Placed) → coming w ≡ Some p → IsPublication p.entry → PublishesNothing w → IsStuck w
+stuck-published w p next publishes (inl none) = inl none
+stuck-published w p next publishes (inr (x, at, inl other)) =
+    let same : p ≡ x = let both : Some p ≡ Some x = sym next ∙ at in cc in
+    absurd (other (subst (λ (y : Placed). IsPublication y.entry) same publishes))
+stuck-published w p next publishes (inr (x, at, inr never)) = inr (x, at, never)
 
 -- all that was needed is there for a publication that comes next
 pub ready : (history : List Placed) (track : Track) (a : Ahead) (self : Walked) (x : Placed) (p : Publication) → Met history track a self → IsAlong self
@@ -69,7 +78,7 @@ none-more P Q None holds more = more holds
 none-more P Q (Some reply) holds more = tt
 
 module _ (history : List Placed) (old new : Track) (x : Placed) (at : slice_get history (length old.history) ≡ Some x) where
-  pub goes-published : (p : Publication) → x.entry ≡ Publish p → (reply : Reply) → Publishes old p new reply → GoesOn (walk history old) (walk history new)
+  goes-published : (p : Publication) → x.entry ≡ Publish p → (reply : Reply) → Publishes old p new reply → GoesOn (walk history old) (walk history new)
   goes-published p told reply is = record {
     same = refl;
     machine = is.machine;
@@ -92,9 +101,6 @@ module _ (history : List Placed) (old new : Track) (x : Placed) (at : slice_get 
 
   refused : (p : Publication) → x.entry ≡ Publish p → ¬ Allowed (entries_of old.history) (Publish p) → ¬ Allowed (entries_of old.history) x.entry
   refused p told never = subst (λ (e : Entry). ¬ Allowed (entries_of old.history) e) (sym told) never
-
-  pub stuck-published : (p : Publication) → x.entry ≡ Publish p → ¬ Allowed (entries_of old.history) (Publish p) → IsStuck (walk history old)
-  stuck-published p told never = inr (x, at, refused p told never)
 
   pub nothing-published : (p : Publication) → x.entry ≡ Publish p → ¬ Allowed (entries_of old.history) (Publish p) → PublishesNothing (walk history old)
   nothing-published p told never = inr (x, at, inr (refused p told never))

@@ -242,48 +242,46 @@ module _ (es h : List Entry) (needs : List Need) (met : ℕ) (bases versions : S
     | inr it ↦ (let is : other.at ≡ need.at = ap (λ (n : Need). n.at) it in omega (arith, is, now))
   ]
 
+  -- slots that meet one need more keep
+  kept-with : (bases' versions' : Slots) → length bases' ≡ length es → length versions' ≡ length es → AreThen es h true bases' → AreThen es h false versions'
+      → ((i : ℕ) (other : Need) → slice_get needs i ≡ Some other → i < met + 1 → (b : Bool) → other.is_base ≡ b → IsMet es h other (slots_of b bases' versions'))
+      → Keeps es h needs (met + 1) bases' versions'
+  kept-with bases' versions' many-bases many-versions bases-are versions-are each = record {
+    plan = keeps.plan;
+    as_many_bases = many-bases;
+    as_many_versions = many-versions;
+    bases_are = bases-are;
+    versions_are = versions-are;
+    few = omega (arith, first-ones);
+    past = so-far;
+    are_met = λ i other at lt. each i other at lt other.is_base refl;
+    to_come = later-ones;
+  }
+
   base-met : need.is_base ≡ true → Keeps es h needs (met + 1) (set bases need.place found) versions
   base-met kind =
       let many = keeps.as_many_bases in
-      let in-bases : need.place < length bases = omega (arith, many, inside) in
-      record {
-        plan = keeps.plan;
-        as_many_bases = length-set bases need.place found ∙ keeps.as_many_bases;
-        as_many_versions = keeps.as_many_versions;
-        bases_are = then-put es h need p there now found is-now true bases (sym (ap (λ (b : Bool). time_of b p) kind) ∙ time) keeps.bases_are;
-        versions_are = keeps.versions_are;
-        few = omega (arith, first-ones);
-        past = so-far;
-        are_met = λ i other at lt. of-kind i other at lt in-bases other.is_base refl;
-        to_come = later-ones;
-      }
+      kept-with (set bases need.place found) versions (length-set bases need.place found ∙ keeps.as_many_bases) keeps.as_many_versions
+      (then-put es h need p there now found is-now true bases (sym (ap (λ (b : Bool). time_of b p) kind) ∙ time) keeps.bases_are) keeps.versions_are
+      (of-kind (omega (arith, many, inside)))
     where
-      of-kind : (i : ℕ) (other : Need) → slice_get needs i ≡ Some other → i < met + 1 → need.place < length bases → (b : Bool) → other.is_base ≡ b
+      of-kind : need.place < length bases → (i : ℕ) (other : Need) → slice_get needs i ≡ Some other → i < met + 1 → (b : Bool) → other.is_base ≡ b
           → IsMet es h other (slots_of b (set bases need.place found) versions)
-      of-kind i other at lt fits true is = met-alike i other bases at lt (is ∙ sym kind) fits (λ before. met-of true i other is (keeps.are_met i other at before))
-      of-kind i other at lt fits false is =
+      of-kind fits i other at lt true is = met-alike i other bases at lt (is ∙ sym kind) fits (λ before. met-of true i other is (keeps.are_met i other at before))
+      of-kind fits i other at lt false is =
           met-unlike i other versions at lt (λ same. true-false need.is_base other.is_base kind is (sym same)) (λ before. met-of false i other is (keeps.are_met i other at before))
 
   version-met : need.is_base ≡ false → Keeps es h needs (met + 1) bases (set versions need.place found)
   version-met kind =
       let many = keeps.as_many_versions in
-      let in-versions : need.place < length versions = omega (arith, many, inside) in
-      record {
-        plan = keeps.plan;
-        as_many_bases = keeps.as_many_bases;
-        as_many_versions = length-set versions need.place found ∙ keeps.as_many_versions;
-        bases_are = keeps.bases_are;
-        versions_are = then-put es h need p there now found is-now false versions (sym (ap (λ (b : Bool). time_of b p) kind) ∙ time) keeps.versions_are;
-        few = omega (arith, first-ones);
-        past = so-far;
-        are_met = λ i other at lt. of-kind i other at lt in-versions other.is_base refl;
-        to_come = later-ones;
-      }
+      kept-with bases (set versions need.place found) keeps.as_many_bases (length-set versions need.place found ∙ keeps.as_many_versions) keeps.bases_are
+      (then-put es h need p there now found is-now false versions (sym (ap (λ (b : Bool). time_of b p) kind) ∙ time) keeps.versions_are)
+      (of-kind (omega (arith, many, inside)))
     where
-      of-kind : (i : ℕ) (other : Need) → slice_get needs i ≡ Some other → i < met + 1 → need.place < length versions → (b : Bool) → other.is_base ≡ b
+      of-kind : need.place < length versions → (i : ℕ) (other : Need) → slice_get needs i ≡ Some other → i < met + 1 → (b : Bool) → other.is_base ≡ b
           → IsMet es h other (slots_of b bases (set versions need.place found))
-      of-kind i other at lt fits false is = met-alike i other versions at lt (is ∙ sym kind) fits (λ before. met-of false i other is (keeps.are_met i other at before))
-      of-kind i other at lt fits true is =
+      of-kind fits i other at lt false is = met-alike i other versions at lt (is ∙ sym kind) fits (λ before. met-of false i other is (keeps.are_met i other at before))
+      of-kind fits i other at lt true is =
           met-unlike i other bases at lt (true-false other.is_base need.is_base is kind) (λ before. met-of true i other is (keeps.are_met i other at before))
 
   pub meets : (bases' versions' : Slots) → bases' ≡ cond need.is_base (set bases need.place found) bases → versions' ≡ cond need.is_base versions (set versions need.place found)

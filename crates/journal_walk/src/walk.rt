@@ -1,8 +1,11 @@
 //! A walk along a history.
-ghost use Rattle.std.specs.Prelude.{◌≡◌, false, true, length, IfOk, IfSome, IfNone, OnErr};
+ghost use Rattle.std.specs.Prelude.{◌≡◌, false, true, length, IfOk, IfSome, IfNone, OnErr, Some};
 ghost use Rattle.history_model.specs.Entries.{entries_of};
 ghost use Rattle.history_model.specs.declared.entries.Author.TheVariants as author;
-ghost use Rattle.journal_walk.specs.Walks.{AreCutsNow, GoesOn, IsAlong, IsPublishedNext, IsStuck, PublishesNothing, added};
+ghost use Rattle.history_model.specs.declared.entries.Placed.{Placed};
+ghost use Rattle.journal_lines.specs.Authors.{IsPublication};
+ghost use Rattle.machine_state.specs.Made.{IsPlain};
+ghost use Rattle.journal_walk.specs.Walks.{AreCutsNow, GoesOn, IsAlong, IsPublishedNext, IsStuck, PublishesNothing, added, coming};
 ghost use Rattle.track_model.specs.Counts.{is_segment};
 ghost use Rattle.track_model.specs.Outcomes.{Outcome};
 ghost use Rattle.request_model.specs.Requests.{machine_of};
@@ -112,25 +115,34 @@ impl<'a> Walk<'a> {
         ensures kept { IfOk result (λ added. added ≡ false → self.new ≡ self.old) }
         ensures same { OnErr result (self.new ≡ self.old) }
     {
+        if self.publishes() {
+            let reply = self.publish_next()?;
+            return Ok(reply.is_some());
+        }
         meet_needs(self.history, &mut self.track, &mut self.ahead)?;
         let place = self.track.len() as usize;
         let Some(next) = self.history.get(place) else {
             return Ok(false);
         };
-        if let Entry::Publish { publication } = &next.entry {
-            let p = publication.get();
-            let reply = publish_next(
-                self.history,
-                &mut self.track,
-                &mut self.ahead,
-                &mut self.tables,
-                p,
-            )?;
-            return Ok(reply.is_some());
-        }
         let entry = next.entry.copy(self.track.alloc())?;
         let added = replay(&mut self.track, entry)?;
         Ok(added)
+    }
+
+    // Whether the entry that comes next is a publication.
+    fn publishes(&self) -> bool
+        ensures next { result ≡ true → (p : Placed) × (coming self.now ≡ Some p)
+            × IsPublication p.entry }
+        ensures plain { result ≡ false → (p : Placed) → coming self.now ≡ Some p → IsPlain p.entry }
+    {
+        let place = self.track.len() as usize;
+        let Some(next) = self.history.get(place) else {
+            return false;
+        };
+        match &next.entry {
+            Entry::Publish { publication: _ } => true,
+            _ => false,
+        }
     }
 
     /// Adds the next entry of the history, if it is a publication, and gives the reply to the request for it; none exactly

@@ -1,6 +1,6 @@
-use Rattle.std.proofs.Common.{ap, subst, ◌∙◌, Option}
+use Rattle.std.proofs.Common.{◌≡◌, ap, subst, ◌∙◌, Option}
 use Rattle.history_model.specs.Runs.{Series}
-use Rattle.track_model.specs.Tracks.{Track}
+use Rattle.track_model.specs.Tracks.{Track, with_taken}
 use Rattle.machine_state.specs.State.{BeginsWith, IsBegun}
 use Rattle.machine_state.specs.declared.base.Base.{Base}
 use Rattle.journal_walk.proofs.Starting.{still, tabled}
@@ -13,22 +13,18 @@ invariant_of-result c =
     let begun : BeginsWith t s c.in-Some.base = subst (λ (o : Option Base). IsBegun t s o) c.in-Some.is c.in_ok-base.ensures.begun in
     record { begins = ∣ tabled t s c.setting-setting.result c.in-Some.base c.setting-setting.ensures.given begun ∣₁ }
 
-pub returns-in-Some-clause-machine : goal.returns-in-Some-clause-machine
-returns-in-Some-clause-machine c =
-    ap (λ (t : Track). t.machine) c.in_ok-base.ensures.taken
-    ∙ (still c.args.track.now (record { test = c.args.p.now.test; metric = c.args.p.now.metric })).0
+-- taking the table changed nothing else
+same-ends : (old new : Track) (s : Series) → new ≡ with_taken s old → (new.machine ≡ old.machine) × (new.history ≡ old.history)
+same-ends old new s taken =
+    let both = still old s in
+    (ap (λ (t : Track). t.machine) taken ∙ both.0, ap (λ (t : Track). t.history) taken ∙ both.1)
 
-pub returns-in-Some-clause-history : goal.returns-in-Some-clause-history
-returns-in-Some-clause-history c =
-    ap (λ (t : Track). t.history) c.in_ok-base.ensures.taken
-    ∙ (still c.args.track.now (record { test = c.args.p.now.test; metric = c.args.p.now.metric })).1
+pub returns-in-Some : goal.returns-in-Some
+returns-in-Some c =
+    let both = same-ends c.args.track.now c.take_base.new.self (record { test = c.args.p.now.test; metric = c.args.p.now.metric }) c.in_ok-base.ensures.taken in
+    record { machine = both.0; history = both.1 }
 
-pub returns-in-None-clause-machine : goal.returns-in-None-clause-machine
-returns-in-None-clause-machine c =
-    ap (λ (t : Track). t.machine) c.in_ok-base.ensures.taken
-    ∙ (still c.args.track.now (record { test = c.args.p.now.test; metric = c.args.p.now.metric })).0
-
-pub returns-in-None-clause-history : goal.returns-in-None-clause-history
-returns-in-None-clause-history c =
-    ap (λ (t : Track). t.history) c.in_ok-base.ensures.taken
-    ∙ (still c.args.track.now (record { test = c.args.p.now.test; metric = c.args.p.now.metric })).1
+pub returns-in-None : goal.returns-in-None
+returns-in-None c =
+    let both = same-ends c.args.track.now c.take_base.new.self (record { test = c.args.p.now.test; metric = c.args.p.now.metric }) c.in_ok-base.ensures.taken in
+    record { machine = both.0; history = both.1 }
