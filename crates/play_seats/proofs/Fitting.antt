@@ -1,5 +1,5 @@
 -- Private: no public contract cites this. A shared run of scripts alone fits.
-use Rattle.std.proofs.Common.{◌≡◌, ◌≢◌, ◌<◌, ◌≤◌, ◌+◌, ◌-◌, ℕ, zero, suc, inl, inr, Bool, true, false, List, [], ◌∷◌, ◌++◌, length, map, refl, sym, ap, subst, ◌∙◌, Option, Some, None, arith, append-nil}
+use Rattle.std.proofs.Common.{◌≡◌, ◌≢◌, ◌<◌, ◌≤◌, ◌+◌, ◌-◌, ℕ, zero, suc, inl, inr, Bool, true, false, List, [], ◌∷◌, ◌++◌, length, map, refl, sym, ap, subst, ◌∙◌, Option, Some, None, arith, append-nil, ne_eqb}
 use Rattle.std.specs.Prelude.{◌⊎◌, slice_get, Contains, bytes_eq, if◌then◌else◌, take, fold, Result, IfSome, All, sum_by}
 use Rattle.std.specs.List.{AllByRecursion, AllZip}
 use Rattle.std.proofs.lemmas.Bool.{cases_lt}
@@ -36,7 +36,7 @@ use Rattle.play_seats.specs.Seats.{Seat, post_of, seen_in, sight_of}
 use Rattle.play_seats.specs.Seats as seats
 use Rattle.play_seats.specs.Shared.{AreKeptAs, EndsShared, HasSeenKept, IsShared, onto}
 use Rattle.play_seats.specs.Fitting.{ArePlayedFrom, IsPlayedAt, IsUnasked, RunsScripts, seat_at}
-use Rattle.play_seats.proofs.Gathered.{all-at, at-contains, contains-at, gathered-all, mapped-at, mapped-from}
+use Rattle.play_seats.proofs.Gathered.{all-at, at-contains, contains-at, gathered-all, kept-in, mapped-at, mapped-from}
 use Rattle.play_seats.proofs.Shared.{sharing-ends}
 
 -- ---- lists, the last first
@@ -310,7 +310,7 @@ own-seen (s ∷ last) apart = (
     others (u ∷ pass) all = (all.0, others pass all.1)
 
 -- ---- no worker bisects
-abbrev IsNoBisector : ℕ → Placed → Type 0
+abbrev pub IsNoBisector : ℕ → Placed → Type 0
 IsNoBisector i p = is_bisector i p.author ≡ false
 
 no-findings : (i : ℕ) (h : List Entry) (j : List Placed) → AllByRecursion (IsNoBisector i) j → findings_behind i h j ≡ []
@@ -325,8 +325,9 @@ pub sum-none : (f : List ℕ → ℕ) (ms : List (List ℕ)) → ((m : List ℕ)
 sum-none f [] each = refl
 sum-none f (m ∷ ms) each = let here : 0 + f m ≡ 0 = let is = each m in omega (arith, is) in ap (λ (k : ℕ). fold (λ a x. a + f x) k ms) here ∙ sum-none f ms each
 
-no-bisector-of : (crew : Crew) (i : ℕ) → crew.bisect ≡ 0 → (p : Placed) → MayAdd crew p → IsNoBisector i p
-no-bisector-of crew i nobody p may = by p.author refl may
+-- a number that no worker has which bisects
+pub no-bisector-of : (crew : Crew) (i : ℕ) → ((k : ℕ) → IsOneOf crew.bisect k → k ≢ i) → (p : Placed) → MayAdd crew p → IsNoBisector i p
+no-bisector-of crew i apart p may = by p.author refl may
   where
     by : (w : Author) → p.author ≡ w → MayAdd crew p → is_bisector i p.author ≡ false
     by author.Kept is may = rw is refl
@@ -334,21 +335,11 @@ no-bisector-of crew i nobody p may = by p.author refl may
     by (author.Recompute n) is may = rw is refl
     by (author.Bisect n) is may =
         let told : MayAdd crew (record { author = author.Bisect n; entry = p.entry }) = subst (MayAdd crew) (ap (λ (v : Author). record { author = v; entry = p.entry }) is) may in
-        let low = told.0.0 in
-        let high = told.0.1 in
-        absurd (omega (arith, low, high, nobody))
+        rw is (ne_eqb n i (apart n told.0))
 
 pub all-append : {A : Type 0} (P : A → Type 0) (xs ys : List A) → AllByRecursion P xs → AllByRecursion P ys → AllByRecursion P (xs ++ ys)
 all-append P [] ys one two = two
 all-append P (x ∷ xs) ys one two = (one.0, all-append P xs ys one.1 two)
-
-pub kept-in : (ts : List Track) → AllByRecursion AreKept ts → (m : List ℕ) → AllByRecursion (λ (p : Placed). p.author ≡ author.Kept) (history_in ts m)
-kept-in [] all m = tt
-kept-in (t ∷ ts) all m = by-name (bytes_eq t.machine m) (kept-in ts all.1 m)
-  where
-    by-name : (b : Bool) → AllByRecursion (λ (p : Placed). p.author ≡ author.Kept) (history_in ts m) → AllByRecursion (λ (p : Placed). p.author ≡ author.Kept) (if b then t.history else history_in ts m)
-    by-name true rest = all.0
-    by-name false rest = rest
 
 module _ (play : Play) (journals : List Track) (r : RunsScripts play journals) where
   abbrev crew : Crew
@@ -409,7 +400,7 @@ module _ (play : Play) (journals : List Track) (r : RunsScripts play journals) w
   no-bisectors i m =
       let by : AreByCrew crew (history_in play.tracks m) (journals_of (seen_in r.last) m) = all-by-crew crew (history_in play.tracks) (seen_in r.last) parts all m in
       let old : AllByRecursion (IsNoBisector i) (history_in play.tracks m) = all-map (λ (p : Placed). p.author ≡ author.Kept) (IsNoBisector i) (history_in play.tracks m) (λ p is. ap (λ (w : Author). is_bisector i w) is) (kept-in play.tracks r.kept m) in
-      let new : AllByRecursion (IsNoBisector i) by.added = all-map (MayAdd crew) (IsNoBisector i) by.added (no-bisector-of crew i r.no_bisecting) by.may_add in
+      let new : AllByRecursion (IsNoBisector i) by.added = all-map (MayAdd crew) (IsNoBisector i) by.added (no-bisector-of crew i (λ k one same. omega (arith, one.0, one.1, r.no_bisecting))) by.may_add in
       subst (AllByRecursion (IsNoBisector i)) (sym (histories m ∙ by.goes_on)) (all-append (IsNoBisector i) (history_in play.tracks m) by.added old new)
 
   unasked-at : (i : ℕ) (a : Asked) → IsUnasked a → IsBisector (i + 1) crew play.word (machines_of journals) (history_in journals) a

@@ -47,6 +47,15 @@ mapped-from f [] k y is = cc
 mapped-from f (x ∷ xs) zero y is = (x, refl, cc)
 mapped-from f (x ∷ xs) (suc k) y is = mapped-from f xs k y is
 
+-- ---- the histories before a run have what was kept
+pub kept-in : (ts : List Track) → AllByRecursion AreKept ts → (m : List ℕ) → AllByRecursion (λ (p : Placed). p.author ≡ author.Kept) (history_in ts m)
+kept-in [] all m = tt
+kept-in (t ∷ ts) all m = by-name (bytes_eq t.machine m) (kept-in ts all.1 m)
+  where
+    by-name : (b : Bool) → AllByRecursion (λ (p : Placed). p.author ≡ author.Kept) (history_in ts m) → AllByRecursion (λ (p : Placed). p.author ≡ author.Kept) (if b then t.history else history_in ts m)
+    by-name true rest = all.0
+    by-name false rest = rest
+
 -- ---- a machine's place
 record SeenAt (pass : List Sight) (m : List ℕ) (k : ℕ) : Type 0 where
   sight : Sight
@@ -246,14 +255,6 @@ module _ (crew : Crew) (tracks : List Track) (room : List Home) (seats : List Se
         begins = miss.unseen pass g.of_room ∙ ap (λ (h : List Placed). unmarked h ++ []) (sym (miss.none tracks g.machines));
         made = λ place x is. cc;
       }
-
-  kept-in : (ts : List Track) → AllByRecursion AreKept ts → (m : List ℕ) → AllByRecursion (λ (p : Placed). p.author ≡ author.Kept) (history_in ts m)
-  kept-in [] all m = tt
-  kept-in (t ∷ ts) all m = by-name (bytes_eq t.machine m) (kept-in ts all.1 m)
-    where
-      by-name : (b : Bool) → AllByRecursion (λ (p : Placed). p.author ≡ author.Kept) (history_in ts m) → AllByRecursion (λ (p : Placed). p.author ≡ author.Kept) (if b then t.history else history_in ts m)
-      by-name true rest = all.0
-      by-name false rest = rest
 
   pub gathered-all : AreAll crew (history_in tracks) (seen_in pass) (map joined_of seats)
   gathered-all = record {

@@ -46,46 +46,43 @@ different-of [] all = tt
 different-of (s ∷ pass) all = (others-of s.home.machine pass all.0, different-of pass all.1)
 
 -- ---- what is seen of a machine, at its place
+
+-- one at a place of the others is another machine
+other-at : (machine : List ℕ) (pass : List Sight) (place : ℕ) (s : Sight) → AllByRecursion (IsOther machine) pass → slice_get pass place ≡ Some s → bytes_eq machine s.home.machine ≡ false
+other-at machine [] place s all is = cc
+other-at machine (t ∷ pass) zero s all is = let same : t ≡ s = cc in subst (λ (u : Sight). bytes_eq machine u.home.machine ≡ false) same all.0
+other-at machine (t ∷ pass) (suc place) s all is = other-at machine pass place s all.1 is
+
+-- what is found by the first place of a machine
+module _ {A : Type 0} (found : List Sight → List ℕ → A) (pick : Sight → A)
+    (first : (s : Sight) (pass : List Sight) (m : List ℕ) → found (s ∷ pass) m ≡ (if bytes_eq s.home.machine m then pick s else found pass m)) where
+  found-at : (pass : List Sight) (place : ℕ) (s : Sight) → slice_get pass place ≡ Some s → AreDifferent pass → found pass s.home.machine ≡ pick s
+  found-at [] place s is different = cc
+  found-at (t ∷ pass) zero s is different = let same : t ≡ s = cc in rw (first t pass s.home.machine, sym same, eq-bytes t.home.machine) refl
+  found-at (t ∷ pass) (suc place) s is different = rw (first t pass s.home.machine, other-at t.home.machine pass place s different.0 is) (found-at pass place s is different.1)
+
+  -- another machine stays
+  found-other : (pass : List Sight) (place : ℕ) (s t : Sight) (n : List ℕ) → slice_get pass place ≡ Some s → t.home ≡ s.home → bytes_eq s.home.machine n ≡ false → found (slice_set pass place t) n ≡ found pass n
+  found-other [] place s t n is home other = refl
+  found-other (u ∷ pass) zero s t n is home other =
+      let same : u ≡ s = cc in
+      let new : bytes_eq t.home.machine n ≡ false = ap (λ (h : Home). bytes_eq h.machine n) home ∙ other in
+      let old : bytes_eq u.home.machine n ≡ false = ap (λ (v : Sight). bytes_eq v.home.machine n) same ∙ other in
+      rw (first t pass n, first u pass n, new, old) refl
+  found-other (u ∷ pass) (suc place) s t n is home other =
+      first u (slice_set pass place t) n ∙ ap (λ (x : A). if bytes_eq u.home.machine n then pick u else x) (found-other pass place s t n is home other) ∙ sym (first u pass n)
+
 seen-at : (pass : List Sight) (place : ℕ) (s : Sight) → slice_get pass place ≡ Some s → AreDifferent pass → seen_in pass s.home.machine ≡ s.seen
-seen-at [] place s is different = cc
-seen-at (t ∷ pass) zero s is different = let same : t ≡ s = cc in rw (sym same, eq-bytes t.home.machine) refl
-seen-at (t ∷ pass) (suc place) s is different =
-    rw (other-at t.home.machine pass place s different.0 is) (seen-at pass place s is different.1)
-  where
-    other-at : (machine : List ℕ) (rest : List Sight) (n : ℕ) (u : Sight) → AllByRecursion (IsOther machine) rest → slice_get rest n ≡ Some u → bytes_eq machine u.home.machine ≡ false
-    other-at machine [] n u all at = cc
-    other-at machine (v ∷ rest) zero u all at = let same : v ≡ u = cc in subst (λ (w : Sight). bytes_eq machine w.home.machine ≡ false) same all.0
-    other-at machine (v ∷ rest) (suc n) u all at = other-at machine rest n u all.1 at
+seen-at = found-at seen_in (λ s. s.seen) (λ s pass m. refl)
 
 mark-at : (pass : List Sight) (place : ℕ) (s : Sight) → slice_get pass place ≡ Some s → AreDifferent pass → mark_in pass s.home.machine ≡ s.mark
-mark-at [] place s is different = cc
-mark-at (t ∷ pass) zero s is different = let same : t ≡ s = cc in rw (sym same, eq-bytes t.home.machine) refl
-mark-at (t ∷ pass) (suc place) s is different =
-    rw (other-at t.home.machine pass place s different.0 is) (mark-at pass place s is different.1)
-  where
-    other-at : (machine : List ℕ) (rest : List Sight) (n : ℕ) (u : Sight) → AllByRecursion (IsOther machine) rest → slice_get rest n ≡ Some u → bytes_eq machine u.home.machine ≡ false
-    other-at machine [] n u all at = cc
-    other-at machine (v ∷ rest) zero u all at = let same : v ≡ u = cc in subst (λ (w : Sight). bytes_eq machine w.home.machine ≡ false) same all.0
-    other-at machine (v ∷ rest) (suc n) u all at = other-at machine rest n u all.1 at
+mark-at = found-at mark_in (λ s. s.mark) (λ s pass m. refl)
 
--- ---- another machine stays
 seen-other : (pass : List Sight) (place : ℕ) (s t : Sight) (n : List ℕ) → slice_get pass place ≡ Some s → t.home ≡ s.home → bytes_eq s.home.machine n ≡ false → seen_in (slice_set pass place t) n ≡ seen_in pass n
-seen-other [] place s t n is home other = refl
-seen-other (u ∷ pass) zero s t n is home other =
-    let same : u ≡ s = cc in
-    let new : bytes_eq t.home.machine n ≡ false = ap (λ (h : Home). bytes_eq h.machine n) home ∙ other in
-    let old : bytes_eq u.home.machine n ≡ false = ap (λ (v : Sight). bytes_eq v.home.machine n) same ∙ other in
-    rw (new, old) refl
-seen-other (u ∷ pass) (suc place) s t n is home other = ap (λ (l : List (Marked Placed)). if bytes_eq u.home.machine n then u.seen else l) (seen-other pass place s t n is home other)
+seen-other = found-other seen_in (λ s. s.seen) (λ s pass m. refl)
 
 mark-other : (pass : List Sight) (place : ℕ) (s t : Sight) (n : List ℕ) → slice_get pass place ≡ Some s → t.home ≡ s.home → bytes_eq s.home.machine n ≡ false → mark_in (slice_set pass place t) n ≡ mark_in pass n
-mark-other [] place s t n is home other = refl
-mark-other (u ∷ pass) zero s t n is home other =
-    let same : u ≡ s = cc in
-    let new : bytes_eq t.home.machine n ≡ false = ap (λ (h : Home). bytes_eq h.machine n) home ∙ other in
-    let old : bytes_eq u.home.machine n ≡ false = ap (λ (v : Sight). bytes_eq v.home.machine n) same ∙ other in
-    rw (new, old) refl
-mark-other (u ∷ pass) (suc place) s t n is home other = ap (λ (l : ℕ). if bytes_eq u.home.machine n then u.mark else l) (mark-other pass place s t n is home other)
+mark-other = found-other mark_in (λ s. s.mark) (λ s pass m. refl)
 
 -- the machine itself, where its name stays
 set-at : (pass : List Sight) (place : ℕ) (s t : Sight) → slice_get pass place ≡ Some s → slice_get (slice_set pass place t) place ≡ Some t
