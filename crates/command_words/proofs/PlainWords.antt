@@ -43,40 +43,22 @@ least_words (Some least) = (codes "--least=" ++ least) ∷ []
 abbrev cut_rest : List ℕ → Option (List ℕ) → Bool → List (List ℕ)
 cut_rest word least absolute = word ∷ least_words least ++ plain_flag absolute
 
-cut_taken : (x : ℕ) (xs : List ℕ) (least : Option (List ℕ)) (absolute : Bool) → (x == 45) ≡ false
-    → fault_of (app_for kind.Cut) (cut_rest (x ∷ xs) least absolute) ≡ []
-unfolding clap_on_literals
-cut_taken x xs (Some least) true plain = simp plain refl
-cut_taken x xs (Some least) false plain = simp plain refl
-cut_taken x xs None true plain = simp plain refl
-cut_taken x xs None false plain = simp plain refl
-
-cut_penalty : (x : ℕ) (xs : List ℕ) (least : Option (List ℕ)) (absolute : Bool) → (x == 45) ≡ false
-    → value_in (given_by kind.Cut (cut_rest (x ∷ xs) least absolute)) (codes "PENALTY") ≡ Some (x ∷ xs)
-unfolding clap_on_literals
-cut_penalty x xs (Some least) true plain = simp plain refl
-cut_penalty x xs (Some least) false plain = simp plain refl
-cut_penalty x xs None true plain = simp plain refl
-cut_penalty x xs None false plain = simp plain refl
-
-cut_least : (x : ℕ) (xs : List ℕ) (least : Option (List ℕ)) (absolute : Bool) → (x == 45) ≡ false
-    → value_in (given_by kind.Cut (cut_rest (x ∷ xs) least absolute)) (codes "least") ≡ least
-unfolding clap_on_literals
-cut_least x xs (Some least) true plain = simp plain refl
-cut_least x xs (Some least) false plain = simp plain refl
-cut_least x xs None true plain = simp plain refl
-cut_least x xs None false plain = simp plain refl
-
 flag_told : Bool → List ℕ
 flag_told absolute = if absolute then codes "true" else codes "false"
 
-cut_flag : (x : ℕ) (xs : List ℕ) (least : Option (List ℕ)) (absolute : Bool) → (x == 45) ≡ false
-    → value_in (given_by kind.Cut (cut_rest (x ∷ xs) least absolute)) (codes "absolute") ≡ Some (flag_told absolute)
+-- what they are read as
+abbrev CutGives : List ℕ → Option (List ℕ) → Bool → Type 0
+CutGives word least absolute = (fault_of (app_for kind.Cut) (cut_rest word least absolute) ≡ [])
+    × (value_in (given_by kind.Cut (cut_rest word least absolute)) (codes "PENALTY") ≡ Some word)
+    × (value_in (given_by kind.Cut (cut_rest word least absolute)) (codes "least") ≡ least)
+    × (value_in (given_by kind.Cut (cut_rest word least absolute)) (codes "absolute") ≡ Some (flag_told absolute))
+
+cut_gives : (x : ℕ) (xs : List ℕ) (least : Option (List ℕ)) (absolute : Bool) → (x == 45) ≡ false → CutGives (x ∷ xs) least absolute
 unfolding clap_on_literals flag_told
-cut_flag x xs (Some least) true plain = simp plain refl
-cut_flag x xs (Some least) false plain = simp plain refl
-cut_flag x xs None true plain = simp plain refl
-cut_flag x xs None false plain = simp plain refl
+cut_gives x xs (Some least) true plain = (simp plain refl, simp plain refl, simp plain refl, simp plain refl)
+cut_gives x xs (Some least) false plain = (simp plain refl, simp plain refl, simp plain refl, simp plain refl)
+cut_gives x xs None true plain = (simp plain refl, simp plain refl, simp plain refl, simp plain refl)
+cut_gives x xs None false plain = (simp plain refl, simp plain refl, simp plain refl, simp plain refl)
 
 flag_is : (absolute : Bool) (given : Option (List ℕ)) → given ≡ Some (flag_told absolute) → IsTrue absolute ↔ (given ≡ Some (codes "true"))
 unfolding flag_told
@@ -164,7 +146,7 @@ cut_words : (word : List ℕ) (least : Option (List ℕ)) (absolute : Bool) → 
     × (value_in (given_by kind.Cut (cut_rest word least absolute)) (codes "least") ≡ least)
     × (IsTrue absolute ↔ HasFlag (given_by kind.Cut (cut_rest word least absolute)) (codes "absolute"))
 cut_words word least absolute (begins x xs is) =
-    (cut_taken x xs least absolute is, cut_penalty x xs least absolute is, cut_least x xs least absolute is, flag_is absolute _ (cut_flag x xs least absolute is))
+    let gives = cut_gives x xs least absolute is in (gives.0, gives.1, gives.2, flag_is absolute _ gives.3)
 
 number_words : (word : List ℕ) → Plain word
     → (fault_of (app_for kind.Gen) (word ∷ []) ≡ []) × (value_in (given_by kind.Gen (word ∷ [])) (codes "NUMBER") ≡ Some word)

@@ -20,29 +20,15 @@ pub enum Kind {
 pub(crate) fn kind_named(name: &str) -> Option<Kind>
     ensures { Finds (λ kind. name_of kind ≡ name.now) result }
 {
-    if name == "cut" {
-        return Some(Kind::Cut);
+    match name {
+        "cut" => Some(Kind::Cut),
+        "apply" => Some(Kind::Apply),
+        "gen" => Some(Kind::Gen),
+        "trial" => Some(Kind::Trial),
+        "play" => Some(Kind::Play),
+        "path" => Some(Kind::Path),
+        "hunt" => Some(Kind::Hunt),
+        "audit" => Some(Kind::Audit),
+        _ => None,
     }
-    if name == "apply" {
-        return Some(Kind::Apply);
-    }
-    if name == "gen" {
-        return Some(Kind::Gen);
-    }
-    if name == "trial" {
-        return Some(Kind::Trial);
-    }
-    if name == "play" {
-        return Some(Kind::Play);
-    }
-    if name == "path" {
-        return Some(Kind::Path);
-    }
-    if name == "hunt" {
-        return Some(Kind::Hunt);
-    }
-    if name == "audit" {
-        return Some(Kind::Audit);
-    }
-    None
 }

@@ -10,8 +10,11 @@ use crate::kind::Kind;
 use clap::{Arg, ArgAction, Command};
 use std::alloc::Global;
 
+// A simple command that was made.
+type Made<'a> = Result<Command<'a>, NoMemory>;
+
 // The simple command of this kind.
-pub(crate) fn command_for<'a>(alloc: Global, kind: Kind) -> Result<Command<'a>, NoMemory>
+pub(crate) fn command_for<'a>(alloc: Global, kind: Kind) -> Made<'a>
     ensures { IfOk result (λ c. app_of c ≡ app_for kind) }
 {
     match kind {
@@ -26,15 +29,19 @@ pub(crate) fn command_for<'a>(alloc: Global, kind: Kind) -> Result<Command<'a>, 
     }
 }
 
-fn cut_command<'a>(alloc: Global) -> Result<Command<'a>, NoMemory>
+fn cut_command<'a>(alloc: Global) -> Made<'a>
     ensures { IfOk result (λ c. app_of c ≡ app_for kinds.Cut) }
 {
     let mut command = with_value(alloc, named(alloc, "cut"), "PENALTY")?;
     command = with_option(alloc, command, "least")?;
-    with_flag(alloc, command, "absolute")
+    command.arg(
+        Arg::new(alloc, "absolute")
+            .long("absolute")
+            .action(ArgAction::SetTrue),
+    )
 }
 
-fn play_command<'a>(alloc: Global) -> Result<Command<'a>, NoMemory>
+fn play_command<'a>(alloc: Global) -> Made<'a>
     ensures { IfOk result (λ c. app_of c ≡ app_for kinds.Play) }
 {
     let mut command = with_option(alloc, named(alloc, "play"), "machines")?;
@@ -45,21 +52,21 @@ fn play_command<'a>(alloc: Global) -> Result<Command<'a>, NoMemory>
     with_values(alloc, command, "SCRIPT")
 }
 
-fn path_command<'a>(alloc: Global) -> Result<Command<'a>, NoMemory>
+fn path_command<'a>(alloc: Global) -> Made<'a>
     ensures { IfOk result (λ c. app_of c ≡ app_for kinds.Path) }
 {
     let command = with_value(alloc, named(alloc, "path"), "LOW")?;
     with_value(alloc, command, "HIGH")
 }
 
-fn hunt_command<'a>(alloc: Global) -> Result<Command<'a>, NoMemory>
+fn hunt_command<'a>(alloc: Global) -> Made<'a>
     ensures { IfOk result (λ c. app_of c ≡ app_for kinds.Hunt) }
 {
     let command = with_value(alloc, named(alloc, "hunt"), "K")?;
     with_option(alloc, command, "test")
 }
 
-fn audit_command<'a>(alloc: Global) -> Result<Command<'a>, NoMemory>
+fn audit_command<'a>(alloc: Global) -> Made<'a>
     ensures { IfOk result (λ c. app_of c ≡ app_for kinds.Audit) }
 {
     let command = with_value(alloc, named(alloc, "audit"), "JOURNAL")?;
@@ -77,7 +84,7 @@ fn named<'a>(alloc: Global, name: &'a str) -> Command<'a>
 }
 
 // The command with a positional more, which must be given.
-fn with_value<'a>(alloc: Global, command: Command<'a>, id: &'a str) -> Result<Command<'a>, NoMemory>
+fn with_value<'a>(alloc: Global, command: Command<'a>, id: &'a str) -> Made<'a>
     ensures { IfOk result
         (λ c. app_of c ≡ with_rule (app_of command.entry) (value_rule id.entry.now)) }
 {
@@ -85,11 +92,7 @@ fn with_value<'a>(alloc: Global, command: Command<'a>, id: &'a str) -> Result<Co
 }
 
 // The command with a positional of one or more values more, which must be given.
-fn with_values<'a>(
-    alloc: Global,
-    command: Command<'a>,
-    id: &'a str,
-) -> Result<Command<'a>, NoMemory>
+fn with_values<'a>(alloc: Global, command: Command<'a>, id: &'a str) -> Made<'a>
     ensures { IfOk result
         (λ c. app_of c ≡ with_rule (app_of command.entry) (values_rule id.entry.now)) }
 {
@@ -97,25 +100,9 @@ fn with_values<'a>(
 }
 
 // The command with an option more.
-fn with_option<'a>(
-    alloc: Global,
-    command: Command<'a>,
-    name: &'a str,
-) -> Result<Command<'a>, NoMemory>
+fn with_option<'a>(alloc: Global, command: Command<'a>, name: &'a str) -> Made<'a>
     ensures { IfOk result
         (λ c. app_of c ≡ with_rule (app_of command.entry) (option_rule name.entry.now)) }
 {
     command.arg(Arg::new(alloc, name).long(name))
-}
-
-// The command with a flag more.
-fn with_flag<'a>(
-    alloc: Global,
-    command: Command<'a>,
-    name: &'a str,
-) -> Result<Command<'a>, NoMemory>
-    ensures { IfOk result
-        (λ c. app_of c ≡ with_rule (app_of command.entry) (flag_rule name.entry.now)) }
-{
-    command.arg(Arg::new(alloc, name).long(name).action(ArgAction::SetTrue))
 }
