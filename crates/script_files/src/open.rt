@@ -8,7 +8,7 @@ ghost use Rattle.script_files.specs.Opening.{Asks, AreOpen, IsOpen, OpensMore, w
 
 use crate::close::close_scripts;
 use command_words::transcript_name;
-use std::alloc::{AllocError, Global};
+use std::alloc::Global;
 use track_outside::{Files, OutError};
 
 /// Why the scripts and their transcripts aren't all open.
@@ -20,17 +20,6 @@ pub enum OpenFault {
     WriteFault,
     /// There was no memory.
     NoMemory,
-}
-
-impl From<AllocError> for OpenFault {
-    ghost use Rattle.std.specs.Prelude.{◌≡◌};
-    ghost use Rattle.script_files.specs.declared.open.OpenFault.TheVariants as fault;
-
-    ghost from_gives = { λ _ f. f ≡ fault.NoMemory };
-
-    fn from(_: AllocError) -> OpenFault {
-        OpenFault::NoMemory
-    }
 }
 
 /// A script that is open, and its transcript.
