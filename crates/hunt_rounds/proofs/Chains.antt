@@ -1,9 +1,8 @@
 -- Chains of asks, and of rounds.
-use Rattle.std.proofs.Common.{◌≡◌, ℕ, ◌+◌, ◌-◌, ◌<◌, ◌≤◌, ltb, Bool, true, false, cond, List, [], ◌∷◌, ◌++◌, length, get_or, map, Option, Some, None, Result, Ok, Err, ◌⊎◌, inl, inr, refl, sym, ap, subst, ◌∙◌, arith, append_assoc, append-nil}
-use Rattle.std.specs.Prelude.{All, Contains, option_map, OnErr}
-use Rattle.std.specs.List.{range_with_len}
-use Rattle.std.proofs.lemmas.Bool.{cases_lt, lt-ltb, le-ltb}
-use Rattle.std.proofs.lemmas.List.Elements.{Contains-append_cases, All-append, All-get_or}
+use Rattle.std.proofs.Common.{◌≡◌, ℕ, ◌+◌, ◌-◌, List, [], ◌∷◌, ◌++◌, length, get_or, Option, Some, None, inl, inr, refl, sym, ap, subst, ◌∙◌, arith, append_assoc, append-nil}
+use Rattle.std.specs.Prelude.{Contains, option_map}
+use Rattle.std.proofs.lemmas.Bool.{cases_lt, le-ltb}
+use Rattle.std.proofs.lemmas.List.Elements.{Contains-append_cases, All-append}
 use Rattle.std.proofs.lemmas.List.FromFn.{length-map-range_with_len, get_or-map-range_with_len}
 use Rattle.track_outside.specs.Asked.{Ask}
 use Rattle.track_outside.specs.Counts.{Rose}
@@ -12,7 +11,7 @@ use Rattle.wide_bisect.specs.declared.outcome.WideOutcome.TheVariants.{Asks}
 use Rattle.wide_bisect.specs.Searches.{Search, begun, asks, asked, place_in_round, after, after_all}
 use Rattle.wide_bisect.specs.Laws.{AreTaken}
 use Rattle.hunt_rounds.specs.Asked.{WasAsked, EachWasAsked, IsOf, WereAskedOf}
-use Rattle.hunt_rounds.specs.Hunts.{name_at, ask_in, asks_in, Goes}
+use Rattle.hunt_rounds.specs.Hunts.{ask_in, asks_in, Goes}
 use Rattle.hunt_rounds.specs.Rounds.{asks_at}
 
 -- ---- one runner

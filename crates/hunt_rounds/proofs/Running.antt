@@ -1,8 +1,8 @@
 -- Searches that run, and those that are closed.
-use Rattle.std.proofs.Common.{◌≡◌, ◌≢◌, ℕ, zero, suc, ◌+◌, ◌-◌, ◌<◌, ◌≤◌, min, Bool, true, false, cond, eqb, List, [], ◌∷◌, ◌++◌, length, map, Option, Some, None, ◌⊎◌, inl, inr, refl, sym, ap, subst, ◌∙◌, arith}
+use Rattle.std.proofs.Common.{◌≡◌, ◌≢◌, ℕ, ◌+◌, ◌-◌, ◌<◌, ◌≤◌, min, Bool, true, cond, eqb, List, [], ◌∷◌, length, map, Option, Some, None, inl, inr, refl, sym, ap, subst, ◌∙◌, arith}
 use Rattle.std.specs.Prelude.{All}
 use Rattle.std.specs.List.{range_with_len}
-use Rattle.std.proofs.lemmas.Bool.{cases_Bool, eqb-true, eqb-false, eq-eqb}
+use Rattle.std.proofs.lemmas.Bool.{cases_Bool, eq-eqb}
 use Rattle.std.proofs.lemmas.List.Elements.{All-weaker}
 use Rattle.std.proofs.lemmas.List.FromFn.{length-map-range_with_len}
 use Rattle.track_outside.specs.declared.runner.Runner.{Ghosts}
@@ -12,7 +12,7 @@ use Rattle.wide_bisect.specs.declared.outcome.WideOutcome.TheVariants.{Asks, Fou
 use Rattle.wide_bisect.specs.declared.outcome.WideAnswered.TheVariants as answered
 use Rattle.wide_bisect.specs.Answers.{ending, skipped_places}
 use Rattle.wide_bisect.specs.Searches.{Search, is_running, settled, begun, asks, asked, place_in_round, said_of, end_by, after_end, after, after_all, answer_to}
-use Rattle.wide_bisect.specs.Laws.{AreTaken, CanBegin, EachAsksOpen, EachTakesAway, EachIsWithinBound, IsWithinBound, all_said, skipping}
+use Rattle.wide_bisect.specs.Laws.{CanBegin, EachAsksOpen, EachTakesAway, EachIsWithinBound, IsWithinBound, all_said, skipping}
 use Rattle.hunt_rounds.specs.Hunts.{Goes, IsHunted}
 
 -- ---- running

@@ -1,5 +1,5 @@
 -- What runners were asked, each by its place.
-use Rattle.std.specs.Prelude.{◌≡◌, ◌≤◌, ◌<◌, ℕ, List, [], ◌∷◌, ◌++◌, All, Contains, length, get_or, option_map, Option, None}
+use Rattle.std.specs.Prelude.{◌≡◌, ◌≤◌, ◌<◌, ℕ, List, ◌++◌, All, Contains, length, get_or, option_map, None}
 use Rattle.track_outside.specs.Asked.{Ask}
 use Rattle.track_outside.specs.Counts.{Rose}
 use Rattle.track_outside.specs.declared.runner.Runner.{Ghosts}

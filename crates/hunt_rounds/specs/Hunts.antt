@@ -1,5 +1,5 @@
 -- A hunt: a search by rounds over commits by name, of which each place of a round is asked of the runner in that place.
-use Rattle.std.specs.Prelude.{◌≡◌, ◌≢◌, ◌<◌, ℕ, ◌+◌, ◌-◌, List, [], ◌∷◌, ◌++◌, length, slice_index_or, nat_lt, if◌then◌else◌, Option, None}
+use Rattle.std.specs.Prelude.{◌≡◌, ◌≢◌, ℕ, ◌+◌, ◌-◌, List, [], ◌∷◌, ◌++◌, length, slice_index_or, nat_lt, if◌then◌else◌, Option, None}
 use Rattle.track_outside.specs.Asked.{Ask}
 use Rattle.track_outside.specs.declared.runner.Runner.{Ghosts}
 use Rattle.wide_bisect.specs.declared.outcome.WideOutcome.TheVariants.{Asks}

@@ -1,5 +1,5 @@
 -- Private: no public contract cites this. One round of asks.
-use Rattle.std.specs.Prelude.{◌≡◌, ◌<◌, ℕ, get_or, List, [], ◌∷◌, length, slice_index, slice_index_or, nat_lt, if◌then◌else◌, Option, Some, None, Result, Ok, Err}
+use Rattle.std.specs.Prelude.{◌≡◌, ◌<◌, ℕ, get_or, List, [], ◌∷◌, length, slice_index, slice_index_or, nat_lt, if◌then◌else◌, Option, None, Result, Ok, Err}
 use Rattle.track_outside.specs.Asked.{Ask}
 use Rattle.hunt_rounds.specs.declared.asking.Asking.{Asking}
 use Rattle.hunt_rounds.specs.Hunts.{name_at}

@@ -1,4 +1,4 @@
-use Rattle.std.proofs.Common.{ℕ, ◌+◌, ◌-◌, ◌≤◌, length, cond}
+use Rattle.std.proofs.Common.{◌+◌, length, cond}
 use Rattle.wide_bisect.specs.Searches.{is_running}
 use Rattle.hunt_rounds.specs.Asked.{WereAskedOf}
 use Rattle.hunt_rounds.specs.Hunts.{Goes}
