@@ -1,4 +1,6 @@
 //! The verdict on the files of a shared run.
+ghost use Rattle.std.specs.Prelude.{◌≡◌};
+ghost use Rattle.audit_model.specs.declared.verdict.AuditStop.{AuditStop};
 
 use crate::NoMemory;
 
@@ -40,10 +42,7 @@ pub enum AuditStop {
 }
 
 impl From<NoMemory> for AuditStop {
-    ghost use Rattle.std.specs.Prelude.{◌≡◌};
-    ghost use Rattle.audit_model.specs.declared.verdict.AuditStop.TheVariants as stop;
-
-    ghost from_gives = { λ _ made. made ≡ stop.NoMemory };
+    ghost from_gives = { λ _ made. made ≡ AuditStop.NoMemory };
 
     fn from(_: NoMemory) -> AuditStop {
         AuditStop::NoMemory
