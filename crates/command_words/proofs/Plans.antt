@@ -57,21 +57,15 @@ scripts_by scripts some few named apart (Err e) own = tt
 -- arguments ask for one plan
 pub plan_once : (given : List Row) (one other : Plan) → AsksFor given one → IsWithinLimits one → AsksFor given other → IsWithinLimits other → one ≡ other
 plan_once given one other is within its limits =
-    let machines = list_once (value_in given (codes "machines")) one.machines other.machines is.machines its.machines in
-    let recompute = number_once 0 (value_in given (codes "recompute")) one.recompute other.recompute
-    (omega (arith, within.recompute)) (omega (arith, limits.recompute)) is.recompute its.recompute in
-    let bisect = number_once 0 (value_in given (codes "bisect")) one.bisect other.bisect
-    (omega (arith, within.bisect)) (omega (arith, limits.bisect)) is.bisect its.bisect in
-    let store = sym is.store ∙ its.store in
-    let test = sym is.test ∙ its.test in
-    let scripts = sym is.scripts ∙ its.scripts in
     λ i. record {
-      machines = machines i;
-      store = store i;
-      recompute = recompute i;
-      bisect = bisect i;
-      test = test i;
-      scripts = scripts i;
+      machines = list_once (value_in given (codes "machines")) one.machines other.machines is.machines its.machines i;
+      store = (sym is.store ∙ its.store) i;
+      recompute = number_once 0 (value_in given (codes "recompute")) one.recompute other.recompute
+          (omega (arith, within.recompute)) (omega (arith, limits.recompute)) is.recompute its.recompute i;
+      bisect = number_once 0 (value_in given (codes "bisect")) one.bisect other.bisect
+          (omega (arith, within.bisect)) (omega (arith, limits.bisect)) is.bisect its.bisect i;
+      test = (sym is.test ∙ its.test) i;
+      scripts = (sym is.scripts ∙ its.scripts) i;
     }
 
 -- without a word of the test no bisect workers are asked for
