@@ -15,11 +15,7 @@ module _ (tables : Tables) where
   pub verified : total_at tables 0 ≡ neg_ℤ tables.penalty → last_cut_at tables 0 ≡ 0
       → ((t : ℕ) → 0 < t → t ≤ last_place tables → RowHolds tables t) → ((s : ℕ) → s ≤ last_place tables → PlaceHolds tables s) → IsLookedAt
   verified first first_back rows places = record {
-    least_length = tables.least_length;
-    back_length = tables.back_length;
-    pruned_length = tables.pruned_length;
-    least_at_none = first;
-    back_at_none = first_back;
+    tables = record { least_length = tables.least_length; back_length = tables.back_length; pruned_length = tables.pruned_length; least_at_none = first; back_at_none = first_back };
     before = λ t some le. (rows t some le).0;
     made = λ t some le. (rows t some le).1;
     at_most = λ s t is le open'. (((places s (omega (arith, is.0, le))).1 t is.0 le open').0 is open').0;
@@ -49,5 +45,5 @@ module _ (tables : Tables) where
 pub totals-are : TotalsAreInRange → (cost : ℕ → ℕ → ℤ) (n : ℕ) (b : ℤ) (len : ℕ) (least : List ℤ) (back pruned : List ℕ) → IsTable cost n b len least back pruned
     → pos 0 ≤ℤ b → b ≤ℤ pos (10 ^ 36) → AreCosts cost n → AreTotals least
 totals-are in_range cost n b len least back pruned h low high range s lt =
-    let there = in_range cost n (10 ^ 37) b len least back pruned low range h s (omega (arith, h.least_length)) in
+    let there = in_range cost n (10 ^ 37) b len least back pruned low range h s (omega (arith, h.tables.least_length)) in
     (omega (arith, ints, high, there.0), there.1)

@@ -36,7 +36,7 @@ module _ {f : List ℤ → ℤ} {ps : List (List ℤ)} {b : ℤ} {rows : Rows} (
   last = omega (arith, h.some)
 
   pub least-size : length least ≡ length ps
-  least-size = omega (arith, last, h.pruned.table.least_length)
+  least-size = omega (arith, last, h.pruned.table.tables.least_length)
 
   pub below : (i : ℕ) → i < length cs → slice_index cs i < length ps
   below i lt = omega (arith, last, candidates-below cost (length ps - 1) b rows.length rows.swept least back pruned cs h.pruned.table h.pruned.length_from.0 h.pruned.swept h.pruned.candidates i lt)

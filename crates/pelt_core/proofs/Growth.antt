@@ -55,7 +55,7 @@ module _ (cost : ℕ → ℕ → ℤ) (n : ℕ) (b : ℤ) (len g : ℕ) (least :
   -- each place at which a segment may begin and that has no mark that was seen is a candidate
   candidate-at : (s : ℕ) → s ≤ n + 1 - len → MayBegin len s → IsUnmarkedTo g pruned s → (i : ℕ) × (i < length cs) × (slice_index cs i ≡ s)
   candidate-at s le may un =
-      let there = chosen-find (λ s. begins len s && stays g pruned s) (n + 1 - len + 1) s (omega arith) (open-when len g pruned s may (omega (arith, le, h.pruned_length, some-length)) un) in
+      let there = chosen-find (λ s. begins len s && stays g pruned s) (n + 1 - len + 1) s (omega arith) (open-when len g pruned s may (omega (arith, le, h.tables.pruned_length, some-length)) un) in
       (there.0, omega (arith, size-is, there.1), read-place there.0 ∙ there.2)
 
   -- each open candidate of the next place is one
@@ -88,7 +88,7 @@ module _ (cost : ℕ → ℕ → ℤ) (n : ℕ) (b : ℤ) (len g : ℕ) (least :
 
   pub totals : TotalsAreInRange → pos 0 ≤ℤ b → b ≤ℤ pos (10 ^ 36) → AreInRange cost n → AreTotals least
   totals in_range low high range s lt =
-      let there = in_range cost n (10 ^ 37) b len least back pruned low range h s (omega (arith, h.least_length)) in
+      let there = in_range cost n (10 ^ 37) b len least back pruned low range h s (omega (arith, h.tables.least_length)) in
       (omega (arith, ints, high, there.0), there.1)
 
   -- the first least of the candidates is the first least of all
@@ -125,10 +125,10 @@ module _ (cost : ℕ → ℕ → ℤ) (n : ℕ) (b : ℤ) (len g : ℕ) (least :
       (x_is : x ≡ int_at least (slice_index cs best) +ℤ cost (slice_index cs best) (n + 1) +ℤ b)
       (marked : List ℕ) (m : AreLookedAt cost len (least ++ x ∷ []) (n + 1) (IsNear cs best len (slice_index cs best)) (pruned ++ 0 ∷ []) marked) where
     size : length marked ≡ n + 2
-    size = omega (arith, m.size, length-append pruned (0 ∷ []), h.pruned_length)
+    size = omega (arith, m.size, length-append pruned (0 ∷ []), h.tables.pruned_length)
 
     was : (s : ℕ) → s ≤ n → slice_index (pruned ++ 0 ∷ []) s ≡ slice_index pruned s
-    was s le = get_or_append_left pruned (0 ∷ []) 0 s (omega (arith, h.pruned_length))
+    was s le = get_or_append_left pruned (0 ∷ []) 0 s (omega (arith, h.tables.pruned_length))
 
     -- place s is some candidate before the last cut, or none of them
     search-for : (s : ℕ) (k : ℕ) → k ≤ best → IsAmong cs k s ⊎ ((i : ℕ) → i < k → slice_index cs i ≢ s)
@@ -189,7 +189,7 @@ module _ (cost : ℕ → ℕ → ℤ) (n : ℕ) (b : ℤ) (len g : ℕ) (least :
     marks = record {
       marked_length = omega (arith, size);
       marked = mark-of;
-      none_at_end = m.behind (n + 1) (omega arith) ∙ get_or_push pruned 0 0 (n + 1) h.pruned_length;
+      none_at_end = m.behind (n + 1) (omega arith) ∙ get_or_push pruned 0 0 (n + 1) h.tables.pruned_length;
     }
 
     -- marks up to place n count as before
@@ -206,7 +206,7 @@ module _ (cost : ℕ → ℕ → ℤ) (n : ℕ) (b : ℤ) (len g : ℕ) (least :
         (λ s lt.
         let le : s ≤ n = omega (arith, lt, some-length) in
         let alike = same-marks s le in
-        ap (λ (y : Bool). begins len s && y) (stays-alike g g pruned marked s (omega (arith, le, h.pruned_length)) (omega (arith, le, size)) alike.0 alike.1))
+        ap (λ (y : Bool). begins len s && y) (stays-alike g g pruned marked s (omega (arith, le, h.tables.pruned_length)) (omega (arith, le, size)) alike.0 alike.1))
 
     -- where those are dropped that have a mark up to a later place, the others are left
     pub dropped-are : (g' : ℕ) → g ≤ g' → filter (stays g' marked) cs ≡ open_places len g' marked (n + 1 - len + 1)
@@ -214,7 +214,7 @@ module _ (cost : ℕ → ℕ → ℤ) (n : ℕ) (b : ℤ) (len g : ℕ) (least :
         ap (filter (stays g' marked)) are ∙ chosen-filter (λ s. begins len s && stays g pruned s) (stays g' marked) (λ s. begins len s && stays g' marked s) (n + 1 - len + 1)
         (λ s lt.
         let le : s ≤ n = omega (arith, lt, some-length) in
-        stays-more len g g' pruned marked s (omega (arith, le, h.pruned_length))
+        stays-more len g g' pruned marked s (omega (arith, le, h.tables.pruned_length))
         (λ un. (same-marks s le).1 (elim un [ inl none ↦ inl none | inr behind ↦ inr (omega (arith, behind, le')) ])))
 
     -- the next candidate, where a segment may begin there; else the candidates stay
@@ -259,15 +259,15 @@ totals-next in_range cost n b len least back pruned h low high t e range s x fou
     in_range cost n (10 ^ 37) b len least back pruned low (λ p q le in'. range p q le (omega arith)) h in
     elim (cases_eq r (n + 1)) [
       | inl at ↦
-          let pushed : int_at (least ++ x ∷ []) (n + 1) ≡ x = get_or_push least x (pos 0) (n + 1) h.least_length in
+          let pushed : int_at (least ++ x ∷ []) (n + 1) ≡ x = get_or_push least x (pos 0) (n + 1) h.tables.least_length in
           let from = range s t (omega (arith, found.candidate.0)) (omega arith) in
           let there = before s (omega (arith, found.candidate.0, e)) in
           let whole = range 0 t (omega arith) (omega arith) in
           let most = found.at_most 0 (omega (arith, e), inl refl) in
-          rw (at, pushed) (omega (arith, ints, x_is, there.0, from.0, high), omega (arith, ints, x_is, most, h.least_at_none, whole.1))
+          rw (at, pushed) (omega (arith, ints, x_is, there.0, from.0, high), omega (arith, ints, x_is, most, h.tables.least_at_none, whole.1))
       | inr apart ↦
-          let in' : r < length least = omega (arith, lt, length-append least (x ∷ []), h.least_length) in
-          let there = before r (omega (arith, in', h.least_length)) in
+          let in' : r < length least = omega (arith, lt, length-append least (x ∷ []), h.tables.least_length) in
+          let there = before r (omega (arith, in', h.tables.least_length)) in
           rw (get_or_append_left least (x ∷ []) (pos 0) r in') (omega (arith, ints, high, there.0), there.1)
     ]
 

@@ -1,5 +1,5 @@
 -- How many values and positions there are where a value is put in.
-use Rattle.std.proofs.Common.{◌≡◌, ℕ, ◌+◌, true, false, cond, List, [], ◌∷◌, ◌++◌, length, refl, sym, ap, subst, ◌∙◌, inl, inr, arith}
+use Rattle.std.proofs.Common.{◌≡◌, ℕ, ◌+◌, ◌≤◌, true, false, cond, List, [], ◌∷◌, ◌++◌, length, refl, sym, ap, subst, ◌∙◌, inl, inr, arith}
 use Rattle.std.proofs.lemmas.Bool.{cases_order, lt-ltb, le-ltb, eq-eqb, ne_eqb}
 use Rattle.std.proofs.lemmas.List.{length-append, length_push, map-append, append_assoc, append-nil}
 use Rattle.segment_model.specs.Segments.{Observation, Position, values_of, position_values}
@@ -21,6 +21,24 @@ count-inserted commit x (p ∷ points) = elim (cases_order commit p.commit) [
         omega (arith, rest, length-append (position_values p) (values_of (inserted commit x points)), length-append (position_values p) (values_of points)))
   ]
 ]
+
+-- as many positions, or one more
+size-between : (commit : ℕ) (x : Observation) (points : List Position) → (length points ≤ length (inserted commit x points)) × (length (inserted commit x points) ≤ length points + 1)
+size-between commit x [] = (omega arith, omega arith)
+size-between commit x (p ∷ points) = elim (cases_order commit p.commit) [
+  | inl same ↦ rw (le-ltb commit p.commit (omega (arith, same)), eq-eqb p.commit commit (sym same)) (omega arith, omega arith)
+  | inr other ↦ elim other [
+    | inl below ↦ rw (lt-ltb commit p.commit below) (omega arith, omega arith)
+    | inr above ↦ rw (le-ltb commit p.commit (omega (arith, above)), ne_eqb p.commit commit (λ e. omega (arith, e, above))) (
+        let rest = size-between commit x points in (omega (arith, rest.0), omega (arith, rest.1)))
+  ]
+]
+
+pub size-grows : (commit : ℕ) (x : Observation) (points : List Position) → length points ≤ length (inserted commit x points)
+size-grows commit x points = (size-between commit x points).0
+
+pub size-inserted : (commit : ℕ) (x : Observation) (points : List Position) → length (inserted commit x points) ≤ length points + 1
+size-inserted commit x points = (size-between commit x points).1
 
 -- one position more, where the commit has none
 pub size-new : (commit : ℕ) (x : Observation) (points : List Position) → has_commit commit points ≡ false → length (inserted commit x points) ≡ length points + 1

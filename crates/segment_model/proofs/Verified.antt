@@ -40,12 +40,12 @@ marks-within m pruned = map (mark-within m) (take (m + 1) pruned)
 module _ (cost : ℕ → ℕ → ℤ) (n : ℕ) (b : ℤ) (len : ℕ) (least : List ℤ) (back pruned : List ℕ) (merges : Merges cost n) (low : pos 0 ≤ℤ b) (length_some : 0 < len) (h : IsVerified cost n b len least back pruned) where
   marks-size : (m : ℕ) → m ≤ n → length (marks-within m pruned) ≡ m + 1
   unfolding marks-within
-  marks-size m le = length-map (take (m + 1) pruned) (mark-within m) ∙ length-take (m + 1) pruned ∙ omega (arith, h.pruned_length)
+  marks-size m le = length-map (take (m + 1) pruned) (mark-within m) ∙ length-take (m + 1) pruned ∙ omega (arith, h.tables.pruned_length)
 
   mark-at : (m s : ℕ) → m ≤ n → s ≤ m → IsUnmarkedBehind m (slice_index pruned s) (slice_index (marks-within m pruned) s)
   unfolding marks-within
   mark-at m s le in' =
-      let size : length (take (m + 1) pruned) ≡ m + 1 = length-take (m + 1) pruned ∙ omega (arith, h.pruned_length) in
+      let size : length (take (m + 1) pruned) ≡ m + 1 = length-take (m + 1) pruned ∙ omega (arith, h.tables.pruned_length) in
       rw (get_or-map (mark-within m) (take (m + 1) pruned) s 0 0 (omega (arith, size)), get_or-take (m + 1) pruned s 0 (omega arith)) (mark-is m (slice_index pruned s))
 
   least-first : (m s : ℕ) → s ≤ m → int_at (take (m + 1) least) s ≡ int_at least s
@@ -88,10 +88,10 @@ module _ (cost : ℕ → ℕ → ℤ) (n : ℕ) (b : ℤ) (len : ℕ) (least : L
     x-is = rw (least-first m (slice_index back (m + 1)) s-in) (h.made (m + 1) (omega arith) le)
 
     more-least : take (m + 1 + 1) least ≡ take (m + 1) least ++ int_at least (m + 1) ∷ []
-    more-least = take_more least (m + 1) (pos 0) (omega (arith, h.least_length))
+    more-least = take_more least (m + 1) (pos 0) (omega (arith, h.tables.least_length))
 
     more-back : take (m + 1 + 1) back ≡ take (m + 1) back ++ slice_index back (m + 1) ∷ []
-    more-back = take_more back (m + 1) 0 (omega (arith, h.back_length))
+    more-back = take_more back (m + 1) 0 (omega (arith, h.tables.back_length))
 
     now-at : (v : ℕ) → v ≤ m + 1 → int_at (take (m + 1) least ++ int_at least (m + 1) ∷ []) v ≡ int_at least v
     now-at v in' = ap (λ (xs : List ℤ). int_at xs v) (sym more-least) ∙ get_or-take (m + 1 + 1) least v (pos 0) (omega arith)
@@ -160,11 +160,13 @@ module _ (cost : ℕ → ℕ → ℤ) (n : ℕ) (b : ℤ) (len : ℕ) (least : L
 
   verified-upto : (m : ℕ) → m ≤ n → IsTable cost m b len (take (m + 1) least) (take (m + 1) back) (marks-within m pruned)
   verified-upto zero le = record {
-    least_length = length-take 1 least ∙ omega (arith, h.least_length);
-    back_length = length-take 1 back ∙ omega (arith, h.back_length);
-    pruned_length = marks-size 0 le;
-    least_at_none = least-first 0 0 (omega arith) ∙ h.least_at_none;
-    back_at_none = get_or-take 1 back 0 0 (omega arith) ∙ h.back_at_none;
+    tables = record {
+      least_length = length-take 1 least ∙ omega (arith, h.tables.least_length);
+      back_length = length-take 1 back ∙ omega (arith, h.tables.back_length);
+      pruned_length = marks-size 0 le;
+      least_at_none = least-first 0 0 (omega arith) ∙ h.tables.least_at_none;
+      back_at_none = get_or-take 1 back 0 0 (omega arith) ∙ h.tables.back_at_none;
+    };
     row = λ t some in'. absurd (omega arith);
     pruned_at = λ s in'.
         let e : s ≡ 0 = omega arith in
@@ -179,13 +181,9 @@ module _ (cost : ℕ → ℕ → ℤ) (n : ℕ) (b : ℤ) (len : ℕ) (least : L
 pub verified-table : VerifiedIsTable
 verified-table cost n b len least back pruned merges low some h =
     let is = verified-upto cost n b len least back pruned merges low some h n (omega arith) in
-    let whole : take (n + 1) least ≡ least = take_all (n + 1) least (omega (arith, h.least_length)) in
+    let whole : take (n + 1) least ≡ least = take_all (n + 1) least (omega (arith, h.tables.least_length)) in
     record {
-      least_length = h.least_length;
-      back_length = h.back_length;
-      pruned_length = h.pruned_length;
-      least_at_none = h.least_at_none;
-      back_at_none = h.back_at_none;
+      tables = h.tables;
       row = λ t some le. rw (get_or-take (n + 1) least t (pos 0) (omega arith), get_or-take (n + 1) back t 0 (omega arith)) at (is.row t some le);
       pruned_at = λ s le.
           let at-most : slice_index pruned s ≤ n = elim (h.marked s le) [ inl none ↦ omega (arith, none) | inr some ↦ some.1 ] in
@@ -231,11 +229,7 @@ module _ (cost : ℕ → ℕ → ℤ) (n : ℕ) (b : ℤ) (len : ℕ) (least : L
 
 pub table-verified : TableIsVerified
 table-verified cost n b len least back pruned merges low h = record {
-  least_length = h.least_length;
-  back_length = h.back_length;
-  pruned_length = h.pruned_length;
-  least_at_none = h.least_at_none;
-  back_at_none = h.back_at_none;
+  tables = h.tables;
   before = λ t some le. (table-first cost n b len least back pruned h t some le).0.candidate;
   made = λ t some le. (table-first cost n b len least back pruned h t some le).1;
   at_most = λ s t is le open'. total-at-most cost n b len least back pruned h s t is le;

@@ -23,7 +23,7 @@ returns-then-not-is_first c =
     let b_fits : FitsSigned w128 c.args.tables.now.penalty = omega (arith, ints, c.args.tables.now.low, c.args.tables.now.high) in
     let fits : FitsSigned w128 (total_at c.args.tables.now 0) = search rules in
     let first = simp to_z-of_z at c.is_first.ensures.1 in
-    (λ e. absurd (not_both false refl e), λ h. absurd (not_both c.is_first.result c.if-not-is_first.true (first h.least_at_none)))
+    (λ e. absurd (not_both false refl e), λ h. absurd (not_both c.is_first.result c.if-not-is_first.true (first h.tables.least_at_none)))
 
 pub returns-then-not-rows_hold : goal.returns-then-not-rows_hold
 returns-then-not-rows_hold c =

@@ -12,9 +12,9 @@ pub returns-then-least-places : goal.returns-then-least-places
 returns-then-least-places c = (
   λ e. absurd (not_both false refl e),
   λ h. absurd (elim c.then-least-places.branch [
-    | then-least-places-via-then-least-places w ↦ w.if-least-places.true (omega (arith, h.least_length, c.len-places.ensures))
-    | then-least-places-via-else-least-places+then-back-places w ↦ w.if-back-places.true (omega (arith, h.back_length, c.len-places.ensures))
-    | then-least-places-via-else-least-places+else-back-places+then-pruned-places w ↦ w.if-pruned-places.true (omega (arith, h.pruned_length, c.len-places.ensures))
+    | then-least-places-via-then-least-places w ↦ w.if-least-places.true (omega (arith, h.tables.least_length, c.len-places.ensures))
+    | then-least-places-via-else-least-places+then-back-places w ↦ w.if-back-places.true (omega (arith, h.tables.back_length, c.len-places.ensures))
+    | then-least-places-via-else-least-places+else-back-places+then-pruned-places w ↦ w.if-pruned-places.true (omega (arith, h.tables.pruned_length, c.len-places.ensures))
   ]),
 )
 

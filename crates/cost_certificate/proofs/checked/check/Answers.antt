@@ -26,7 +26,7 @@ cuts_hold-requires-clause-below c = λ s lt.
     let k = (goal.at.cuts_hold-requires-clause-below c).After-are_tables in
     let table = (tables k).0 c.if-not-are_tables.false in
     let in' = rw c.as_slice-back.ensures at lt in
-    rw c.as_slice-back.ensures (c.walk_law.ensures.before (squares_between c.args.points.now) (length c.args.points.now) c.args.cert.now.penalty c.args.cert.now.length c.args.cert.now.least c.args.cert.now.back c.args.cert.now.pruned table s (omega (arith, in', table.back_length)))
+    rw c.as_slice-back.ensures (c.walk_law.ensures.before (squares_between c.args.points.now) (length c.args.points.now) c.args.cert.now.penalty c.args.cert.now.length c.args.cert.now.least c.args.cert.now.back c.args.cert.now.pruned table s (omega (arith, in', table.tables.back_length)))
 
 pub returns-then-not-cuts_hold : goal.returns-then-not-cuts_hold
 returns-then-not-cuts_hold c =

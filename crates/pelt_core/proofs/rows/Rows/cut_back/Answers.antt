@@ -12,7 +12,7 @@ pub returns-clause-pruned : goal.returns-clause-pruned
 returns-clause-pruned c cost n b le low high range are =
     let written = take_at c.unmark.new.pruned _ c.truncate-3.new.self.len (omega (arith, c.unmark.auto.pruned, c.deref_mut.ensures.len, c.truncate-3.new.self.ok.0)) in
     let old : c.deref_mut.result.now ≡ take (c.args.k + 1) c.args.self.now.pruned.items = c.deref_mut.ensures.value ∙ c.truncate-3.ensures.items in
-    let old_size : length (take (c.args.k + 1) c.args.self.now.pruned.items) ≡ c.args.k + 1 = length-take (c.args.k + 1) c.args.self.now.pruned.items ∙ omega (arith, are.table.pruned_length) in
+    let old_size : length (take (c.args.k + 1) c.args.self.now.pruned.items) ≡ c.args.k + 1 = length-take (c.args.k + 1) c.args.self.now.pruned.items ∙ omega (arith, are.table.tables.pruned_length) in
     let size : length c.unmark.new.pruned ≡ c.args.k + 1 = omega (arith, c.unmark.auto.pruned, ap length old, old_size) in
     let marks : (s : ℕ) → s ≤ c.args.k → IsUnmarkedBehind c.args.k (slice_index c.args.self.now.pruned.items s) (slice_index c.unmark.new.pruned s) =
     λ s in'. unmarked-at (c.args.k) c.deref_mut.result.now c.args.self.now.pruned.items c.unmark.new.pruned old s in' (c.unmark.ensures s (omega (arith, ap length old, old_size))) in
@@ -35,7 +35,7 @@ returns-clause-pruned c cost n b le low high range are =
     let here : slice_index c.refill.new.candidates.items i < c.args.k + 1 = omega (arith, below i lt, are.length_from.0) in
     let least_at : int_at (take (c.args.k + 1) c.args.self.now.least.items) (slice_index c.refill.new.candidates.items i) ≡ int_at c.args.self.now.least.items (slice_index c.refill.new.candidates.items i) =
     get_or-take (c.args.k + 1) c.args.self.now.least.items (slice_index c.refill.new.candidates.items i) (pos 0) here in
-    let least_low = (all (slice_index c.refill.new.candidates.items i) (omega (arith, here, le, are.table.least_length))).0 in
+    let least_low = (all (slice_index c.refill.new.candidates.items i) (omega (arith, here, le, are.table.tables.least_length))).0 in
     let costs = (range (slice_index c.refill.new.candidates.items i) c.args.k (omega (arith, here)) le).0 in
     (omega (arith, here), omega (arith, ints, least_at, least_low, costs))) in
     record {

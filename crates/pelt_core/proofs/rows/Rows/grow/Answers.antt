@@ -20,7 +20,7 @@ mark_dear-any-requires g c =
       begins = rw (row.len, row.candidates) (are c.requires);
       index = rw row.candidates c.next_row-found.ensures.made.inside;
       least = rw row.least (next-size c.requires range c.table_law.ensures.in_range c.next_row-found.result c.next_row-found.ensures.found c.next_row-found.ensures.made);
-      pruned = rw row.unmarked (omega (arith, length-append c.args.self.now.pruned.items (0 ∷ []), c.requires.pruned.table.pruned_length, c.requires.some));
+      pruned = rw row.unmarked (omega (arith, length-append c.args.self.now.pruned.items (0 ∷ []), c.requires.pruned.table.tables.pruned_length, c.requires.some));
       length = rw row.len c.requires.pruned.length_from;
     }
 

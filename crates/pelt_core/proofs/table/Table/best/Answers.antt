@@ -15,7 +15,7 @@ cuts_back-requires-clause-below g c = λ s lt.
     let in' = rw c.deref.ensures.value at lt in
     let h = c.self.invariant.pruned.table in
     rw c.deref.ensures.value (c.walk_law.ensures.before (cost_between g.C.Cost.cost_of (g.C.Cost.positions c.self.inside.cost)) (length (g.C.Cost.positions c.self.inside.cost)) c.self.inside.penalty c.self.inside.rows.length
-    c.self.inside.rows.least.items c.self.inside.rows.back.items c.self.inside.rows.pruned.items h s (omega (arith, in', h.back_length)))
+    c.self.inside.rows.least.items c.self.inside.rows.back.items c.self.inside.rows.pruned.items h s (omega (arith, in', h.tables.back_length)))
 
 pub returns : goal.returns
 returns g c =
@@ -37,7 +37,7 @@ returns g c =
             w.total-is ∙ sym (total-of-none g.C.Cost.cost_of g.met.C.Cost.merging g.met.C.Cost.in_range c.best_list_law.ensures.of_none ps b c.self.inside.rows.length n c.reverse.new.self.items (sym c.len-n.ensures ∙ w.if-n-eq0.true) best)
         | else-n-eq0 w ↦
             let some : 0 < length (g.C.Cost.positions c.self.inside.cost) = omega (arith, w.if-n-eq0.false, c.len-n.ensures) in
-            let read : w.index.result.now ≡ int_at least n = read-at c.self.inside.rows.least.items n c.len-n.result w.index.result.now c.len-n.ensures (omega (arith, h.least_length)) w.index.ensures in
+            let read : w.index.result.now ≡ int_at least n = read-at c.self.inside.rows.least.items n c.len-n.result w.index.result.now c.len-n.ensures (omega (arith, h.tables.least_length)) w.index.ensures in
             let range = c.table_law.ensures.in_range cost n (10 ^ 37) b c.self.inside.rows.length c.self.inside.rows.least.items c.self.inside.rows.back.items c.self.inside.rows.pruned.items c.self.invariant.low
             (c.value_costs_law.ensures.in_range g.C.Cost.cost_of g.met.C.Cost.in_range (g.C.Cost.positions c.self.inside.cost) c.self.invariant.within) h n (omega arith) in
             let fits' : FitsSigned w128 w.index.result.now = omega (arith, ints, read, range.0, range.1, c.self.invariant.high) in
