@@ -1,5 +1,5 @@
 -- Where the grammar goes on, the machine does.
-use Rattle.std.proofs.Common.{◌≡◌, ℕ, ◌<◌, ◌≤◌, ◌==◌, Bool, true, false, List, [], ◌∷◌, ◌++◌, ◌⊎◌, inl, inr, IsTrue, ◌||◌, Option, Some, None, option_map, refl, arith, sym, subst, ◌∙◌, ap, append_assoc, append-nil}
+use Rattle.std.proofs.Common.{◌≡◌, ℕ, ◌<◌, ◌≤◌, ◌==◌, Bool, true, false, cond, List, [], ◌∷◌, ◌++◌, ◌⊎◌, inl, inr, IsTrue, ◌||◌, Option, Some, None, option_map, refl, arith, sym, subst, ◌∙◌, ap, append_assoc, append-nil}
 use Rattle.std.proofs.lemmas.Bool.Decides.{nat_tests}
 use Rattle.json_text.specs.declared.state.Digits.{Digits}
 use Rattle.json_text.specs.declared.state.Digits.TheVariants.{AfterMinus, AfterZero, InWhole, AfterPoint, InFraction, AfterMark, AfterSign, InExponent}
@@ -24,6 +24,12 @@ then_and_items (item first items) tree more = ap (item first) (then_and_items it
 -- four parts before a rest, grouped to the right
 pub regroup : (a b c d e : List ℕ) → ((a ++ (b ++ c)) ++ d) ++ e ≡ a ++ (b ++ (c ++ (d ++ e)))
 regroup a b c d e = simp append_assoc
+
+-- where a blank byte leaves the state
+skipped : {w b : ℕ} {left rest : List ℕ} (whole : Tree) (same other : Option State) (after : ℕ → Option State) → b ∷ rest ≡ w ∷ left → after w ≡ cond (is_blank w) same other
+    → IsTrue (is_blank w) → Leads same left whole → Leads (after b) rest whole
+skipped {w} {left = left} whole same other after e is blank leads =
+    along (λ c more. Leads (after c) more whole) e (rw is (when (λ (o : Option State). Leads o left whole) (is_blank w) same other blank leads))
 
 -- white space begins no value
 pub blank_begins_none : (b : ℕ) (frames : List Frame) → IsTrue (is_blank b) → begin b frames ≡ None
@@ -119,8 +125,7 @@ spaced_forth [] inside more tree b rest frames whole e blank v k =
     let begins = value_forth tree inside more b rest frames whole e v k in
     unless (λ (o : Option State). Leads o rest whole) (is_blank b) _ _ (begins_no_blank b frames rest whole begins) begins
 spaced_forth (w ∷ before) inside more tree b rest frames whole e blank v k =
-    along (λ c left. Leads (step c value frames) left whole) e
-    (when (λ (o : Option State). Leads o (before ++ (inside ++ more)) whole) (is_blank w) _ _ blank.0 (before, inside, more, tree, refl, blank.1, v, k))
+    skipped whole _ _ (λ c. step c value frames) e refl blank.0 (before, inside, more, tree, refl, blank.1, v, k)
 
 -- a first item that may have white space before it, and the items behind it
 pub first_item_forth : (before inside after further more : List ℕ) (tree : Tree) (others : Items) (b : ℕ) (rest : List ℕ) (frames : List Frame) (whole : Tree)
@@ -131,16 +136,13 @@ first_item_forth [] inside after further more tree others b rest frames whole e 
     unless (λ (o : Option State). Leads o rest whole) (is_blank b) _ _ (begins_no_blank b (in_list no_items ∷ frames) rest whole begins)
     (unless (λ (o : Option State). Leads o rest whole) (b == 93) _ _ (begins_no_close b (in_list no_items ∷ frames) rest whole begins) begins)
 first_item_forth (w ∷ before) inside after further more tree others b rest frames whole e blank v blank' all k =
-    along (λ c left. Leads (step c first_item frames) left whole) e
-    (when (λ (o : Option State). Leads o (before ++ (inside ++ (after ++ (further ++ 93 ∷ more)))) whole) (is_blank w) _ _ blank.0
-    ((before ++ (inside ++ after)) ++ further, more, item tree others, sym (regroup before inside after further (93 ∷ more)), (before ++ (inside ++ after), further, refl, (before, inside, after, refl, blank.1, v, blank'), all), k))
+    skipped whole _ _ (λ c. step c first_item frames) e refl blank.0 ((before ++ (inside ++ after)) ++ further, more, item tree others, sym (regroup before inside after further (93 ∷ more)), (before ++ (inside ++ after), further, refl, (before, inside, after, refl, blank.1, v, blank'), all), k)
 
 pub items_forth : (items : Items) (inside more : List ℕ) (b : ℕ) (rest : List ℕ) (frames : List Frame) (whole : Tree) → b ∷ rest ≡ inside ++ 93 ∷ more → IsItems inside items
     → Closes frames (list items) more whole → Leads (step b first_item frames) rest whole
 items_forth no_items [] more b rest frames whole e all k = along (λ c left. Leads (step c first_item frames) left whole) e k
 items_forth no_items (w ∷ inside) more b rest frames whole e all k =
-    along (λ c left. Leads (step c first_item frames) left whole) e
-    (when (λ (o : Option State). Leads o (inside ++ 93 ∷ more) whole) (is_blank w) _ _ all.0 (inside, more, no_items, refl, all.1, k))
+    skipped whole _ _ (λ c. step c first_item frames) e refl all.0 (inside, more, no_items, refl, all.1, k)
 items_forth (item tree others) inside more b rest frames whole e (one, further, is, (before, within, after, is', blank, v, blank'), all) k =
     first_item_forth before within after further more tree others b rest frames whole
     (e ∙ ap (λ bytes. bytes ++ 93 ∷ more) (is ∙ ap (λ bytes. bytes ++ further) is') ∙ regroup before within after further (93 ∷ more)) blank v blank' all k
@@ -150,8 +152,7 @@ pub in_list_forth : (after inside more : List ℕ) (others items : Items) (tree 
     → b ∷ rest ≡ after ++ (inside ++ 93 ∷ more) → IsBlank after → MoreItems inside others → Closes frames (list (and_items (then_item items tree) others)) more whole
     → Leads (after_value b tree (in_list items ∷ frames)) rest whole
 in_list_forth (w ∷ after) inside more others items tree b rest frames whole e blank all k =
-    along (λ c left. Leads (after_value c tree (in_list items ∷ frames)) left whole) e
-    (when (λ (o : Option State). Leads o (after ++ (inside ++ 93 ∷ more)) whole) (is_blank w) _ _ blank.0 (after, inside, more, others, refl, blank.1, all, k))
+    skipped whole _ _ (λ c. after_value c tree (in_list items ∷ frames)) e refl blank.0 (after, inside, more, others, refl, blank.1, all, k)
 in_list_forth [] inside more no_items items tree b rest frames whole e blank all k =
     along (λ c left. Leads (after_value c tree (in_list items ∷ frames)) left whole) (e ∙ ap (λ bytes. bytes ++ 93 ∷ more) all)
     (subst (λ all. Closes frames (list all) more whole) (and_no_items (then_item items tree)) k)
@@ -246,8 +247,7 @@ pub members_forth : (members : Members) (inside more : List ℕ) (b : ℕ) (rest
     → Closes frames (object members) more whole → Leads (step b first_key frames) rest whole
 members_forth no_members [] more b rest frames whole e all k = along (λ c left. Leads (step c first_key frames) left whole) e k
 members_forth no_members (w ∷ inside) more b rest frames whole e all k =
-    along (λ c left. Leads (step c first_key frames) left whole) e
-    (when (λ (o : Option State). Leads o (inside ++ 125 ∷ more) whole) (is_blank w) _ _ all.0 (inside, more, no_members, refl, all.1, k))
+    skipped whole _ _ (λ c. step c first_key frames) e refl all.0 (inside, more, no_members, refl, all.1, k)
 members_forth (member key tree further) inside more b rest frames whole e (one, others, is, (name, val, is1, (before, quoted, after, is2, blank, (within, is3, spells), blank'), v), all) k =
     first_key_forth before within after val others more key tree further b rest frames whole
     (e ∙ ap (λ bytes. bytes ++ 125 ∷ more) is ∙ append_assoc one others (125 ∷ more) ∙ member_parts one name before quoted within after val (others ++ 125 ∷ more) is1 is2 is3)
@@ -258,8 +258,7 @@ pub colon_forth : (after inside others more key : List ℕ) (tree : Tree) (furth
     → b ∷ rest ≡ after ++ 58 ∷ (inside ++ (others ++ 125 ∷ more)) → IsBlank after → Spaced (λ bytes. IsValue bytes tree) inside → MoreMembers others further
     → Closes frames (object (and_members (then_member members (key, tree)) further)) more whole → Leads (step b (colon members key) frames) rest whole
 colon_forth (w ∷ after) inside others more key tree further members b rest frames whole e blank v all k =
-    along (λ c left. Leads (step c (colon members key) frames) left whole) e
-    (when (λ (o : Option State). Leads o (after ++ 58 ∷ (inside ++ (others ++ 125 ∷ more))) whole) (is_blank w) _ _ blank.0 (after, inside, others, more, tree, further, refl, blank.1, v, all, k))
+    skipped whole _ _ (λ c. step c (colon members key) frames) e refl blank.0 (after, inside, others, more, tree, further, refl, blank.1, v, all, k)
 colon_forth [] inside others more key tree further members b rest frames whole e blank (before, within, after, is, blank', v, blank'') all k =
     along (λ c left. Leads (step c (colon members key) frames) left whole) e (
       before,
@@ -277,8 +276,7 @@ pub in_member_forth : (after inside more key : List ℕ) (others members : Membe
     → b ∷ rest ≡ after ++ (inside ++ 125 ∷ more) → IsBlank after → MoreMembers inside others → Closes frames (object (and_members (then_member members (key, tree)) others)) more whole
     → Leads (after_value b tree (in_member members key ∷ frames)) rest whole
 in_member_forth (w ∷ after) inside more key others members tree b rest frames whole e blank all k =
-    along (λ c left. Leads (after_value c tree (in_member members key ∷ frames)) left whole) e
-    (when (λ (o : Option State). Leads o (after ++ (inside ++ 125 ∷ more)) whole) (is_blank w) _ _ blank.0 (after, inside, more, others, refl, blank.1, all, k))
+    skipped whole _ _ (λ c. after_value c tree (in_member members key ∷ frames)) e refl blank.0 (after, inside, more, others, refl, blank.1, all, k)
 in_member_forth [] inside more key no_members members tree b rest frames whole e blank all k =
     along (λ c left. Leads (after_value c tree (in_member members key ∷ frames)) left whole) (e ∙ ap (λ bytes. bytes ++ 125 ∷ more) all)
     (subst (λ all. Closes frames (object all) more whole) (and_no_members (then_member members (key, tree))) k)
