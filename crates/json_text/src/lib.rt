@@ -6,6 +6,7 @@
 //! its numbers, texts and keys share.
 #![tactic(auto)]
 
+mod class;
 mod lexeme;
 mod machine;
 pub mod reading;

@@ -8,10 +8,11 @@ ghost use Rattle.json_text.specs.Places.{Reads};
 ghost use Rattle.json_text.specs.Tree.{Tree};
 ghost use Rattle.json_text.specs.View.{tree_of};
 
+use crate::class::Blank;
 use crate::machine::{finish, step};
 use crate::shared::Source;
 use crate::state::{Awaits, Open, Stop};
-use crate::token::blank_end;
+use crate::token::run_end;
 use crate::tree::Json;
 use std::alloc::Global;
 
@@ -82,13 +83,13 @@ fn read_source(alloc: Global, text: &Source) -> Result<Json, JsonFault>
     let bytes = text.as_bytes();
     let mut open: Vec<Open> = Vec::new(alloc);
     let mut awaits = Awaits::Value;
-    let mut place = blank_end(bytes, 0);
+    let mut place = run_end::<Blank>(bytes, 0);
     while place < bytes.len() {
         match step(alloc, &mut open, awaits, text, &mut place) {
             Ok(next) => awaits = next,
             Err(stop) => return Err(stop.at(place)),
         }
-        place = blank_end(bytes, place);
+        place = run_end::<Blank>(bytes, place);
     }
     match finish(&open, awaits) {
         Some(value) => Ok(value),

@@ -2,37 +2,23 @@
 ghost use Rattle.std.specs.Prelude.{◌≡◌, ℕ, ◌+◌, ◌<◌, ◌≤◌, [], length, slice_index, false, IsTrue, IfOk, IfErr};
 ghost use Rattle.std.specs.Char.{encode_utf8};
 ghost use Rattle.std.specs.Str.{IsUtf8, IsCharBoundary};
-ghost use Rattle.json_text.specs.Classes.{is_blank, is_plain};
 ghost use Rattle.json_text.specs.Reached.{ReadsWord, StopsWord, ReadsDigits, StopsDigits, ReadsContent, ReadsText, StopsText};
 
-use crate::lexeme::{digits_after, is_blank, is_plain, moves};
+use crate::class::{Class, Plain};
+use crate::lexeme::{digits_after, moves};
 use crate::shared::{SharedText, Source};
 use crate::state::{Digits, Move, Stop, Within};
 use std::alloc::Global;
 
-/// The place of the first byte from `start` on that is no white space.
-pub(crate) fn blank_end(bytes: &[u8], start: usize) -> usize
+/// The place of the first byte from `start` on that isn't of a class.
+pub(crate) fn run_end<C: Class>(bytes: &[u8], start: usize) -> usize
     requires { start ≤ length bytes.now }
     ensures within { (start ≤ result) × (result ≤ length bytes.now) }
-    ensures blank { (k : ℕ) → start ≤ k → k < result → IsTrue (is_blank (slice_index bytes.now k)) }
-    ensures stops { result < length bytes.now → is_blank (slice_index bytes.now result) ≡ false }
+    ensures run { (k : ℕ) → start ≤ k → k < result → IsTrue (C.test (slice_index bytes.now k)) }
+    ensures stops { result < length bytes.now → C.test (slice_index bytes.now result) ≡ false }
 {
     let mut end = start;
-    while end < bytes.len() && is_blank(bytes[end]) {
-        end += 1;
-    }
-    end
-}
-
-/// The place of the first byte from `start` on that does not stand for itself in a text.
-fn plain_end(bytes: &[u8], start: usize) -> usize
-    requires { start ≤ length bytes.now }
-    ensures within { (start ≤ result) × (result ≤ length bytes.now) }
-    ensures plain { (k : ℕ) → start ≤ k → k < result → IsTrue (is_plain (slice_index bytes.now k)) }
-    ensures stops { result < length bytes.now → is_plain (slice_index bytes.now result) ≡ false }
-{
-    let mut end = start;
-    while end < bytes.len() && is_plain(bytes[end]) {
+    while end < bytes.len() && C::has(bytes[end]) {
         end += 1;
     }
     end
@@ -119,7 +105,7 @@ pub(crate) fn read_content(
 {
     let bytes = text.as_bytes();
     let start = *place;
-    let end = plain_end(bytes, start);
+    let end = run_end::<Plain>(bytes, start);
     if end < bytes.len() && bytes[end] == b'"' {
         *place = end + 1;
         return Ok(text.part(start, end)?);
@@ -137,7 +123,7 @@ fn read_escaped(alloc: Global, text: &Source, place: &mut usize) -> Result<Share
     let bytes = text.as_bytes();
     let mut content = String::new(alloc);
     loop {
-        let end = plain_end(bytes, *place);
+        let end = run_end::<Plain>(bytes, *place);
         content.push_str(&text.as_str()[*place..end])?;
         *place = end;
         if end == bytes.len() {

@@ -4,13 +4,11 @@ use Rattle.json_text.proofs.token.read_word.Goals as goal
 use Rattle.json_text.proofs.token.read_word.Goals.{else-place-bytes-via-then-place-bytes+else-bytes-place, else-place-bytes-via-else-place-bytes}
 
 pub loop-letter-preserved : goal.loop-letter-preserved
-loop-letter-preserved c =
-    let here = c.loop-letter in
-    record {
-      low = omega arith;
-      high = omega arith;
-      reads = word_next c.args.bytes.now c.args.place.now here.place c.args.left.now here.letter-index here.invariant.reads c.loop-letter-test.true c.if-place-bytes.true c.if-bytes-place.true;
-    }
+loop-letter-preserved c = record {
+  low = omega arith;
+  high = omega arith;
+  reads = word_next c.args.bytes.now c.args.place.now c.loop-letter.place c.args.left.now c.loop-letter.letter-index c.loop-letter.invariant.reads c.loop-letter-test.true c.if-place-bytes.true c.if-bytes-place.true;
+}
 
 pub returns-else-place-bytes-clause-stops : goal.returns-else-place-bytes-clause-stops
 returns-else-place-bytes-clause-stops c =
