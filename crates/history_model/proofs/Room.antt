@@ -21,7 +21,7 @@ use Rattle.history_model.specs.Runs.{Series, acceptances, retractions, retracted
 use Rattle.sample_model.specs.Samples.{Measurement}
 use Rattle.history_model.proofs.Accepts.{positions-accept}
 use Rattle.history_model.proofs.Counts.{all-more}
-use Rattle.segment_model.proofs.Inserted.{values-brought, size-new}
+use Rattle.segment_model.proofs.Inserted.{values-brought, size-grows, size-new}
 use Rattle.history_model.proofs.Lists.{same-bytes}
 
 both : (a b : Bool) → (a && b) ≡ true → (a ≡ true) × (b ≡ true)
@@ -133,17 +133,6 @@ room-for-samples h run s keeps live =
     omega (arith, after, more, count, is, kept)
 
 -- ---- a new position
-
-size-grows : (commit : ℕ) (x : Observation) (points : List Position) → length points ≤ length (inserted commit x points)
-size-grows commit x [] = omega arith
-size-grows commit x (p ∷ points) = elim (cases_order commit p.commit) [
-  | inl same ↦ rw (le-ltb commit p.commit (omega (arith, same)), eq-eqb p.commit commit (sym same)) (omega arith)
-  | inr other ↦ elim other [
-    | inl below ↦ rw (lt-ltb commit p.commit below) (omega arith)
-    | inr above ↦ rw (le-ltb commit p.commit (omega (arith, above)), ne_eqb p.commit commit (λ e. omega (arith, e, above))) (
-        let rest = size-grows commit x points in omega (arith, rest))
-  ]
-]
 
 all-grow : (xs : List Brought) (points : List Position) → length points ≤ length (with_all xs points)
 all-grow [] points = omega arith

@@ -37,33 +37,23 @@ line k c t b x e = omega (arith, ints, e, scale-sub k x b)
 
 module _ (last next : Cert) (c1 c2 : ℤ) (d : ℕ) (more : length last.cuts ≡ length next.cuts + d) (some : 0 < d)
     (last_is : c1 +ℤ pos (length last.cuts) *ℤ last.penalty ≡ last.total) (next_is : c2 +ℤ pos (length next.cuts) *ℤ next.penalty ≡ next.total) where
+  -- the totals at a penalty, as lines, and the cuts of the longer list in two parts
+  lines-at : (x : ℤ) → (last.total +ℤ pos (length last.cuts) *ℤ (x -ℤ last.penalty) ≡ c1 +ℤ pos (length last.cuts) *ℤ x)
+      × (next.total +ℤ pos (length next.cuts) *ℤ (x -ℤ next.penalty) ≡ c2 +ℤ pos (length next.cuts) *ℤ x)
+      × (pos (length last.cuts) *ℤ x ≡ pos (length next.cuts) *ℤ x +ℤ pos d *ℤ x)
+  lines-at x = (
+    line (length last.cuts) c1 last.total last.penalty x last_is,
+    line (length next.cuts) c2 next.total next.penalty x next_is,
+    scale-parts (length last.cuts) (length next.cuts) d x more,
+  )
+
   pub crosses : (q : ℤ) → q ≡ int_div_euclid (c2 -ℤ c1) (pos d) → Crosses last next q
   crosses q is =
       let floor = floor-of (c2 -ℤ c1) d (int_div_euclid (c2 -ℤ c1) (pos d)) (floor-parts (c2 -ℤ c1) d some) in
       let floor' = rw (← is) at floor in
       record {
-        below = λ x lt. omega (
-          arith,
-          ints,
-          some,
-          floor'.0,
-          scale-mono d (x +ℤ pos 1) q (omega (arith, ints, lt)),
-          scale-next d x,
-          line (length last.cuts) c1 last.total last.penalty x last_is,
-          line (length next.cuts) c2 next.total next.penalty x next_is,
-          scale-parts (length last.cuts) (length next.cuts) d x more,
-        );
-        above = λ x gt. omega (
-          arith,
-          ints,
-          some,
-          floor'.1,
-          scale-mono d (q +ℤ pos 1) x (omega (arith, ints, gt)),
-          scale-next d q,
-          line (length last.cuts) c1 last.total last.penalty x last_is,
-          line (length next.cuts) c2 next.total next.penalty x next_is,
-          scale-parts (length last.cuts) (length next.cuts) d x more,
-        );
+        below = λ x lt. omega (arith, ints, some, floor'.0, scale-mono d (x +ℤ pos 1) q (omega (arith, ints, lt)), scale-next d x, lines-at x);
+        above = λ x gt. omega (arith, ints, some, floor'.1, scale-mono d (q +ℤ pos 1) x (omega (arith, ints, gt)), scale-next d q, lines-at x);
       }
 
 module _ (last next : Cert) (q : ℤ) (h : Crosses last next q) where

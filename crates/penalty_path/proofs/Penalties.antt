@@ -6,6 +6,7 @@ use Rattle.std.proofs.lemmas.List.{reverse-reverse, append_cancel_right}
 use Rattle.std.proofs.Math.Nat.{mul-le-mul_right}
 use Rattle.segment_model.specs.Cuts.{total_between, total, IsNotAfter, backward, IsBest}
 use Rattle.segment_model.specs.Laws.{BestExists, BestIsUnique}
+use Rattle.segment_model.proofs.BestCuts.{not_after-both}
 use Rattle.penalty_path.specs.Laws.{CutsFall, CountIsList, BetweenIsSame}
 
 -- the costs of a cut list's segments, without penalties
@@ -32,16 +33,6 @@ raised cost b e n cuts = omega (arith, ints, spread cost (b +ℤ pos e) n cuts, 
 pub scale-sub : (k : ℕ) (x b : ℤ) → pos k *ℤ (x -ℤ b) ≡ pos k *ℤ x -ℤ pos k *ℤ b
 scale-sub zero x b = omega (arith, ints)
 scale-sub (suc k) x b = omega (arith, ints, scale-sub k x b)
-
-not_after-both : (xs ys : List ℕ) → IsNotAfter xs ys → IsNotAfter ys xs → xs ≡ ys
-not_after-both [] [] h k = refl
-not_after-both [] (y ∷ ys) h k = absurd k
-not_after-both (x ∷ xs) [] h k = absurd h
-not_after-both (x ∷ xs) (y ∷ ys) h k =
-    elim h [
-      | inl lt ↦ elim k [ inl gt ↦ absurd (omega arith) | inr eq ↦ absurd (omega arith) ]
-      | inr eq ↦ elim k [ inl gt ↦ absurd (omega arith) | inr eq' ↦ let rest : xs ≡ ys = not_after-both xs ys eq.1 eq'.1 in cc ]
-    ]
 
 module _ (cost : ℕ → ℕ → ℤ) (len n : ℕ) where
   fall-by : BestIsUnique → (b c : ℤ) (e : ℕ) (cuts others : List ℕ) → c ≡ b +ℤ pos e → IsBest cost b len n cuts → IsBest cost c len n others → length others ≤ length cuts

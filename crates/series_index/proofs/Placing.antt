@@ -11,11 +11,11 @@ use Rattle.segment_model.specs.Limits.{IsSmall, HasStepsInOrder, WithinLimits, c
 use Rattle.segment_model.specs.Edits.{position_of, with_value, inserted, has_values, by_another, without_step, removed}
 use Rattle.point_list.specs.Places.{CameBy, MayCome}
 use Rattle.point_list.proofs.Places.{RisesFrom, lower, to-rises}
-use Rattle.point_list.proofs.Kept.{size-inserted, few-inserted, within-inserted, within-removed, AreSmall, all-left, all-right, small-out}
+use Rattle.point_list.proofs.Kept.{few-inserted, within-inserted, within-removed, AreSmall, all-left, all-right, small-out}
 use Rattle.series_index.specs.declared.coming.Coming.{Coming}
 use Rattle.series_index.specs.Log.{observed, all_placed, is_of_step, MayBePlaced, HaveRoom}
 use Rattle.series_index.proofs.Undo.{removed-inserted}
-use Rattle.segment_model.proofs.Inserted.{count-inserted}
+use Rattle.segment_model.proofs.Inserted.{count-inserted, size-inserted}
 
 -- ---- one value, by where its commit stands to that of the first position
 pub put-below : (commit : ℕ) (x : Observation) (p : Position) (points : List Position) → commit < p.commit → inserted commit x (p ∷ points) ≡ position_of commit x ∷ p ∷ points

@@ -1,7 +1,7 @@
 use Rattle.std.proofs.Common.{◌≡◌, ◌+◌, ◌-◌, ◌∙◌, List, ◌∷◌, length, drop, sym, ap, subst, pos, slice_index_or, arith}
 use Rattle.std.proofs.lemmas.List.{drop_more, length-drop}
 use Rattle.segment_model.specs.Limits.{WithinLimits}
-use Rattle.point_list.proofs.Kept.{size-inserted}
+use Rattle.segment_model.proofs.Inserted.{size-inserted}
 use Rattle.series_index.specs.declared.coming.Coming.{Coming}
 use Rattle.series_index.specs.Log.{observed, all_placed, MayBePlaced}
 use Rattle.series_index.proofs.Placing.{room-first}
