@@ -1,9 +1,12 @@
 -- What each answer of the reader says of the bytes.
-use Rattle.std.specs.Prelude.{◌≡◌, ℕ, List}
+use Rattle.std.specs.Prelude.{◌≡◌, ℕ, ◌≤◌, List, length, Result, MatchResult}
 use Rattle.std.specs.Str.{IsUtf8, IsValidUpTo}
 use Rattle.line_text.specs.Lines.{lines_of}
+use Rattle.metric_table.specs.Limits.{most}
 use Rattle.metric_table.specs.declared.limits.Limit.TheVariants.{RunSamples}
-use Rattle.go_bench_text.specs.Readings.{IsFirstOver, HasTooMany}
+use Rattle.sample_model.specs.Samples.{Measurement}
+use Rattle.go_bench_text.specs.Readings.{IsFirstOver, IsRead, HasTooMany}
+use Rattle.go_bench_text.specs.declared.read.GoRun.{GoRun}
 use Rattle.go_bench_text.specs.declared.read.GoFault.{GoFault}
 use Rattle.go_bench_text.specs.declared.read.GoFault.TheVariants.{NotText, OutOfRange, Full, NoMemory}
 
@@ -13,3 +16,9 @@ IsFault bytes (NotText offset) = IsValidUpTo bytes offset
 IsFault bytes (OutOfRange number) = IsUtf8 bytes × IsFirstOver (lines_of bytes) number
 IsFault bytes (Full limit) = (limit ≡ RunSamples) × HasTooMany bytes
 IsFault bytes NoMemory = Unit {0}
+
+-- where the bytes have samples within the limit, the answer gives them, unless memory runs out
+abbrev pub GivesEach : List ℕ → Result GoRun GoFault → Type 0
+GivesEach bytes result =
+    (samples : List Measurement) (ignored : ℕ) → IsRead bytes samples ignored → length samples ≤ most RunSamples
+    → MatchResult result (λ run. (run.samples ≡ samples) × (run.ignored ≡ ignored)) (λ fault. fault ≡ NoMemory)

@@ -4,7 +4,7 @@ ghost use Rattle.std.specs.Str.{IsUtf8};
 ghost use Rattle.sample_model.specs.Samples.{Measurement};
 ghost use Rattle.metric_table.specs.Limits.{most};
 ghost use Rattle.metric_table.specs.declared.limits.Limit.TheVariants.{RunSamples};
-ghost use Rattle.go_bench_text.specs.Answers.{IsFault};
+ghost use Rattle.go_bench_text.specs.Answers.{IsFault, GivesEach};
 ghost use Rattle.go_bench_text.specs.Gathering.{AddsLine, Keeps};
 ghost use Rattle.go_bench_text.specs.Lines.{value_of};
 ghost use Rattle.go_bench_text.specs.Readings.{sets_pkg, pkg_of, IsOver, IsRead, OneReading};
@@ -167,10 +167,7 @@ pub fn read_go(alloc: Global, bytes: &[u8]) -> Result<GoRun, GoFault>
     // What is given are the text's samples, and where a text has samples within the limit they are
     // given, unless memory runs out.
     ensures ok { IfOk result (λ run. IsRead bytes.now run.samples run.ignored) }
-    ensures only { (samples : List Measurement) (ignored : ℕ) → IsRead bytes.now samples ignored
-        → length samples ≤ most RunSamples
-        → MatchResult result (λ run. (run.samples ≡ samples) × (run.ignored ≡ ignored))
-        (λ fault. fault ≡ GoFault.NoMemory) }
+    ensures only { GivesEach bytes.now result }
 
     // Each fault is at its place.
     ensures fault { IfErr result (λ fault. IsFault bytes.now fault) }
@@ -183,10 +180,7 @@ pub fn read_go(alloc: Global, bytes: &[u8]) -> Result<GoRun, GoFault>
 /// texts that come one after another, and measure the same tests by the same units.
 pub fn read_go_with(alloc: Global, names: &mut Names, bytes: &[u8]) -> Result<GoRun, GoFault>
     ensures ok { IfOk result (λ run. IsRead bytes.now run.samples run.ignored) }
-    ensures only { (samples : List Measurement) (ignored : ℕ) → IsRead bytes.now samples ignored
-        → length samples ≤ most RunSamples
-        → MatchResult result (λ run. (run.samples ≡ samples) × (run.ignored ≡ ignored))
-        (λ fault. fault ≡ GoFault.NoMemory) }
+    ensures only { GivesEach bytes.now result }
     ensures fault { IfErr result (λ fault. IsFault bytes.now fault) }
 {
     one_reading_law();
