@@ -83,9 +83,9 @@ entry_are names (Tune metric penalty len) is =
 entry_are names (Publish p) is = (
   lacks_over 10 (codes "publish") refl,
   (
-    name_lacks 10 (omega arith) names p.test is.test,
+    name_lacks 10 (omega arith) names p.test is.series.test,
     (
-      name_lacks 10 (omega arith) names p.metric is.metric,
+      name_lacks 10 (omega arith) names p.metric is.series.metric,
       (
         number_lacks p.version is.version,
         (
@@ -99,8 +99,8 @@ entry_are names (Publish p) is = (
 entry_are names (Regression (Raise r)) is = (
   lacks_over 10 (codes "raise") refl,
   (
-    name_lacks 10 (omega arith) names r.test is.test,
-    (name_lacks 10 (omega arith) names r.metric is.metric, (number_lacks r.before is.before, (number_lacks r.after is.after, tt))),
+    name_lacks 10 (omega arith) names r.test is.series.test,
+    (name_lacks 10 (omega arith) names r.metric is.series.metric, (number_lacks r.before is.before, (number_lacks r.after is.after, tt))),
   ),
 )
 entry_are names (Regression (Move number state)) is = (lacks_over 10 (codes "move") refl, (number_lacks number is, (state_lacks state, tt)))
