@@ -7,6 +7,7 @@ use Rattle.history_lock.specs.Marks.{AreByOthers, entries}
 use Rattle.history_model.specs.declared.entries.Author.{Author}
 use Rattle.history_model.specs.declared.entries.Entry.{Entry}
 use Rattle.history_model.specs.declared.entries.Placed.{Placed}
+use Rattle.history_model.specs.Allowed.{Legal}
 use Rattle.history_model.specs.Entries.{entries_of}
 use Rattle.history_model.specs.Runs.{Series, is_known}
 use Rattle.publication_index.specs.Kept.{series_of}
@@ -30,7 +31,9 @@ use Rattle.machine_state.proofs.Told.{unknown}
 use Rattle.history_model.specs.Laws.{LastStands, VersionsStay}
 use Rattle.track_room.specs.Asked.{IsReplied}
 use Rattle.track_room.specs.Sights.{Sight, SeesMore, Visits, own_marks, seeing}
-use Rattle.track_room.specs.Taking.{seen_of}
+use Rattle.track_state.specs.Work.{series_of as series_of_key}
+use Rattle.track_state.specs.declared.taking.TakenSeries.{TakenSeries}
+use Rattle.track_room.specs.Taking.{IsTaken, OfSeen, seen_of}
 use Rattle.track_room.specs.Visits.{Begins, Finishes, IsFound, Stays}
 use Rattle.track_room.proofs.Replying.{replied, seen-entries, sees-long, step-seen}
 use Rattle.track_room.proofs.Visiting.{bare-finished, entries-append, stays-sees, visits-as}
@@ -46,6 +49,14 @@ found-parts pass w is =
 pub made-still : VersionsStay → (pass : Sight) (w : Work) (done : Done) → IsFound pass w → IsMadeFrom (seen_of pass) done → IsMadeFrom (history_of w) done
 made-still stay pass w done is made =
     subst (λ (h : List Entry). IsMadeFrom h done) (sym (found-parts pass w is)) (made-later stay (seen_of pass) (entries_of (entries is.sees.0)) done made)
+
+-- what is made of a series that was taken is made of what the pass has seen of its machine
+pub made-of-taken : LastStands → (machine : ℕ) (pass : List Sight) (x : TakenSeries) (made : Redone) → OfSeen machine pass (λ h. IsTaken h x) → IsRedone x.snapshot made
+    → OfSeen machine pass (λ h. IsMadeFrom h made.done)
+made-of-taken last machine pass x made at is =
+    let taken = at.2 in
+    let legal = subst (λ (h : List Entry). Legal h) (sym taken.1) taken.3 in
+    (at.0, at.1, subst (λ (h : List Entry). IsMadeFrom h made.done) taken.1 (made-from taken.0 (series_of_key x.key) x.snapshot made taken.2 is last legal))
 
 -- ---- a pass that has seen more, twice
 others-append : (marks : List ℕ) (xs ys : List (Marked Placed)) → AreByOthers marks xs → AreByOthers marks ys → AreByOthers marks (xs ++ ys)

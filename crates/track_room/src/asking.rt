@@ -8,6 +8,7 @@ ghost use Rattle.track_room.specs.Sights.{SeesMore};
 
 use crate::NoMemory;
 use crate::machine::{MachineLock, MachinePass};
+use crate::visits::{Answering, Beginning, Finishing};
 use history_model::{Author, publication_law};
 use line_text::Name;
 use request_model::{Reply, Request};
@@ -38,7 +39,7 @@ impl MachineLock {
                 test,
                 metric,
             } => self.segment(rt, alloc, pass, author, test, metric),
-            _ => self.answer(rt, pass, author, request),
+            _ => self.visit(rt, pass, Answering { author, request }),
         }
     }
 
@@ -58,11 +59,17 @@ impl MachineLock {
         ensures err { OnErr result (SeesMore pass.old pass.new) }
     {
         publication_law();
-        match self.begin(rt, pass, test, metric)? {
+        let begun = self.visit(rt, pass, Beginning { test, metric })?;
+        match begun {
             Begun::Unknown(reply) => Ok(reply),
             Begun::Known(snapshot) => {
                 let made = compute_apart(alloc, snapshot)?;
-                self.finish(rt, pass, author, made.done, made.table)
+                let finishing = Finishing {
+                    author,
+                    done: made.done,
+                    table: made.table,
+                };
+                self.visit(rt, pass, finishing)
             }
         }
     }

@@ -1,30 +1,21 @@
 //! What a request does to a machine.
-ghost use Rattle.std.specs.Prelude.{◌≡◌, IfOk, OnErr, false};
-ghost use Rattle.publication_index.specs.Standing.{table_for};
-ghost use Rattle.track_model.specs.Counts.{is_segment};
-ghost use Rattle.request_model.specs.Requests.{machine_of};
-ghost use Rattle.machine_state.specs.Made.{IsMadeFrom};
-ghost use Rattle.track_room.specs.Sights.{SeesMore, Visits};
-ghost use Rattle.track_room.specs.Taking.{seen_of};
-ghost use Rattle.track_room.specs.Visits.{Answers, Begins, Finishes};
+ghost use Rattle.std.specs.Prelude.{◌≡◌, false};
 
 use crate::NoMemory;
 use crate::act::Act;
-use crate::machine::{MachineLock, MachinePass};
-use history_model::{Author, publication_law};
+use history_model::Author;
 use line_text::Name;
 use pelt_core::Table;
 use request_model::{Reply, Request};
 use segment_cost::{Done, Square};
-use std::sync::Wait;
 use track_series::Begun;
 use track_state::TrackState;
 
 // A request that segments nothing is answered.
 #[derive(Drop)]
-struct Answering<'a> {
-    author: Author,
-    request: &'a Request,
+pub(crate) struct Answering<'a> {
+    pub(crate) author: Author,
+    pub(crate) request: &'a Request,
 }
 
 impl<'a> Act for Answering<'a> {
@@ -46,9 +37,9 @@ impl<'a> Act for Answering<'a> {
 
 // A segmentation is begun.
 #[derive(Drop)]
-struct Beginning<'a> {
-    test: &'a Name,
-    metric: &'a Name,
+pub(crate) struct Beginning<'a> {
+    pub(crate) test: &'a Name,
+    pub(crate) metric: &'a Name,
 }
 
 impl<'a> Act for Beginning<'a> {
@@ -69,10 +60,10 @@ impl<'a> Act for Beginning<'a> {
 
 // A segmentation is finished.
 #[derive(Drop)]
-struct Finishing {
-    author: Author,
-    done: Done,
-    table: Table<Square>,
+pub(crate) struct Finishing {
+    pub(crate) author: Author,
+    pub(crate) done: Done,
+    pub(crate) table: Table<Square>,
 }
 
 impl Act for Finishing {
@@ -89,66 +80,5 @@ impl Act for Finishing {
 
     fn act(self, state: &mut TrackState) -> Result<Reply, NoMemory> {
         state.finish(self.author, self.done, self.table)
-    }
-}
-
-impl MachineLock {
-    // Has a request answered that segments nothing.
-    pub(crate) fn answer<R: Wait>(
-        &self,
-        rt: &R,
-        pass: &mut MachinePass,
-        author: Author,
-        request: &Request,
-    ) -> Result<Reply, NoMemory>
-        requires lock { pass.old.home ≡ self.now }
-        requires machine { machine_of request.now ≡ self.now.machine }
-        requires plain { is_segment request.now ≡ false }
-        ensures ok { IfOk result (λ reply.
-            Visits (Answers author request.now reply) pass.old pass.new) }
-        ensures err { OnErr result (SeesMore pass.old pass.new) }
-    {
-        self.visit(rt, pass, Answering { author, request })
-    }
-
-    // Begins a segmentation.
-    pub(crate) fn begin<R: Wait>(
-        &self,
-        rt: &R,
-        pass: &mut MachinePass,
-        test: &Name,
-        metric: &Name,
-    ) -> Result<Begun, NoMemory>
-        requires lock { pass.old.home ≡ self.now }
-        ensures ok { IfOk result (λ begun. Visits (Begins
-            (record { test = test.now; metric = metric.now }) begun) pass.old pass.new) }
-        ensures err { OnErr result (SeesMore pass.old pass.new) }
-    {
-        self.visit(rt, pass, Beginning { test, metric })
-    }
-
-    // Finishes a segmentation that was made from what the pass has seen.
-    pub(crate) fn finish<R: Wait>(
-        &self,
-        rt: &R,
-        pass: &mut MachinePass,
-        author: Author,
-        done: Done,
-        table: Table<Square>,
-    ) -> Result<Reply, NoMemory>
-        requires lock { pass.old.home ≡ self.now }
-        requires made { IsMadeFrom (seen_of pass.old) done }
-        requires tabled { table ≡ table_for done }
-        ensures ok { IfOk result (λ reply.
-            Visits (Finishes author done reply) pass.old pass.new) }
-        ensures err { OnErr result (SeesMore pass.old pass.new) }
-    {
-        publication_law();
-        let finishing = Finishing {
-            author,
-            done,
-            table,
-        };
-        self.visit(rt, pass, finishing)
     }
 }

@@ -1,4 +1,4 @@
-use Rattle.std.proofs.Common.{get_or, subst, Option, Some, None, arith}
+use Rattle.std.proofs.Common.{rules, get_or, subst, Option, Some, None, arith}
 use Rattle.std.specs.Prelude.{IfSome}
 use Rattle.track_room.specs.Sights.{Visits}
 use Rattle.track_room.specs.Taking.{seen_of}
@@ -19,33 +19,24 @@ loop-i-preserved g c =
     enters-next (next g (goal.at.loop-i-preserved g c).After-take)
     (subst (λ (o : Option _). Visits (g.T.Take.takes o) (get_or c.loop-i.passes c.loop-i.i c.index-passes-i.result) c.take.new.pass) c.in_default.is c.in_ok-taken.ensures.taken)
 
-pub returns-in_err-taken-clause-sees : goal.returns-in_err-taken-clause-sees
-returns-in_err-taken-clause-sees g c = (entered (next g (goal.at.returns-in_err-taken-clause-sees g c).After-take)).0
+pub returns-in_err-taken : goal.returns-in_err-taken
+returns-in_err-taken g c =
+    let all = entered (next g (goal.at.returns-in_err-taken g c).After-take) in
+    record { sees = all.0; locks = all.1; same = all.2; taken = search rules; known = search rules }
 
-pub returns-in-Some-clause-sees : goal.returns-in-Some-clause-sees
-returns-in-Some-clause-sees g c = (entered (next g (goal.at.returns-in-Some-clause-sees g c).After-take)).0
-
-pub returns-in_err-taken-clause-locks : goal.returns-in_err-taken-clause-locks
-returns-in_err-taken-clause-locks g c = (entered (next g (goal.at.returns-in_err-taken-clause-locks g c).After-take)).1
-
-pub returns-in-Some-clause-locks : goal.returns-in-Some-clause-locks
-returns-in-Some-clause-locks g c = (entered (next g (goal.at.returns-in-Some-clause-locks g c).After-take)).1
-
-pub returns-in_err-taken-clause-same : goal.returns-in_err-taken-clause-same
-returns-in_err-taken-clause-same g c = (entered (next g (goal.at.returns-in_err-taken-clause-same g c).After-take)).2
-
-pub returns-in-Some-clause-same : goal.returns-in-Some-clause-same
-returns-in-Some-clause-same g c = (entered (next g (goal.at.returns-in-Some-clause-same g c).After-take)).2
-
-pub returns-in-Some-clause-taken : goal.returns-in-Some-clause-taken
-returns-in-Some-clause-taken g c =
-    takes-next (next g (goal.at.returns-in-Some-clause-taken g c).After-take) (g.T.Take.takes (Some c.in-Some.taken))
-    (subst (λ (o : Option _). Visits (g.T.Take.takes o) (get_or c.loop-i.passes c.loop-i.i c.index-passes-i.result) c.take.new.pass) c.in-Some.is c.in_ok-taken.ensures.taken)
-
-pub returns-in-Some-clause-known : goal.returns-in-Some-clause-known
-returns-in-Some-clause-known g c =
-    knows-next (next g (goal.at.returns-in-Some-clause-known g c).After-take) (g.T.Take.knows c.in-Some.taken)
-    (subst (λ (o : Option _). IfSome o (λ x. g.T.Take.knows x (seen_of c.take.new.pass))) c.in-Some.is c.in_ok-taken.ensures.known)
+pub returns-in-Some : goal.returns-in-Some
+returns-in-Some g c =
+    let one = next g (goal.at.returns-in-Some g c).After-take in
+    let all = entered one in
+    record {
+      sees = all.0;
+      locks = all.1;
+      same = all.2;
+      taken = takes-next one (g.T.Take.takes (Some c.in-Some.taken))
+          (subst (λ (o : Option _). Visits (g.T.Take.takes o) (get_or c.loop-i.passes c.loop-i.i c.index-passes-i.result) c.take.new.pass) c.in-Some.is c.in_ok-taken.ensures.taken);
+      known = knows-next one (g.T.Take.knows c.in-Some.taken)
+          (subst (λ (o : Option _). IfSome o (λ x. g.T.Take.knows x (seen_of c.take.new.pass))) c.in-Some.is c.in_ok-taken.ensures.known);
+    }
 
 pub returns-clause-taken : goal.returns-clause-taken
 returns-clause-taken g c = enters-all (g.T.Take.takes None) c.loop-i.i c.args.machines.now c.args.passes.now c.loop-i.passes c.requires.locks c.loop-i.invariant (omega (arith, c.loop-i-test.false))

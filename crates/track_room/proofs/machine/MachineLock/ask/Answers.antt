@@ -10,16 +10,16 @@ use Rattle.track_room.specs.Asked.{IsReplied}
 use Rattle.track_room.specs.Sights.{Home, Sight, Visits}
 use Rattle.track_room.specs.Visits.{Answers}
 use Rattle.track_room.proofs.Replying.{beside, plain, replied, seen-entries, sees-long, step-seen}
-use Rattle.track_room.proofs.Visiting.{bare-added, if-ok}
+use Rattle.track_room.proofs.Visiting.{bare-added, found-machine, if-ok, visits-err, visits-ok}
 use Rattle.track_room.proofs.machine.MachineLock.ask.Goals as goal
 
 pub returns-in_default : goal.returns-in_default
 returns-in_default g c =
     let q : Request = c.args.request.now in
     let old : Sight = c.args.pass.now in
-    let new : Sight = c.answer.new.pass in
+    let new : Sight = c.visit.new.pass in
     record {
-      ok = if-ok (λ (reply : Reply). Visits (Answers c.args.author q reply) old new) (λ (reply : Reply). IsReplied c.args.author q reply old new) c.answer.result
+      ok = if-ok (λ (reply : Reply). Visits (Answers c.args.author q reply) old new) (λ (reply : Reply). IsReplied c.args.author q reply old new) c.visit.result
           (λ reply v.
           let h : List Entry = entries_of (entries v.found.seen) in
           let version : ℕ = length v.found.seen in
@@ -27,9 +27,10 @@ returns-in_default g c =
           replied c.args.author q reply old v.found new version 0 v.does.0 (ap (λ (home : Home). home.machine) c.requires.lock ∙ sym c.requires.machine) v.sees v.adds
           (beside (take version h) 0 h q v.does.0 c.requires.asked c.in_default.not-Segment (subst (λ (g : List Entry). ComesTo g 0 q v.does.0) seen v.does.1)) (sees-long old v.found v.sees) (omega arith)
           (step-seen c.args.author v.found new v.before v.after v.does.0 reply v.was v.left (ap bare v.does.2.track ∙ bare-added c.args.author v.before.track v.does.0.adds) v.does.2.told))
-          c.answer.ensures.ok;
-      err = c.answer.ensures.err;
+          (visits-ok (Answers c.args.author q) old new c.visit.result c.visit.ensures);
+      err = visits-err (Answers c.args.author q) old new c.visit.result c.visit.ensures;
     }
 
-pub answer-requires-clause-plain : goal.answer-requires-clause-plain
-answer-requires-clause-plain g c = plain c.args.request.now c.in_default.not-Segment
+pub visit-requires-clause-needs : goal.visit-requires-clause-needs
+visit-requires-clause-needs g c w is =
+    (c.requires.machine ∙ ap (λ (h : Home). h.machine) (sym c.requires.lock) ∙ sym (found-machine c.args.pass.now w is), plain c.args.request.now c.in_default.not-Segment)
