@@ -2,17 +2,19 @@
 use Rattle.std.proofs.Common.{◌≡◌, ℕ, zero, suc, ◌+◌, ◌<◌, ◌≤◌, true, false, cond, List, [], ◌∷◌, ◌++◌, length, refl, sym, ap, ◌∙◌, Some, None, arith}
 use Rattle.std.specs.Prelude.{slice_get}
 use Rattle.std.proofs.lemmas.Bool.{le-leb, lt-leb}
-use Rattle.std.proofs.lemmas.List.{length-append}
+use Rattle.std.proofs.lemmas.List.{length-append, length-map}
 use Rattle.std.proofs.lemmas.Option.{slice_get_within}
 use Rattle.metric_table.specs.Limits.{most}
 use Rattle.metric_table.specs.declared.limits.Limit.TheVariants as limit
 use Rattle.history_model.specs.declared.entries.Entry.{Entry}
 use Rattle.history_model.specs.declared.entries.Entry.TheVariants as entry
+use Rattle.history_model.specs.declared.entries.Placed.{Placed}
 use Rattle.history_model.specs.declared.events.JobEvent.{JobEvent}
 use Rattle.history_model.specs.declared.events.JobEvent.TheVariants.{Begin, Answer, GiveUp}
 use Rattle.history_model.specs.declared.events.Raised.{Raised}
 use Rattle.history_model.specs.declared.events.RegressionEvent.{RegressionEvent}
 use Rattle.history_model.specs.Allowed.{Allowed, KeepsLimits}
+use Rattle.history_model.specs.Entries.{entries_of}
 use Rattle.history_model.specs.Followed.{LimitsAfterRegression, LimitsAfterJob, LimitsAfterTurn, IsTurnOf}
 use Rattle.history_model.specs.Jobs.{jobs, asked, open_count, MayHappen}
 use Rattle.history_model.specs.Regressions.{regressions, state_of, is_number, MayBecome}
@@ -73,31 +75,38 @@ missing h (suc k) none =
     let size = followed-length h 1 (regressions h) in
     rw (le-leb 1 (suc k) (omega arith)) (lt-leb (suc k) (length (regressions h)) (omega (arith, behind, size)))
 
--- ---- what is allowed
+-- ---- what is allowed, by how many entries were placed
 
-module _ (h : List Entry) (keeps : KeepsLimits h) where
-  pub regression-allowed : LimitsAfterRegression → (event : RegressionEvent) → length h < most limit.Steps → MayBecome h event
-      → IsAllowance h (entry.Regression event) (Some 0)
-  regression-allowed limits event room may = ((may, limits h event keeps room), no-more h (entry.Regression event) refl)
+module _ (placed : List Placed) where
+  abbrev h : List Entry
+  h = entries_of placed
 
-  pub begin-allowed : LimitsAfterJob → (lo hi : ℕ) → length h < most limit.Steps → MayHappen h (Begin lo hi)
-      → open_count (jobs (h ++ entry.Job (Begin lo hi) ∷ [])) ≤ most limit.Jobs → IsAllowance h (entry.Job (Begin lo hi)) (Some 0)
-  begin-allowed limits lo hi room may few = ((may, limits h (Begin lo hi) keeps room few), no-more h (entry.Job (Begin lo hi)) refl)
+  has-room : length placed < most limit.Steps → length h < most limit.Steps
+  has-room room = omega (arith, length-map placed (λ (p : Placed). p.entry))
 
-  may-turn : (number place : ℕ) (event : JobEvent) → IsTurnOf number place event → asked number h ≡ Some place → MayHappen h event
-  may-turn number place (Begin lo hi) turn asks = absurd turn
-  may-turn number place (Answer job at status) turn asks = ap (λ (n : ℕ). asked n h) turn.0 ∙ asks ∙ ap Some (sym turn.1)
-  may-turn number place (GiveUp job at) turn asks = ap (λ (n : ℕ). asked n h) turn.0 ∙ asks ∙ ap Some (sym turn.1)
+  module _ (keeps : KeepsLimits h) where
+    pub regression-allowed : LimitsAfterRegression → (event : RegressionEvent) → length placed < most limit.Steps → MayBecome h event
+        → IsAllowance h (entry.Regression event) (Some 0)
+    regression-allowed limits event room may = ((may, limits h event keeps (has-room room)), no-more h (entry.Regression event) refl)
 
-  pub turn-allowed : LimitsAfterTurn → (number place : ℕ) (event : JobEvent) → IsTurnOf number place event → length h < most limit.Steps
-      → asked number h ≡ Some place → IsAllowance h (entry.Job event) (Some 0)
-  turn-allowed limits number place event turn room asks =
-      ((may-turn number place event turn asks, limits h number place event keeps room asks turn), no-more h (entry.Job event) refl)
+    pub begin-allowed : LimitsAfterJob → (lo hi : ℕ) → length placed < most limit.Steps → MayHappen h (Begin lo hi)
+        → open_count (jobs (h ++ entry.Job (Begin lo hi) ∷ [])) ≤ most limit.Jobs → IsAllowance h (entry.Job (Begin lo hi)) (Some 0)
+    begin-allowed limits lo hi room may few = ((may, limits h (Begin lo hi) keeps (has-room room) few), no-more h (entry.Job (Begin lo hi)) refl)
 
--- what is not
+    may-turn : (number place : ℕ) (event : JobEvent) → IsTurnOf number place event → asked number h ≡ Some place → MayHappen h event
+    may-turn number place (Begin lo hi) turn asks = absurd turn
+    may-turn number place (Answer job at status) turn asks = ap (λ (n : ℕ). asked n h) turn.0 ∙ asks ∙ ap Some (sym turn.1)
+    may-turn number place (GiveUp job at) turn asks = ap (λ (n : ℕ). asked n h) turn.0 ∙ asks ∙ ap Some (sym turn.1)
 
-pub steps-refused : (h : List Entry) (e : Entry) → most limit.Steps ≤ length h → IsAllowance h e None
-steps-refused h e full allowed = let room = steps-kept h e allowed in absurd (omega (arith, full, room))
+    pub turn-allowed : LimitsAfterTurn → (number place : ℕ) (event : JobEvent) → IsTurnOf number place event → length placed < most limit.Steps
+        → asked number h ≡ Some place → IsAllowance h (entry.Job event) (Some 0)
+    turn-allowed limits number place event turn room asks =
+        ((may-turn number place event turn asks, limits h number place event keeps (has-room room) asks turn), no-more h (entry.Job event) refl)
+
+  -- what is not
+
+  pub steps-refused : (e : Entry) → most limit.Steps ≤ length placed → IsAllowance h e None
+  steps-refused e full allowed = let room = steps-kept h e allowed in absurd (omega (arith, length-map placed (λ (p : Placed). p.entry)))
 
 pub jobs-refused : (h : List Entry) (lo hi : ℕ) → most limit.Jobs < open_count (jobs (h ++ entry.Job (Begin lo hi) ∷ [])) → IsAllowance h (entry.Job (Begin lo hi)) None
 jobs-refused h lo hi full allowed =
