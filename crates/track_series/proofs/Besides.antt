@@ -1,8 +1,7 @@
 -- What a segmentation of a version comes to on a longer history.
-use Rattle.std.proofs.Common.{◌≡◌, ℕ, ℤ, ◌+◌, true, List, length, take, refl, sym, ap, subst, ◌∙◌, Option, Some, None}
+use Rattle.std.proofs.Common.{◌≡◌, ℕ, ◌+◌, true, List, length, take, refl, sym, ap, subst, ◌∙◌, Option, Some, None}
 use Rattle.std.proofs.lemmas.List.{length-take-le}
 use Rattle.metric_table.specs.declared.limits.Limit.{Limit}
-use Rattle.metric_table.specs.declared.limits.Limit.TheVariants.{Steps}
 use Rattle.segment_model.specs.Segments.{Position}
 use Rattle.segment_cost.specs.Certificate.{StandsFor}
 use Rattle.segment_cost.specs.declared.done.Done.{Done}
@@ -30,18 +29,7 @@ use Rattle.track_series.specs.Publications.{IsAdded, IsPublished, IsTaken, later
 use Rattle.track_series.specs.declared.publishing.Published.{Published}
 use Rattle.track_series.specs.declared.publishing.Published.TheVariants as published
 use Rattle.machine_state.proofs.Told.{known}
-
-version_in : Published → ℕ
-version_in (published.Stale version) = version
-version_in other = 0
-
-step_in : Published → ℕ
-step_in (published.Ok step) = step
-step_in other = 0
-
-limit_in : Published → Limit
-limit_in (published.Full limit) = limit
-limit_in other = Steps
+use Rattle.track_series.proofs.Segmenting.{not-stale}
 
 module _ (stays : KnownStays) (old : Track) (author : Author) (done : Done) (made : IsMadeFrom (entries_of old.history) done) (new : Track) (reply : Reply) (told : Answer)
     (told_is : told ≡ segmented done.version done.base done.redone done.cert) where
@@ -88,48 +76,43 @@ module _ (stays : KnownStays) (old : Track) (author : Author) (done : Done) (mad
 
   added-ok : (step : ℕ) (l : Option Limit) → IsAdded l old author done (published.Ok step) new → reply ≡ record { step = step; answer = told }
       → IsFinishStep old author (series_of done) (added_unless l (entry_of done) told) new reply
-  unfolding step_in
   added-ok step (Some limit) put is = absurd (let no : published.Ok step ≡ published.Full limit = put.0 in cc)
-  added-ok step None put is = record {
-    track = put.1;
-    told = is ∙ ap (λ (n : ℕ). let r : Reply = record { step = n; answer = told } in r) (ap step_in put.0);
-  }
+  added-ok step None put is =
+      let same : published.Ok step ≡ published.Ok (length (entries_of old.history) + 1) = put.0 in
+      record { track = put.1; told = is ∙ ap (λ (n : ℕ). let r : Reply = record { step = n; answer = told } in r) (cc) }
 
   added-full : (limit : Limit) (l : Option Limit) → IsAdded l old author done (published.Full limit) new → reply ≡ reply_of (entries_of new.history) (refuses (refusal.Full limit))
       → IsFinishStep old author (series_of done) (added_unless l (entry_of done) told) new reply
-  unfolding limit_in
   added-full limit None put is = absurd (let no : published.Full limit ≡ published.Ok (length (entries_of old.history) + 1) = put.0 in cc)
-  added-full limit (Some other) put is = record {
-    track = put.1;
-    told = is
-        ∙ ap (λ (t : Track). reply_of (entries_of t.history) (refuses (refusal.Full limit))) put.1
-        ∙ ap (λ (m : Limit). reply_of (entries_of old.history) (refuses (refusal.Full m))) (ap limit_in put.0);
-  }
+  added-full limit (Some other) put is =
+      let same : published.Full limit ≡ published.Full other = put.0 in
+      record {
+        track = put.1;
+        told = is
+            ∙ ap (λ (t : Track). reply_of (entries_of t.history) (refuses (refusal.Full limit))) put.1
+            ∙ ap (λ (m : Limit). reply_of (entries_of old.history) (refuses (refusal.Full m))) (cc);
+      }
 
   taken : (p : Published) (l : Option ℕ) → later done.version (last_publication (series_of done) (entries_of old.history)) ≡ l
       → IsTaken l old author done p new → reply ≡ reply_told (entries_of new.history) p told → Ends
-  unfolding version_in
   taken (published.Ok step) (Some w) is put says = absurd (let no : published.Ok step ≡ published.Stale w = put.0 in cc)
   taken (published.Full limit) (Some w) is put says = absurd (let no : published.Full limit ≡ published.Stale w = put.0 in cc)
-  taken (published.Stale w) (Some x) is put says = (
-    refuses (refusal.Stale x),
-    comes (Some x) is _ refl,
-    record {
-      track = put.1;
-      told = says
-          ∙ ap (λ (t : Track). reply_of (entries_of t.history) (refuses (refusal.Stale w))) put.1
-          ∙ ap (λ (n : ℕ). reply_of (entries_of old.history) (refuses (refusal.Stale n))) (ap version_in put.0);
-    },
-  )
+  taken (published.Stale w) (Some x) is put says =
+      let same : published.Stale w ≡ published.Stale x = put.0 in (
+        refuses (refusal.Stale x),
+        comes (Some x) is _ refl,
+        record {
+          track = put.1;
+          told = says
+              ∙ ap (λ (t : Track). reply_of (entries_of t.history) (refuses (refusal.Stale w))) put.1
+              ∙ ap (λ (n : ℕ). reply_of (entries_of old.history) (refuses (refusal.Stale n))) (cc);
+        },
+      )
   taken (published.Ok step) None is put says =
       (publish (entries_of old.history) (publication_from done) told, comes None is _ published-of, added-ok step (passed (entries_of old.history) done) put says)
   taken (published.Full limit) None is put says =
       (publish (entries_of old.history) (publication_from done) told, comes None is _ published-of, added-full limit (passed (entries_of old.history) done) put says)
-  taken (published.Stale w) None is put says = absurd (not-added (passed (entries_of old.history) done) put)
-    where
-      not-added : (m : Option Limit) → IsAdded m old author done (published.Stale w) new → ⊥
-      not-added (Some limit) added = let no : published.Stale w ≡ published.Full limit = added.0 in cc
-      not-added None added = let no : published.Stale w ≡ published.Ok (length (entries_of old.history) + 1) = added.0 in cc
+  taken (published.Stale w) None is put says = absurd (not-stale (passed (entries_of old.history) done) old author done w new put)
 
   pub ends : (p : Published) → IsPublished old author done p new → reply ≡ reply_told (entries_of new.history) p told → Ends
   ends p put says = taken p (later done.version (last_publication (series_of done) (entries_of old.history))) refl put says

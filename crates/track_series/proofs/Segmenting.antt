@@ -1,12 +1,11 @@
 -- What a segmentation comes to.
-use Rattle.std.proofs.Common.{◌≡◌, ℕ, ℤ, ◌+◌, ◌-◌, true, false, cond, List, length, take, refl, sym, ap, ap₂, subst, ◌∙◌, Option, Some, None, inl, inr, arith}
+use Rattle.std.proofs.Common.{◌≡◌, ℕ, ◌+◌, ◌-◌, true, false, cond, List, length, take, refl, sym, ap, ap₂, subst, ◌∙◌, Option, Some, None, inl, inr, arith}
 use Rattle.std.specs.Prelude.{nat_eq, not, ◌&&◌}
 use Rattle.std.specs.FinSet as set
 use Rattle.std.specs.Ordering.{eq_by_cmp}
 use Rattle.std.proofs.lemmas.Bool.{cases_Bool}
 use Rattle.std.proofs.Math.Seq.{take-length}
 use Rattle.metric_table.specs.declared.limits.Limit.{Limit}
-use Rattle.metric_table.specs.declared.limits.Limit.TheVariants.{Steps}
 use Rattle.segment_model.specs.Segments.{Position}
 use Rattle.segment_cost.specs.Certificate.{StandsFor}
 use Rattle.segment_cost.specs.declared.done.Done.{Done}
@@ -37,7 +36,6 @@ use Rattle.history_model.specs.declared.setting.Setting.{Setting}
 use Rattle.track_model.proofs.Settings.{same-setting}
 use Rattle.track_series.specs.Publications.{IsAdded}
 use Rattle.track_series.specs.Snapshots.{IsTakenAt, IsRedone}
-use Rattle.track_series.specs.declared.publishing.Published.{Published}
 use Rattle.track_series.specs.declared.publishing.Published.TheVariants as published
 use Rattle.track_series.specs.declared.redone.Redone.{Redone}
 use Rattle.track_series.specs.declared.snapshot.Snapshot.{Snapshot}
@@ -75,14 +73,6 @@ module _ (t : Track) (s : Series) where
   taken-entry author e home = by-base (λ (u : Track). with_home home (with_entry author u e) ≡ with_home home (with_entry author t e)) refl refl
 
 -- ---- what was put as a step
-step_in : Published → ℕ
-step_in (published.Ok step) = step
-step_in other = 0
-
-limit_in : Published → Limit
-limit_in (published.Full limit) = limit
-limit_in other = Steps
-
 -- where no later version was published, none is told
 pub not-stale : (l : Option Limit) (old : Track) (author : Author) (done : Done) (version : ℕ) (new : Track) → IsAdded l old author done (published.Stale version) new → ⊥
 not-stale (Some limit) old author done version new put = let no : published.Stale version ≡ published.Full limit = put.0 in absurd (cc)
@@ -94,16 +84,16 @@ module _ (t : Track) (s : Series) (author : Author) (done : Done) (series-is : s
 
   pub ok-step : (step : ℕ) (l : Option Limit) → IsAdded l old author done (published.Ok step) new → reply ≡ record { step = step; answer = told }
       → IsSegmentStep t author s (added_unless l (entry_of done) told) new reply
-  unfolding step_in
   ok-step step (Some limit) put is = absurd (let no : published.Ok step ≡ published.Full limit = put.0 in cc)
   ok-step step None put is =
-      let step_is : step ≡ length (entries_of t.history) + 1 = ap step_in put.0 ∙ ap (λ (h : List Entry). length h + 1) entries-are in
+      let same : published.Ok step ≡ published.Ok (length (entries_of old.history) + 1) = put.0 in
+      let next : step ≡ length (entries_of old.history) + 1 = cc in
       record {
         track = put.1
             ∙ ap (λ (u : Track). with_publication author u (publication_from done)) begun
             ∙ ap (λ (u : Series). with_home (set.insert (with_taken s t).home u) (with_entry author (with_taken s t) (entry_of done))) series-is
             ∙ taken-entry t s author (entry_of done) (set.insert (with_taken s t).home s);
-        told = is ∙ ap (λ (n : ℕ). let r : Reply = record { step = n; answer = told } in r) step_is;
+        told = is ∙ ap (λ (n : ℕ). let r : Reply = record { step = n; answer = told } in r) (next ∙ ap (λ (h : List Entry). length h + 1) entries-are);
       }
 
   pub full-same : (limit : Limit) (l : Option Limit) → IsAdded l old author done (published.Full limit) new → new ≡ old
@@ -112,10 +102,10 @@ module _ (t : Track) (s : Series) (author : Author) (done : Done) (series-is : s
 
   pub full-step : (limit : Limit) (l : Option Limit) → IsAdded l old author done (published.Full limit) new → reply ≡ reply_of (entries_of old.history) (tells (answer.Refused (refusal.Full limit)))
       → IsSegmentStep t author s (added_unless l (entry_of done) told) new reply
-  unfolding limit_in
   full-step limit None put is = absurd (let no : published.Full limit ≡ published.Ok (length (entries_of old.history) + 1) = put.0 in cc)
   full-step limit (Some other) put is =
-      let same : limit ≡ other = ap limit_in put.0 in
+      let full : published.Full limit ≡ published.Full other = put.0 in
+      let same : limit ≡ other = cc in
       record {
         track = put.1 ∙ begun;
         told = is

@@ -1,18 +1,18 @@
 use Rattle.std.proofs.Common.{◌≡◌, List, length, refl, sym, ap, subst, ◌∙◌, Option}
+use Rattle.metric_table.specs.declared.limits.Limit.{Limit}
 use Rattle.history_model.specs.declared.entries.Entry.{Entry}
 use Rattle.history_model.specs.Allowed.{Legal}
 use Rattle.history_model.specs.Entries.{entries_of}
 use Rattle.history_model.specs.Publications.{last_publication}
 use Rattle.history_model.specs.Runs.{Series, is_known}
 use Rattle.history_model.proofs.Cases.{any-err}
-use Rattle.request_model.specs.declared.replies.Answer.{Answer}
 use Rattle.request_model.specs.declared.replies.Answer.TheVariants as answer
 use Rattle.request_model.specs.declared.replies.Refusal.TheVariants as refusal
 use Rattle.publication_index.specs.Kept.{series_of}
 use Rattle.track_model.specs.Outcomes.{tells, refuses}
 use Rattle.track_model.specs.Replies.{reply_of}
 use Rattle.track_model.specs.Tracks.{Track, IsSameButTables, base_of}
-use Rattle.track_model.specs.Publishing.{IsPublished, publish}
+use Rattle.track_model.specs.Publishing.{IsPublished, publish, SegmentComesTo}
 use Rattle.machine_state.specs.Made.{publication_from, IsMadeFrom}
 use Rattle.track_series.specs.Publications.{IsAdded, passed}
 use Rattle.track_series.specs.Snapshots.{IsSnapshot, IsTakenAt}
@@ -22,7 +22,7 @@ use Rattle.track_series.specs.declared.snapshot.Snapshot.{Snapshot}
 use Rattle.machine_state.proofs.Told.{unknown}
 use Rattle.track_series.proofs.Segmenting.{same-tables, taken-tables, taken-history, not-stale, ok-step, full-same, full-step, series-is, made-from, comes, up-to}
 use Rattle.track_series.proofs.segments.segment.Goals as goal
-use Rattle.track_series.proofs.segments.segment.Goals.{In_ok-made}
+use Rattle.track_series.proofs.segments.segment.Goals.{After-segmented-answer}
 
 pub returns-in_err-snapshot-clause-left : goal.returns-in_err-snapshot-clause-left
 returns-in_err-snapshot-clause-left g c =
@@ -49,7 +49,7 @@ returns-in_err-made-clause-left g c =
     let s : Series = record { test = c.args.test.now; metric = c.args.metric.now } in
     any-err c.from_residual-in_err-made.result (subst (IsSameButTables c.args.track.now) (sym c.in_ok-snapshot.ensures.taken) (taken-tables c.args.track.now s))
 
-module _ (g : _) (c : In_ok-made g) where
+module _ (g : _) (c : After-segmented-answer g) where
   abbrev t : Track
   t = c.args.track.now
 
@@ -71,14 +71,24 @@ module _ (g : _) (c : In_ok-made g) where
   same-series : series_of c.in_ok-made.made.done ≡ s
   same-series = series-is t s c.in-Some.snapshot c.in_ok-made.made taken c.in_ok-made.ensures.made
 
+  -- what was put, on the history as it was
+  put-as : (p q : Published) (new : Track) → p ≡ q → IsAdded (passed (entries_of c.take_snapshot.new.track.history) c.in_ok-made.made.done) c.take_snapshot.new.track c.args.author c.in_ok-made.made.done p new
+      → IsAdded (passed (entries_of t.history) c.in_ok-made.made.done) c.take_snapshot.new.track c.args.author c.in_ok-made.made.done q new
+  put-as p q new is put =
+      subst (λ (r : Published). IsAdded (passed (entries_of t.history) c.in_ok-made.made.done) c.take_snapshot.new.track c.args.author c.in_ok-made.made.done r new) is
+      (subst (λ (h : List Entry). IsAdded (passed h c.in_ok-made.made.done) c.take_snapshot.new.track c.args.author c.in_ok-made.made.done p new) entries-are put)
+
+  comes-to : SegmentComesTo (entries_of t.history) (base_of t s) s (publish (entries_of t.history) (publication_from c.in_ok-made.made.done) c.segmented-answer.result)
+  comes-to = comes t s c.in-Some.snapshot c.in_ok-made.made taken c.in_ok-made.ensures.made c.segmented-answer.result c.segmented-answer.ensures
+
 pub put-requires-clause-made : goal.put-requires-clause-made
 put-requires-clause-made g c =
-    let k = (goal.at.put-requires-clause-made g c).In_ok-made in
+    let k = (goal.at.put-requires-clause-made g c).After-segmented-answer in
     subst (λ (h : List Entry). IsMadeFrom h c.in_ok-made.made.done) (sym (entries-are g k)) (made g k)
 
 pub put-requires-clause-latest : goal.put-requires-clause-latest
 put-requires-clause-latest g c =
-    let k = (goal.at.put-requires-clause-latest g c).In_ok-made in
+    let k = (goal.at.put-requires-clause-latest g c).After-segmented-answer in
     let h : List Entry = entries_of c.take_snapshot.new.track.history in
     let u : Series = series_of c.in_ok-made.made.done in
     let version = c.in_ok-made.ensures.made.version ∙ (taken g k).version ∙ sym (ap length (entries-are g k)) in
@@ -98,35 +108,26 @@ unreachable-requires g c =
 
 pub returns-in-Ok-clause-step : goal.returns-in-Ok-clause-step
 returns-in-Ok-clause-step g c =
-    let k = (goal.at.returns-in-Ok-clause-step g c).In_ok-made in
+    let k = (goal.at.returns-in-Ok-clause-step g c).After-segmented-answer in
     let t : Track = c.args.track.now in
-    let h : List Entry = entries_of t.history in
-    let s : Series = record { test = c.args.test.now; metric = c.args.metric.now } in
     let done = c.in_ok-made.made.done in
-    let told : Answer = c.segmented-answer.result in
-    let put : IsAdded (passed h done) c.take_snapshot.new.track c.args.author done (published.Ok c.in-Ok.step) c.put.new.track =
-    subst (λ (p : Published). IsAdded (passed h done) c.take_snapshot.new.track c.args.author done p c.put.new.track) c.in-Ok.is
-    (subst (λ (g : List Entry). IsAdded (passed g done) c.take_snapshot.new.track c.args.author done c.in_ok-step.field-0 c.put.new.track) (entries-are g k) c.in_ok-step.ensures.put) in (
-      publish h (publication_from done) told,
-      comes t s c.in-Some.snapshot c.in_ok-made.made (taken g k) c.in_ok-made.ensures.made told c.segmented-answer.ensures,
-      ok-step t s c.args.author done (same-series g k) c.take_snapshot.new.track c.put.new.track c.in_ok-snapshot.ensures.taken told _ c.in-Ok.step (passed h done) put refl,
+    let put = put-as g k c.in_ok-step.field-0 (published.Ok c.in-Ok.step) c.put.new.track c.in-Ok.is c.in_ok-step.ensures.put in (
+      publish (entries_of t.history) (publication_from done) c.segmented-answer.result,
+      comes-to g k,
+      ok-step t (s g k) c.args.author done (same-series g k) c.take_snapshot.new.track c.put.new.track c.in_ok-snapshot.ensures.taken c.segmented-answer.result _ c.in-Ok.step (passed (entries_of t.history) done) put refl,
     )
 
 pub returns-in-Full-clause-step : goal.returns-in-Full-clause-step
 returns-in-Full-clause-step g c =
-    let k = (goal.at.returns-in-Full-clause-step g c).In_ok-made in
+    let k = (goal.at.returns-in-Full-clause-step g c).After-segmented-answer in
     let t : Track = c.args.track.now in
-    let h : List Entry = entries_of t.history in
-    let s : Series = record { test = c.args.test.now; metric = c.args.metric.now } in
     let done = c.in_ok-made.made.done in
-    let told : Answer = c.segmented-answer.result in
-    let put : IsAdded (passed h done) c.take_snapshot.new.track c.args.author done (published.Full c.in-Full.limit) c.put.new.track =
-    subst (λ (p : Published). IsAdded (passed h done) c.take_snapshot.new.track c.args.author done p c.put.new.track) c.in-Full.is
-    (subst (λ (g : List Entry). IsAdded (passed g done) c.take_snapshot.new.track c.args.author done c.in_ok-step.field-0 c.put.new.track) (entries-are g k) c.in_ok-step.ensures.put) in
+    let l : Option Limit = passed (entries_of t.history) done in
+    let put = put-as g k c.in_ok-step.field-0 (published.Full c.in-Full.limit) c.put.new.track c.in-Full.is c.in_ok-step.ensures.put in
     let new_is : c.put.new.track ≡ c.take_snapshot.new.track =
-    full-same t s c.args.author done (same-series g k) c.take_snapshot.new.track c.put.new.track c.in_ok-snapshot.ensures.taken told c.told-in-Full.result c.in-Full.limit (passed h done) put in (
-      publish h (publication_from done) told,
-      comes t s c.in-Some.snapshot c.in_ok-made.made (taken g k) c.in_ok-made.ensures.made told c.segmented-answer.ensures,
-      full-step t s c.args.author done (same-series g k) c.take_snapshot.new.track c.put.new.track c.in_ok-snapshot.ensures.taken told c.told-in-Full.result c.in-Full.limit (passed h done) put
+    full-same t (s g k) c.args.author done (same-series g k) c.take_snapshot.new.track c.put.new.track c.in_ok-snapshot.ensures.taken c.segmented-answer.result c.told-in-Full.result c.in-Full.limit l put in (
+      publish (entries_of t.history) (publication_from done) c.segmented-answer.result,
+      comes-to g k,
+      full-step t (s g k) c.args.author done (same-series g k) c.take_snapshot.new.track c.put.new.track c.in_ok-snapshot.ensures.taken c.segmented-answer.result c.told-in-Full.result c.in-Full.limit l put
           (c.told-in-Full.ensures ∙ ap (λ (u : Track). reply_of (entries_of u.history) (tells (answer.Refused (refusal.Full c.in-Full.limit)))) new_is),
     )
