@@ -1,6 +1,6 @@
 -- The lines made of a state's regressions and bisections are those of its history.
 use Rattle.std.proofs.Common.{◌≡◌, ℕ, ◌+◌, suc, List, [], ◌∷◌, get_or, All, refl, ap, ◌∙◌}
-use Rattle.std.specs.Prelude.{IsSome}
+use Rattle.std.specs.Prelude.{IfOk, IsSome, Result, Ok, Err}
 use Rattle.std.proofs.lemmas.List.Elements.{All-nil, All-cons, All-head, All-tail}
 use Rattle.std.proofs.lemmas.Option.{slice_get-get_or}
 use Rattle.bisect_core.specs.Bisections.{Bisection}
@@ -12,6 +12,7 @@ use Rattle.history_model.specs.Commits.{declarations, name_of}
 use Rattle.history_model.specs.Followed.{IsNamed, JobsAreNamed}
 use Rattle.history_model.specs.Jobs.{jobs}
 use Rattle.history_model.specs.Regressions.{state_of}
+use Rattle.history_model.specs.declared.entries.Declaration.{Declaration}
 use Rattle.history_model.specs.declared.entries.Entry.{Entry}
 use Rattle.history_model.specs.declared.events.Raised.{Raised}
 use Rattle.report_lines.specs.NumberedLines.{HasEnds, HasNamed, HasNames, followed_line, told_at, told_line}
@@ -58,3 +59,13 @@ told-lines h n [] = refl
 told-lines h n (b ∷ bs) =
     ap (λ (told : Told). let l : JobLine = record { job = n; range = b.range; questions = b.questions; outcome = told } in l ∷ numbered (told_line (declarations h)) (n + 1) bs) (told-same h b b.outcome)
     ∙ ap (λ (more : List JobLine). job_line h n b ∷ more) (told-lines h (n + 1) bs)
+
+-- ---- lines by number, made of a state's commits and of what it has
+module _ {X : Type 0} (h : List Entry) (ds : List Declaration) (commits : ds ≡ declarations h) (xs kept : List X) (same : xs ≡ kept) where
+  pub has-names : (Named : List Declaration → X → Type 0) → All (Named (declarations h)) kept → All (Named ds) xs
+  has-names Named all = rw (commits, same) all
+
+  pub same-lines : {L E : Type 0} (line : List Declaration → ℕ → X → L) (lines : List L) → numbered (line (declarations h)) 1 kept ≡ lines → (made : Result (List L) E)
+      → IfOk made (λ ls. ls ≡ numbered (line ds) 1 xs) → IfOk made (λ ls. ls ≡ lines)
+  same-lines line lines are (Ok ls) is = is ∙ rw (commits, same) are
+  same-lines line lines are (Err e) is = tt

@@ -4,16 +4,27 @@ use Rattle.segment_model.specs.Segments.{Position}
 use Rattle.segment_cost.specs.declared.cert.Cert.{Cert}
 use Rattle.segment_cost.specs.declared.done.Done.{Done}
 use Rattle.history_model.specs.declared.entries.Entry.{Entry}
-use Rattle.history_model.specs.Runs.{Series}
+use Rattle.history_model.specs.declared.publication.Publication.{Publication}
+use Rattle.history_model.specs.Entries.{entries_of}
+use Rattle.history_model.specs.Publications.{last_publication}
+use Rattle.history_model.specs.Runs.{Series, is_known}
 use Rattle.change_list.specs.Changes.{AreChanges}
 use Rattle.change_list.specs.declared.change.Change.{Change}
 use Rattle.request_model.specs.declared.changes.NamedChange.{NamedChange}
+use Rattle.request_model.specs.declared.replies.Answer.{Answer}
 use Rattle.request_model.specs.declared.replies.Answer.TheVariants as answer
+use Rattle.request_model.specs.declared.replies.Refusal.{Refusal}
+use Rattle.request_model.specs.declared.replies.Reply.{Reply}
 use Rattle.publication_index.specs.Kept.{series_of}
-use Rattle.track_model.specs.Outcomes.{tells}
-use Rattle.track_model.specs.Publishing.{named, TellsChanges, TellsCertificate}
+use Rattle.track_model.specs.Outcomes.{Outcome, refuses, tells}
+use Rattle.track_model.specs.Publishing.{named, OfKnown, OfPublished, TellsChanges, TellsCertificate}
+use Rattle.track_model.specs.Replies.{reply_of}
+use Rattle.track_model.specs.Tracks.{Track, IsTold}
 use Rattle.machine_state.specs.Made.{publication_from, IsMadeFrom}
+use Rattle.machine_state.specs.State.{HasNone, IsLast}
+use Rattle.machine_state.proofs.Published.{tells-last, tells-none}
 use Rattle.machine_state.proofs.Publishing.{made-stands}
+use Rattle.machine_state.proofs.Told.{only-told}
 
 pub certified : (h : List Entry) (s : Series) (done : Done) → IsMadeFrom h done → series_of done ≡ s → (cert : Cert) → cert ≡ done.cert
     → TellsCertificate h s (publication_from done) (tells (answer.Verified done.version cert))
@@ -32,3 +43,15 @@ changed h s done items told made same are is =
       subst (λ (ps : List Position). AreChanges ps done.metric done.cert.cuts items) made.points are,
       ap (λ (ls : List NamedChange). tells (answer.Changes done.version done.metric ls)) is,
     )
+
+-- a form about a series' last publication tells this of it, or refuses
+module _ (t : Track) (s : Series) (Tells : Publication → Outcome → Type 0) where
+  abbrev Comes : Outcome → Type 0
+  Comes = OfKnown (is_known s (entries_of t.history)) (OfPublished (last_publication s (entries_of t.history)) Tells)
+
+  pub refused : (why : Refusal) (reply : Reply) → HasNone (entries_of t.history) s why → reply ≡ reply_of (entries_of t.history) (refuses why) → (o : Outcome) × Comes o × IsTold t o reply
+  refused why reply none told = only-told Comes t (answer.Refused why) reply (tells-none Tells (entries_of t.history) s why none) told
+
+  pub told-last : (done : Done) (a : Answer) (reply : Reply) → IsLast (entries_of t.history) s done → Tells (publication_from done) (tells a)
+      → reply ≡ reply_of (entries_of t.history) (tells a) → (o : Outcome) × Comes o × IsTold t o reply
+  told-last done a reply last comes told = only-told Comes t a reply (tells-last Tells (entries_of t.history) s done (tells a) last comes) told
