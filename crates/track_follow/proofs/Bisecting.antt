@@ -47,7 +47,7 @@ few-jobs h =
     let same = one-each h 1 (begins h) in
     omega (arith, few, same)
 
-takes : (o : Outcome) (place : ℕ) → asked_by o ≡ Some place → answer_to o place ≡ answered.Ok
+pub takes : (o : Outcome) (place : ℕ) → asked_by o ≡ Some place → answer_to o place ≡ answered.Ok
 takes (Asks asked) place is =
     let same : asked ≡ place = cc in
     ap (λ b. cond b answered.Ok (answered.NotAsked asked)) (eq-eqb asked place same)

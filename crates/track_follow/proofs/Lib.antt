@@ -1,2 +1,2 @@
 mod Raising
-mod Bisecting
+pub mod Bisecting

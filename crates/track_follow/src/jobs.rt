@@ -50,30 +50,6 @@ pub fn job(track: &MachineState, number: u64) -> Result<Reply, NoMemory>
     }))
 }
 
-// What is told of a job that stands so once this happened.
-fn told_then(
-    track: &MachineState,
-    event: JobEvent,
-    number: u64,
-    job: &Job,
-) -> Result<Answer, NoMemory>
-    requires allowed { Allowed (entries_of track.now.history) (entry.Job event) }
-    requires there { job_in number (jobs (entries_of track.now.history ++ entry.Job event ∷ []))
-        ≡ Some job.now }
-    ensures { IfOk result (λ answer. answer ≡ following.job_answer
-        (entries_of track.now.history ++ entry.Job event ∷ []) number) }
-{
-    growth_law();
-    jobs_law();
-    track.history_law();
-    Ok(Answer::Job {
-        job: number,
-        range: job.range(),
-        questions: job.questions(),
-        outcome: told(track.alloc(), track.commits(), job)?,
-    })
-}
-
 // Adds what becomes of a job, and tells of the job as it stands then.
 fn put_job(
     track: &mut MachineState,
@@ -94,7 +70,15 @@ fn put_job(
         track.new reply) }
     ensures same { OnErr result (track.new ≡ track.old) }
 {
-    let answer = told_then(track, event, number, job)?;
+    growth_law();
+    jobs_law();
+    track.history_law();
+    let answer = Answer::Job {
+        job: number,
+        range: job.range(),
+        questions: job.questions(),
+        outcome: told(track.alloc(), track.commits(), job)?,
+    };
     let step = track.add(author, Entry::Job { event }, 0)?;
     Ok(Reply { step, answer })
 }

@@ -1,20 +1,17 @@
-use Rattle.std.proofs.Common.{◌≡◌, ◌+◌, ◌≤◌, ◌<◌, List, [], ◌∷◌, ◌++◌, length, refl, sym, ap, subst, ◌∙◌, Option, Some, None, arith, ℕ}
-use Rattle.std.proofs.lemmas.List.{length-append, length-map}
+use Rattle.std.proofs.Common.{◌≡◌, ◌<◌, List, length, refl, sym, subst, Option, Some, None, arith, ℕ}
+use Rattle.std.proofs.lemmas.List.{length-map}
 use Rattle.metric_table.specs.Limits.{most}
-use Rattle.metric_table.specs.declared.limits.Limit.{Limit}
 use Rattle.metric_table.specs.declared.limits.Limit.TheVariants as limit
 use Rattle.history_model.specs.declared.entries.Entry.{Entry}
 use Rattle.history_model.specs.declared.entries.Entry.TheVariants as entry
 use Rattle.history_model.specs.declared.entries.Placed.{Placed}
 use Rattle.history_model.specs.declared.events.JobEvent.{JobEvent}
-use Rattle.history_model.specs.Allowed.{Allowed, KeepsLimits, first_passed}
+use Rattle.history_model.specs.Allowed.{Allowed, KeepsLimits}
 use Rattle.history_model.specs.Entries.{entries_of}
 use Rattle.history_model.specs.Jobs.{asked}
 use Rattle.track_model.specs.Laws.{SayIsAllowed, GiveUpIsAllowed}
-use Rattle.track_model.specs.Tracks.{with_entry}
 use Rattle.machine_state.proofs.Series.{no-more}
-use Rattle.track_follow.specs.Settling.{IsPut, entry_said, said_of}
-use Rattle.track_follow.specs.declared.settling.Settled.TheVariants as settled
+use Rattle.track_follow.specs.Settling.{entry_said}
 use Rattle.track_follow.proofs.settling.put_said.Goals as goal
 
 may : SayIsAllowed → GiveUpIsAllowed → (h : List Entry) (job place : ℕ) (status : Option ℕ) → KeepsLimits h → asked job h ≡ Some place → length h < most limit.Steps
