@@ -1,5 +1,5 @@
 -- The marks of series, as entries are looked at and as the history grows.
-use Rattle.std.proofs.Common.{◌≡◌, ℕ, ◌+◌, ◌≤◌, ◌<◌, Bool, true, false, cond, ◌&&◌, ◌||◌, List, [], ◌∷◌, ◌++◌, length, take, drop, refl, sym, ap, subst, ◌∙◌, ◌⊎◌, inl, inr, Option, Some, None, arith}
+use Rattle.std.proofs.Common.{◌≡◌, ℕ, ◌+◌, ◌≤◌, Bool, true, false, cond, ◌&&◌, ◌||◌, List, [], ◌∷◌, ◌++◌, length, take, drop, refl, sym, ap, subst, ◌∙◌, inl, inr, Option, Some, None, arith}
 use Rattle.std.specs.Prelude.{nat_lt, slice_get}
 use Rattle.std.proofs.lemmas.Bool.{cases_Bool}
 use Rattle.std.proofs.lemmas.Bool.Decides.{nat_tests}
@@ -19,7 +19,7 @@ use Rattle.touch_index.specs.declared.mark.Mark.{Mark}
 use Rattle.touch_model.specs.Laws.{TouchesGrow, TouchesArePast, KnownGrows, LatestStays, brings}
 use Rattle.touch_model.specs.Stale.{is_behind, is_stale}
 use Rattle.touch_model.specs.Touches.{touches, last_touch}
-use Rattle.track_state.specs.Covering.{stale_by, IsMark, Fits, Covers, AreTouched, SomeAreTouched, MakeSame, IsTest}
+use Rattle.track_state.specs.Covering.{IsMark, Fits, Covers, AreTouched, SomeAreTouched, MakeSame, IsTest}
 use Rattle.track_state.specs.Work.{key_of, claim_by}
 
 -- ---- claims that were touched

@@ -1,8 +1,7 @@
 -- Which series an entry touches, by what is found of it.
-use Rattle.std.proofs.Common.{◌≡◌, ℕ, Bool, true, false, ◌&&◌, ◌||◌, List, [], ◌∷◌, refl, sym, ap, subst, ◌∙◌, inl, inr, Option, Some, None}
+use Rattle.std.proofs.Common.{◌≡◌, ℕ, Bool, true, false, ◌&&◌, ◌||◌, List, [], ◌∷◌, refl, sym, ap, ap₂, subst, ◌∙◌, inl, inr, Option, Some, None}
 use Rattle.std.specs.Prelude.{◌↔◌, Contains, bytes_eq, find, option_map}
-use Rattle.std.specs.List.{list_any}
-use Rattle.std.proofs.lemmas.Bool.{cases_Bool}
+use Rattle.std.proofs.lemmas.Bool.{and_parts, cases_Bool}
 use Rattle.std.proofs.lemmas.Slice.Eq.{bytes_eq-Decides}
 use Rattle.history_model.specs.declared.entries.Acceptance.{Acceptance}
 use Rattle.history_model.specs.declared.entries.Entry.{Entry}
@@ -38,16 +37,8 @@ run-of h run found is s = known-run s (accepted run h) (stored (retractions h)) 
 -- ---- a metric that is tuned
 same-pair : (n s : Series) → same_series n s ≡ true → n ≡ s
 same-pair n s both =
-    let halves = split (bytes_eq n.test s.test) (bytes_eq n.metric s.metric) both in
-    let tests : n.test ≡ s.test = (bytes_eq-Decides n.test s.test).0 halves.0 in
-    let metrics : n.metric ≡ s.metric = (bytes_eq-Decides n.metric s.metric).0 halves.1 in
-    ap (λ (t : List ℕ). let k : Series = record { test = t; metric = n.metric } in k) tests
-    ∙ ap (λ (m : List ℕ). let k : Series = record { test = s.test; metric = m } in k) metrics
-  where
-    split : (a b : Bool) → (a && b) ≡ true → (a ≡ true) × (b ≡ true)
-    split true true both = (refl, refl)
-    split true false both = absurd (cc)
-    split false b both = absurd (cc)
+    let halves = and_parts (bytes_eq n.test s.test) (bytes_eq n.metric s.metric) both in
+    ap₂ (λ (t m : List ℕ). let k : Series = record { test = t; metric = m } in k) ((bytes_eq-Decides n.test s.test).0 halves.0) ((bytes_eq-Decides n.metric s.metric).0 halves.1)
 
 eq-bytes : (xs : List ℕ) → bytes_eq xs xs ≡ true
 eq-bytes xs = (bytes_eq-Decides xs xs).1 refl

@@ -1,6 +1,6 @@
 -- The marks once a finished segmentation was handed in.
 use Rattle.history_model.proofs.Chosen.{entries-push}
-use Rattle.std.proofs.Common.{◌≡◌, ◌≢◌, ℕ, ◌+◌, ◌≤◌, Bool, true, false, cond, ◌&&◌, List, [], ◌∷◌, ◌++◌, length, take, refl, sym, ap, subst, ◌∙◌, inl, inr, Option, Some, None, arith}
+use Rattle.std.proofs.Common.{◌≡◌, ◌≢◌, ℕ, ◌+◌, ◌≤◌, true, false, cond, ◌&&◌, List, [], ◌∷◌, ◌++◌, length, refl, sym, ap, subst, ◌∙◌, inl, inr, Option, Some, None, arith}
 use Rattle.std.specs.Prelude.{nat_lt}
 use Rattle.std.specs.Ordering.{is_eq}
 use Rattle.std.proofs.lemmas.Bool.{cases_Bool}
@@ -19,7 +19,7 @@ use Rattle.publication_index.specs.Kept.{series_of as series_of_done}
 use Rattle.touch_index.specs.Marks.{Entries, key_cmp, mark_of, touched_claim, with_claim}
 use Rattle.touch_index.specs.declared.key.SeriesKey.{SeriesKey}
 use Rattle.touch_index.specs.declared.mark.Claim.{Claim}
-use Rattle.touch_index.specs.declared.mark.Claim.TheVariants.{Free, Taken, Refused}
+use Rattle.touch_index.specs.declared.mark.Claim.TheVariants.{Free, Refused}
 use Rattle.touch_index.specs.declared.mark.Mark.{Mark}
 use Rattle.touch_model.specs.Laws.{KnownGrows, LatestStays, TouchesArePast, TouchesGrow}
 use Rattle.touch_model.specs.Stale.{is_behind}

@@ -5,6 +5,6 @@ mod Touching
 mod Tests
 mod Found
 mod Opening
-mod Handed
+pub mod Handed
 mod Numbers
 mod Stepping

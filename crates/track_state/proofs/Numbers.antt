@@ -8,7 +8,6 @@ use Rattle.bisect_core.specs.declared.outcome.Outcome.TheVariants.{Asks, Found, 
 use Rattle.follow_index.specs.Numbered.{open_from, open_numbers}
 use Rattle.history_model.specs.declared.entries.Entry.{Entry}
 use Rattle.history_model.specs.Jobs.{asked, is_under_way, job_in, jobs, place_asked}
-use Rattle.track_state.specs.Asking.{IsOpenQuestion}
 use Rattle.track_state.specs.Questions.{IsFirstQuestion, IsQuestion, NoneIsAsked, is_claimed}
 use Rattle.track_state.specs.declared.questions.Question.{Question}
 

@@ -1,11 +1,11 @@
 -- What is open by the marks, where all entries were looked at, and what a claim more or a mark less changes.
-use Rattle.std.proofs.Common.{◌≡◌, ℕ, ◌≤◌, Bool, true, false, cond, ◌&&◌, List, length, refl, sym, ap, subst, ◌∙◌, inl, inr, Option, Some, None, arith}
+use Rattle.std.proofs.Common.{◌≡◌, ℕ, ◌≤◌, true, false, cond, List, length, refl, sym, ap, subst, ◌∙◌, inl, inr, Option, Some, None, arith}
 use Rattle.std.specs.Prelude.{nat_lt}
-use Rattle.std.specs.Ordering.{is_eq, is_lt}
+use Rattle.std.specs.Ordering.{is_eq}
 use Rattle.std.proofs.lemmas.Bool.{cases_Bool}
 use Rattle.history_model.specs.declared.entries.Entry.{Entry}
 use Rattle.history_model.specs.Publications.{last_publication}
-use Rattle.history_model.specs.Runs.{Series, is_known, same_series}
+use Rattle.history_model.specs.Runs.{Series, same_series}
 use Rattle.touch_index.specs.Marks.{Entries, IsFirstFree, NoneIsFree, key_cmp, mark_of, touched_claim, with_claim}
 use Rattle.touch_index.specs.declared.key.SeriesKey.{SeriesKey}
 use Rattle.touch_index.specs.declared.mark.Claim.{Claim}

@@ -1,6 +1,6 @@
 -- Claims after a request.
 use Rattle.history_model.proofs.Chosen.{entries-push}
-use Rattle.std.proofs.Common.{◌≡◌, ℕ, ◌+◌, ◌≤◌, Bool, true, false, cond, List, [], ◌∷◌, ◌++◌, length, refl, sym, ap, subst, ◌∙◌, inl, inr, Option, Some, None, arith}
+use Rattle.std.proofs.Common.{◌≡◌, ℕ, ◌+◌, cond, List, [], ◌∷◌, ◌++◌, length, sym, ap, subst, ◌∙◌, inl, inr, Option, Some, None, arith}
 use Rattle.std.specs.Prelude.{nat_lt}
 use Rattle.std.proofs.lemmas.Bool.{cases_Bool}
 use Rattle.history_model.specs.declared.entries.Author.{Author}
@@ -13,7 +13,7 @@ use Rattle.touch_index.specs.Marks.{Entries, mark_of, touched_claim}
 use Rattle.touch_index.specs.declared.mark.Claim.{Claim}
 use Rattle.touch_model.specs.Laws.{KnownGrows, LatestStays, TouchesArePast, TouchesGrow}
 use Rattle.touch_model.specs.Touches.{last_touch, touches}
-use Rattle.track_model.specs.Tracks.{Track, with_added, with_entry}
+use Rattle.track_model.specs.Tracks.{Track, with_added}
 use Rattle.track_state.specs.Covering.{Covers}
 use Rattle.track_state.specs.Work.{claim_by, key_of}
 use Rattle.track_state.proofs.Covering.{claims-grown, covers-grown, less, not-less}

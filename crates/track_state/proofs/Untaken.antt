@@ -1,5 +1,5 @@
 -- Machines of which no worker has taken a series or a job.
-use Rattle.std.proofs.Common.{◌≡◌, ℕ, Bool, true, false, List, [], refl, sym, ap, ◌∙◌, Option, Some, None}
+use Rattle.std.proofs.Common.{◌≡◌, ℕ, Bool, true, false, [], refl, sym, ap, ◌∙◌, Option, Some, None}
 use Rattle.std.specs.Prelude.{nat_lt, if◌then◌else◌}
 use Rattle.history_model.specs.declared.entries.Author.{Author}
 use Rattle.history_model.specs.Runs.{Series, same_series}
@@ -17,7 +17,7 @@ use Rattle.track_series.specs.declared.snapshot.Snapshot.{Snapshot}
 use Rattle.track_state.specs.declared.questions.Question.{Question}
 use Rattle.track_state.specs.Questions.{Settles, jobs_after}
 use Rattle.track_state.specs.Taking.{Publishes, TakesStale, claim_after}
-use Rattle.track_state.specs.Work.{ClaimBecomes, ClaimsStay, IsUntaken, Work, claim_on, history_of, unclaimed}
+use Rattle.track_state.specs.Work.{ClaimsStay, IsUntaken, Work, claim_on, history_of, unclaimed}
 
 free-is : Free ≡ Taken → ⊥
 free-is is = absurd (let never : Free ≡ Taken = is in cc)

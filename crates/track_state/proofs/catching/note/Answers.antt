@@ -2,16 +2,16 @@ use Rattle.std.proofs.Common.{◌≡◌, ℕ, zero, suc, [], ◌∷◌, refl, �
 use Rattle.std.specs.Prelude.{OnErr, OnOk, Result, Ok, Err, option_copied, option_map, slice_get}
 use Rattle.std.specs.declared.alloc.AllocError.{AllocError}
 use Rattle.std.proofs.lemmas.List.{length-map}
-use Rattle.std.proofs.lemmas.Option.{slice_get-map, slice_get_within}
+use Rattle.std.proofs.lemmas.Option.{slice_get-map}
 use Rattle.metric_table.specs.declared.limits.Limit.TheVariants as limit
 use Rattle.history_model.specs.declared.entries.Entry.{Entry}
 use Rattle.history_model.specs.declared.entries.Placed.{Placed}
 use Rattle.history_model.specs.Entries.{entries_of}
-use Rattle.touch_index.specs.Marks.{Entries}
-use Rattle.track_state.specs.Covering.{AreTouched, Covers, IsTest}
+use Rattle.track_state.specs.Covering.{IsTest}
 use Rattle.track_state.specs.Touching.{touched_by}
 use Rattle.track_state.proofs.Covering.{covers-step, covers-part, claims-part}
 use Rattle.track_state.proofs.Tests.{is-test}
+use Rattle.track_state.proofs.catching.note.Goals.{After-touch_entry}
 use Rattle.track_state.proofs.catching.note.Goals as goal
 
 entry-at : (history : List Placed) (k : ℕ) (p : Placed) → slice_get history k ≡ Some p → slice_get (entries_of history) k ≡ Some p.entry
@@ -55,38 +55,34 @@ if-err : (r : Result (Unit {0}) AllocError) {Q : Type 0} → Q → OnErr r Q
 if-err (Ok u) q = tt
 if-err (Err e) q = q
 
+-- the entry at the place, and what it touches
+module _ (c : After-touch_entry) where
+  abbrev h : List Entry
+  h = entries_of c.args.track.now.history
+
+  abbrev e : Entry
+  e = c.in-Some.placed.now.entry
+
+  there : slice_get h c.args.place ≡ Some e
+  there = found c.args.track.now.history c.args.place (c.args.place + 1) c.in-Some.placed.now (option_copied c.entry.result) refl c.entry.ensures.there (ap option_copied c.in-Some.is)
+
+  test : IsTest h c.args.place e (touched_by h e)
+  test = is-test c.touch_law.ensures.known c.publication_law.ensures.known c.touch_law.ensures.retracted h c.history_law.ensures.legal c.args.place e there
+
 pub returns-clause-all : goal.returns-clause-all
 returns-clause-all c =
-    let h : List Entry = entries_of c.args.track.now.history in
-    let place : ℕ = c.args.place in
-    let e : Entry = c.in-Some.placed.now.entry in
-    let there : slice_get h place ≡ Some e =
-    found c.args.track.now.history place (place + 1) c.in-Some.placed.now (option_copied c.entry.result) refl c.entry.ensures.there (ap option_copied c.in-Some.is) in
-    let test : IsTest h place e (touched_by h e) =
-    is-test c.touch_law.ensures.known c.publication_law.ensures.known c.touch_law.ensures.retracted h c.history_law.ensures.legal place e there in
+    let at = (goal.at.returns-clause-all c).After-touch_entry in
     if-ok c.touch_entry.result
-    (covers-step c.touch_law.ensures.last c.touch_law.ensures.past c.touch_law.ensures.known c.publication_law.ensures.known h place e there (touched_by h e) test c.args.touched.now c.touch_entry.new.touched c.requires.covers)
+    (covers-step c.touch_law.ensures.last c.touch_law.ensures.past c.touch_law.ensures.known c.publication_law.ensures.known (h at) c.args.place (e at) (there at) (touched_by (h at) (e at)) (test at) c.args.touched.now c.touch_entry.new.touched c.requires.covers)
     c.touch_entry.ensures.all
 
 pub returns-clause-part : goal.returns-clause-part
 returns-clause-part c =
-    let h : List Entry = entries_of c.args.track.now.history in
-    let place : ℕ = c.args.place in
-    let e : Entry = c.in-Some.placed.now.entry in
-    let there : slice_get h place ≡ Some e =
-    found c.args.track.now.history place (place + 1) c.in-Some.placed.now (option_copied c.entry.result) refl c.entry.ensures.there (ap option_copied c.in-Some.is) in
-    let test : IsTest h place e (touched_by h e) =
-    is-test c.touch_law.ensures.known c.publication_law.ensures.known c.touch_law.ensures.retracted h c.history_law.ensures.legal place e there in
+    let at = (goal.at.returns-clause-part c).After-touch_entry in
     if-err c.touch_entry.result
-    (covers-part c.touch_law.ensures.last c.touch_law.ensures.past c.touch_law.ensures.known c.publication_law.ensures.known h place e there (touched_by h e) test c.args.touched.now c.touch_entry.new.touched c.requires.covers c.touch_entry.ensures.some)
+    (covers-part c.touch_law.ensures.last c.touch_law.ensures.past c.touch_law.ensures.known c.publication_law.ensures.known (h at) c.args.place (e at) (there at) (touched_by (h at) (e at)) (test at) c.args.touched.now c.touch_entry.new.touched c.requires.covers c.touch_entry.ensures.some)
 
 pub returns-clause-claims : goal.returns-clause-claims
 returns-clause-claims c =
-    let h : List Entry = entries_of c.args.track.now.history in
-    let place : ℕ = c.args.place in
-    let e : Entry = c.in-Some.placed.now.entry in
-    let there : slice_get h place ≡ Some e =
-    found c.args.track.now.history place (place + 1) c.in-Some.placed.now (option_copied c.entry.result) refl c.entry.ensures.there (ap option_copied c.in-Some.is) in
-    let test : IsTest h place e (touched_by h e) =
-    is-test c.touch_law.ensures.known c.publication_law.ensures.known c.touch_law.ensures.retracted h c.history_law.ensures.legal place e there in
-    claims-part c.touch_law.ensures.last c.touch_law.ensures.past c.touch_law.ensures.known c.publication_law.ensures.known h place e there (touched_by h e) test c.args.touched.now c.touch_entry.new.touched c.requires.covers c.touch_entry.ensures.some
+    let at = (goal.at.returns-clause-claims c).After-touch_entry in
+    claims-part c.touch_law.ensures.last c.touch_law.ensures.past c.touch_law.ensures.known c.publication_law.ensures.known (h at) c.args.place (e at) (there at) (touched_by (h at) (e at)) (test at) c.args.touched.now c.touch_entry.new.touched c.requires.covers c.touch_entry.ensures.some

@@ -1,8 +1,7 @@
-use Rattle.std.proofs.Common.{◌≡◌, ℕ, ◌≤◌, List, length, refl, sym, ap, subst, ◌∙◌, Option, Some, None}
+use Rattle.std.proofs.Common.{◌≡◌, ◌≤◌, List, length, refl, sym, ap, subst, ◌∙◌, Option, Some, None}
 use Rattle.std.specs.Prelude.{option_copied}
 use Rattle.segment_cost.specs.declared.done.Done.{Done}
 use Rattle.history_model.specs.declared.entries.Entry.{Entry}
-use Rattle.history_model.specs.declared.publication.Publication.{Publication}
 use Rattle.history_model.specs.Entries.{entries_of}
 use Rattle.history_model.specs.Publications.{last_publication}
 use Rattle.history_model.specs.Runs.{Series}
@@ -16,6 +15,7 @@ use Rattle.track_state.specs.Covering.{Fits}
 use Rattle.track_state.specs.Work.{series_of}
 use Rattle.track_state.proofs.Handed.{kept-none, kept-some, put-claims, put-covers, was-published}
 use Rattle.track_state.proofs.Touching.{same-itself}
+use Rattle.track_state.proofs.publishing.marked.Goals.{In-Some-published}
 use Rattle.track_state.proofs.publishing.marked.Goals as goal
 
 pub unreachable-requires : goal.unreachable-requires
@@ -28,29 +28,31 @@ unreachable-requires c =
     kept-none h (last_publication s h) (subst (λ (o : Option Done). IsKept h (last_publication s h) o) (ap option_copied c.in_default-published.is) c.published.ensures) in
     was-published h s c.requires.known (subst (λ (o : Option Mark). Fits h (length h) s o) none (c.requires.covers.each s)) unpublished
 
+-- the publication whose version marks the series
+module _ (c : In-Some-published) where
+  abbrev h : List Entry
+  h = entries_of c.args.track.now.history
+
+  abbrev done : Done
+  done = c.in-Some-published.done.now
+
+  last : last_publication (series_of c.args.key.now) h ≡ Some (publication_from done)
+  last =
+      let P : Option Done → Type 0 = λ o. IsKept h (last_publication (series_of c.args.key.now) h) o in
+      kept-some h (last_publication (series_of c.args.key.now) h) done (subst P (ap option_copied c.in-Some-published.is) c.published.ensures)
+
+  past : done.version ≤ length h
+  past = (c.publication_law.ensures.last_stands h (series_of c.args.key.now) (publication_from done) c.history_law.ensures.legal last).1.past
+
 pub returns-clause-covers : goal.returns-clause-covers
 returns-clause-covers c =
-    let h : List Entry = entries_of c.args.track.now.history in
-    let k : SeriesKey = c.args.key.now in
-    let s : Series = series_of k in
-    let done : Done = c.in-Some-published.done.now in
-    let none : mark_of k c.args.touched.now ≡ None = sym c.get.ensures ∙ c.in_default.is in
-    let last : last_publication s h ≡ Some (publication_from done) =
-    kept-some h (last_publication s h) done (subst (λ (o : Option Done). IsKept h (last_publication s h) o) (ap option_copied c.in-Some-published.is) c.published.ensures) in
-    let past : done.version ≤ length h = (c.publication_law.ensures.last_stands h s (publication_from done) c.history_law.ensures.legal last).1.past in
-    put-covers h c.args.touched.now c.put.new.self c.requires.covers k c.requires.known none (publication_from done) last past c.in_ok-put.ensures.ok
+    let at = (goal.at.returns-clause-covers c).In-Some-published in
+    put-covers (h at) c.args.touched.now c.put.new.self c.requires.covers c.args.key.now c.requires.known (sym c.get.ensures ∙ c.in_default.is) (publication_from (done at)) (last at) (past at) c.in_ok-put.ensures.ok
 
 pub returns-clause-claims : goal.returns-clause-claims
 returns-clause-claims c =
-    let h : List Entry = entries_of c.args.track.now.history in
-    let k : SeriesKey = c.args.key.now in
-    let s : Series = series_of k in
-    let done : Done = c.in-Some-published.done.now in
-    let none : mark_of k c.args.touched.now ≡ None = sym c.get.ensures ∙ c.in_default.is in
-    let last : last_publication s h ≡ Some (publication_from done) =
-    kept-some h (last_publication s h) done (subst (λ (o : Option Done). IsKept h (last_publication s h) o) (ap option_copied c.in-Some-published.is) c.published.ensures) in
-    let past : done.version ≤ length h = (c.publication_law.ensures.last_stands h s (publication_from done) c.history_law.ensures.legal last).1.past in
-    put-claims h c.args.touched.now c.put.new.self c.requires.covers k c.requires.known none (publication_from done) last past c.in_ok-put.ensures.ok
+    let at = (goal.at.returns-clause-claims c).In-Some-published in
+    put-claims (h at) c.args.touched.now c.put.new.self c.requires.covers c.args.key.now c.requires.known (sym c.get.ensures ∙ c.in_default.is) (publication_from (done at)) (last at) (past at) c.in_ok-put.ensures.ok
 
 pub returns-clause-mark : goal.returns-clause-mark
 returns-clause-mark c = record {

@@ -1,4 +1,4 @@
-use Rattle.std.proofs.Common.{◌≡◌, ℕ, cond, List, length, sym, subst, ◌∙◌, ap}
+use Rattle.std.proofs.Common.{◌≡◌, ℕ, cond, List, sym, subst, ◌∙◌, ap}
 use Rattle.std.specs.Prelude.{nat_lt}
 use Rattle.std.specs.Ordering.{is_eq}
 use Rattle.history_model.specs.declared.entries.Entry.{Entry}
@@ -10,7 +10,7 @@ use Rattle.touch_index.specs.declared.mark.Claim.{Claim}
 use Rattle.touch_index.specs.declared.mark.Claim.TheVariants.{Free, Refused}
 use Rattle.touch_model.specs.Touches.{last_touch}
 use Rattle.track_state.specs.Covering.{Covers}
-use Rattle.track_state.specs.Work.{claim_by, key_of, series_of}
+use Rattle.track_state.specs.Work.{series_of}
 use Rattle.track_state.proofs.Handed.{refused-claims, refused-covers}
 use Rattle.track_state.proofs.publishing.note_refusal.Goals as goal
 

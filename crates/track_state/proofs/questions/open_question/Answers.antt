@@ -1,4 +1,4 @@
-use Rattle.std.proofs.Common.{◌≡◌, ℕ, not, List, sym, ap, ◌∙◌, Some, None}
+use Rattle.std.proofs.Common.{◌≡◌, ℕ, not, List, sym, ap, ◌∙◌}
 use Rattle.std.specs.Prelude.{find}
 use Rattle.bisect_core.specs.Bisections.{Bisection}
 use Rattle.follow_index.specs.Numbered.{open_numbers}

@@ -14,7 +14,7 @@ use Rattle.touch_index.specs.declared.mark.Claim.{Claim}
 use Rattle.touch_index.specs.declared.mark.Claim.TheVariants.{Free, Refused}
 use Rattle.touch_model.specs.Touches.{last_touch}
 use Rattle.track_model.specs.Tracks.{Track}
-use Rattle.track_series.specs.Publications.{IsPublished, later, passed}
+use Rattle.track_series.specs.Publications.{IsPublished, later}
 use Rattle.track_series.specs.declared.publishing.Published.{Published}
 use Rattle.track_series.specs.declared.publishing.Published.TheVariants as published
 use Rattle.track_state.specs.Covering.{Covers, MakeSame}

@@ -1,9 +1,9 @@
-use Rattle.std.proofs.Common.{◌≡◌, ℕ, Bool, cond, List, length, refl, sym, ap, ◌∙◌, subst, Option}
+use Rattle.std.proofs.Common.{◌≡◌, ℕ, cond, List, length, refl, sym, ap, ◌∙◌, subst, Option}
 use Rattle.std.specs.Prelude.{IfSome}
 use Rattle.history_model.specs.declared.entries.Entry.{Entry}
 use Rattle.history_model.specs.Entries.{entries_of}
-use Rattle.history_model.specs.Runs.{Series, same_series}
-use Rattle.touch_index.specs.Marks.{Entries, mark_of}
+use Rattle.history_model.specs.Runs.{same_series}
+use Rattle.touch_index.specs.Marks.{mark_of}
 use Rattle.touch_index.specs.declared.key.SeriesKey.{SeriesKey}
 use Rattle.touch_index.specs.declared.mark.Claim.{Claim}
 use Rattle.touch_index.specs.declared.mark.Claim.TheVariants.{Taken}

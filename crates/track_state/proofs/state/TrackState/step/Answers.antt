@@ -1,8 +1,6 @@
-use Rattle.std.proofs.Common.{◌≡◌, ℕ, cond, List, refl, sym, ap, subst, ◌∙◌}
-use Rattle.history_model.specs.Entries.{entries_of}
+use Rattle.std.proofs.Common.{refl, subst}
 use Rattle.track_model.specs.Outcomes.{Outcome}
-use Rattle.track_model.specs.Tracks.{ComesTo, IsStep, Track}
-use Rattle.track_state.specs.Covering.{Covers}
+use Rattle.track_model.specs.Tracks.{ComesTo, IsStep}
 use Rattle.track_state.specs.Kept.{KeepsClaims}
 use Rattle.track_state.specs.Work.{Work, history_of}
 use Rattle.track_state.proofs.Stepping.{step-claims, step-covers}
