@@ -1,5 +1,5 @@
 -- Items with their numbers.
-use Rattle.std.proofs.Common.{◌≡◌, ℕ, ◌+◌, ◌<◌, List, [], ◌∷◌, ◌++◌, length, take, Some, ap, sym, ◌∙◌, arith}
+use Rattle.std.proofs.Common.{◌≡◌, ℕ, suc, ◌+◌, ◌<◌, List, [], ◌∷◌, ◌++◌, length, take, Option, Some, ap, sym, ◌∙◌, arith}
 use Rattle.std.specs.Prelude.{slice_get}
 use Rattle.std.proofs.lemmas.List.{take_more, length-take-le}
 use Rattle.std.proofs.lemmas.Option.{slice_get_within, get_or_from_slice_get}
@@ -13,7 +13,7 @@ numbered-more {A} {B} line n (y ∷ xs) x =
     ∙ ap (λ (k : ℕ). numbered line (n + 1) xs ++ line k x ∷ []) (omega arith))
 
 -- a loop's step: the item of the next place takes the next number
-pub numbered-step : {A B : Type 0} (line : ℕ → A → B) (xs : List A) (i : ℕ) (x : A) → slice_get xs i ≡ Some x → (made : List B) (one : B)
+numbered-step : {A B : Type 0} (line : ℕ → A → B) (xs : List A) (i : ℕ) (x : A) → slice_get xs i ≡ Some x → (made : List B) (one : B)
     → made ≡ numbered line 1 (take i xs) → one ≡ line (i + 1) x → made ++ one ∷ [] ≡ numbered line 1 (take (i + 1) xs)
 numbered-step {A} {B} line xs i x found made one so-far is =
     let within : i < length xs = slice_get_within xs i x found in
@@ -24,3 +24,10 @@ numbered-step {A} {B} line xs i x found made one so-far is =
     ∙ sym (numbered-more line 1 (take i xs) x)
     ∙ ap (λ (y : A). numbered line 1 (take i xs ++ y ∷ [])) (sym (get_or_from_slice_get xs i x x found))
     ∙ ap (λ (ys : List A). numbered line 1 ys) (sym (take_more xs i x within))
+
+-- the same, where an item is asked for by its number
+pub numbered-next : {A B : Type 0} (line : ℕ → A → B) (xs : List A) (i : ℕ) (x : A) (at : ℕ → Option A) → at (suc i) ≡ slice_get xs i → Some x ≡ at (i + 1) → (made : List B) (one : B)
+    → made ≡ numbered line 1 (take i xs) → one ≡ line (i + 1) x → made ++ one ∷ [] ≡ numbered line 1 (take (i + 1) xs)
+numbered-next line xs i x at here is =
+    let next : i + 1 ≡ suc i = omega arith in
+    numbered-step line xs i x (sym (is ∙ ap at next ∙ here))
