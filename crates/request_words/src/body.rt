@@ -1,5 +1,6 @@
 //! What a submission asks, by its body.
-ghost use Rattle.std.specs.Prelude.{IfOk};
+ghost use Rattle.std.specs.Prelude.{◌≡◌, IfOk};
+ghost use Rattle.request_model.specs.declared.requests.Request.TheVariants as request;
 ghost use Rattle.request_words.specs.Refused.{IsGoRefused, IsLntRefused};
 ghost use Rattle.request_words.specs.Bodies.{of_go, AsksGo, of_lnt, AsksLnt};
 
@@ -8,6 +9,7 @@ use go_bench_text::{GoFault, GoRun, read_go_with};
 use line_text::{Name, Names};
 use lnt_report::{LntRun, ReportFault, read_report};
 use request_model::{RangePlace, Refusal, Request};
+use sample_model::Samples;
 use std::alloc::Global;
 
 // What a submission of Go benchmark text asks.
@@ -25,16 +27,8 @@ pub(crate) fn go_asked(
         Ok(given) => given,
         Err(fault) => return go_refused(fault),
     };
-    let samples = samples.share(alloc)?;
     samples.limits();
-    Ok(Ok(Request::Submit {
-        machine,
-        commit,
-        run,
-        samples,
-        ignored,
-        stated: None,
-    }))
+    Ok(Ok(submission(alloc, machine, commit, run, samples, ignored, None)?))
 }
 
 // What a submission of an LNT run asks.
@@ -55,15 +49,30 @@ pub(crate) fn lnt_asked(
         Ok(given) => given,
         Err(fault) => return lnt_refused(fault),
     };
+    Ok(Ok(submission(alloc, machine, commit, run, samples, ignored, Some(stated))?))
+}
+
+// A submission of samples, such that a copy of it takes no memory for them.
+fn submission(
+    alloc: Global,
+    machine: Name,
+    commit: Name,
+    run: Name,
+    samples: Samples,
+    ignored: u64,
+    stated: Option<Name>,
+) -> Result<Request, NoMemory>
+    ensures { IfOk result (λ asked. asked ≡ request.Submit machine commit run samples ignored stated) }
+{
     let samples = samples.share(alloc)?;
-    Ok(Ok(Request::Submit {
+    Ok(Request::Submit {
         machine,
         commit,
         run,
         samples,
         ignored,
-        stated: Some(stated),
-    }))
+        stated,
+    })
 }
 
 // The refusal that a fault of Go benchmark text is.
