@@ -28,7 +28,7 @@ pub(crate) fn go_asked(
         Err(fault) => return go_refused(fault),
     };
     samples.limits();
-    Ok(Ok(submission(alloc, machine, commit, run, samples, ignored, None)?))
+    Ok(Ok(submission(alloc, (machine, commit, run), samples, ignored, None)?))
 }
 
 // What a submission of an LNT run asks.
@@ -49,26 +49,31 @@ pub(crate) fn lnt_asked(
         Ok(given) => given,
         Err(fault) => return lnt_refused(fault),
     };
-    Ok(Ok(submission(alloc, machine, commit, run, samples, ignored, Some(stated))?))
+    Ok(Ok(submission(
+        alloc,
+        (machine, commit, run),
+        samples,
+        ignored,
+        Some(stated),
+    )?))
 }
 
-// A submission of samples, such that a copy of it takes no memory for them.
+// A submission for a machine, a commit and a run, such that a copy of it takes no memory for the samples.
 fn submission(
     alloc: Global,
-    machine: Name,
-    commit: Name,
-    run: Name,
+    of: (Name, Name, Name),
     samples: Samples,
     ignored: u64,
     stated: Option<Name>,
 ) -> Result<Request, NoMemory>
-    ensures { IfOk result (λ asked. asked ≡ request.Submit machine commit run samples ignored stated) }
+    ensures { IfOk result (λ asked.
+        asked ≡ request.Submit of.0 of.1 of.2 samples ignored stated) }
 {
     let samples = samples.share(alloc)?;
     Ok(Request::Submit {
-        machine,
-        commit,
-        run,
+        machine: of.0,
+        commit: of.1,
+        run: of.2,
         samples,
         ignored,
         stated,
