@@ -1,5 +1,6 @@
 //! Classes of bytes, of which runs are read at once.
 ghost use Rattle.std.specs.Prelude.{◌≡◌, ℕ, Bool};
+ghost use Rattle.json_text.specs.Classes.{is_blank, is_plain};
 
 use crate::lexeme::{is_blank, is_plain};
 
@@ -16,8 +17,6 @@ pub(crate) trait Class {
 pub(crate) struct Blank;
 
 impl Class for Blank {
-    ghost use Rattle.json_text.specs.Classes.{is_blank};
-
     ghost test = { is_blank };
 
     fn has(byte: u8) -> bool {
@@ -29,8 +28,6 @@ impl Class for Blank {
 pub(crate) struct Plain;
 
 impl Class for Plain {
-    ghost use Rattle.json_text.specs.Classes.{is_plain};
-
     ghost test = { is_plain };
 
     fn has(byte: u8) -> bool {
