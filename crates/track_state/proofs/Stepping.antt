@@ -1,6 +1,6 @@
 -- Claims after a request.
 use Rattle.history_model.proofs.Chosen.{entries-push}
-use Rattle.std.proofs.Common.{◌≡◌, ℕ, ◌+◌, cond, List, [], ◌∷◌, ◌++◌, length, sym, ap, subst, ◌∙◌, inl, inr, Option, Some, None, arith}
+use Rattle.std.proofs.Common.{◌≡◌, ℕ, ◌+◌, cond, List, [], ◌∷◌, ◌++◌, length, refl, sym, ap, subst, ◌∙◌, inl, inr, Option, Some, None, arith}
 use Rattle.std.specs.Prelude.{nat_lt}
 use Rattle.std.proofs.lemmas.Bool.{cases_Bool}
 use Rattle.history_model.specs.declared.entries.Author.{Author}
@@ -15,7 +15,8 @@ use Rattle.touch_model.specs.Laws.{KnownGrows, LatestStays, TouchesArePast, Touc
 use Rattle.touch_model.specs.Touches.{last_touch, touches}
 use Rattle.track_model.specs.Tracks.{Track, with_added}
 use Rattle.track_state.specs.Covering.{Covers}
-use Rattle.track_state.specs.Work.{claim_by, key_of}
+use Rattle.track_state.specs.Work.{Work, claim_by, key_of}
+use Rattle.track_state.specs.Kept.{KeepsClaims}
 use Rattle.track_state.proofs.Covering.{claims-grown, covers-grown, less, not-less}
 use Rattle.track_state.proofs.Handed.{last-allowed}
 
@@ -31,7 +32,7 @@ module _ (grow : TouchesGrow) (past : TouchesArePast) (known : KnownGrows) (stay
       subst (λ (h : List Entry). Covers h seen marks) (sym entries) (covers-grown grow past known stays latest (entries_of old.history) e allowed seen marks covers)
 
   -- and a claim that a limit left ends with a touch
-  pub step-claims : (adds : Option Entry) → new ≡ with_added author old adds → (s : Series)
+  step-claims : (adds : Option Entry) → new ≡ with_added author old adds → (s : Series)
       → claim_by (entries_of new.history) s (mark_of (key_of s) marks)
       ≡ cond (nat_lt (last_touch (entries_of old.history) s) (last_touch (entries_of new.history) s))
       (touched_claim (claim_by (entries_of old.history) s (mark_of (key_of s) marks))) (claim_by (entries_of old.history) s (mark_of (key_of s) marks))
@@ -61,3 +62,10 @@ module _ (grow : TouchesGrow) (past : TouchesArePast) (known : KnownGrows) (stay
       ap (λ (x : List Entry). claim_by x s (mark_of (key_of s) marks)) entries
       ∙ claims-grown grow past known stays latest h e allowed seen marks covers s
       ∙ sym (ap (λ (x : List Entry). cond (nat_lt (last_touch h s) (last_touch x s)) (touched_claim c) c) entries ∙ ap (λ b. cond b (touched_claim c) c) later)
+
+  pub keeps-claims : (adds : Option Entry) → new ≡ with_added author old adds → (jobs : List ℕ) (before : Work) → record { track = old; marks = marks; jobs = jobs } ≡ before
+      → KeepsClaims before (record { track = new; marks = marks; jobs = jobs })
+  keeps-claims adds is jobs before same =
+      let after : Work = record { track = new; marks = marks; jobs = jobs } in
+      let made : KeepsClaims (record { track = old; marks = marks; jobs = jobs }) after = record { series = step-claims adds is; jobs = refl } in
+      subst (λ (w : Work). KeepsClaims w after) same made

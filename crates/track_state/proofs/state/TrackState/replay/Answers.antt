@@ -1,11 +1,10 @@
-use Rattle.std.proofs.Common.{◌≡◌, Bool, true, false, cond, Option, Some, None, refl, subst}
+use Rattle.std.proofs.Common.{◌≡◌, Bool, true, false, cond, Option, Some, None, subst}
 use Rattle.history_model.specs.declared.entries.Author.TheVariants.{Kept}
 use Rattle.history_model.specs.declared.entries.Entry.{Entry}
 use Rattle.track_model.specs.Tracks.{Track, with_added, with_entry}
 use Rattle.track_replay.specs.Replays.{IsReplayed}
-use Rattle.track_state.specs.Kept.{KeepsClaims}
 use Rattle.track_state.specs.Work.{Work}
-use Rattle.track_state.proofs.Stepping.{step-claims, step-covers}
+use Rattle.track_state.proofs.Stepping.{keeps-claims, step-covers}
 use Rattle.track_state.proofs.state.TrackState.replay.Goals as goal
 
 -- what is added
@@ -29,12 +28,6 @@ returns-clause-replayed c =
 
 pub returns-clause-claims : goal.returns-clause-claims
 returns-clause-claims c =
-    let old : Work = record { track = c.self.inside.track; marks = c.self.inside.touched; jobs = c.self.inside.claimed.items } in
-    let new : Work = record { track = c.replay.new.track; marks = c.self.inside.touched; jobs = c.self.inside.claimed.items } in
-    let made : KeepsClaims old new = record {
-      series = step-claims c.touch_law.ensures.last c.touch_law.ensures.past c.touch_law.ensures.known c.publication_law.ensures.known c.stale_law.ensures
-          Kept c.self.inside.track c.replay.new.track c.history_law.ensures.legal c.self.inside.seen c.self.inside.touched c.self.invariant
-          (adds c.in_ok-added.added c.args.entry) (added-is c.in_ok-added.added c.self.inside.track c.replay.new.track c.args.entry c.in_ok-added.ensures.replayed.track);
-      jobs = refl;
-    } in
-    subst (λ (w : Work). KeepsClaims w new) c.self.view_is made
+    keeps-claims c.touch_law.ensures.last c.touch_law.ensures.past c.touch_law.ensures.known c.publication_law.ensures.known c.stale_law.ensures
+    Kept c.self.inside.track c.replay.new.track c.history_law.ensures.legal c.self.inside.seen c.self.inside.touched c.self.invariant
+    (adds c.in_ok-added.added c.args.entry) (added-is c.in_ok-added.added c.self.inside.track c.replay.new.track c.args.entry c.in_ok-added.ensures.replayed.track) c.self.inside.claimed.items c.args.self.now c.self.view_is

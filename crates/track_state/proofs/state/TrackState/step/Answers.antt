@@ -1,9 +1,8 @@
-use Rattle.std.proofs.Common.{refl, subst}
+use Rattle.std.proofs.Common.{subst}
 use Rattle.track_model.specs.Outcomes.{Outcome}
 use Rattle.track_model.specs.Tracks.{ComesTo, IsStep}
-use Rattle.track_state.specs.Kept.{KeepsClaims}
 use Rattle.track_state.specs.Work.{Work, history_of}
-use Rattle.track_state.proofs.Stepping.{step-claims, step-covers}
+use Rattle.track_state.proofs.Stepping.{keeps-claims, step-covers}
 use Rattle.track_state.proofs.state.TrackState.step.Goals as goal
 
 pub invariant_of-self-2 : goal.invariant_of-self-2
@@ -19,12 +18,6 @@ returns-clause-step c =
 
 pub returns-clause-claims : goal.returns-clause-claims
 returns-clause-claims c =
-    let old : Work = record { track = c.self.inside.track; marks = c.self.inside.touched; jobs = c.self.inside.claimed.items } in
-    let new : Work = record { track = c.step.new.track; marks = c.self.inside.touched; jobs = c.self.inside.claimed.items } in
-    let made : KeepsClaims old new = record {
-      series = step-claims c.touch_law.ensures.last c.touch_law.ensures.past c.touch_law.ensures.known c.publication_law.ensures.known c.stale_law.ensures
-          c.args.author c.self.inside.track c.step.new.track c.history_law.ensures.legal c.self.inside.seen c.self.inside.touched c.self.invariant
-          c.in_ok-reply.ensures.step.0.adds c.in_ok-reply.ensures.step.2.track;
-      jobs = refl;
-    } in
-    subst (λ (w : Work). KeepsClaims w new) c.self.view_is made
+    keeps-claims c.touch_law.ensures.last c.touch_law.ensures.past c.touch_law.ensures.known c.publication_law.ensures.known c.stale_law.ensures
+    c.args.author c.self.inside.track c.step.new.track c.history_law.ensures.legal c.self.inside.seen c.self.inside.touched c.self.invariant
+    c.in_ok-reply.ensures.step.0.adds c.in_ok-reply.ensures.step.2.track c.self.inside.claimed.items c.args.self.now c.self.view_is
