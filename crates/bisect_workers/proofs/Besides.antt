@@ -35,7 +35,7 @@ use Rattle.bisect_workers.specs.Bisecting.{IsDue, RoseBy}
 use Rattle.bisect_workers.specs.Failures.{failures}
 use Rattle.worker_model.specs.Findings.{AsksCommit, Finding, asked_name, finding_of, named_asked}
 use Rattle.bisect_workers.specs.Beside.{BisectsAt, EachBisects, IsBisectedIn, IsByWorker, IsDueIn, Use, asks_of, findings_by, found_at, found_by, given_up, is_given_up, is_number}
-use Rattle.bisect_workers.proofs.Joined.{later-due, told-twice}
+use Rattle.bisect_workers.proofs.Joined.{chosen-append, later-due, told-twice}
 use Rattle.bisect_workers.proofs.Staying.{question-stays}
 
 -- ---- findings of a pass
@@ -188,13 +188,7 @@ joined author word a b c x y z k m n first then = record {
   due = subst (λ (xs : List Ask). All (IsDueIn word c) xs) (sym asks_are)
       (All-append (IsDueIn word c) (asks_of first.uses) (asks_of then.uses)
       (All-weaker (IsDueIn word b) (IsDueIn word c) (due-on author then.uses word b c then.each) (asks_of first.uses) first.due) then.due);
-  rose =
-      let count : given_up (first.uses ++ then.uses) ≡ given_up first.uses + given_up then.uses =
-      ap (λ (us : List Use). length us) (filter-append is_given_up first.uses then.uses)
-      ∙ length-append (filter is_given_up first.uses) (filter is_given_up then.uses) in
-      let one = first.rose in
-      let two = then.rose in
-      omega (arith, count, one, two);
+  rose = omega (arith, chosen-append is_given_up first.uses then.uses, first.rose, then.rose);
 }
   where
     asks_are : asks_of (first.uses ++ then.uses) ≡ asks_of first.uses ++ asks_of then.uses

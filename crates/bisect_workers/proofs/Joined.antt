@@ -1,5 +1,5 @@
 -- What a worker added in one turn after another.
-use Rattle.std.proofs.Common.{◌≡◌, ℕ, ◌+◌, ◌≤◌, List, [], ◌∷◌, ◌++◌, length, refl, sym, ap, ap₂, subst, ◌∙◌, Option, Some, None, arith}
+use Rattle.std.proofs.Common.{◌≡◌, Bool, ℕ, ◌+◌, ◌≤◌, List, [], ◌∷◌, ◌++◌, length, refl, sym, ap, ap₂, subst, ◌∙◌, Option, Some, None, arith}
 use Rattle.std.specs.Prelude.{All, filter, map, option_map, option_to_list}
 use Rattle.std.proofs.lemmas.List.{append-nil, append_assoc, length-append, map-append, take-append-le}
 use Rattle.std.proofs.lemmas.List.Elements.{All-append, All-nil, All-weaker, filter-append}
@@ -54,6 +54,10 @@ later-due word history more ask due = record {
   asked = subst (λ (ps : List Placed). AsksCommit (entries_of ps) ask.commit) (sym (take-append-le due.count history more due.within)) due.asked;
 }
 
+-- how many of one list and then of another
+pub chosen-append : {A : Type 0} (chosen : A → Bool) (xs ys : List A) → length (filter chosen (xs ++ ys)) ≡ length (filter chosen xs) + length (filter chosen ys)
+chosen-append chosen xs ys = ap length (filter-append chosen xs ys) ∙ length-append (filter chosen xs) (filter chosen ys)
+
 pub joined : (author : Author) (word : List ℕ) (a b c : Track) (x y z : Option (List Ask)) (k m n : ℕ)
     → IsBisected author word a b x y k m → IsBisected author word b c y z m n → IsBisected author word a c x z k n
 joined author word a b c x y z k m n first then = record {
@@ -78,13 +82,7 @@ joined author word a b c x y z k m n first then = record {
       (All-weaker (IsDue word b.history) (IsDue word c.history)
       (λ ask due. subst (λ (ps : List Placed). IsDue word ps ask) (sym then.history) (later-due word b.history then.more ask due)) (asks_of first.uses) first.due)
       then.due);
-  given_up =
-      let count : give_ups (first.more ++ then.more) ≡ give_ups first.more + give_ups then.more =
-      ap (λ (ps : List Placed). length ps) (filter-append (λ (p : Placed). gives_up p.entry) first.more then.more)
-      ∙ length-append (filter (λ (p : Placed). gives_up p.entry) first.more) (filter (λ (p : Placed). gives_up p.entry) then.more) in
-      let one = first.given_up in
-      let two = then.given_up in
-      omega (arith, count, one, two);
+  given_up = omega (arith, chosen-append (λ (p : Placed). gives_up p.entry) first.more then.more, first.given_up, then.given_up);
 }
   where
     asks_are : asks_of (first.uses ++ then.uses) ≡ asks_of first.uses ++ asks_of then.uses

@@ -27,6 +27,7 @@ use Rattle.track_state.specs.declared.questions.Question.{Question}
 use Rattle.bisect_workers.specs.Bisecting.{IsBisected, IsDue, IsSaidBy, RoseBy}
 use Rattle.bisect_workers.specs.Failures.{failures}
 use Rattle.worker_model.specs.Findings.{AsksCommit, Finding, asked_name, finding_of, named_asked}
+use Rattle.track_follow.proofs.Bisecting.{takes}
 use Rattle.bisect_workers.specs.Findings.{asks_of, give_ups}
 use Rattle.bisect_workers.specs.Quiet.{NoneAsks}
 
@@ -39,14 +40,6 @@ none-asks h none job = by (asked job h) refl
     by (Some place) is = absurd (let never : false ≡ true = none job place is in cc)
 
 -- ---- what was said is recorded
-takes : (o : Outcome) (place : ℕ) → asked_by o ≡ Some place → answer_to o place ≡ answered.Ok
-takes (Asks asked) place is =
-    let same : asked ≡ place = cc in
-    ap (λ b. cond b answered.Ok (answered.NotAsked asked)) (eq-eqb asked place same)
-takes (Found lo hi) place is = absurd (cc)
-takes (Undecided at status) place is = absurd (cc)
-takes (Faulted at) place is = absurd (cc)
-
 put-of : (o : Option Limit) (old : Track) (author : Author) (e : Entry) (told : Settled) (new : Track) → o ≡ None → IsPut o old author e told new → new ≡ with_entry author old e
 put-of None old author e told new none is = is.1
 put-of (Some l) old author e told new none is = absurd (cc)

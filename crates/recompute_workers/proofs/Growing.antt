@@ -19,7 +19,7 @@ use Rattle.track_model.specs.Tracks.{Track, with_entry}
 use Rattle.track_state.specs.Work.{bare}
 use Rattle.recompute_workers.specs.Quiet.{IsQuiet}
 use Rattle.recompute_workers.specs.Recomputing.{AddsOne, AddsPublications, IsPublicationBy}
-use Rattle.recompute_workers.proofs.Handing.{last-allowed}
+use Rattle.track_state.proofs.Handed.{last-allowed}
 use Rattle.recompute_workers.proofs.Quieting.{quiet-stays, same-known}
 
 pub adds-more : (author : Author) (a b c : Track) → AddsPublications author a b → AddsOne author b c → AddsPublications author a c

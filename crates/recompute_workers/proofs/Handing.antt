@@ -149,15 +149,3 @@ module _ (last : PublicationIsLast) (grow : TouchesGrow) (past : TouchesArePast)
       and-false : (b : Bool) → (b && false) ≡ false
       and-false true = refl
       and-false false = refl
-
--- the last entry of a legal history is allowed
-last-allowed-from : (before es : List Entry) (e : Entry) → AllowedAfter before (es ++ e ∷ []) → Allowed (before ++ es) e
-last-allowed-from before [] e legal =
-    let P : List Entry → Type 0 = λ h. Allowed h e in
-    subst P (sym (append-nil before)) legal.0
-last-allowed-from before (x ∷ es) e legal =
-    let P : List Entry → Type 0 = λ h. Allowed h e in
-    subst P (append_assoc before (x ∷ []) es) (last-allowed-from (before ++ x ∷ []) es e legal.1)
-
-pub last-allowed : (h : List Entry) (e : Entry) → Legal (h ++ e ∷ []) → Allowed h e
-last-allowed h e legal = last-allowed-from [] h e legal

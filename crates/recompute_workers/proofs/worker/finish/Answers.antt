@@ -11,6 +11,7 @@ use Rattle.track_series.proofs.Segmenting.{made-from}
 use Rattle.track_state.specs.Work.{series_of}
 use Rattle.track_room.specs.Sights.{SeesMore, Visits}
 use Rattle.track_room.specs.Taking.{Publishes}
+use Rattle.track_room.proofs.Segments.{made-of-taken}
 use Rattle.recompute_workers.specs.Works.{Works}
 use Rattle.recompute_workers.proofs.Working.{works-change, works-publishes, works-sees, works-trans, zip-from, zip-trans}
 use Rattle.recompute_workers.proofs.worker.finish.Goals as goal
@@ -30,12 +31,7 @@ publish-requires-clause-claimed g c =
 
 pub publish-requires-clause-made : goal.publish-requires-clause-made
 publish-requires-clause-made g c =
-    let at = c.requires.taken in
-    let taken = at.2 in
-    let is : IsMadeFrom (entries_of taken.0.history) c.in-Ok.redone.done =
-    made-from taken.0 (series_of c.args.claim.key) c.args.snapshot c.in-Ok.redone taken.2 c.in-Ok.ensures c.publication_law.ensures.last_stands
-    (subst (λ (h : List Entry). Legal h) (sym taken.1) taken.3) in
-    (at.0, at.1, subst (λ (h : List Entry). IsMadeFrom h c.in-Ok.redone.done) taken.1 is)
+    made-of-taken c.publication_law.ensures.last_stands c.args.claim.machine c.args.pass.now (record { key = c.args.claim.key; snapshot = c.args.snapshot }) c.in-Ok.redone c.requires.taken c.in-Ok.ensures
 
 pub returns-in_err-publish-clause-works : goal.returns-in_err-publish-clause-works
 returns-in_err-publish-clause-works g c =
