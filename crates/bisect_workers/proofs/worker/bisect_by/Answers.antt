@@ -1,7 +1,9 @@
 use Rattle.std.proofs.Common.{arith}
-use Rattle.history_model.specs.declared.entries.Author.{Author}
 use Rattle.history_model.specs.declared.entries.Author.TheVariants.{Bisect}
 use Rattle.bisect_workers.proofs.Besides.{joined, nothing, sees-all}
+use Rattle.bisect_workers.specs.Beside.{IsBisectedIn}
+use Rattle.bisect_workers.proofs.worker.bisect_by.Given.{Over}
+use Rattle.bisect_workers.proofs.worker.bisect_by.Goals.{After-turn}
 use Rattle.bisect_workers.proofs.worker.bisect_by.Goals as goal
 
 pub turns-init : goal.turns-init
@@ -11,32 +13,21 @@ turns-init g c = record {
       (sees-all c.args.pass.now) (omega arith);
 }
 
-pub returns-in_err-turn-clause-bisected : goal.returns-in_err-turn-clause-bisected
-returns-in_err-turn-clause-bisected g c =
-    let author : Author = Bisect c.args.number in
-    joined author c.args.test.now c.args.pass.now c.turns.pass c.turn.new.pass (g.A.Runner.asked c.args.runner.now) (g.A.Runner.asked c.turns.runner) (g.A.Runner.asked c.turn.new.runner)
+-- after one turn more
+bisected : (g : Over) (c : After-turn g) → IsBisectedIn (Bisect c.args.number) c.args.test.now c.args.pass.now c.turn.new.pass (g.A.Runner.asked c.args.runner.now) (g.A.Runner.asked c.turn.new.runner)
+    (g.A.Runner.faults c.args.runner.now) (g.A.Runner.faults c.turn.new.runner)
+bisected g c =
+    joined (Bisect c.args.number) c.args.test.now c.args.pass.now c.turns.pass c.turn.new.pass (g.A.Runner.asked c.args.runner.now) (g.A.Runner.asked c.turns.runner) (g.A.Runner.asked c.turn.new.runner)
     (g.A.Runner.faults c.args.runner.now) (g.A.Runner.faults c.turns.runner) (g.A.Runner.faults c.turn.new.runner) c.turns.invariant.bisected c.turn.ensures.bisected
+
+pub returns-in_err-turn-clause-bisected : goal.returns-in_err-turn-clause-bisected
+returns-in_err-turn-clause-bisected g c = bisected g (goal.at.returns-in_err-turn-clause-bisected g c).After-turn
 
 pub returns-then-last-clause-bisected : goal.returns-then-last-clause-bisected
-returns-then-last-clause-bisected g c =
-    let author : Author = Bisect c.args.number in
-    joined author c.args.test.now c.args.pass.now c.turns.pass c.turn.new.pass (g.A.Runner.asked c.args.runner.now) (g.A.Runner.asked c.turns.runner) (g.A.Runner.asked c.turn.new.runner)
-    (g.A.Runner.faults c.args.runner.now) (g.A.Runner.faults c.turns.runner) (g.A.Runner.faults c.turn.new.runner) c.turns.invariant.bisected c.turn.ensures.bisected
+returns-then-last-clause-bisected g c = bisected g (goal.at.returns-then-last-clause-bisected g c).After-turn
 
 pub turns-preserved-then-not-branch : goal.turns-preserved-then-not-branch
-turns-preserved-then-not-branch g c =
-    let author : Author = Bisect c.args.number in
-    record {
-      room = c.turn.ensures.room;
-      bisected = joined author c.args.test.now c.args.pass.now c.turns.pass c.turn.new.pass (g.A.Runner.asked c.args.runner.now) (g.A.Runner.asked c.turns.runner) (g.A.Runner.asked c.turn.new.runner)
-          (g.A.Runner.faults c.args.runner.now) (g.A.Runner.faults c.turns.runner) (g.A.Runner.faults c.turn.new.runner) c.turns.invariant.bisected c.turn.ensures.bisected;
-    }
+turns-preserved-then-not-branch g c = record { room = c.turn.ensures.room; bisected = bisected g (goal.at.turns-preserved-then-not-branch g c).After-turn }
 
 pub turns-preserved : goal.turns-preserved
-turns-preserved g c =
-    let author : Author = Bisect c.args.number in
-    record {
-      room = c.turn.ensures.room;
-      bisected = joined author c.args.test.now c.args.pass.now c.turns.pass c.turn.new.pass (g.A.Runner.asked c.args.runner.now) (g.A.Runner.asked c.turns.runner) (g.A.Runner.asked c.turn.new.runner)
-          (g.A.Runner.faults c.args.runner.now) (g.A.Runner.faults c.turns.runner) (g.A.Runner.faults c.turn.new.runner) c.turns.invariant.bisected c.turn.ensures.bisected;
-    }
+turns-preserved g c = record { room = c.turn.ensures.room; bisected = bisected g (goal.at.turns-preserved g c).After-turn }
