@@ -20,44 +20,49 @@ use Rattle.machine_state.proofs.Series.{takes-in}
 use Rattle.machine_state.proofs.OneMore.{follows}
 use Rattle.machine_state.proofs.Publishing.{plain-kept, plain-counted}
 use Rattle.machine_state.proofs.Ready.{ready}
+use Rattle.machine_state.proofs.state.MachineState.add.Goals.{In_ok-reserve}
 use Rattle.machine_state.proofs.state.MachineState.add.Goals as goal
+
+-- the entry, which the history that is kept allows
+module _ (c : In_ok-reserve) where
+  abbrev h : List Entry
+  h = entries_of c.self.inside.history.items
+
+  h-is : entries_of c.args.self.now.history ≡ h
+  h-is = ap (λ (t : Track). entries_of t.history) (sym c.self.view_is)
+
+  allowed : Allowed h c.args.entry
+  allowed = subst (λ (before : List Entry). Allowed before c.args.entry) h-is c.requires.allowed
+
+  size : length h ≡ c.self.inside.history.len
+  size = length-map c.self.inside.history.items (λ (p : Placed). p.entry) ∙ sym c.self.inside.history.ok.0
 
 pub follow-requires-clause-indexes : goal.follow-requires-clause-indexes
 follow-requires-clause-indexes c =
-    let e : Entry = c.args.entry in
-    let h : List Entry = entries_of c.self.inside.history.items in
-    let h_is : entries_of c.args.self.now.history ≡ h = ap (λ (t : Track). entries_of t.history) (sym c.self.view_is) in
-    let allowed : Allowed h e = let P : List Entry → Type 0 = λ before. Allowed before e in subst P h_is c.requires.allowed in
+    let at = (goal.at.follow-requires-clause-indexes c).In_ok-reserve in
     rw (c.self.invariant.commits_are, c.self.invariant.runs_are)
-    (ready c.between_law.ensures.two h c.self.inside.following e c.self.invariant.followed_are allowed)
+    (ready c.between_law.ensures.two (h at) c.self.inside.following c.args.entry c.self.invariant.followed_are (allowed at))
 
 pub follow-requires-clause-series : goal.follow-requires-clause-series
 follow-requires-clause-series c =
-    let e : Entry = c.args.entry in
-    let h : List Entry = entries_of c.self.inside.history.items in
-    let h_is : entries_of c.args.self.now.history ≡ h = ap (λ (t : Track). entries_of t.history) (sym c.self.view_is) in
-    let allowed : Allowed h e = let P : List Entry → Type 0 = λ before. Allowed before e in subst P h_is c.requires.allowed in
-    let size : length h ≡ c.self.inside.history.len = length-map c.self.inside.history.items (λ (p : Placed). p.entry) ∙ sym c.self.inside.history.ok.0 in
-    let step_is : c.len.result + 1 ≡ length h + 1 = omega (arith, c.len.ensures, c.reserve.ensures.len, size) in
-    let P : ℕ → Type 0 = λ step. TakesIn c.self.inside.series step e in
-    subst P (sym step_is)
-    (takes-in c.positions_law.ensures.fresh c.positions_law.ensures.past c.limits_law.ensures.room c.retraction_law.ensures h e c.self.inside.series c.self.invariant.legal allowed c.self.invariant.series_are)
+    let at = (goal.at.follow-requires-clause-series c).In_ok-reserve in
+    let step_is : c.len.result + 1 ≡ length (h at) + 1 = omega (arith, c.len.ensures, c.reserve.ensures.len, size at) in
+    subst (λ (step : ℕ). TakesIn c.self.inside.series step c.args.entry) (sym step_is)
+    (takes-in c.positions_law.ensures.fresh c.positions_law.ensures.past c.limits_law.ensures.room c.retraction_law.ensures (h at) c.args.entry c.self.inside.series c.self.invariant.legal (allowed at) c.self.invariant.series_are)
 
 pub invariant_of-self-2 : goal.invariant_of-self-2
 invariant_of-self-2 c =
+    let at = (goal.at.invariant_of-self-2 c).In_ok-reserve in
     let e : Entry = c.args.entry in
     let h : List Entry = entries_of c.self.inside.history.items in
-    let h_is : entries_of c.args.self.now.history ≡ h = ap (λ (t : Track). entries_of t.history) (sym c.self.view_is) in
-    let allowed : Allowed h e = let P : List Entry → Type 0 = λ before. Allowed before e in subst P h_is c.requires.allowed in
-    let size : length h ≡ c.self.inside.history.len = length-map c.self.inside.history.items (λ (p : Placed). p.entry) ∙ sym c.self.inside.history.ok.0 in
-    let step_is : c.len.result ≡ length h = omega (arith, c.len.ensures, c.reserve.ensures.len, size) in
+    let step_is : c.len.result ≡ length h = omega (arith, c.len.ensures, c.reserve.ensures.len, size at) in
     let entries_are : entries_of c.push_reserved.new.self.items ≡ h ++ e ∷ [] =
     ap entries_of (rw (← c.in_ok-reserve.ensures.items) c.push_reserved.ensures.items) ∙ entries-push c.self.inside.history.items (record { author = c.args.author; entry = e }) in
     let commits_are : c.follow.new.commits ≡ c.self.inside.commits ++ option_to_list (declaration (length h + 1) e) = rw (← step_is) c.in_ok-follow.ensures.commits in
     let runs_are : c.follow.new.runs ≡ runs_after (length h + 1) e c.self.inside.runs = rw (← step_is) c.in_ok-follow.ensures.runs in
     let series_are : (s : Series) → seen s c.follow.new.series ≡ seen_after (length h + 1) e c.self.inside.runs s (seen s c.self.inside.series) =
     rw (← step_is) c.in_ok-follow.ensures.series in
-    let grown : length (known_series (h ++ e ∷ [])) ≡ length (known_series h) + c.args.more = rw h_is at c.requires.more in
+    let grown : length (known_series (h ++ e ∷ [])) ≡ length (known_series h) + c.args.more = rw (h-is at) at c.requires.more in
     let given_are : (metric : List ℕ) → given metric c.follow.new.settings ≡ given_after e metric (given metric c.self.inside.settings) = c.in_ok-follow.ensures.settings in
     let followed : IsFollowed (declarations h) e c.self.inside.following c.follow.new.following =
     subst (λ (ds : List Declaration). IsFollowed ds e c.self.inside.following c.follow.new.following) c.self.invariant.commits_are c.in_ok-follow.ensures.following in
@@ -66,7 +71,7 @@ invariant_of-self-2 c =
     c.setting_law.ensures.set c.setting_law.ensures.stays
     h e c.self.inside.commits c.self.inside.runs c.self.inside.series c.follow.new.series c.self.inside.known c.args.more
     c.self.inside.settings c.follow.new.settings c.self.inside.published c.self.inside.published c.self.inside.cuts c.self.inside.cuts c.self.inside.following c.follow.new.following
-    c.self.invariant allowed grown series_are given_are
+    c.self.invariant (allowed at) grown series_are given_are
     (plain-kept c.publication_law.ensures.stays c.publication_law.ensures.versions h e c.self.inside.published c.requires.plain c.self.invariant.published_are)
     (plain-counted c.publication_law.ensures.cuts h e c.self.inside.cuts c.requires.plain c.self.invariant.cuts_are)
     (followed-after c.regressions_law.ensures.raised c.regressions_law.ensures.moved c.regressions_law.ensures.stays c.regressions_law.ensures.new c.jobs_law.ensures.stay c.jobs_law.ensures.begun c.jobs_law.ensures.go_on

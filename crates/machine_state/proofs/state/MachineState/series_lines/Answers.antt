@@ -1,4 +1,4 @@
-use Rattle.std.proofs.Common.{◌≡◌, List, ap, sym, subst}
+use Rattle.std.proofs.Common.{◌≡◌, List, ap, refl, subst}
 use Rattle.std.proofs.lemmas.Result.{IfOk-weaker}
 use Rattle.history_model.specs.declared.entries.Entry.{Entry}
 use Rattle.history_model.specs.Entries.{entries_of}
@@ -6,31 +6,17 @@ use Rattle.history_model.specs.Publications.{last_publication}
 use Rattle.history_model.specs.Runs.{Series}
 use Rattle.publication_index.specs.Kept.{kept}
 use Rattle.series_index.specs.Seen.{seen}
-use Rattle.series_index.specs.declared.tracked.Tracked.{Tracked}
 use Rattle.report_lines.specs.SeriesLines.{AreLines}
 use Rattle.report_model.specs.declared.items.SeriesLine.{SeriesLine}
 use Rattle.track_model.specs.Reports.{AreSeriesLines}
 use Rattle.track_model.specs.Tracks.{Track}
 use Rattle.machine_state.specs.State.{IsKept, IsTracked}
 use Rattle.machine_state.proofs.Reporting.{series-lines}
+use Rattle.machine_state.proofs.OneMore.{stays}
 use Rattle.machine_state.proofs.state.MachineState.series_lines.Goals as goal
 
 pub invariant_of-self : goal.invariant_of-self
-invariant_of-self c =
-    let h : List Entry = entries_of c.self.inside.history.items in
-    record {
-      legal = c.self.invariant.legal;
-      limits = c.self.invariant.limits;
-      commits_are = c.self.invariant.commits_are;
-      runs_are = c.self.invariant.runs_are;
-      series_are = λ s. subst (λ (t : Tracked). IsTracked h s t) (sym (c.series_lines.ensures.same s)) (c.self.invariant.series_are s);
-      known_are = c.self.invariant.known_are;
-      settings_are = c.self.invariant.settings_are;
-      settings_fit = c.self.invariant.settings_fit;
-      published_are = c.self.invariant.published_are;
-      cuts_are = c.self.invariant.cuts_are;
-      followed_are = c.self.invariant.followed_are;
-    }
+invariant_of-self c = stays _ _ _ _ _ _ _ _ _ _ _ _ _ c.self.invariant c.series_lines.ensures.same (λ metric. refl) (λ s. refl) refl
 
 pub returns-clause-lines : goal.returns-clause-lines
 returns-clause-lines c =
