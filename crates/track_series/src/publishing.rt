@@ -8,6 +8,7 @@ ghost use Rattle.machine_state.specs.Made.{IsMadeFrom, publication_from};
 ghost use Rattle.track_series.specs.Publications.{IsAdded, IsPublished, later, passed};
 
 use crate::NoMemory;
+use crate::redone::Redone;
 use history_model::{Author, Publication, publication_law, within_law};
 use line_text::Duplicate;
 use machine_state::MachineState;
@@ -46,15 +47,15 @@ fn publication_of(alloc: Global, done: &Done) -> Result<Publication, NoMemory>
 pub(crate) fn put(
     track: &mut MachineState,
     author: Author,
-    done: Done,
-    table: Table<Square>,
+    redone: Redone,
 ) -> Result<Published, NoMemory>
-    requires made { IsMadeFrom (entries_of track.old.history) done }
-    requires tabled { table ≡ table_for done }
-    requires latest { IsUpTo done.version
-        (last_publication (series_of done) (entries_of track.old.history)) }
-    ensures put { IfOk result (λ told. IsAdded (passed (entries_of track.old.history) done)
-        track.old author done told track.new) }
+    requires made { IsMadeFrom (entries_of track.old.history) redone.done }
+    requires tabled { redone.table ≡ table_for redone.done }
+    requires latest { IsUpTo redone.done.version
+        (last_publication (series_of redone.done) (entries_of track.old.history)) }
+    ensures put { IfOk result (λ told. IsAdded
+        (passed (entries_of track.old.history) redone.done)
+        track.old author redone.done told track.new) }
     ensures same { OnErr result (track.new ≡ track.old) }
 {
     publish_law();
@@ -64,6 +65,7 @@ pub(crate) fn put(
     if track.len() >= Limit::Steps.most() {
         return Ok(Published::Full(Limit::Steps));
     }
+    let Redone { done, table } = redone;
     if done.cert.cuts.len() as u64 > Limit::Cuts.most() - track.cut_count() {
         return Ok(Published::Full(Limit::Cuts));
     }
@@ -102,5 +104,5 @@ pub fn publish(
     if let Some(version) = later(track, &done) {
         return Ok(Published::Stale(version));
     }
-    put(track, author, done, table)
+    put(track, author, Redone { done, table })
 }

@@ -112,7 +112,7 @@ pub fn segment<L: Ledger>(
     track.history_law();
     let made = compute(track.alloc(), snapshot, steps)?;
     let answer = segmented(&made.done);
-    match put(track, author, made.done, made.table)? {
+    match put(track, author, made)? {
         Published::Ok(step) => Ok(Reply { step, answer }),
         Published::Full(limit) => Ok(track.told(Answer::Refused(Refusal::Full(limit)))),
         Published::Stale(_) => unreachable!(),
