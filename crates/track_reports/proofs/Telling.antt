@@ -1,5 +1,5 @@
 -- What is told of the last publication.
-use Rattle.std.proofs.Common.{◌≡◌, List, map, ap, subst}
+use Rattle.std.proofs.Common.{◌≡◌, ℕ, List, map, ap, subst}
 use Rattle.segment_model.specs.Segments.{Position}
 use Rattle.segment_cost.specs.declared.cert.Cert.{Cert}
 use Rattle.segment_cost.specs.declared.done.Done.{Done}
@@ -45,13 +45,19 @@ changed h s done items told made same are is =
     )
 
 -- a form about a series' last publication tells this of it, or refuses
-module _ (t : Track) (s : Series) (Tells : Publication → Outcome → Type 0) where
+module _ (t : Track) (test metric : List ℕ) (Tells : List Entry → Series → Publication → Outcome → Type 0) where
+  abbrev h : List Entry
+  h = entries_of t.history
+
+  abbrev s : Series
+  s = record { test = test; metric = metric }
+
   abbrev Comes : Outcome → Type 0
-  Comes = OfKnown (is_known s (entries_of t.history)) (OfPublished (last_publication s (entries_of t.history)) Tells)
+  Comes = OfKnown (is_known s h) (OfPublished (last_publication s h) (Tells h s))
 
-  pub refused : (why : Refusal) (reply : Reply) → HasNone (entries_of t.history) s why → reply ≡ reply_of (entries_of t.history) (refuses why) → (o : Outcome) × Comes o × IsTold t o reply
-  refused why reply none told = only-told Comes t (answer.Refused why) reply (tells-none Tells (entries_of t.history) s why none) told
+  pub refused : (why : Refusal) (reply : Reply) → HasNone h s why → reply ≡ reply_of h (refuses why) → (o : Outcome) × Comes o × IsTold t o reply
+  refused why reply none told = only-told Comes t (answer.Refused why) reply (tells-none (Tells h s) h s why none) told
 
-  pub told-last : (done : Done) (a : Answer) (reply : Reply) → IsLast (entries_of t.history) s done → Tells (publication_from done) (tells a)
-      → reply ≡ reply_of (entries_of t.history) (tells a) → (o : Outcome) × Comes o × IsTold t o reply
-  told-last done a reply last comes told = only-told Comes t a reply (tells-last Tells (entries_of t.history) s done (tells a) last comes) told
+  pub told-last : (done : Done) (a : Answer) (reply : Reply) → IsLast h s done → Tells h s (publication_from done) (tells a) → reply ≡ reply_of h (tells a)
+      → (o : Outcome) × Comes o × IsTold t o reply
+  told-last done a reply last comes told = only-told Comes t a reply (tells-last (Tells h s) h s done (tells a) last comes) told

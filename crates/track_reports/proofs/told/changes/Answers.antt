@@ -14,9 +14,7 @@ use Rattle.track_reports.proofs.Telling.{changed, refused, told-last}
 use Rattle.track_reports.proofs.told.changes.Goals as goal
 
 pub returns-in-Err : goal.returns-in-Err
-returns-in-Err c =
-    let s : Series = record { test = c.args.test.now; metric = c.args.metric.now } in
-    refused c.args.track.now s (TellsChanges (entries_of c.args.track.now.history) s) c.in-Err.why c.told.result c.in-Err.ensures.none c.told.ensures
+returns-in-Err c = refused c.args.track.now c.args.test.now c.args.metric.now TellsChanges c.in-Err.why c.told.result c.in-Err.ensures.none c.told.ensures
 
 pub returns : goal.returns
 returns c =
@@ -27,7 +25,7 @@ returns c =
     let metric_is : c.in_ok-metric.metric ≡ s.metric = c.in_ok-metric.ensures in
     let items_are : c.in_ok-items.items ≡ map (named h) c.in_ok-found.found =
     c.in_ok-items.ensures ∙ ap (map (named_by c.commits.result.now)) c.as_slice.ensures ∙ ap (λ (ds : List Declaration). map (named_by ds) c.in_ok-found.found) c.commits.ensures in
-    told-last c.args.track.now s (TellsChanges h s) done (answer.Changes done.version s.metric c.in_ok-items.items) c.told-2.result last
+    told-last c.args.track.now c.args.test.now c.args.metric.now TellsChanges done (answer.Changes done.version s.metric c.in_ok-items.items) c.told-2.result last
     (changed h s done c.in_ok-found.found c.in_ok-items.items last.made last.series c.in_ok-found.ensures items_are)
     (c.told-2.ensures ∙ ap (λ (m : List ℕ). reply_of h (tells (answer.Changes done.version m c.in_ok-items.items))) metric_is)
 
