@@ -1,11 +1,13 @@
 //! What workers say of the places that jobs ask.
-ghost use Rattle.std.specs.Prelude.{◌≡◌, [], ◌∷◌, IfOk, IsSome, OnErr, Some};
+ghost use Rattle.std.specs.Prelude.{◌≡◌, ◌<◌, [], ◌∷◌, IfOk, IsSome, OnErr, length};
+ghost use Rattle.metric_table.specs.Limits.{most};
 ghost use Rattle.metric_table.specs.declared.limits.Limit.TheVariants as limit;
 ghost use Rattle.bisect_core.specs.Bisections as bisection;
-ghost use Rattle.history_model.specs.Allowed.{first_passed};
+ghost use Rattle.history_model.specs.Allowed.{Allowed, first_passed};
 ghost use Rattle.history_model.specs.Entries.{entries_of};
-ghost use Rattle.history_model.specs.Jobs.{asked, job_in, jobs};
-ghost use Rattle.track_follow.specs.Settling.{IsPut, IsSettled, entry_said, said_of};
+ghost use Rattle.history_model.specs.Jobs.{job_in, jobs};
+ghost use Rattle.history_model.specs.declared.entries.Entry.TheVariants as entry;
+ghost use Rattle.track_follow.specs.Settling.{IsPut, IsSettled, said_of};
 
 use crate::NoMemory;
 use bisect_core::{Answered, Job, Outcome};
@@ -48,28 +50,19 @@ fn said_of(job: u64, place: u64, status: Option<u8>) -> JobEvent
     }
 }
 
-// Adds what is said of the place that a job asks, where there is room for a step.
-fn put_said(
-    track: &mut MachineState,
-    author: Author,
-    job: u64,
-    place: u64,
-    status: Option<u8>,
-) -> Result<Settled, NoMemory>
-    requires { asked job (entries_of track.old.history) ≡ Some place }
+// Adds what is said of a job, where there is room for a step.
+fn put_said(track: &mut MachineState, author: Author, event: JobEvent) -> Result<Settled, NoMemory>
+    requires { length (entries_of track.old.history) < most limit.Steps
+        → Allowed (entries_of track.old.history) (entry.Job event) }
     ensures put { IfOk result (λ told. IsPut
-        (first_passed (limit.Steps ∷ [])
-        (entries_of track.old.history) (entry_said job place status))
-        track.old author (entry_said job place status) told track.new) }
+        (first_passed (limit.Steps ∷ []) (entries_of track.old.history) (entry.Job event))
+        track.old author (entry.Job event) told track.new) }
     ensures same { OnErr result (track.new ≡ track.old) }
 {
-    say_law();
     within_law();
-    track.history_law();
     if track.len() >= Limit::Steps.most() {
         return Ok(Settled::Full);
     }
-    let event = said_of(job, place, status);
     let step = track.add(author, Entry::Job { event }, 0)?;
     Ok(Settled::Recorded(step))
 }
@@ -88,12 +81,14 @@ pub fn settle(
         (λ told. IsSettled track.old author job place status told track.new) }
     ensures same { OnErr result (track.new ≡ track.old) }
 {
+    say_law();
+    track.history_law();
     let Some(found) = track.jobs().get(job) else {
         unreachable!();
     };
     match answer_to(found, place) {
         Answered::NotAsked(asked) => Ok(Settled::NotAsked(asked)),
         Answered::Closed(outcome) => Ok(Settled::Closed(outcome)),
-        Answered::Ok => put_said(track, author, job, place, status),
+        Answered::Ok => put_said(track, author, said_of(job, place, status)),
     }
 }
