@@ -13,12 +13,8 @@ use Rattle.play_fits.specs.Workers.{Crew, MayAdd}
 use Rattle.play_fits.specs.Whole.{Joined, AreAll, AreByCrew, FitsIn, journals_of, longer}
 use Rattle.play_fits.specs.Fits.{Play, crew_of, kept_in, Fits}
 use Rattle.play_fits.specs.Ends.{IsOfWorker, IsLate, IsEndOf, AreEndsOf, HasPlayed, Ends}
-use Rattle.play_fits.proofs.Lists.{all-places}
+use Rattle.play_fits.proofs.Lists.{all-places, all-append}
 use Rattle.play_fits.proofs.Whole.{seen-parts-fit, all-by-crew, parts-stay}
-
-all-append : {A : Type 0} (P : A → Type 0) (xs ys : List A) → AllByRecursion P xs → AllByRecursion P ys → AllByRecursion P (xs ++ ys)
-all-append P [] ys one two = two
-all-append P (x ∷ xs) ys one two = (one.0, all-append P xs ys one.1 two)
 
 -- ---- journals
 

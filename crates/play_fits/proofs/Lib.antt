@@ -1,5 +1,5 @@
-mod Lists
-mod Passes
+pub mod Lists
+pub mod Passes
 pub mod Whole
 pub mod Joins
 pub mod Ends

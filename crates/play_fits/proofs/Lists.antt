@@ -44,3 +44,8 @@ all-places P (x ∷ xs) each = (each 0 x refl, all-places P xs (λ n. each (suc 
 pub behind-stands : {A : Type 0} (xs ys : List A) (n : ℕ) → slice_get (xs ++ ys) (length xs + n) ≡ slice_get ys n
 behind-stands {A = A} [] ys n = let zero_is : length {A = A} [] + n ≡ n = omega arith in rw zero_is refl
 behind-stands (x ∷ xs) ys n = let step : length (x ∷ xs) + n ≡ suc (length xs + n) = omega arith in rw step (behind-stands xs ys n)
+
+-- what holds of the items of two lists
+pub all-append : {A : Type 0} (P : A → Type 0) (xs ys : List A) → AllByRecursion P xs → AllByRecursion P ys → AllByRecursion P (xs ++ ys)
+all-append P [] ys one two = two
+all-append P (x ∷ xs) ys one two = (one.0, all-append P xs ys one.1 two)

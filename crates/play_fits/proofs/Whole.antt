@@ -21,7 +21,7 @@ use Rattle.play_fits.proofs.Passes.{answer-later, adds-later, by-order}
 
 -- ---- marks
 
-other-at : (marks : List ℕ) (xs : List (Marked Placed)) (n : ℕ) (x : Marked Placed) → AreByOthers marks xs → slice_get xs n ≡ Some x → IsOtherMark marks x.by
+pub other-at : (marks : List ℕ) (xs : List (Marked Placed)) (n : ℕ) (x : Marked Placed) → AreByOthers marks xs → slice_get xs n ≡ Some x → IsOtherMark marks x.by
 other-at marks [] n x others is = cc
 other-at marks (y ∷ xs) zero x others is = let same : y ≡ x = cc in subst (λ (z : Marked Placed). IsOtherMark marks z.by) same others.0
 other-at marks (y ∷ xs) (suc n) x others is = other-at marks xs n x others.1 is
@@ -31,7 +31,7 @@ own-mark mark by is other = (subst (IsOtherMark (mark ∷ [])) is other).0 refl
 
 -- ---- an entry that a pass made is one that it has seen
 
-is-seen : (crew : Crew) (log : List ℕ → List (Marked Placed)) (v : Joined) → GoesOn crew log v → (m : List ℕ) (place : ℕ) (x : Marked Placed)
+pub is-seen : (crew : Crew) (log : List ℕ → List (Marked Placed)) (v : Joined) → GoesOn crew log v → (m : List ℕ) (place : ℕ) (x : Marked Placed)
     → slice_get (log m) place ≡ Some x → x.by ≡ Some (v.sight.mark m) → IsMadeBy v.sight m place x.entry
 is-seen crew log v goes m place x is by =
     let both : slice_get (v.sight.seen m ++ goes.rest m) place ≡ Some x = ap (λ (l : List (Marked Placed)). slice_get l place) (sym (goes.seen m)) ∙ is in

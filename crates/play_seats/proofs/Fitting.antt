@@ -1,10 +1,9 @@
 -- Private: no public contract cites this. A shared run of scripts alone fits.
-use Rattle.std.proofs.Common.{◌≡◌, ◌≢◌, ◌<◌, ◌≤◌, ◌+◌, ◌-◌, ℕ, zero, suc, inl, inr, Bool, true, false, List, [], ◌∷◌, ◌++◌, length, map, refl, sym, ap, subst, ◌∙◌, Option, Some, None, arith, append-nil, ne_eqb}
-use Rattle.std.specs.Prelude.{◌⊎◌, slice_get, Contains, bytes_eq, if◌then◌else◌, take, fold, Result, IfSome, All, sum_by}
+use Rattle.std.proofs.Common.{◌≡◌, ◌≢◌, ◌<◌, ◌≤◌, ◌+◌, ℕ, zero, suc, inl, inr, Bool, true, false, List, [], ◌∷◌, ◌++◌, length, map, refl, sym, ap, subst, ◌∙◌, Some, None, arith, append-nil, ne_eqb}
+use Rattle.std.specs.Prelude.{◌⊎◌, slice_get, Contains, bytes_eq, if◌then◌else◌, take, fold, IfSome, sum_by}
 use Rattle.std.specs.List.{AllByRecursion, AllZip}
 use Rattle.std.proofs.lemmas.Bool.{cases_lt}
 use Rattle.std.proofs.lemmas.List.{length-map}
-use Rattle.std.proofs.lemmas.Option.{slice_get_within}
 use Rattle.history_lock.specs.Marks.{AreBy, entries, marked, unmarked}
 use Rattle.history_lock.specs.declared.view.Marked.{Marked}
 use Rattle.history_model.specs.Allowed.{Legal}
@@ -17,26 +16,24 @@ use Rattle.track_model.specs.Tracks.{Track}
 use Rattle.track_room.specs.Asked.{names_of}
 use Rattle.track_room.specs.Rooms.{IsPassOf}
 use Rattle.track_room.specs.Sights.{EndsWhole, Home, Sight, own_marks}
-use Rattle.play_model.specs.Replies.{Adds}
 use Rattle.play_model.proofs.Replies.{added-step}
-use Rattle.play_fits.specs.Ends.{AreEndsOf, Ends, EndsFit, HasPlayed, IsEndOf}
-use Rattle.play_fits.specs.Fits.{Bisected, Fits, Play, Played, crew_of, kept_in}
+use Rattle.play_fits.specs.Ends.{AreEndsOf, HasPlayed}
+use Rattle.play_fits.specs.Fits.{Fits, Play, Played, crew_of}
 use Rattle.play_fits.specs.Journals.{machines_of, history_in}
 use Rattle.play_fits.specs.Passes.{IsMadeBy, IsSeenPart, count_of}
-use Rattle.play_fits.specs.Scripts.{Exchange, IsAdded, IsWritten, known_after}
+use Rattle.play_fits.specs.Scripts.{IsAdded, IsWritten, known_after}
 use Rattle.play_fits.proofs.Ends.{ends-fit}
 use Rattle.play_fits.proofs.Whole.{all-by-crew}
 use Rattle.std.proofs.lemmas.Slice.Eq.{bytes_eq-Decides}
-use Rattle.play_fits.specs.Whole.{AreAll, AreByCrew, Joined, journals_of, longer}
+use Rattle.play_fits.specs.Whole.{AreAll, AreByCrew, Joined, journals_of}
 use Rattle.play_fits.specs.Workers.{Asked, AreAsksOf, Crew, IsBisector, IsOneOf, MayAdd, findings_behind, give_ups, all_give_ups, is_bisector}
-use Rattle.play_script.specs.Posts.{Post}
-use Rattle.play_script.specs.Played.{IsPlayed}
-use Rattle.play_seats.specs.Gathered.{AreKept, Gathered, OwnsMade, joined_of}
+use Rattle.play_fits.proofs.Lists.{all-append, stays-before}
+use Rattle.play_seats.specs.Gathered.{OwnsMade, joined_of}
 use Rattle.play_seats.specs.Seats.{Seat, post_of, seen_in, sight_of}
 use Rattle.play_seats.specs.Seats as seats
-use Rattle.play_seats.specs.Shared.{AreKeptAs, EndsShared, HasSeenKept, IsShared, onto}
-use Rattle.play_seats.specs.Fitting.{ArePlayedFrom, IsPlayedAt, IsUnasked, RunsScripts, seat_at}
-use Rattle.play_seats.proofs.Gathered.{all-at, at-contains, contains-at, gathered-all, kept-in, mapped-at, mapped-from}
+use Rattle.play_seats.specs.Shared.{AreKeptAs, EndsShared, HasSeenKept, onto}
+use Rattle.play_seats.specs.Fitting.{ArePlayedFrom, IsPlayedAt, IsUnasked, RunsScripts}
+use Rattle.play_seats.proofs.Gathered.{all-at, at-contains, contains-at, gathered-all, kept-in, mapped-at}
 use Rattle.play_seats.proofs.Shared.{sharing-ends}
 
 -- ---- lists, the last first
@@ -67,11 +64,6 @@ pub unmarked-at : (es : List Placed) (n : ℕ) (p : Placed) (m : ℕ) → slice_
 unmarked-at [] n p m is = cc
 unmarked-at (e ∷ es) zero p m is = no-by m (ap (λ (x : Marked Placed). x.by) (same-some (marked e None) (marked p (Some m)) is))
 unmarked-at (e ∷ es) (suc n) p m is = unmarked-at es n p m is
-
-pub stays-before : {A : Type 0} (xs ys : List A) (n : ℕ) → n < length xs → slice_get (xs ++ ys) n ≡ slice_get xs n
-stays-before [] ys n within = absurd (omega (arith, within))
-stays-before (x ∷ xs) ys zero within = refl
-stays-before (x ∷ xs) ys (suc n) within = stays-before xs ys n (omega (arith, within))
 
 module _ (crew : Crew) (tracks : List Track) (room : List Home) (n : ℕ) (s : Played) (b : List Sight) (a : Seat) (p : IsPlayedAt room n s b a) (saw : HasSeenKept tracks b) (is_one : IsOneOf crew.scripts n) where
   made-after : (m : List ℕ) (place : ℕ) (e : Placed) → count_of (sight_of b) m ≤ place → IsMadeBy (sight_of a.pass) m place e → e.author ≡ author.Script n
@@ -337,9 +329,24 @@ no-bisector-of crew i apart p may = by p.author refl may
         let told : MayAdd crew (record { author = author.Bisect n; entry = p.entry }) = subst (MayAdd crew) (ap (λ (v : Author). record { author = v; entry = p.entry }) is) may in
         rw is (ne_eqb n i (apart n told.0))
 
-pub all-append : {A : Type 0} (P : A → Type 0) (xs ys : List A) → AllByRecursion P xs → AllByRecursion P ys → AllByRecursion P (xs ++ ys)
-all-append P [] ys one two = two
-all-append P (x ∷ xs) ys one two = (one.0, all-append P xs ys one.1 two)
+-- a script that was played at one of the seats
+pub has-played : (tracks : List Track) (machines : List (List ℕ)) (room : List Home) (seated : List Seat) (bs : List (List Sight)) (us : List Seat) (i : ℕ) (s : Played) (p : PlayedAt room 1 bs us s i)
+    → slice_get seated i ≡ Some p.after → HasSeenKept tracks p.before → machines ≡ names_of room → HasPlayed tracks machines (map joined_of (onto seated [])) (i + 1) s
+has-played tracks machines room seated bs us i s p at saw names =
+    let number : 1 + i ≡ i + 1 = omega arith in
+    let of : p.after.author ≡ author.Script (1 + i) = p.played.author in
+    let c = contains-at (onto seated []) p.after (in-onto seated [] i p.after at) in
+    record {
+      joined = joined_of p.after;
+      one = at-contains (map joined_of (onto seated [])) c.0 (joined_of p.after) (mapped-at joined_of (onto seated []) c.0 p.after c.1);
+      author = of ∙ ap (λ (n : ℕ). author.Script n) number;
+      before = sight_of p.before;
+      counts = λ m. ap length (saw m) ∙ length-map (history_in tracks m) (λ (x : Placed). marked x None);
+      exchanges = p.played.played.exchanges;
+      part = subst (λ (w : Author). IsSeenPart w machines (sight_of p.before) p.played.played.exchanges (sight_of p.after.pass)) (sym of)
+          (subst (λ (ms : List (List ℕ)). IsSeenPart (author.Script (1 + i)) ms (sight_of p.before) p.played.played.exchanges (sight_of p.after.pass)) (sym names) p.played.played.part);
+      written = subst (λ (f : Bool). IsWritten f s.script s.transcript p.played.played.exchanges) (sym p.played.full) p.played.played.written;
+    }
 
 module _ (play : Play) (journals : List Track) (r : RunsScripts play journals) where
   abbrev crew : Crew
@@ -381,20 +388,7 @@ module _ (play : Play) (journals : List Track) (r : RunsScripts play journals) w
   script-at : (i : ℕ) (s : Played) → slice_get play.scripts i ≡ Some s → HasPlayed play.tracks (machines_of journals) parts (i + 1) s
   script-at i s is =
       let p : PlayedAt r.room 1 r.befores r.afters s i = played-at r.room 1 play.scripts r.befores r.afters r.played i s is in
-      let number : 1 + i ≡ i + 1 = omega arith in
-      let of : p.after.author ≡ author.Script (1 + i) = p.played.author in
-      let saw : HasSeenKept play.tracks p.before = all-at (HasSeenKept play.tracks) r.befores i p.before e.began p.from in
-      record {
-        joined = joined_of p.after;
-        one = (let c = contains-at (onto r.afters []) p.after (in-onto r.afters [] i p.after p.to) in at-contains parts c.0 (joined_of p.after) (mapped-at joined_of (onto r.afters []) c.0 p.after c.1));
-        author = of ∙ ap (λ (n : ℕ). author.Script n) number;
-        before = sight_of p.before;
-        counts = λ m. ap length (saw m) ∙ length-map (history_in play.tracks m) (λ (x : Placed). marked x None);
-        exchanges = p.played.played.exchanges;
-        part = subst (λ (w : Author). IsSeenPart w (machines_of journals) (sight_of p.before) p.played.played.exchanges (sight_of p.after.pass)) (sym of)
-            (subst (λ (ms : List (List ℕ)). IsSeenPart (author.Script (1 + i)) ms (sight_of p.before) p.played.played.exchanges (sight_of p.after.pass)) (sym names) p.played.played.part);
-        written = subst (λ (f : Bool). IsWritten f s.script s.transcript p.played.played.exchanges) (sym p.played.full) p.played.played.written;
-      }
+      has-played play.tracks (machines_of journals) r.room r.afters r.befores r.afters i s p p.to (all-at (HasSeenKept play.tracks) r.befores i p.before e.began p.from) names
 
   no-bisectors : (i : ℕ) (m : List ℕ) → AllByRecursion (IsNoBisector i) (history_in journals m)
   no-bisectors i m =

@@ -3,9 +3,7 @@ use Rattle.std.proofs.Common.{◌≡◌, ◌≤◌, ◌<◌, ◌+◌, ◌-◌, �
 use Rattle.std.specs.Prelude.{slice_get, slice_set, bytes_eq, if◌then◌else◌}
 use Rattle.std.specs.List.{AllByRecursion}
 use Rattle.std.proofs.lemmas.Option.{slice_get_within}
-use Rattle.std.proofs.lemmas.Bool.{cases_order}
 use Rattle.std.proofs.lemmas.Slice.Eq.{bytes_eq-Decides}
-use native.Mathlib.Numerals.{unary_clauses}
 use Rattle.history_lock.specs.Marks.{AreByOthers, IsOtherMark, entries, marked}
 use Rattle.history_lock.specs.declared.view.Marked.{Marked}
 use Rattle.history_model.specs.declared.entries.Author.{Author}
@@ -15,6 +13,9 @@ use Rattle.request_model.specs.declared.replies.Reply.{Reply}
 use Rattle.request_model.specs.Requests.{machine_of}
 use Rattle.play_model.specs.Replies.{is_of_history, IsReplyOn, IsReplyWhere, Adds}
 use Rattle.play_fits.specs.Passes as passes
+use Rattle.play_fits.proofs.Lists.{same-bytes, stands-behind, stays-before}
+use Rattle.play_fits.proofs.Passes.{by-order}
+use Rattle.play_fits.proofs.Whole.{other-at as other-mark}
 use Rattle.track_room.specs.Sights.{Home, Sight, SeesMore, AddsOne, own_marks, seeing, track_of}
 use Rattle.track_room.specs.Asked.{IsAnswered, IsReplied, ChangesAt, AsksBy, Asks, names_of}
 use Rattle.std.specs.List.{AllZip}
@@ -23,9 +24,6 @@ use Rattle.play_seats.specs.Seats as seats
 use Rattle.play_seats.specs.Seats.{seen_in, mark_in, sight_of, IsSeated, Seat, post_of, Stays, AnswersAt, FailsAt}
 
 -- ---- names
-same-bytes : (xs ys : List ℕ) → bytes_eq xs ys ≡ true → xs ≡ ys
-same-bytes xs ys same = (bytes_eq-Decides xs ys).0 same
-
 eq-bytes : (xs : List ℕ) → bytes_eq xs xs ≡ true
 eq-bytes xs = (bytes_eq-Decides xs xs).1 refl
 
@@ -122,27 +120,8 @@ grown author q reply before after (inl adds) =
 grown author q reply before after (inr tells) = record { suffix = tells.1.0; is = tells.1.2 }
 
 -- ---- what it made of that
-other-mark : (marks : List ℕ) (xs : List (Marked Placed)) (n : ℕ) (x : Marked Placed) → AreByOthers marks xs → slice_get xs n ≡ Some x → IsOtherMark marks x.by
-other-mark marks [] n x others is = cc
-other-mark marks (y ∷ xs) zero x others is = let same : y ≡ x = cc in subst (λ (z : Marked Placed). IsOtherMark marks z.by) same others.0
-other-mark marks (y ∷ xs) (suc n) x others is = other-mark marks xs n x others.1 is
-
 not-own : (m : ℕ) (ms : List ℕ) → IsOtherMark (m ∷ ms) (Some m) → ⊥
 not-own m ms other = other.0 refl
-
-stays-before : {A : Type 0} (xs ys : List A) (n : ℕ) → n < length xs → slice_get (xs ++ ys) n ≡ slice_get xs n
-stays-before [] ys n within = absurd (omega (arith, within))
-stays-before (x ∷ xs) ys zero within = refl
-stays-before (x ∷ xs) ys (suc n) within = stays-before xs ys n (omega (arith, within))
-
-stands-behind : {A : Type 0} (xs ys : List A) (n : ℕ) (y : A) → length xs ≤ n → slice_get (xs ++ ys) n ≡ Some y → slice_get ys (n - length xs) ≡ Some y
-stands-behind [] ys n y le is = simp unary_clauses is
-stands-behind (x ∷ xs) ys zero y le is = absurd (omega (arith, le))
-stands-behind (x ∷ xs) ys (suc n) y le is = simp unary_clauses (stands-behind xs ys n y (omega (arith, le)) is)
-
-by-order : {P : Type 0} (a b : ℕ) → (a < b → P) → (b ≤ a → P) → P
-by-order a b before behind =
-    elim (cases_order a b) [ inl is ↦ behind (omega (arith, is)) | inr (inl lt) ↦ before lt | inr (inr gt) ↦ behind (omega (arith, gt)) ]
 
 -- an entry with the pass's mark among what it has seen more is the one that the reply tells
 made-more : (author : Author) (q : Request) (reply : Reply) (before after : Sight) → IsReplied author q reply before after → (place : ℕ) (p : Placed) → length before.seen ≤ place

@@ -1,11 +1,10 @@
 -- Private: no public contract cites this. What a worker that bisects found, by the entries of the journals, is what its pass
 -- made.
-use Rattle.std.proofs.Common.{◌≡◌, ◌≢◌, ◌<◌, ◌≤◌, ◌+◌, ◌-◌, ℕ, zero, suc, inl, inr, Bool, true, false, cond, List, [], ◌∷◌, ◌++◌, length, map, refl, sym, ap, ap₂, subst, ◌∙◌, Option, Some, None, arith, append_assoc, append-nil, eq-eqb, ne_eqb}
-use Rattle.std.specs.Prelude.{◌⊎◌, ◌==◌, Contains, option_to_list, slice_get, if◌then◌else◌}
+use Rattle.std.proofs.Common.{◌≡◌, ◌-◌, ℕ, suc, inl, inr, Bool, true, false, cond, List, [], ◌∷◌, ◌++◌, length, refl, sym, ap, ap₂, subst, ◌∙◌, Option, Some, None, append_assoc, append-nil, eq-eqb, ne_eqb}
+use Rattle.std.specs.Prelude.{◌==◌, Contains, option_to_list, slice_get, if◌then◌else◌}
 use Rattle.std.specs.List.{AllByRecursion}
 use Rattle.std.proofs.lemmas.Bool.{cases_Bool, cases_lt}
 use Rattle.std.proofs.lemmas.Bool.Decides.{eqb_tells}
-use Rattle.std.proofs.lemmas.List.{length-map, map-append}
 use Rattle.history_lock.specs.Marks.{AreByOthers, IsOtherMark, entries, marked, unmarked}
 use Rattle.history_lock.specs.declared.view.Marked.{Marked}
 use Rattle.history_model.specs.declared.entries.Author.{Author}
@@ -15,12 +14,11 @@ use Rattle.history_model.specs.declared.entries.Placed.{Placed}
 use Rattle.history_model.specs.Entries.{entries_of}
 use Rattle.worker_model.specs.Findings.{Finding, finding_of}
 use Rattle.bisect_workers.specs.Beside.{findings_by, is_number}
-use Rattle.play_fits.specs.Passes.{IsMadeBy}
 use Rattle.play_fits.specs.Whole.{AreAll, GoesOn, IsMadeByOne, Joined}
 use Rattle.play_fits.specs.Workers.{Crew, findings_behind, is_bisector}
-use Rattle.play_crew.proofs.Fitting.{stays-before}
 use Rattle.play_crew.proofs.Gathered.{mapped-from}
-use Rattle.worker_crew.proofs.Owning.{not-own, stands-behind}
+use Rattle.play_fits.proofs.Lists.{stands-behind, stays-before}
+use Rattle.play_fits.proofs.Whole.{is-seen}
 
 -- ---- who made an entry
 not-both : true ≡ false → ⊥
@@ -35,23 +33,6 @@ bisector-is n (author.Bisect i) is = elim (eqb_tells i n) [ inl same ↦ ap auth
 is-bisector : (n : ℕ) (a : Author) → a ≡ author.Bisect n → is_bisector n a ≡ true
 is-bisector n a is = ap (is_bisector n) is ∙ eq-eqb n n refl
 
-other-at : (marks : List ℕ) (xs : List (Marked Placed)) (n : ℕ) (x : Marked Placed) → AreByOthers marks xs → slice_get xs n ≡ Some x → IsOtherMark marks x.by
-other-at marks [] n x others is = cc
-other-at marks (y ∷ xs) zero x others is = let same : y ≡ x = cc in subst (λ (z : Marked Placed). IsOtherMark marks z.by) same others.0
-other-at marks (y ∷ xs) (suc n) x others is = other-at marks xs n x others.1 is
-
--- an entry with a pass's mark is one that the pass has seen
-seen-by : (crew : Crew) (log : List ℕ → List (Marked Placed)) (v : Joined) → GoesOn crew log v → (m : List ℕ) (place : ℕ) (x : Marked Placed)
-    → slice_get (log m) place ≡ Some x → x.by ≡ Some (v.sight.mark m) → IsMadeBy v.sight m place x.entry
-seen-by crew log v goes m place x is by =
-    let both : slice_get (v.sight.seen m ++ goes.rest m) place ≡ Some x = ap (λ (l : List (Marked Placed)). slice_get l place) (sym (goes.seen m)) ∙ is in
-    elim (cases_lt place (length (v.sight.seen m))) [
-      | inl within ↦ sym (stays-before (v.sight.seen m) (goes.rest m) place within) ∙ both ∙ ap (λ (b : Option ℕ). Some (marked x.entry b)) by
-      | inr behind ↦
-          absurd (not-own (v.sight.mark m) [] (subst (λ (b : Option ℕ). IsOtherMark (v.sight.mark m ∷ []) b) by
-          (other-at (v.sight.mark m ∷ []) (goes.rest m) (place - length (v.sight.seen m)) x (goes.others m) (stands-behind (v.sight.seen m) (goes.rest m) place x behind both))))
-    ]
-
 module _ (crew : Crew) (kept : List ℕ → List Placed) (log : List ℕ → List (Marked Placed)) (parts : List Joined) (all : AreAll crew kept log parts)
     (w : Joined) (one : Contains parts w) (n : ℕ) (of : w.author ≡ author.Bisect n) where
   -- the author's entries are those with its pass's mark
@@ -62,12 +43,12 @@ module _ (crew : Crew) (kept : List ℕ → List Placed) (log : List ℕ → Lis
   mark-tells m place x is made =
       let v : Joined = made.joined in
       let goes : GoesOn crew log v = all.each v made.one in
-      let by_v : x.entry.author ≡ v.author = (goes.made m place x.entry (seen-by crew log v goes m place x is made.mark)).0 in
+      let by_v : x.entry.author ≡ v.author = (goes.made m place x.entry (is-seen crew log v goes m place x is made.mark)).0 in
       let number : is_number (w.sight.mark m) x.by ≡ (v.sight.mark m == w.sight.mark m) = ap (is_number (w.sight.mark m)) made.mark in
       elim (eqb_tells (v.sight.mark m) (w.sight.mark m)) [
         | inl same ↦ (
             let own : GoesOn crew log w = all.each w one in
-            let mine : x.entry.author ≡ w.author = (own.made m place x.entry (seen-by crew log w own m place x is (made.mark ∙ ap (λ (k : ℕ). Some k) same.1))).0 in
+            let mine : x.entry.author ≡ w.author = (own.made m place x.entry (is-seen crew log w own m place x is (made.mark ∙ ap (λ (k : ℕ). Some k) same.1))).0 in
             is-bisector n x.entry.author (mine ∙ of) ∙ sym (number ∙ same.0))
         | inr other ↦ (
             elim (cases_Bool (is_bisector n x.entry.author)) [

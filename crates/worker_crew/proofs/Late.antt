@@ -1,6 +1,6 @@
 -- Private: no public contract cites this. What main adds behind the passes, and what it asks for it.
-use Rattle.std.proofs.Common.{◌≡◌, ◌≢◌, ◌<◌, ◌≤◌, ◌+◌, ◌-◌, ℕ, zero, suc, inl, inr, Bool, true, false, cond, List, [], ◌∷◌, ◌++◌, length, map, refl, sym, ap, ap₂, subst, ◌∙◌, Option, Some, None, arith, append_assoc, append-nil, eq-eqb, ne_eqb}
-use Rattle.std.specs.Prelude.{◌⊎◌, ◌^◌, ◌==◌, ◌&&◌, All, Contains, bytes_eq, filter, is_none, is_some, min, option_map, option_to_list, slice_get, take, if◌then◌else◌}
+use Rattle.std.proofs.Common.{◌≡◌, ◌+◌, ℕ, zero, suc, inl, inr, Bool, true, false, List, [], ◌∷◌, ◌++◌, length, map, refl, sym, ap, ap₂, subst, ◌∙◌, Option, Some, None, arith, append_assoc, append-nil, ne_eqb}
+use Rattle.std.specs.Prelude.{◌&&◌, All, bytes_eq, filter, is_none, option_map, option_to_list, slice_get, if◌then◌else◌}
 use Rattle.std.specs.List.{AllByRecursion, AllZip}
 use Rattle.std.proofs.lemmas.Bool.{cases_Bool}
 use Rattle.std.proofs.lemmas.List.{length-append, map-append}
@@ -23,11 +23,12 @@ use Rattle.bisect_workers.specs.Bisecting.{IsBisected, IsSaidBy, RoseBy}
 use Rattle.bisect_workers.specs.Findings as found
 use Rattle.play_fits.specs.Ends.{IsLate, IsOfWorker}
 use Rattle.play_fits.specs.Journals.{history_in, machines_of}
-use Rattle.play_fits.specs.Workers.{Crew, IsOneOf, MayAdd, Use, findings, findings_behind, found_for, give_ups, is_bisector, is_for}
-use Rattle.play_crew.proofs.Fitting.{Apart, Others}
+use Rattle.play_fits.specs.Workers.{Crew, IsOneOf, Use, findings, findings_behind, found_for, give_ups, is_bisector, is_for}
+use Rattle.play_crew.proofs.Fitting.{Apart, Others, all-map}
+use Rattle.play_fits.proofs.Lists.{all-append, same-bytes}
 use Rattle.worker_crew.specs.Runs.{BisectsEach, BisectsLast, RecomputesLast, Tally}
 use Rattle.worker_crew.proofs.Finding.{behind-append, behind-none}
-use Rattle.worker_crew.proofs.Naming.{eq-bytes, given, is_given, same-bytes}
+use Rattle.worker_crew.proofs.Naming.{eq-bytes, given, is_given}
 use Rattle.worker_crew.proofs.Owning.{placed-is, said-may}
 
 pub all-rec : {A : Type 0} (P : A → Type 0) (xs : List A) → All P xs → AllByRecursion P xs
@@ -46,14 +47,6 @@ pub record Adds (P : Placed → Type 0) (old new : Track) : Type 0 where
 pub adds-none : (P : Placed → Type 0) (ts : List Track) → AllZip (Adds P) ts ts
 adds-none P [] = tt
 adds-none P (t ∷ ts) = (record { machine = refl; kept = refl; more = []; history = sym (append-nil t.history); each = tt }, adds-none P ts)
-
-all-append : {A : Type 0} (P : A → Type 0) (xs ys : List A) → AllByRecursion P xs → AllByRecursion P ys → AllByRecursion P (xs ++ ys)
-all-append P [] ys one two = two
-all-append P (x ∷ xs) ys one two = (one.0, all-append P xs ys one.1 two)
-
-pub all-map : {A : Type 0} (P Q : A → Type 0) (xs : List A) → ((x : A) → P x → Q x) → AllByRecursion P xs → AllByRecursion Q xs
-all-map P Q [] f all = tt
-all-map P Q (x ∷ xs) f all = (f x all.0, all-map P Q xs f all.1)
 
 pub adds-trans : (P : Placed → Type 0) (olds news cs : List Track) → AllZip (Adds P) olds news → AllZip (Adds P) news cs → AllZip (Adds P) olds cs
 adds-trans P [] [] [] one two = tt

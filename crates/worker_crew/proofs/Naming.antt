@@ -1,10 +1,9 @@
 -- Private: no public contract cites this. The asks of a worker at a room, by the names of its machines.
-use Rattle.std.proofs.Common.{◌≡◌, ◌≢◌, ◌<◌, ◌≤◌, ◌+◌, ◌-◌, ℕ, zero, suc, inl, inr, Bool, true, false, cond, List, [], ◌∷◌, ◌++◌, length, map, refl, sym, ap, ap₂, subst, ◌∙◌, Option, Some, None, arith, append_assoc, append-nil, eq-eqb, ne_eqb}
-use Rattle.std.specs.Prelude.{◌⊎◌, ◌==◌, ◌&&◌, All, Contains, bytes_eq, filter, is_none, is_some, option_map, slice_get, take, if◌then◌else◌}
-use Rattle.std.specs.List.{AllByRecursion, AllZip}
+use Rattle.std.proofs.Common.{◌≡◌, ◌≤◌, ◌+◌, ℕ, zero, suc, inl, inr, Bool, true, false, List, [], ◌∷◌, ◌++◌, length, map, refl, sym, ap, ap₂, subst, ◌∙◌, Option, Some, None, arith, eq-eqb, ne_eqb}
+use Rattle.std.specs.Prelude.{◌==◌, ◌&&◌, All, bytes_eq, filter, is_none, is_some, option_map, slice_get, take}
+use Rattle.std.specs.List.{AllByRecursion}
 use Rattle.std.proofs.lemmas.Bool.{cases_Bool}
-use Rattle.std.proofs.lemmas.Bool.Decides.{eqb_tells}
-use Rattle.std.proofs.lemmas.List.{length-append, map-append, take-append-le}
+use Rattle.std.proofs.lemmas.List.{length-append, take-append-le}
 use Rattle.std.proofs.lemmas.List.Elements.{All-weaker}
 use Rattle.std.proofs.lemmas.Slice.Eq.{bytes_eq-Decides}
 use Rattle.track_outside.specs.Asked.{Ask}
@@ -16,16 +15,13 @@ use Rattle.history_model.specs.Entries.{entries_of}
 use Rattle.worker_model.specs.Findings.{AsksCommit, Finding}
 use Rattle.play_crew.specs.Asked.{names_of}
 use Rattle.play_crew.specs.Rooms.{IsPassOf}
-use Rattle.play_crew.specs.Sights.{Home, Sight, seeing}
+use Rattle.play_crew.specs.Sights.{Home, Sight}
 use Rattle.bisect_workers.specs.Beside as beside
 use Rattle.bisect_workers.specs.Beside.{BisectsAt, EachBisects, IsDueIn, found_at, given_up, is_given_up, is_number}
-use Rattle.bisect_workers.specs.Bisecting as bisecting
-use Rattle.play_fits.specs.Workers.{IsDue, Use, found_by, found_for, is_for}
+use Rattle.play_fits.specs.Workers.{IsDue, Use, found_for, is_for}
 use Rattle.play_crew.specs.Seats.{AreDifferent, IsOther, mark_in, seen_in}
 use Rattle.play_crew.proofs.Gathered.{at-contains, mapped-at}
-
-pub same-bytes : (xs ys : List ℕ) → bytes_eq xs ys ≡ true → xs ≡ ys
-same-bytes xs ys same = (bytes_eq-Decides xs ys).0 same
+use Rattle.play_fits.proofs.Lists.{same-bytes}
 
 pub eq-bytes : (xs : List ℕ) → bytes_eq xs xs ≡ true
 eq-bytes xs = (bytes_eq-Decides xs xs).1 refl

@@ -1,10 +1,9 @@
 -- Private: no public contract cites this. What a worker's pass made is its own.
-use Rattle.std.proofs.Common.{◌≡◌, ◌<◌, ◌≤◌, ◌+◌, ◌-◌, ℕ, zero, suc, inl, inr, Bool, true, false, List, [], ◌∷◌, ◌++◌, length, map, refl, sym, ap, ap₂, subst, ◌∙◌, Option, Some, None, arith}
+use Rattle.std.proofs.Common.{◌≡◌, ◌≤◌, ◌+◌, ◌-◌, ℕ, zero, suc, inl, inr, Bool, true, false, List, [], ◌∷◌, ◌++◌, length, refl, sym, ap, ap₂, subst, ◌∙◌, Option, Some, None, arith}
 use Rattle.std.specs.Prelude.{◌⊎◌, slice_get, bytes_eq, if◌then◌else◌}
 use Rattle.std.specs.List.{AllByRecursion, AllZip}
 use Rattle.std.proofs.lemmas.Bool.{cases_lt}
-use native.Mathlib.Numerals.{unary_clauses}
-use Rattle.history_lock.specs.Marks.{IsOtherMark, entries, marked, unmarked}
+use Rattle.history_lock.specs.Marks.{IsOtherMark, marked}
 use Rattle.history_lock.specs.declared.view.Marked.{Marked}
 use Rattle.history_model.specs.declared.entries.Author.{Author}
 use Rattle.history_model.specs.declared.entries.Author.TheVariants as author
@@ -14,26 +13,19 @@ use Rattle.history_model.specs.declared.entries.Placed.{Placed}
 use Rattle.bisect_workers.specs.Settling.{entry_said}
 use Rattle.track_model.specs.Tracks.{Track}
 use Rattle.play_crew.specs.Sights.{Sight, own_marks, seeing}
-use Rattle.play_crew.specs.Rooms.{AreSame, badge}
-use Rattle.recompute_workers.specs.Recomputing.{IsPublicationBy}
 use Rattle.recompute_workers.specs.Works as recomputing
 use Rattle.recompute_workers.specs.Works.{Works}
 use Rattle.bisect_workers.specs.Beside as bisecting
 use Rattle.bisect_workers.specs.Beside.{BisectsAt, EachBisects, Use}
 use Rattle.bisect_workers.specs.Bisecting.{IsSaidBy}
 use Rattle.play_fits.specs.Journals.{history_in}
-use Rattle.play_fits.specs.Passes.{IsMadeBy}
 use Rattle.play_fits.specs.Workers.{Crew, IsOneOf, IsSettled, MayAdd}
 use Rattle.play_crew.specs.Gathered.{OwnsMade}
-use Rattle.play_crew.specs.Seats.{Seat, mark_in, seen_in, sight_of}
+use Rattle.play_crew.specs.Seats.{Seat, mark_in, seen_in}
 use Rattle.play_crew.specs.Shared.{HasSeenKept}
-use Rattle.play_crew.proofs.Fitting.{stays-before, unmarked-at}
-use Rattle.worker_crew.specs.Runs.{AreBisectedFrom, AreRecomputedFrom, IsBisectedAt, IsRecomputedAt, Tally}
-
-pub stands-behind : {A : Type 0} (xs ys : List A) (n : ℕ) (y : A) → length xs ≤ n → slice_get (xs ++ ys) n ≡ Some y → slice_get ys (n - length xs) ≡ Some y
-stands-behind [] ys n y le is = simp unary_clauses is
-stands-behind (x ∷ xs) ys zero y le is = absurd (omega (arith, le))
-stands-behind (x ∷ xs) ys (suc n) y le is = simp unary_clauses (stands-behind xs ys n y (omega (arith, le)) is)
+use Rattle.play_crew.proofs.Fitting.{unmarked-at}
+use Rattle.play_fits.proofs.Lists.{stands-behind, stays-before}
+use Rattle.worker_crew.specs.Runs.{AreBisectedFrom, AreRecomputedFrom, Tally}
 
 pub placed-is : (p : Placed) (w : Author) (e : Entry) → p.author ≡ w → p.entry ≡ e → p ≡ record { author = w; entry = e }
 placed-is p w e one two = ap₂ (λ (v : Author) (x : Entry). let q : Placed = record { author = v; entry = x } in q) one two

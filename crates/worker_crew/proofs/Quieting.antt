@@ -1,14 +1,10 @@
 -- Private: no public contract cites this. What is quiet stays so where answers are added, and a whole run leaves quiet journals.
-use Rattle.std.proofs.Common.{◌≡◌, ◌<◌, ◌≤◌, ◌+◌, ℕ, ℤ, zero, suc, inl, inr, Bool, true, false, List, [], ◌∷◌, ◌++◌, length, map, refl, sym, ap, ap₂, subst, ◌∙◌, Option, Some, None, arith, append_assoc, append-nil}
-use Rattle.std.specs.Prelude.{◌⊎◌, ◌&&◌, ◌||◌, nat_lt, slice_get, filter}
+use Rattle.std.proofs.Common.{◌≡◌, ◌≤◌, ℕ, zero, suc, inl, inr, Bool, true, false, List, [], ◌∷◌, ◌++◌, length, refl, sym, ap, ap₂, subst, ◌∙◌, arith, append_assoc, append-nil}
+use Rattle.std.specs.Prelude.{◌||◌}
 use Rattle.std.specs.List.{AllByRecursion, AllZip}
-use Rattle.std.proofs.lemmas.Bool.{cases_lt, lt-ltb}
 use Rattle.std.proofs.lemmas.List.{length-append, map-append}
 use Rattle.metric_table.specs.declared.limits.Limit.TheVariants as limit
 use Rattle.segment_model.specs.Segments.{Position}
-use Rattle.bisect_core.specs.Bisections.{Bisection, asked_by, is_open}
-use Rattle.bisect_core.specs.declared.outcome.Outcome.{Outcome}
-use Rattle.bisect_core.specs.declared.outcome.Outcome.TheVariants.{Asks, Found, Undecided, Faulted}
 use Rattle.history_model.specs.declared.entries.Acceptance.{Acceptance}
 use Rattle.history_model.specs.declared.entries.Author.{Author}
 use Rattle.history_model.specs.declared.entries.Author.TheVariants as author
@@ -16,28 +12,25 @@ use Rattle.history_model.specs.declared.entries.Entry.{Entry}
 use Rattle.history_model.specs.declared.entries.Entry.TheVariants as entry
 use Rattle.history_model.specs.declared.entries.Placed.{Placed}
 use Rattle.history_model.specs.declared.events.JobEvent.{JobEvent}
-use Rattle.history_model.specs.declared.publication.Publication.{Publication}
 use Rattle.history_model.specs.Allowed.{Allowed, AllowedAfter, Legal}
 use Rattle.history_model.specs.Entries.{entries_of}
-use Rattle.history_model.specs.Jobs.{asked, is_under_way, jobs, open_count, place_asked}
 use Rattle.history_model.specs.Laws.{AcceptancesGrow, CutsGrow, PublicationStays, RetractionsGrow}
 use Rattle.history_model.specs.Penalties.{SettingStays, length_of, penalty_of}
 use Rattle.history_model.specs.declared.setting.Setting.{Setting}
 use Rattle.history_model.specs.Positions.{brought, positions, positions_of}
-use Rattle.history_model.specs.Publications.{AreBest, cut_count, last_publication}
+use Rattle.history_model.specs.Publications.{AreBest}
 use Rattle.history_model.specs.Runs.{Retraction, Series, acceptances, is_known, live_of, retractions}
 use Rattle.touch_model.specs.Laws.{KnownGrows, TouchesGrow}
-use Rattle.touch_model.specs.Stale.{is_behind, is_stale}
 use Rattle.touch_model.specs.Touches.{last_touch}
 use Rattle.bisect_workers.specs.Settling.{said_of}
 use Rattle.track_model.specs.Tracks.{Track}
-use Rattle.worker_model.specs.Quiet.{HasAllSteps, IsCurrent, JobsAreQuiet, SeriesAreQuiet, WouldPassCuts}
+use Rattle.worker_model.specs.Quiet.{HasAllSteps, IsCurrent, SeriesAreQuiet, WouldPassCuts}
 use Rattle.bisect_workers.specs.Bisecting.{IsSaidBy}
 use Rattle.play_fits.specs.Fits.{Play}
 use Rattle.play_fits.specs.Quiet.{IsQuiet}
 use Rattle.worker_crew.specs.Laws.{FinishesLast}
 use Rattle.worker_crew.specs.Runs.{BisectsLast, RunsPlayers, Tally}
-use Rattle.worker_crew.proofs.Late.{Adds, all-map, bisected-adds}
+use Rattle.worker_crew.proofs.Late.{Adds, bisected-adds}
 
 -- ---- what is quiet stays so where something is said of a job
 or-false : (b : Bool) → (b || false) ≡ b

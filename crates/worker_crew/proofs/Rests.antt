@@ -1,6 +1,5 @@
 -- Private: no public contract cites this. Machines that are bisected one after another, where memory is wanting.
-use Rattle.std.proofs.Common.{◌≡◌, ℕ, List, [], ◌∷◌, ◌++◌, refl, sym, ap, Option, Some, None, append-nil, arith}
-use Rattle.std.specs.Prelude.{option_map}
+use Rattle.std.proofs.Common.{ℕ, List, [], ◌∷◌, refl, sym, Option, append-nil, arith}
 use Rattle.std.proofs.lemmas.List.Elements.{All-nil}
 use Rattle.track_outside.specs.Asked.{Ask}
 use Rattle.history_model.specs.declared.entries.Author.{Author}
@@ -10,10 +9,7 @@ use Rattle.track_model.specs.Tracks.{Track}
 use Rattle.recompute_workers.specs.Recomputing.{AddsPublications, IsPublicationBy}
 use Rattle.bisect_workers.specs.Bisecting.{IsBisected, IsDue, IsSaidBy}
 use Rattle.worker_crew.specs.Runs.{BisectsEach, Tally}
-
-told-none : (o : Option (List Ask)) → option_map (λ (before : List Ask). before ++ []) o ≡ o
-told-none None = refl
-told-none (Some asks) = ap (λ (l : List Ask). Some l) (append-nil asks)
+use Rattle.worker_crew.proofs.Late.{told-none}
 
 -- nothing was asked of a machine, and nothing said
 bisected-none : (w : Author) (word : List ℕ) (t : Track) (asked : Option (List Ask)) (faults : ℕ) → IsBisected w word t t asked asked faults faults

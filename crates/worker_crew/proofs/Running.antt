@@ -1,14 +1,13 @@
 -- Private: no public contract cites this. A whole shared run fits.
-use Rattle.std.proofs.Common.{◌≡◌, ◌<◌, ◌≤◌, ◌+◌, ◌-◌, ℕ, zero, suc, inl, inr, Bool, true, false, List, [], ◌∷◌, ◌++◌, length, map, refl, sym, ap, ap₂, subst, ◌∙◌, Option, Some, None, arith, append_assoc, append-nil, ne_eqb}
-use Rattle.std.specs.Prelude.{◌⊎◌, ◌^◌, All, Contains, bytes_eq, filter, min, option_map, slice_get, take}
+use Rattle.std.proofs.Common.{◌≡◌, ◌≢◌, ◌<◌, ◌≤◌, ◌+◌, ℕ, zero, suc, inl, inr, true, List, [], ◌∷◌, ◌++◌, length, map, refl, sym, ap, subst, ◌∙◌, Option, Some, arith, append_assoc}
+use Rattle.std.specs.Prelude.{◌⊎◌, All, Contains, bytes_eq, filter, option_map, slice_get, take}
 use Rattle.std.specs.List.{AllByRecursion, AllZip}
 use Rattle.std.proofs.lemmas.Bool.{cases_lt}
-use Rattle.std.proofs.lemmas.List.{length-append, length-map, map-append}
+use Rattle.std.proofs.lemmas.List.{length-append, map-append}
 use Rattle.std.proofs.lemmas.List.Elements.{All-append, All-nil, All-weaker, filter-append}
 use Rattle.track_outside.specs.Asked.{Ask}
-use Rattle.history_lock.specs.Marks.{entries, marked, unmarked}
+use Rattle.history_lock.specs.Marks.{entries, unmarked}
 use Rattle.history_lock.specs.declared.view.Marked.{Marked}
-use Rattle.history_model.specs.declared.entries.Author.{Author}
 use Rattle.history_model.specs.declared.entries.Author.TheVariants as author
 use Rattle.history_model.specs.declared.entries.Entry.{Entry}
 use Rattle.history_model.specs.declared.entries.Placed.{Placed}
@@ -18,36 +17,31 @@ use Rattle.worker_model.specs.Findings.{AsksCommit, Finding}
 use Rattle.track_model.specs.Tracks.{Track}
 use Rattle.play_crew.specs.Asked.{names_of}
 use Rattle.play_crew.specs.Rooms.{IsPassOf}
-use Rattle.play_crew.specs.Sights.{Home, Sight, own_marks}
+use Rattle.play_crew.specs.Sights.{Home, Sight}
 use Rattle.bisect_workers.specs.Beside as beside
 use Rattle.bisect_workers.specs.Beside.{findings_by, found_at}
 use Rattle.bisect_workers.specs.Bisecting.{RoseBy}
-use Rattle.play_fits.specs.Ends.{AreEndsOf, Ends, HasPlayed, IsLate}
-use Rattle.play_fits.specs.Fits.{Fits, Play, Played, crew_of, kept_in}
+use Rattle.play_fits.specs.Ends.{AreEndsOf, HasPlayed, IsLate}
+use Rattle.play_fits.specs.Fits.{Fits, Play, Played, crew_of}
 use Rattle.play_fits.specs.Journals.{history_in, machines_of}
-use Rattle.play_fits.specs.Passes.{IsSeenPart}
-use Rattle.play_fits.specs.Scripts.{IsWritten}
 use Rattle.play_fits.specs.Whole.{AreAll, AreByCrew, GoesOn, Joined, journals_of, longer}
-use Rattle.play_fits.specs.Workers.{Asked, Crew, IsBisector, IsDue, MayAdd, Use, findings, findings_behind, found_for, is_bisector, is_for}
+use Rattle.play_fits.specs.Workers.{Asked, Crew, IsBisector, IsDue, IsOneOf, MayAdd, Use, findings, found_for, is_bisector, is_for}
 use Rattle.play_fits.proofs.Ends.{ends-fit}
 use Rattle.play_fits.proofs.Whole.{all-by-crew}
-use Rattle.play_crew.specs.Gathered.{AreKept, OwnsMade, joined_of}
-use Rattle.play_crew.specs.Seats.{AreDifferent, Seat, mark_in, seen_in, sight_of}
+use Rattle.play_crew.specs.Gathered.{OwnsMade, joined_of}
+use Rattle.play_crew.specs.Seats.{AreDifferent, Seat, mark_in, seen_in}
 use Rattle.play_crew.specs.Shared.{EndsShared, HasSeenKept, onto}
-use Rattle.play_crew.proofs.Fitting.{Apart, PlayedAt, all-onto, all-owned, apart-named, author-at, in-onto, kept-in, own-histories, own-seen, played-at, same-some, whole-of}
-use Rattle.play_crew.proofs.Gathered.{all-at, at-contains, contains-at, gathered-all, mapped-at, mapped-from}
+use Rattle.play_crew.proofs.Fitting.{Apart, IsNoBisector, PlayedAt, all-onto, all-owned, apart-named, author-at, has-played, in-onto, no-bisector-of, own-histories, own-seen, played-at, same-some, whole-of, all-map}
+use Rattle.play_crew.proofs.Gathered.{all-at, at-contains, contains-at, gathered-all, kept-in, mapped-at, mapped-from}
 use Rattle.play_crew.proofs.Shared.{sharing-ends}
+use Rattle.play_fits.proofs.Lists.{all-append}
 use Rattle.worker_crew.specs.Runs.{BisectsEach, IsAtRoom, IsBisectedAt, IsNew, RunsPlayers, Tally, afters_of, befores_of}
 use Rattle.worker_crew.proofs.Finding.{agree, behind-none, findings-agree, findings-log}
-use Rattle.worker_crew.proofs.Late.{Adds, Behind, IsDueAt, TiedLate, adds-trans, all-map, behind-named, bisects-late, findings-others, findings-published, names-stay, recomputes-late, tied-late, told-none, told-twice}
+use Rattle.worker_crew.proofs.Late.{Adds, Behind, IsDueAt, TiedLate, adds-trans, behind-named, bisects-late, findings-others, findings-published, names-stay, recomputes-late, tied-late, told-none, told-twice}
 use Rattle.worker_crew.proofs.Naming.{BisectedIn, asks-named, bisected-in, due-named, eq-bytes, found-named, given, given-named, is_given, named_use}
 use Rattle.worker_crew.proofs.Owning.{bisectors-own, recomputers-own}
 use Rattle.worker_crew.proofs.Places.{FirstAt, IsSame, RunnerAt, WorkerAt, all-back, all-front, at-back, at-front, bisect-author, first-at, idle-at, idle-last, left-histories, left-names, left-same, names-distinct, recompute-author, runner-at, same-adds, seats-apart, worker-at}
 use Rattle.worker_crew.proofs.Tied.{Distinct, Tied, tied-bisector}
-
-all-append : {A : Type 0} (P : A → Type 0) (xs ys : List A) → AllByRecursion P xs → AllByRecursion P ys → AllByRecursion P (xs ++ ys)
-all-append P [] ys one two = two
-all-append P (x ∷ xs) ys one two = (one.0, all-append P xs ys one.1 two)
 
 some-same : {A : Type 0} (a b : A) → Some a ≡ Some b → a ≡ b
 some-same a b is = cc
@@ -190,21 +184,6 @@ tied-other n word machines left journal t u same l = record {
 }
 
 -- ---- a runner without a worker
-abbrev IsNoBisector : ℕ → Placed → Type 0
-IsNoBisector i p = is_bisector i p.author ≡ false
-
-no-bisector-of : (crew : Crew) (n : ℕ) → crew.bisect < n → (p : Placed) → MayAdd crew p → IsNoBisector n p
-no-bisector-of crew n over p may = by p.author refl may
-  where
-    by : (w : Author) → p.author ≡ w → MayAdd crew p → is_bisector n p.author ≡ false
-    by author.Kept is may = rw is refl
-    by (author.Script k) is may = rw is refl
-    by (author.Recompute k) is may = rw is refl
-    by (author.Bisect k) is may =
-        let told : MayAdd crew (record { author = author.Bisect k; entry = p.entry }) = subst (MayAdd crew) (ap (λ (v : Author). record { author = v; entry = p.entry }) is) may in
-        let high = told.0.1 in
-        rw is (ne_eqb k n (λ same. omega (arith, high, over, same)))
-
 abbrev tied-idle : (n : ℕ) (word : List ℕ) (machines : List (List ℕ)) (journal : List ℕ → List Placed) (t u : Tally) → u ≡ t → ((m : List ℕ) → AllByRecursion (IsNoBisector n) (journal m)) → Tied n word machines journal t u
 tied-idle n word machines journal t u same none = record {
   uses = [];
@@ -314,30 +293,17 @@ module _ (play : Play) (journals : List Track) (r : RunsPlayers play journals) w
   script-at : (i : ℕ) (s : Played) → slice_get play.scripts i ≡ Some s → HasPlayed play.tracks (machines_of journals) parts (i + 1) s
   script-at i s is =
       let p : PlayedAt at.room 1 r.scripts.befores r.scripts.afters s i = played-at at.room 1 play.scripts r.scripts.befores r.scripts.afters r.played i s is in
-      let number : 1 + i ≡ i + 1 = omega arith in
-      let of : p.after.author ≡ author.Script (1 + i) = p.played.author in
-      let saw : HasSeenKept play.tracks p.before = all-at (HasSeenKept play.tracks) r.scripts.befores i p.before saw-scripts p.from in
-      let c = contains-at (onto seats []) p.after (in-onto seats [] i p.after (at-front r.scripts.afters (r.recomputers.afters ++ r.bisectors.afters) i p.after p.to)) in
-      record {
-        joined = joined_of p.after;
-        one = at-contains parts c.0 (joined_of p.after) (mapped-at joined_of (onto seats []) c.0 p.after c.1);
-        author = of ∙ ap (λ (n : ℕ). author.Script n) number;
-        before = sight_of p.before;
-        counts = λ m. ap length (saw m) ∙ length-map (history_in play.tracks m) (λ (x : Placed). marked x None);
-        exchanges = p.played.played.exchanges;
-        part =
-            subst (λ (w : Author). IsSeenPart w (machines_of journals) (sight_of p.before) p.played.played.exchanges (sight_of p.after.pass)) (sym of)
-            (subst (λ (ms : List (List ℕ)). IsSeenPart (author.Script (1 + i)) ms (sight_of p.before) p.played.played.exchanges (sight_of p.after.pass)) (sym names) p.played.played.part);
-        written = subst (λ (f : Bool). IsWritten f s.script s.transcript p.played.played.exchanges) (sym p.played.full) p.played.played.written;
-      }
+      has-played play.tracks (machines_of journals) at.room seats r.scripts.befores r.scripts.afters i s p (at-front r.scripts.afters (r.recomputers.afters ++ r.bisectors.afters) i p.after p.to)
+      (all-at (HasSeenKept play.tracks) r.scripts.befores i p.before saw-scripts p.from) names
 
   -- the runners
   no-bisectors : (n : ℕ) → crew.bisect < n → (m : List ℕ) → AllByRecursion (IsNoBisector n) (history_in journals m)
   no-bisectors n over m =
       let by : AreByCrew crew (history_in play.tracks m) (journals_of log m) = all-by-crew crew (history_in play.tracks) log parts all m in
       let old : AllByRecursion (IsNoBisector n) (history_in play.tracks m) = all-map (λ (p : Placed). p.author ≡ author.Kept) (IsNoBisector n) (history_in play.tracks m) (λ p is. ap (is_bisector n) is) (kept-in play.tracks at.kept m) in
-      let new : AllByRecursion (IsNoBisector n) by.added = all-map (MayAdd crew) (IsNoBisector n) by.added (no-bisector-of crew n over) by.may_add in
-      let last : AllByRecursion (IsNoBisector n) (more m) = all-map (IsLate crew) (IsNoBisector n) (more m) (λ p is. no-bisector-of crew n over p is.may_add) (behind m).each in
+      let others : (k : ℕ) → IsOneOf crew.bisect k → k ≢ n = λ k one same. omega (arith, one.1, over, same) in
+      let new : AllByRecursion (IsNoBisector n) by.added = all-map (MayAdd crew) (IsNoBisector n) by.added (no-bisector-of crew n others) by.may_add in
+      let last : AllByRecursion (IsNoBisector n) (more m) = all-map (IsLate crew) (IsNoBisector n) (more m) (λ p is. no-bisector-of crew n others p is.may_add) (behind m).each in
       subst (AllByRecursion (IsNoBisector n)) (sym (whole m ∙ ap (λ (l : List Placed). l ++ more m) by.goes_on))
       (all-append (IsNoBisector n) (history_in play.tracks m ++ by.added) (more m) (all-append (IsNoBisector n) (history_in play.tracks m) by.added old new) last)
 

@@ -1,13 +1,11 @@
 -- Private: no public contract cites this. Workers that were run, as seats of their room.
-use Rattle.std.proofs.Common.{◌≡◌, ◌+◌, ℕ, zero, suc, List, [], ◌∷◌, ◌++◌, length, map, refl, sym, ap, ap₂, subst, ◌∙◌, arith}
+use Rattle.std.proofs.Common.{◌≡◌, ◌+◌, ℕ, suc, List, [], ◌∷◌, ◌++◌, length, map, refl, sym, ap, ap₂, subst, ◌∙◌, arith}
 use Rattle.std.specs.Prelude.{zip}
-use Rattle.std.specs.List.{AllByRecursion, AllZip}
+use Rattle.std.specs.List.{AllZip}
 use Rattle.std.proofs.lemmas.List.{map-append}
 use Rattle.track_outside.specs.declared.runner.Runner as runner
-use Rattle.history_lock.specs.declared.view.Marked.{Marked}
 use Rattle.history_model.specs.declared.entries.Author.{Author}
 use Rattle.history_model.specs.declared.entries.Author.TheVariants as author
-use Rattle.history_model.specs.declared.entries.Placed.{Placed}
 use Rattle.side_by_side.specs.Runs.{AllWorked}
 use Rattle.track_model.specs.Tracks.{Track}
 use Rattle.play_crew.specs.Rooms.{AreSame, IsPassOf, badge}
@@ -16,6 +14,7 @@ use Rattle.recompute_workers.specs.Works.{Works}
 use Rattle.bisect_workers.specs.Beside.{EachBisects, Use}
 use Rattle.play_crew.specs.Seats.{Seat}
 use Rattle.play_crew.specs.Shared.{IsShared, JoinsAll, SplitsAll, pass_of}
+use Rattle.play_fits.proofs.Lists.{all-append}
 use Rattle.worker_crew.specs.Runs.{AreBisectedFrom, AreRecomputedFrom, IsBisectedAt, IsRecomputedAt, Tally}
 use Rattle.worker_crew.specs.Workers.{Bisects, Recomputes, Working, workers_from, working_at}
 use Rattle.worker_crew.specs.Seated.{AreSeated, HaveBisected, HaveRecomputed, bisect_seat, recompute_seat, tally_of}
@@ -127,10 +126,6 @@ zip-append R [] [] us vs one two = two
 zip-append R [] (y ∷ ys) us vs one two = absurd one
 zip-append R (x ∷ xs) [] us vs one two = absurd one
 zip-append R (x ∷ xs) (y ∷ ys) us vs one two = (one.0, zip-append R xs ys us vs one.1 two)
-
-all-append : {A : Type 0} (P : A → Type 0) (xs ys : List A) → AllByRecursion P xs → AllByRecursion P ys → AllByRecursion P (xs ++ ys)
-all-append P [] ys one two = two
-all-append P (x ∷ xs) ys one two = (one.0, all-append P xs ys one.1 two)
 
 pub seats-share : (tracks : List Track) (room : List Home) (first between last : List Sight) (ps qs rs : List (List Sight)) (us vs ws : List Seat)
     → IsPassOf room first → AllZip IsFirstOf tracks first → SplitsAll first (ps ++ (qs ++ rs)) between

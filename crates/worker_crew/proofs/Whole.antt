@@ -1,12 +1,11 @@
 -- Private: no public contract cites this. What scripts and workers ensure comes to a run of players.
-use Rattle.std.proofs.Common.{◌≡◌, ◌≤◌, ℕ, List, [], ◌∷◌, ◌++◌, length, map, refl, sym, ap, ap₂, subst, ◌∙◌, arith}
-use Rattle.std.specs.Prelude.{drop, min, take}
-use Rattle.std.proofs.lemmas.List.{length-map, length-take, map-append, take-append-drop}
+use Rattle.std.proofs.Common.{◌≡◌, List, [], ◌∷◌, ◌++◌, length, map, refl, sym, ap, ap₂, subst, ◌∙◌, arith}
+use Rattle.std.specs.Prelude.{drop, take}
+use Rattle.std.proofs.lemmas.List.{length-take, map-append, take-append-drop}
 use Rattle.track_outside.specs.declared.runner.Runner as runner
 use Rattle.track_model.specs.Tracks.{Track}
 use Rattle.play_crew.specs.Sights.{Sight}
 use Rattle.play_fits.specs.Fits.{Play}
-use Rattle.play_crew.specs.Seats.{Seat}
 use Rattle.play_crew.specs.Shared.{IsShared, JoinsAll}
 use Rattle.play_crew.specs.Shared as seats
 use Rattle.worker_crew.specs.Runs.{AreBisectedFrom, RunsPlayers, Tally}
@@ -69,9 +68,7 @@ module _ {A : Type 0} (r : runner.Ghosts A) (play : Play) (journals : List Track
     as_many_recompute = recomputed.seated.many ∙ c.many_recompute;
     bisected = from;
     as_many_bisect = bisected.seated.many ∙ c.many_bisect;
-    published = c.published;
-    recomputes = c.recomputes;
-    bisects = c.bisects;
+    main = c.main;
     legal = c.legal;
     new = c.new;
     runners = c.runners;

@@ -113,6 +113,13 @@ pub record IsAtRoom (tracks : List Track) (scripts recomputers bisectors : Seate
   pub kept : AllByRecursion AreKept tracks
   pub ended : AllZip EndsWhole last left
 
+-- main on the machines that the room leaves, in the place of the first worker of each kind
+pub record DoesLast (recompute bisect : ℕ) (word : List ℕ) (left journals : List Track)
+    (worked ended : List Tally) : Type 0 where
+  pub published : List Track
+  pub recomputes : RecomputesLast recompute left published
+  pub bisects : BisectsLast bisect word published journals worked ended
+
 -- scripts and workers at the room, and then main on the machines that it leaves
 pub record RunsPlayers (play : Play) (journals : List Track) : Type 0 where
   pub scripts : Seated
@@ -128,9 +135,8 @@ pub record RunsPlayers (play : Play) (journals : List Track) : Type 0 where
   pub as_many_recompute : length recomputers.afters ≡ play.recompute
   pub bisected : AreBisectedFrom play.word 1 bisectors.befores bisectors.afters began worked
   pub as_many_bisect : length bisectors.afters ≡ play.bisect
-  pub published : List Track
-  pub recomputes : RecomputesLast play.recompute left published
-  pub bisects : BisectsLast play.bisect play.word published journals worked ended
+  pub main : DoesLast play.recompute play.bisect play.word left journals worked ended
+  pub open main use *
   pub legal : AllByRecursion (λ (t : Track). Legal (entries_of t.history)) journals
   pub new : AllByRecursion IsNew began
   pub runners : play.runners ≡ runners_by began ended

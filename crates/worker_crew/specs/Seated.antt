@@ -10,7 +10,7 @@ use Rattle.play_crew.specs.Sights.{Home, IsFirstOf, Sight}
 use Rattle.play_crew.specs.Seats.{Seat}
 use Rattle.play_crew.specs.Shared.{IsShared, JoinsAll, SplitsAll, pass_of}
 use Rattle.worker_crew.specs.Runs.{AreBisectedFrom, AreRecomputedFrom, Tally}
-use Rattle.worker_crew.specs.Workers.{Bisects, IsOfRoom, Recomputes, Working, workers_from}
+use Rattle.worker_crew.specs.Workers.{Bisects, Recomputes, Working, workers_from}
 
 -- its seat, as that of a worker that recomputes, or that bisects
 abbrev pub recompute_seat : Working → Seat

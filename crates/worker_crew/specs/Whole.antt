@@ -1,5 +1,5 @@
 -- A whole shared run, by what scripts and workers ensure when they are run.
-use Rattle.std.specs.Prelude.{◌≡◌, ◌≤◌, ℕ, List, ◌++◌, drop, length, map, take}
+use Rattle.std.specs.Prelude.{◌≡◌, ◌≤◌, List, ◌++◌, drop, length, map, take}
 use Rattle.std.specs.List.{AllByRecursion, AllZip}
 use Rattle.track_outside.specs.declared.runner.Runner as runner
 use Rattle.history_model.specs.Allowed.{Legal}
@@ -14,7 +14,7 @@ use Rattle.play_crew.specs.Gathered.{AreKept}
 use Rattle.play_crew.specs.Seats.{AreDifferent, Seat}
 use Rattle.play_crew.specs.Shared.{JoinsAll, SplitsAll}
 use Rattle.play_crew.specs.Shared as seats
-use Rattle.worker_crew.specs.Runs.{BisectsLast, IsNew, RecomputesLast, RunsPlayers, Tally, runners_by}
+use Rattle.worker_crew.specs.Runs.{DoesLast, IsNew, RunsPlayers, Tally, runners_by}
 use Rattle.worker_crew.specs.Seated.{AreSeated, tally_of}
 use Rattle.worker_crew.specs.Workers.{Bisects, Recomputes, Working, pass_of, workers_from}
 
@@ -53,9 +53,9 @@ pub record RunsCrew {A : Type 0} (r : runner.Ghosts A) (play : Play) (journals :
   pub whole : IsPassOf room last
   pub left : List Track
   pub closed : AllZip EndsWhole last left
-  pub published : List Track
-  pub recomputes : RecomputesLast play.recompute left published
-  pub bisects : BisectsLast play.bisect play.word published journals (tallies r worked) (tallies r ended)
+  pub main : DoesLast play.recompute play.bisect play.word left journals (tallies r worked)
+      (tallies r ended)
+  pub open main use *
   pub legal : AllByRecursion (λ (t : Track). Legal (entries_of t.history)) journals
   pub new : AllByRecursion IsNew (tallies r began)
   pub runners : play.runners ≡ runners_by (tallies r began) (tallies r ended)
