@@ -22,7 +22,12 @@ is_of_store p = by_author p.author
 
 -- a machine as the run found it: the entries that a store kept
 abbrev pub found : Track → Track
-found t = record { machine = t.machine; kept = t.kept; history = filter is_of_store t.history; home = set.empty }
+found t = record {
+  machine = t.machine;
+  kept = t.kept;
+  history = filter is_of_store t.history;
+  home = set.empty;
+}
 
 -- how many entries of a machine a store kept
 abbrev pub kept_count : List Track → List ℕ → ℕ
@@ -31,15 +36,18 @@ kept_count journals machine = kept_in (map found journals) machine
 -- the replies to these requests of the script of that number are those that the journals give
 abbrev pub AreGiven : List Track → ℕ → List Exchange → Type 0
 AreGiven journals i exchanges =
-    AreAnswered (author.Script i) (machines_of journals) (history_in journals) (kept_count journals) exchanges
+    AreAnswered (author.Script i) (machines_of journals) (history_in journals)
+    (kept_count journals) exchanges
 
 -- the entries of the journals that are the script's were added by these requests of it
 abbrev pub AreAsked : List Track → ℕ → List Exchange → Type 0
 AreAsked journals i exchanges =
-    AreItsOwn (author.Script i) (machines_of journals) (history_in journals) (kept_count journals) exchanges
+    AreItsOwn (author.Script i) (machines_of journals) (history_in journals)
+    (kept_count journals) exchanges
 
 -- the transcript has the replies to all requests of the script, in order, and nothing else
-pub record IsTold (journals : List Track) (i : ℕ) (heard : Heard) (exchanges : List Exchange) : Type 0 where
+pub record IsTold (journals : List Track) (i : ℕ) (heard : Heard) (exchanges : List Exchange)
+    : Type 0 where
   pub script : IsScript heard.script (items_of exchanges) end
   pub replies : heard.transcript ≡ replies_text exchanges
   pub given : AreGiven journals i exchanges
@@ -51,12 +59,14 @@ pub record IsHeard (journals : List Track) (i : ℕ) (heard : Heard) : Type 0 wh
   pub asked : AreAsked journals i exchanges
 
 abbrev pub AreHeard : List Track → List Heard → Type 0
-AreHeard journals heard = (i : ℕ) (x : Heard) → slice_get heard i ≡ Some x → IsHeard journals (i + 1) x
+AreHeard journals heard =
+    (i : ℕ) (x : Heard) → slice_get heard i ≡ Some x → IsHeard journals (i + 1) x
 
 -- ---- the first request that is refused
 
 -- the transcript begins with replies to so many first requests, as the journals give them
-pub record BeginsWell (journals : List Track) (i : ℕ) (heard : Heard) (items : List Item) (count : ℕ) : Type 0 where
+pub record BeginsWell (journals : List Track) (i : ℕ) (heard : Heard) (items : List Item)
+    (count : ℕ) : Type 0 where
   pub exchanges : List Exchange
   pub asks : items_of exchanges ≡ take count items
   pub rest : List ℕ
@@ -72,29 +82,38 @@ pub record IsRefusedAt (journals : List Track) (i : ℕ) (heard : Heard) (r : �
   pub number : r ≡ before + 1
   pub begins : BeginsWell journals i heard items before
   pub refused : (before < length items × ¬ BeginsWell journals i heard items (before + 1))
-      ⊎ ((before ≡ length items) × ((exchanges : List Exchange) → ¬ IsTold journals i heard exchanges))
+      ⊎ ((before ≡ length items)
+      × ((exchanges : List Exchange) → ¬ IsTold journals i heard exchanges))
 
 -- ---- the first entry that no request asked for
 
 -- the line of the entry at a place of a journal, in the text of all journals
 abbrev pub line_at : List Track → (at place : ℕ) → ℕ
-line_at journals at place = sum_by (λ (t : Track). 1 + length t.history) (take at journals) + place + 2
+line_at journals at place =
+    sum_by (λ (t : Track). 1 + length t.history) (take at journals) + place + 2
 
--- the entry at a place of a journal is a script's, and no request of these exchanges added it
-pub record IsUnasked (journals : List Track) (asked : ℕ → List Exchange) (at place : ℕ) : Type 0 where
+-- the entry at a place of a journal is a script's
+pub record IsOfScript (journals : List Track) (at place : ℕ) : Type 0 where
   pub track : Track
   pub entry : Placed
   pub script : ℕ
   pub here : slice_get journals at ≡ Some track
   pub there : slice_get track.history place ≡ Some entry
   pub its : entry.author ≡ author.Script script
+
+-- it is, and no request of these exchanges added it
+pub record IsUnasked (journals : List Track) (asked : ℕ → List Exchange) (at place : ℕ)
+    : Type 0 where
+  pub made : IsOfScript journals at place
+  pub open made use *
   pub alone : ¬ IsAdded (author.Script script) track.machine (history_in journals track.machine)
       (kept_count journals track.machine) (asked script) place
 
 -- Line l is the first of an entry that no request asked for, where each script was told well.
 pub record IsUnaskedAt (journals : List Track) (heard : List Heard) (l : ℕ) : Type 0 where
   pub asked : ℕ → List Exchange
-  pub told : (i : ℕ) (x : Heard) → slice_get heard i ≡ Some x → IsTold journals (i + 1) x (asked (i + 1))
+  pub told : (i : ℕ) (x : Heard) → slice_get heard i ≡ Some x
+      → IsTold journals (i + 1) x (asked (i + 1))
   pub at : ℕ
   pub place : ℕ
   pub line : l ≡ line_at journals at place

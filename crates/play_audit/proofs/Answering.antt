@@ -14,7 +14,7 @@ use Rattle.track_model.specs.Outcomes.{Outcome}
 use Rattle.track_model.specs.Replies.{reply_of}
 use Rattle.track_model.specs.Tracks.{ComesTo, Track, with_added}
 use Rattle.play_model.specs.Laws.{RepliesNameEntries}
-use Rattle.play_model.specs.Replies.{Adds, ComesToBeside, Tells, first_of, stands_alone}
+use Rattle.play_model.specs.Replies.{Adds, ComesBehind, ComesToBeside, Tells, first_of, stands_alone}
 use Rattle.play_model.proofs.Replies.{added-step, told-step}
 use Rattle.reply_laws.specs.Kinds.{Names, tells_by_letter, tells_none}
 use Rattle.reply_laws.specs.Laws.{OneAdds, OneBeside, OneTells, PlainBeside, RepliesAreNamed}
@@ -73,19 +73,23 @@ module _ (machine : List ℕ) (j : List Placed) (known count : ℕ) (q : Request
   reply-is : r ≡ reply_of (first_of count j) o
   reply-is = told ∙ ap (λ (h : List Entry). reply_of h o) first
 
+  -- beside others it comes to the same
+  comes-behind : PlainBeside → stands_alone q ≡ false → ComesBehind j known count q o
+  comes-behind alone shared = record {
+    since = since;
+    within = within;
+    version = count;
+    made_since = since;
+    made_before = omega arith;
+    base = 0;
+    comes = alone (first_of count j) 0 (first_of count j) q o seg shared there;
+  }
+
   pub plain_tells : PlainBeside → stands_alone q ≡ false → o.adds ≡ None → Tells j known q r
   plain_tells alone shared none = record {
     count = count;
     outcome = o;
-    comes = record {
-      since = since;
-      within = within;
-      version = count;
-      made_since = since;
-      made_before = omega arith;
-      base = 0;
-      comes = alone (first_of count j) 0 (first_of count j) q o seg shared there;
-    };
+    comes = comes-behind alone shared;
     adds = none;
     told = reply-is;
   }
@@ -94,15 +98,7 @@ module _ (machine : List ℕ) (j : List Placed) (known count : ℕ) (q : Request
   plain_adds alone shared author e adds stands = record {
     count = count;
     outcome = o;
-    comes = record {
-      since = since;
-      within = within;
-      version = count;
-      made_since = since;
-      made_before = omega arith;
-      base = 0;
-      comes = alone (first_of count j) 0 (first_of count j) q o seg shared there;
-    };
+    comes = comes-behind alone shared;
     entry = e;
     adds = adds;
     stands = stands;
@@ -131,45 +127,38 @@ module _ (machine : List ℕ) (j : List Placed) (known count : ℕ) (q : Request
       (a.entry, ap (λ (x : Outcome). x.adds) same ∙ a.adds, subst (λ (n : ℕ). slice_get j n ≡ Some (record { author = author; entry = a.entry })) counts a.stands)
 
 -- ---- the reply that stands next, or none
+
+-- where one reply at most of a step is meant
+module _ (text : List ℕ) (Fits : Reply → Type 0) (once : (r s : Reply) → Fits r → Fits s → r.step ≡ s.step → r ≡ s) where
+  next-of : RepliesAreNamed → ((r : Reply) → Fits r → r.step < 2 ^ 64) → (r : Reply) (len step : ℕ) → Fits r → r.step ≡ step → BeginsWith text r len → IsNext Fits text step len
+  next-of named small r len step fit its begins = record {
+    reply = r;
+    fits = fit;
+    its_step = its;
+    begins = begins;
+    only = λ other rest fits is. once other r fits fit (same_steps named text other r rest (drop len text) (small other fits) (small r fit) is begins.text);
+  }
+
+  no-text-of : (r : Reply) (step : ℕ) → Fits r → r.step ≡ step → ((rest : List ℕ) → text ≢ text_of r ++ rest) → HasNone Fits text step
+  no-text-of r step fit its none reply rest fits same is =
+      let one : reply ≡ r = once reply r fits fit (same ∙ sym its) in
+      none rest (is ∙ ap (λ (x : Reply). text_of x ++ rest) one)
+
 module _ (j : List Placed) (known : ℕ) (q : Request) (text : List ℕ) (fits64 : length j < 2 ^ 64) where
   pub tells_next : RepliesAreNamed → RepliesNameEntries → OneTells → is_segment q ≡ false → (r : Reply) (len step : ℕ) → Tells j known q r → r.step ≡ step → BeginsWith text r len
       → IsNext (Tells j known q) text step len
-  tells_next named names once seg r len step tells its begins =
-      let own = names author.Kept j known q r (inr tells) in
-      record {
-        reply = r;
-        fits = tells;
-        its_step = its;
-        begins = begins;
-        only = λ other rest fits is.
-            let bound = names author.Kept j known q other (inr fits) in
-            once j known q other r seg fits tells
-            (same_steps named text other r rest (drop len text) (omega (arith, bound.within, fits64)) (omega (arith, own.within, fits64)) is begins.text);
-      }
+  tells_next named names once seg =
+      next-of text (Tells j known q) (λ r s. once j known q r s seg) named (λ r tells. let bound = names author.Kept j known q r (inr tells) in omega (arith, bound.within, fits64))
 
   pub tells_no_text : OneTells → is_segment q ≡ false → (r : Reply) (step : ℕ) → Tells j known q r → r.step ≡ step → ((rest : List ℕ) → text ≢ text_of r ++ rest)
       → HasNone (Tells j known q) text step
-  tells_no_text once seg r step tells its none reply rest fits same is =
-      let one : reply ≡ r = once j known q reply r seg fits tells (same ∙ sym its) in
-      none rest (is ∙ ap (λ (x : Reply). text_of x ++ rest) one)
+  tells_no_text once seg = no-text-of text (Tells j known q) (λ r s. once j known q r s seg)
 
   pub adds_next : RepliesAreNamed → RepliesNameEntries → OneAdds → (author : Author) (r : Reply) (len step : ℕ) → Adds author j known q r → r.step ≡ step → BeginsWith text r len
       → IsNext (Adds author j known q) text step len
-  adds_next named names once author r len step adds its begins =
-      let own = names author j known q r (inl adds) in
-      record {
-        reply = r;
-        fits = adds;
-        its_step = its;
-        begins = begins;
-        only = λ other rest fits is.
-            let bound = names author j known q other (inl fits) in
-            once author j known q other r fits adds
-            (same_steps named text other r rest (drop len text) (omega (arith, bound.within, fits64)) (omega (arith, own.within, fits64)) is begins.text);
-      }
+  adds_next named names once author =
+      next-of text (Adds author j known q) (once author j known q) named (λ r adds. let bound = names author j known q r (inl adds) in omega (arith, bound.within, fits64))
 
   pub adds_no_text : OneAdds → (author : Author) (r : Reply) (step : ℕ) → Adds author j known q r → r.step ≡ step → ((rest : List ℕ) → text ≢ text_of r ++ rest)
       → HasNone (Adds author j known q) text step
-  adds_no_text once author r step adds its none reply rest fits same is =
-      let one : reply ≡ r = once author j known q reply r fits adds (same ∙ sym its) in
-      none rest (is ∙ ap (λ (x : Reply). text_of x ++ rest) one)
+  adds_no_text once author = no-text-of text (Adds author j known q) (once author j known q)

@@ -26,13 +26,13 @@ use Rattle.audit_model.specs.Hearing.{Gives, HearsNone}
 use Rattle.audit_model.specs.Verdicts.{track_of}
 use Rattle.audit_model.proofs.Exchanges.{known_else}
 use Rattle.audit_model.proofs.Machines.{alone, undeclared}
+use Rattle.play_fits.proofs.Lists.{mapped-back}
 use Rattle.play_audit.specs.Texts.{BeginsWith}
 use Rattle.play_audit.specs.Known.{AreKnown, tracks_of}
 use Rattle.play_audit.specs.Marks.{AreRows, IsAddedBy}
 use Rattle.play_audit.specs.Heard.{exchange, HearsItem}
 use Rattle.play_audit.specs.declared.place.Place.{Place}
 use Rattle.play_audit.proofs.Knowing.{none_other}
-use Rattle.play_audit.proofs.Listed.{map_back}
 
 -- the item has this reply alone, which tells of no machine
 pub record IsApart (js : List Journal) (i : ℕ) (item : Item) (reply : Reply) : Type 0 where
@@ -173,6 +173,6 @@ unknown_apart js i q shared each =
     (λ xs at place t here by.
     let both : Ok q ≡ Ok by.request = by.asked in
     let same : q ≡ by.request = cc in
-    let back = map_back track_of js at t here in
+    let back = mapped-back track_of js at t here in
     other_at (machine_of q) js at back.0 each back.1
     (ap (λ (x : Track). x.machine) back.2 ∙ sym by.about ∙ ap machine_of (sym same)))

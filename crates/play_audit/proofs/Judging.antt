@@ -172,12 +172,7 @@ module _ (js : List Journal) (sound : AreSound js) where
         place = first.place;
         line = first.line;
         unasked = record {
-          track = o.track;
-          entry = o.open_.entry;
-          script = o.open_.script;
-          here = o.here;
-          there = o.open_.there;
-          its = o.open_.its;
+          made = record { track = o.track; entry = o.open_.entry; script = o.open_.script; here = o.here; there = o.open_.there; its = o.open_.its };
           alone = λ by. let both : true ≡ false = sym (so.marks.added o.open_.script first.at first.place o.track o.here by) ∙ o.open_.unmarked in absurd (cc);
         };
         first = λ m k below u. elim (cases_Bool (mark_at rows m k)) [

@@ -2,6 +2,7 @@ mod Fronts
 mod Walking
 mod Answering
 mod Telling
+mod Compared
 mod Replying
 mod Published
 mod Reading

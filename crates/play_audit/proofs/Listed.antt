@@ -7,28 +7,12 @@ use Rattle.std.proofs.lemmas.Option.{slice_get_read}
 use Rattle.journal_reader.specs.Journals.{Journal}
 use Rattle.audit_model.specs.Verdicts.{track_of}
 use Rattle.audit_model.proofs.Exchanges.{take_next}
+use Rattle.journal_reader.proofs.Lists.{map_at}
 use Rattle.play_audit.specs.Known.{tracks_of}
 use Rattle.play_audit.specs.Marks.{rows_of}
 
 pub read_at : {A : Type 0} (xs : List A) (n : ℕ) (x : A) → n < length xs → x ≡ get_or xs n x → slice_get xs n ≡ Some x
 read_at xs n x below is = slice_get_read xs (length xs) n x refl below is
-
-pub map_at : {A B : Type 0} (f : A → B) (xs : List A) (n : ℕ) (x : A) → slice_get xs n ≡ Some x → slice_get (map f xs) n ≡ Some (f x)
-map_at f [] zero x is = absurd (cc)
-map_at f [] (suc n) x is = absurd (cc)
-map_at f (y ∷ xs) zero x is = let one : y ≡ x = cc in ap (λ (z : _). Some (f z)) one
-map_at f (y ∷ xs) (suc n) x is = map_at f xs n x is
-
-pub map_back : {A B : Type 0} (f : A → B) (xs : List A) (n : ℕ) (y : B) → slice_get (map f xs) n ≡ Some y → (x : A) × (slice_get xs n ≡ Some x) × (f x ≡ y)
-map_back f [] zero y is = absurd (cc)
-map_back f [] (suc n) y is = absurd (cc)
-map_back f (x ∷ xs) zero y is = (x, refl, (let same : f x ≡ y = cc in same))
-map_back f (x ∷ xs) (suc n) y is = map_back f xs n y is
-
-pub some_at : {A : Type 0} (xs : List A) (k : ℕ) → k < length xs → (x : A) × (slice_get xs k ≡ Some x)
-some_at [] k below = absurd (omega (arith, below))
-some_at (x ∷ xs) zero below = (x, refl)
-some_at (x ∷ xs) (suc k) below = some_at xs k (omega (arith, below))
 
 pub same_at : {A : Type 0} (xs : List A) (k : ℕ) (x y : A) → slice_get xs k ≡ Some x → slice_get xs k ≡ Some y → x ≡ y
 same_at xs k x y one two = let both : Some x ≡ Some y = sym one ∙ two in cc

@@ -25,7 +25,7 @@ use Rattle.play_audit.specs.Places.{IsPlace}
 use Rattle.play_audit.specs.Replies.{IsHeardNext, IsUnheard}
 use Rattle.play_audit.specs.declared.place.Place.{Place}
 use Rattle.play_audit.proofs.Knowing.{tracks_other}
-use Rattle.play_audit.proofs.Listed.{map_back, same_at, track_at}
+use Rattle.play_audit.proofs.Listed.{same_at, track_at}
 use Rattle.play_audit.proofs.Apart.{other_at}
 use Rattle.play_audit.proofs.Walking.{entries_length}
 use Rattle.std.proofs.Common.{take}
@@ -34,6 +34,7 @@ use Rattle.history_model.specs.declared.entries.Entry.{Entry}
 use Rattle.track_model.specs.Outcomes.{Outcome}
 use Rattle.track_model.specs.Replies.{reply_of}
 use Rattle.play_model.specs.Replies.{first_of}
+use Rattle.play_fits.proofs.Lists.{mapped-back}
 
 -- ---- places of different machines
 
@@ -151,7 +152,7 @@ module _ (js : List Journal) (sound : AreSound js) (i : ℕ) (q : Request) (tran
     its-adds : (at place : ℕ) (t : Track) → slice_get (tracks_of js) at ≡ Some t → IsAddedBy (tracks_of js) i xs (exchange (Ok q) reply) t place
         → (at ≡ a) × Adds (author.Script i) j.history known q reply
     its-adds at place t there by =
-        let back = map_back track_of js at t there in
+        let back = mapped-back track_of js at t there in
         let both : Ok q ≡ Ok by.request = by.asked in
         let request : q ≡ by.request = cc in
         let name : t.machine ≡ machine_of q = sym by.about ∙ ap machine_of (sym request) in

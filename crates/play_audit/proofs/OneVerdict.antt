@@ -35,7 +35,7 @@ use Rattle.journal_lines.specs.Authors.{Crew, IsOneOf, MayAdd}
 use Rattle.journal_lines.proofs.Lacking.{behind_same}
 use Rattle.journal_reader.specs.Journals.{Journal, IsJournal, WasKept, crew_with}
 use Rattle.journal_reader.specs.Laws.{NoneRefused, OneReading, OneRefusal}
-use Rattle.journal_reader.proofs.Lists.{all_at, map_take}
+use Rattle.journal_reader.proofs.Lists.{all_at, map_take, some_at}
 use Rattle.journal_reader.proofs.Unique.{fits}
 use Rattle.audit_model.specs.Heard.{AreGiven, AreHeard, BeginsWell, IsRefusedAt, IsTold, IsUnasked, IsUnaskedAt, kept_count}
 use Rattle.audit_model.specs.Hearing.{Gives}
@@ -45,13 +45,14 @@ use Rattle.audit_model.specs.declared.verdict.Verdict.{Verdict}
 use Rattle.audit_model.specs.declared.verdict.Verdict.TheVariants as verdict
 use Rattle.audit_model.proofs.Exchanges.{given_front, given_last}
 use Rattle.audit_model.proofs.Machines.{AreOthers, history_at}
+use Rattle.play_fits.proofs.Lists.{mapped-back}
 use Rattle.play_audit.specs.Known.{tracks_of}
 use Rattle.play_audit.specs.Laws.{OneCutOff, OneVerdict}
 use Rattle.play_audit.specs.Segments.{IsReason}
 use Rattle.play_audit.proofs.Answering.{same_steps, told_names}
 use Rattle.play_audit.proofs.Fronts.{names_more}
 use Rattle.play_audit.proofs.Knowing.{tracks_other}
-use Rattle.play_audit.proofs.Listed.{map_back, same_at, some_at}
+use Rattle.play_audit.proofs.Listed.{same_at}
 use Rattle.play_audit.proofs.Reasons.{one_reason, tells_reason}
 use Rattle.play_audit.proofs.Scripts.{one_script}
 use Rattle.play_audit.proofs.Telling.{kind_of_adds, kind_of_tells}
@@ -300,7 +301,7 @@ module _ (laws : Laws) (bytes : List ℕ) (heard : List Heard) (ts : List Track)
 
   its-script : (at place k : ℕ) (t : Track) (p : Placed) → slice_get ts at ≡ Some t → slice_get t.history place ≡ Some p → p.author ≡ author.Script k → IsOneOf (length heard) k
   its-script at place k t p here there its =
-      let back = map_back track_of are.read at t (subst (λ (l : List Track). slice_get l at ≡ Some t) are.tracks here) in
+      let back = mapped-back track_of are.read at t (subst (λ (l : List Track). slice_get l at ≡ Some t) are.tracks here) in
       let journal : IsJournal (length heard) back.0 = all_at (IsJournal (length heard)) are.read at back.0 are.text.are.each back.1 in
       script-in (length heard) back.0 place k p journal (subst (λ (x : Track). slice_get x.history place ≡ Some p) (sym back.2) there) its
 
@@ -318,12 +319,7 @@ module _ (laws : Laws) (bytes : List ℕ) (heard : List Heard) (ts : List Track)
   unasked-also asked also at place one two u =
       let same : asked u.script ≡ also u.script = same-asked asked also one two u.script (its-script at place u.script u.track u.entry u.here u.there u.its) in
       record {
-        track = u.track;
-        entry = u.entry;
-        script = u.script;
-        here = u.here;
-        there = u.there;
-        its = u.its;
+        made = u.made;
         alone = λ by. u.alone
             (subst (λ (l : List Exchange). IsAdded (author.Script u.script) u.track.machine (history_in ts u.track.machine) (kept_count ts u.track.machine) l place) (sym same) by);
       }

@@ -1,6 +1,6 @@
 -- Private: no public contract cites this. How many cuts the segmentations of a journal's versions have.
 use Rattle.std.proofs.Common.{◌≡◌, inl, inr, ℕ, ℤ, ◌<◌, ◌≤◌, Bool, true, false, List, [], ◌∷◌, ◌++◌, length, map, filter, take, refl, sym, ap, subst, ◌∙◌, arith}
-use Rattle.std.specs.Prelude.{◌||◌, nat_lt, if◌then◌else◌, IfOk, Result}
+use Rattle.std.specs.Prelude.{◌||◌, nat_lt, if◌then◌else◌}
 use Rattle.std.specs.List.{list_any}
 use Rattle.std.proofs.lemmas.Bool.{cases_Bool, cases_lt, lt-ltb}
 use Rattle.sample_model.specs.Samples.{Measurement}
@@ -144,19 +144,6 @@ not-more room cuts is = elim (cases_lt room cuts) [
 ]
 
 -- the same of equal lists and numbers
-pub pass_as : {E : Type 0} (found : Result Bool E) (j k : List Placed) (s : Series) (a b t u r q : ℕ) → k ≡ j → a ≡ b → t ≡ u → r ≡ q
-    → IfOk found (λ has. has ≡ true → PassesCuts k s a t r) → IfOk found (λ has. has ≡ true → PassesCuts j s b u q)
-pass_as found j k s a b t u r q one two three four is =
-    subst (λ (x : ℕ). IfOk found (λ has. has ≡ true → PassesCuts j s b u x)) four
-    (subst (λ (x : ℕ). IfOk found (λ has. has ≡ true → PassesCuts j s b x r)) three
-    (subst (λ (x : ℕ). IfOk found (λ has. has ≡ true → PassesCuts j s x t r)) two
-    (subst (λ (x : List Placed). IfOk found (λ has. has ≡ true → PassesCuts x s a t r)) one is)))
-
-pub few_as : {E : Type 0} (found : Result Bool E) (j k : List Placed) (s : Series) (a b t u r q : ℕ) → k ≡ j → a ≡ b → t ≡ u → r ≡ q
-    → IfOk found (λ has. has ≡ false → (version : ℕ) → a ≤ version → version ≤ t → HasFewCuts k s version r)
-    → IfOk found (λ has. has ≡ false → (version : ℕ) → b ≤ version → version ≤ u → HasFewCuts j s version q)
-few_as found j k s a b t u r q one two three four is =
-    subst (λ (x : ℕ). IfOk found (λ has. has ≡ false → (version : ℕ) → b ≤ version → version ≤ u → HasFewCuts j s version x)) four
-    (subst (λ (x : ℕ). IfOk found (λ has. has ≡ false → (version : ℕ) → b ≤ version → version ≤ x → HasFewCuts j s version r)) three
-    (subst (λ (x : ℕ). IfOk found (λ has. has ≡ false → (version : ℕ) → x ≤ version → version ≤ t → HasFewCuts j s version r)) two
-    (subst (λ (x : List Placed). IfOk found (λ has. has ≡ false → (version : ℕ) → a ≤ version → version ≤ t → HasFewCuts x s version r)) one is)))
+pub alike : (P : List Placed → (from to room : ℕ) → Type 0) {j k : List Placed} {a b t u r q : ℕ} → k ≡ j → a ≡ b → t ≡ u → r ≡ q → P k a t r → P j b u q
+alike P {j = j} {a = a} {b = b} {t = t} {u = u} {r = r} one two three four is =
+    subst (λ (x : ℕ). P j b u x) four (subst (λ (x : ℕ). P j b x r) three (subst (λ (x : ℕ). P j x t r) two (subst (λ (x : List Placed). P x a t r) one is)))

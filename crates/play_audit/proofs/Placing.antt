@@ -1,8 +1,8 @@
 -- Private: no public contract cites this. A script's way along a journal, one reply further.
-use Rattle.std.proofs.Common.{◌≡◌, ℕ, zero, suc, ◌+◌, ◌-◌, ◌<◌, ◌≤◌, List, [], ◌∷◌, get_or, length, Option, Some, None, Ok, Err, refl, sym, ap, subst, ◌∙◌, arith}
+use Rattle.std.proofs.Common.{◌≡◌, ℕ, zero, suc, ◌+◌, ◌-◌, ◌^◌, false, ◌<◌, ◌≤◌, List, [], ◌∷◌, get_or, length, Option, Some, None, Ok, Err, refl, sym, ap, subst, ◌∙◌, arith}
 use Rattle.std.specs.List.{AllByRecursion}
 use Rattle.std.proofs.lemmas.Option.{get_or_from_slice_get}
-use Rattle.std.specs.Prelude.{slice_get, IfNone, IfOk, IfSome, Result}
+use Rattle.std.specs.Prelude.{slice_get, IfOk, IfSome, Result}
 use Rattle.history_model.specs.declared.entries.Author.{Author}
 use Rattle.history_model.specs.declared.entries.Placed.{Placed}
 use Rattle.request_model.specs.declared.requests.Request.{Request}
@@ -10,13 +10,14 @@ use Rattle.request_model.specs.declared.requests.Request.TheVariants.{Segment}
 use Rattle.request_model.specs.Requests.{machine_of}
 use Rattle.journal_walk.specs.Laws.{StaysAlong}
 use Rattle.journal_walk.specs.Walks.{Walked, GoesOn, coming}
-use Rattle.play_model.specs.Replies.{Adds, Tells}
+use Rattle.play_model.specs.Replies.{Adds, Tells, stands_alone}
 use Rattle.request_model.specs.declared.replies.Reply.{Reply}
 use Rattle.journal_lines.specs.Lines.{HasLine}
 use Rattle.play_model.proofs.Replies.{added-step}
-use Rattle.play_audit.specs.Places.{IsBehind, IsBy, IsSound}
-use Rattle.play_audit.specs.Replies.{HasNone, IsNext}
-use Rattle.play_audit.proofs.Walking.{grown_length, some_at as some_at_place}
+use Rattle.journal_reader.proofs.Lists.{some_at}
+use Rattle.play_audit.specs.Places.{IsBehind, IsBy, IsSound, Knows, MayAsk}
+use Rattle.play_audit.specs.Replies.{IsCompared}
+use Rattle.play_audit.proofs.Walking.{grown_length}
 
 -- a walk may go on to what is named
 pub may_go : (machine : List ℕ) (history : List Placed) (known step : ℕ) (w : Walked) → IsBy machine history known w → known ≤ step → step ≤ length history
@@ -31,6 +32,15 @@ may_go machine history known step w by since within = record {
 
 pub its_sound : (machine : List ℕ) (history : List Placed) (known : ℕ) (w : Walked) → IsBy machine history known w → IsSound history → IsSound w.history
 its_sound machine history known w by sound = subst IsSound (sym by.same) sound
+
+-- a request may be asked there
+pub may_ask : (q : Request) (history : List Placed) (known step : ℕ) (w v : Walked) → IsBy (machine_of q) history known w → IsBehind w.track.machine w.history step v
+    → length history < 2 ^ 64 → stands_alone q ≡ false → IsSound history → known ≤ step → MayAsk q v × Knows v known
+may_ask q history known step w v by b few shared sound since =
+    let size : length v.history ≡ length history = ap (λ (h : List Placed). length h) (b.by.same ∙ by.same) in (
+      record { along = b.by.along; few = omega (arith, size, few); asked = sym (b.by.machine_is ∙ by.machine_is); shared = shared },
+      record { along = b.by.along; sound = subst IsSound (sym (b.by.same ∙ by.same)) sound; few = omega (arith, size, few); since = omega (arith, since, b.there) },
+    )
 
 -- and is then behind it
 pub has_gone : (machine : List ℕ) (history : List Placed) (known step : ℕ) (w v : Walked) → IsBy machine history known w → IsBehind w.track.machine w.history step v
@@ -48,26 +58,17 @@ has_gone machine history known step w v by b = record {
 
 -- what was told behind it
 module _ (machine : List ℕ) (history : List Placed) (known step : ℕ) (w : Walked) (b : IsBehind machine history step w) (text : List ℕ) where
-  pub told_there : (q : Request) (len : ℕ) → IsNext (Tells w.history known q) text (length w.track.history) len → IsNext (Tells history known q) text step len
-  told_there q len next =
-      subst (λ (n : ℕ). IsNext (Tells history known q) text n len) b.there
-      (subst (λ (h : List Placed). IsNext (Tells h known q) text (length w.track.history) len) b.by.same next)
+  pub told_as : {E : Type 0} (q : Request) (found : Result (Option ℕ) E) → IsCompared (Tells w.history known q) text (length w.track.history) found → IsCompared (Tells history known q) text step found
+  told_as q found told =
+      subst (λ (n : ℕ). IsCompared (Tells history known q) text n found) b.there
+      (subst (λ (h : List Placed). IsCompared (Tells h known q) text (length w.track.history) found) b.by.same told)
 
-  pub told_nowhere : (q : Request) → HasNone (Tells w.history known q) text (length w.track.history) → HasNone (Tells history known q) text step
-  told_nowhere q none =
-      subst (λ (n : ℕ). HasNone (Tells history known q) text n) b.there
-      (subst (λ (h : List Placed). HasNone (Tells h known q) text (length w.track.history)) b.by.same none)
-
-  pub added_there : (author : Author) (q : Request) (len : ℕ) → IsNext (Adds author w.history known q) text (length w.track.history + 1) len
-      → IsNext (Adds author history known q) text (step + 1) len
-  added_there author q len next =
-      subst (λ (n : ℕ). IsNext (Adds author history known q) text (n + 1) len) b.there
-      (subst (λ (h : List Placed). IsNext (Adds author h known q) text (length w.track.history + 1) len) b.by.same next)
-
-  pub added_nowhere : (author : Author) (q : Request) → HasNone (Adds author w.history known q) text (length w.track.history + 1) → HasNone (Adds author history known q) text (step + 1)
-  added_nowhere author q none =
-      subst (λ (n : ℕ). HasNone (Adds author history known q) text (n + 1)) b.there
-      (subst (λ (h : List Placed). HasNone (Adds author h known q) text (length w.track.history + 1)) b.by.same none)
+  pub added_as : {E : Type 0} (author by_ : Author) (q : Request) (next-step : ℕ) (found : Result (Option ℕ) E) → by_ ≡ author → step + 1 ≡ next-step
+      → IsCompared (Adds by_ w.history known q) text (length w.track.history + 1) found → IsCompared (Adds author history known q) text next-step found
+  added_as author by_ q next-step found same is told =
+      subst (λ (a : Author). IsCompared (Adds a history known q) text next-step found) same
+      (subst (λ (n : ℕ). IsCompared (Adds by_ history known q) text n found) (ap (λ (n : ℕ). n + 1) b.there ∙ is)
+      (subst (λ (h : List Placed). IsCompared (Adds by_ h known q) text (length w.track.history + 1) found) b.by.same told))
 
   -- the entry that comes next
   pub comes_next : (p : Placed) → slice_get history step ≡ Some p → coming w ≡ Some p
@@ -82,36 +83,10 @@ module _ (machine : List ℕ) (history : List Placed) (known step : ℕ) (w : Wa
     within = within;
   }
 
-  pub told_ok : {E : Type 0} (q : Request) (found : Result (Option ℕ) E) → IfOk found (λ o. IfSome o (IsNext (Tells w.history known q) text (length w.track.history)))
-      → IfOk found (λ o. IfSome o (IsNext (Tells history known q) text step))
-  told_ok q (Ok (Some len)) next = told_there q len next
-  told_ok q (Ok None) next = tt
-  told_ok q (Err e) next = tt
-
-  pub told_ok_none : {E : Type 0} (q : Request) (found : Result (Option ℕ) E) → IfOk found (λ o. IfNone o (HasNone (Tells w.history known q) text (length w.track.history)))
-      → IfOk found (λ o. IfNone o (HasNone (Tells history known q) text step))
-  told_ok_none q (Ok (Some len)) none = tt
-  told_ok_none q (Ok None) none = told_nowhere q none
-  told_ok_none q (Err e) none = tt
-
   pub stays_ok : {E : Type 0} (v : Walked) (found : Result (Option ℕ) E) → IfOk found (λ o. IfSome o (λ len. v ≡ w)) → IfOk found (λ o. IfSome o (λ len. IsBy machine history step v))
   stays_ok v (Ok (Some len)) same = subst (IsBy machine history step) (sym same) b.by
   stays_ok v (Ok None) same = tt
   stays_ok v (Err e) same = tt
-
-  pub added_ok : {E : Type 0} (author by_ : Author) (q : Request) (next-step : ℕ) (found : Result (Option ℕ) E) → by_ ≡ author → step + 1 ≡ next-step
-      → IfOk found (λ o. IfSome o (IsNext (Adds by_ w.history known q) text (length w.track.history + 1))) → IfOk found (λ o. IfSome o (IsNext (Adds author history known q) text next-step))
-  added_ok author by_ q next-step (Ok (Some len)) same is next =
-      subst (λ (n : ℕ). IsNext (Adds author history known q) text n len) is (subst (λ (a : Author). IsNext (Adds a history known q) text (step + 1) len) same (added_there by_ q len next))
-  added_ok author by_ q next-step (Ok None) same is next = tt
-  added_ok author by_ q next-step (Err e) same is next = tt
-
-  pub added_ok_none : {E : Type 0} (author by_ : Author) (q : Request) (next-step : ℕ) (found : Result (Option ℕ) E) → by_ ≡ author → step + 1 ≡ next-step
-      → IfOk found (λ o. IfNone o (HasNone (Adds by_ w.history known q) text (length w.track.history + 1))) → IfOk found (λ o. IfNone o (HasNone (Adds author history known q) text next-step))
-  added_ok_none author by_ q next-step (Ok (Some len)) same is none = tt
-  added_ok_none author by_ q next-step (Ok None) same is none =
-      subst (λ (n : ℕ). HasNone (Adds author history known q) text n) is (subst (λ (a : Author). HasNone (Adds a history known q) text (step + 1)) same (added_nowhere by_ q none))
-  added_ok_none author by_ q next-step (Err e) same is none = tt
 
   pub goes_ok : {E : Type 0} → StaysAlong → (v : Walked) (next-step : ℕ) (found : Result (Option ℕ) E) → step + 1 ≡ next-step → next-step ≤ length history
       → IfOk found (λ o. IfSome o (λ len. GoesOn w v)) → IfOk found (λ o. IfSome o (λ len. IsBy machine history next-step v))
@@ -126,44 +101,11 @@ module _ (machine : List ℕ) (history : List Placed) (known step : ℕ) (w : Wa
 pub its_segment : (q : Request) (machine test metric : List ℕ) (w : Walked) → q ≡ Segment machine test metric → machine_of q ≡ w.track.machine → q ≡ Segment w.track.machine test metric
 its_segment q machine test metric w is asked = is ∙ ap (λ (m : List ℕ). Segment m test metric) (sym (ap machine_of is) ∙ asked)
 
-pub tells_of : {E : Type 0} (found : Result (Option ℕ) E) (w : Walked) (known : ℕ) (q r : Request) (text : List ℕ) → r ≡ q
-    → IfOk found (λ o. IfSome o (IsNext (Tells w.history known q) text (length w.track.history)))
-    → IfOk found (λ o. IfSome o (IsNext (Tells w.history known r) text (length w.track.history)))
-tells_of found w known q r text same some = subst (λ (x : Request). IfOk found (λ o. IfSome o (IsNext (Tells w.history known x) text (length w.track.history)))) (sym same) some
-
-pub tells_none_of : {E : Type 0} (found : Result (Option ℕ) E) (w : Walked) (known : ℕ) (q r : Request) (text : List ℕ) → r ≡ q
-    → IfOk found (λ o. IfNone o (HasNone (Tells w.history known q) text (length w.track.history)))
-    → IfOk found (λ o. IfNone o (HasNone (Tells w.history known r) text (length w.track.history)))
-tells_none_of found w known q r text same none = subst (λ (x : Request). IfOk found (λ o. IfNone o (HasNone (Tells w.history known x) text (length w.track.history)))) (sym same) none
-
-pub adds_of : {E : Type 0} (found : Result (Option ℕ) E) (a : Author) (w : Walked) (known : ℕ) (q r : Request) (text : List ℕ) → r ≡ q
-    → IfOk found (λ o. IfSome o (IsNext (Adds a w.history known q) text (length w.track.history + 1)))
-    → IfOk found (λ o. IfSome o (IsNext (Adds a w.history known r) text (length w.track.history + 1)))
-adds_of found a w known q r text same some = subst (λ (x : Request). IfOk found (λ o. IfSome o (IsNext (Adds a w.history known x) text (length w.track.history + 1)))) (sym same) some
-
-pub adds_none_of : {E : Type 0} (found : Result (Option ℕ) E) (a : Author) (w : Walked) (known : ℕ) (q r : Request) (text : List ℕ) → r ≡ q
-    → IfOk found (λ o. IfNone o (HasNone (Adds a w.history known q) text (length w.track.history + 1)))
-    → IfOk found (λ o. IfNone o (HasNone (Adds a w.history known r) text (length w.track.history + 1)))
-adds_none_of found a w known q r text same none = subst (λ (x : Request). IfOk found (λ o. IfNone o (HasNone (Adds a w.history known x) text (length w.track.history + 1)))) (sym same) none
-
--- what holds whatever was known holds of what was
-pub some_at : {E : Type 0} (found : Result (Option ℕ) E) (P : ℕ → ℕ → Type 0) (most known : ℕ) → known ≤ most
-    → IfOk found (λ o. IfSome o (λ len. (k : ℕ) → k ≤ most → P k len)) → IfOk found (λ o. IfSome o (P known))
-some_at (Ok (Some len)) P most known since some = some known since
-some_at (Ok None) P most known since some = tt
-some_at (Err e) P most known since some = tt
-
-pub none_at : {E : Type 0} (found : Result (Option ℕ) E) (P : ℕ → Type 0) (most known : ℕ) → known ≤ most
-    → IfOk found (λ o. IfNone o ((k : ℕ) → k ≤ most → P k)) → IfOk found (λ o. IfNone o (P known))
-none_at (Ok (Some len)) P most known since none = tt
-none_at (Ok None) P most known since none = none known since
-none_at (Err e) P most known since none = tt
-
 -- ---- the entry of a step
 
 pub placed_at : (xs : List Placed) (k : ℕ) (x : Placed) → k < length xs → x ≡ get_or xs k x → slice_get xs k ≡ Some x
 placed_at xs k x below is =
-    let s = some_at_place xs k below in
+    let s = some_at xs k below in
     let same : x ≡ s.0 = is ∙ get_or_from_slice_get xs k s.0 x s.1 in
     s.1 ∙ ap Some (sym same)
 

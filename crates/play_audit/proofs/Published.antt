@@ -24,10 +24,11 @@ use Rattle.reply_laws.specs.Laws.{OneAdds, RepliesAreNamed}
 use Rattle.reply_laws.proofs.OneReply.{IsPublishing, publishing}
 use Rattle.journal_walk.specs.Walks.{Walked, GoesOn, IsAlong, IsPublishedNext, PublishesNothing, added, coming}
 use Rattle.play_audit.specs.Places.{IsSound}
-use Rattle.play_audit.specs.Replies.{HasNone, IsNext}
+use Rattle.play_audit.specs.Replies.{HasNone, IsCompared, IsNext}
 use Rattle.play_audit.specs.Segments.{Publishes}
 use Rattle.play_audit.specs.Texts.{BeginsWith}
 use Rattle.play_audit.proofs.Answering.{adds_next, adds_no_text}
+use Rattle.play_audit.proofs.Compared.{compared}
 use Rattle.play_audit.proofs.Replying.{entry_of, step_added}
 use Rattle.play_audit.proofs.Walking.{next_allowed, take_entries}
 
@@ -137,24 +138,16 @@ module _ (names : RepliesAreNamed) (numbers : RepliesNameEntries) (once : OneAdd
     its-step : r.step ≡ length w.track.history + 1
     its-step = step_added w made.outcome r (entry.Publish made.publication) made.told made.adds
 
-    pub published_next : (len : ℕ) → BeginsWith text r len → IsNext (Adds p.author w.history known (Segment w.track.machine test metric)) text (length w.track.history + 1) len
+    published_next : (len : ℕ) → BeginsWith text r len → IsNext (Adds p.author w.history known (Segment w.track.machine test metric)) text (length w.track.history + 1) len
     published_next len begins =
         adds_next w.history known (Segment w.track.machine test metric) text few names numbers once p.author r len (length w.track.history + 1) adds-it its-step begins
 
-    pub published_no_text : ((rest : List ℕ) → text ≢ text_of r ++ rest) → HasNone (Adds p.author w.history known (Segment w.track.machine test metric)) text (length w.track.history + 1)
+    published_no_text : ((rest : List ℕ) → text ≢ text_of r ++ rest) → HasNone (Adds p.author w.history known (Segment w.track.machine test metric)) text (length w.track.history + 1)
     published_no_text none = adds_no_text w.history known (Segment w.track.machine test metric) text few once p.author r (length w.track.history + 1) adds-it its-step none
 
-    pub published_ok : {E : Type 0} (found : Result (Option ℕ) E) → IfOk found (λ o. IfSome o (BeginsWith text r))
-        → IfOk found (λ o. IfSome o (IsNext (Adds p.author w.history known (Segment w.track.machine test metric)) text (length w.track.history + 1)))
-    published_ok (Ok (Some len)) begins = published_next len begins
-    published_ok (Ok None) begins = tt
-    published_ok (Err e) begins = tt
-
-    pub published_ok_none : {E : Type 0} (found : Result (Option ℕ) E) → IfOk found (λ o. IfNone o ((rest : List ℕ) → text ≢ text_of r ++ rest))
-        → IfOk found (λ o. IfNone o (HasNone (Adds p.author w.history known (Segment w.track.machine test metric)) text (length w.track.history + 1)))
-    published_ok_none (Ok (Some len)) none = tt
-    published_ok_none (Ok None) none = published_no_text none
-    published_ok_none (Err e) none = tt
+    pub published_front : {E : Type 0} (found : Result (Option ℕ) E) → IfOk found (λ o. IfSome o (BeginsWith text r)) → IfOk found (λ o. IfNone o ((rest : List ℕ) → text ≢ text_of r ++ rest))
+        → IsCompared (Adds p.author w.history known (Segment w.track.machine test metric)) text (length w.track.history + 1) found
+    published_front = compared (Adds p.author w.history known (Segment w.track.machine test metric)) text (length w.track.history + 1) r published_next published_no_text
 
     pub published_goes : {E : Type 0} (found : Result (Option ℕ) E) → IfOk found (λ o. IfSome o (λ len. GoesOn w v))
     published_goes (Ok (Some len)) = made.goes

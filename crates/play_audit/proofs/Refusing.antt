@@ -28,10 +28,11 @@ use Rattle.play_model.specs.Replies.{Tells, first_of}
 use Rattle.play_model.proofs.Replies.{told-step}
 use Rattle.reply_laws.specs.Laws.{RepliesAreNamed}
 use Rattle.journal_walk.specs.Walks.{Walked, AreCutsNow, IsAlong, added}
-use Rattle.play_audit.specs.Replies.{HasNone, IsNext}
+use Rattle.play_audit.specs.Replies.{HasNone, IsCompared, IsNext}
 use Rattle.play_audit.specs.Segments.{HasFewCuts, IsFullBehind, IsFullNext, IsKnownAt, IsLastVersion, IsNotFull, IsReason, PassesCuts}
 use Rattle.play_audit.specs.Texts.{BeginsWith}
 use Rattle.play_audit.proofs.Answering.{same_steps}
+use Rattle.play_audit.proofs.Compared.{compared}
 use Rattle.play_audit.proofs.Reasons.{cuts_first, cuts_only, first_length, one_reason, reason_tells, steps_first, steps_only, tells_reason}
 use Rattle.play_audit.proofs.Walking.{entries_length}
 
@@ -75,7 +76,7 @@ module _ (grow : CutsGrow) (w : Walked) (known : ℕ) (test metric text : List �
   s = record { test = test; metric = metric }
 
   -- a reason is told next
-  pub reason_next : RepliesAreNamed → RepliesNameEntries → length w.history < 2 ^ 64 → (reason : Refusal) (len : ℕ) → IsReason w.history known (length w.track.history) (record { test = test; metric = metric }) reason
+  reason_next : RepliesAreNamed → RepliesNameEntries → length w.history < 2 ^ 64 → (reason : Refusal) (len : ℕ) → IsReason w.history known (length w.track.history) (record { test = test; metric = metric }) reason
       → BeginsWith text (reply_of (added w) (refuses reason)) len → IsNext (Tells w.history known (Segment w.track.machine test metric)) text (length w.track.history) len
   reason_next named names few reason len why begins =
       let fits : Tells w.history known (Segment w.track.machine test metric) (reply_of (added w) (refuses reason)) =
@@ -118,10 +119,10 @@ module _ (grow : CutsGrow) (w : Walked) (known : ℕ) (test metric text : List �
     there : is_known s (first_of (length w.track.history) w.history) ≡ false
     there = ap (is_known s) (sym along.first) ∙ unknown
 
-    pub unknown_reason : IsReason w.history known (length w.track.history) (record { test = test; metric = metric }) UnknownSeries
+    unknown_reason : IsReason w.history known (length w.track.history) (record { test = test; metric = metric }) UnknownSeries
     unknown_reason = inl (there, refl)
 
-    pub unknown_only : ((rest : List ℕ) → text ≢ text_of (reply_of (added w) (refuses UnknownSeries)) ++ rest)
+    unknown_only : ((rest : List ℕ) → text ≢ text_of (reply_of (added w) (refuses UnknownSeries)) ++ rest)
         → HasNone (Tells w.history known (Segment w.track.machine test metric)) text (length w.track.history)
     unknown_only none = reason_none (λ reason rest why is. it reason rest why is)
       where
@@ -138,15 +139,15 @@ module _ (grow : CutsGrow) (w : Walked) (known : ℕ) (test metric text : List �
     lasts : IsLastVersion (last_publication s (first_of (length w.track.history) w.history)) last
     lasts = subst (λ (h : List Entry). IsLastVersion (last_publication s h) last) along.first is-last
 
-    pub stale_reason : known < last → IsReason w.history known (length w.track.history) (record { test = test; metric = metric }) (Stale last)
+    stale_reason : known < last → IsReason w.history known (length w.track.history) (record { test = test; metric = metric }) (Stale last)
     stale_reason low = inr (there-known, inl (last, last-stale (last_publication s (first_of (length w.track.history) w.history)) last known lasts low, refl))
 
-    pub full_reason : (limit : Limit) → IsFullBehind w.history known (length w.track.history) (record { test = test; metric = metric }) limit
+    full_reason : (limit : Limit) → IsFullBehind w.history known (length w.track.history) (record { test = test; metric = metric }) limit
         → IsReason w.history known (length w.track.history) (record { test = test; metric = metric }) (Full limit)
     full_reason limit full = inr (there-known, inr (limit, full, refl))
 
     -- neither of the two
-    pub no_reason : (known < last → (rest : List ℕ) → text ≢ text_of (reply_of (added w) (refuses (Stale last))) ++ rest)
+    no_reason : (known < last → (rest : List ℕ) → text ≢ text_of (reply_of (added w) (refuses (Stale last))) ++ rest)
         → IsNotFull w known (record { test = test; metric = metric }) text
         → HasNone (Tells w.history known (Segment w.track.machine test metric)) text (length w.track.history)
     no_reason stale full = reason_none (λ reason rest why is. it reason rest why is)
@@ -249,32 +250,28 @@ module _ (grow : CutsGrow) (w : Walked) (known : ℕ) (test metric text : List �
   not_front reason (Err e) so none = tt
 
   module _ (names : RepliesAreNamed) (numbers : RepliesNameEntries) (few : length w.history < 2 ^ 64) (along : IsAlong w) (since : known ≤ length w.track.history) where
-    pub reason_front : {E : Type 0} (reason : Refusal) (found : Result (Option ℕ) E) → IsReason w.history known (length w.track.history) (record { test = test; metric = metric }) reason
-        → IfOk found (λ o. IfSome o (BeginsWith text (reply_of (added w) (refuses reason))))
-        → IfOk found (λ o. IfSome o (IsNext (Tells w.history known (Segment w.track.machine test metric)) text (length w.track.history)))
-    reason_front reason (Ok (Some len)) why begins = reason_next grow w known test metric text along since names numbers few reason len why begins
-    reason_front reason (Ok None) why begins = tt
-    reason_front reason (Err e) why begins = tt
-
     pub unknown_front : {E : Type 0} (found : Result (Option ℕ) E) → is_known (record { test = test; metric = metric }) (added w) ≡ false
-        → IfOk found (λ o. IfNone o ((rest : List ℕ) → text ≢ text_of (reply_of (added w) (refuses UnknownSeries)) ++ rest))
-        → IfOk found (λ o. IfNone o (HasNone (Tells w.history known (Segment w.track.machine test metric)) text (length w.track.history)))
-    unknown_front (Ok (Some len)) unknown none = tt
-    unknown_front (Ok None) unknown none = unknown_only grow w known test metric text along since unknown none
-    unknown_front (Err e) unknown none = tt
+        → IfOk found (λ o. IfSome o (BeginsWith text (reply_of (added w) (refuses UnknownSeries)))) → IfOk found (λ o. IfNone o ((rest : List ℕ) → text ≢ text_of (reply_of (added w) (refuses UnknownSeries)) ++ rest))
+        → IsCompared (Tells w.history known (Segment w.track.machine test metric)) text (length w.track.history) found
+    unknown_front found unknown = compared (Tells w.history known (Segment w.track.machine test metric)) text (length w.track.history) (reply_of (added w) (refuses UnknownSeries))
+        (λ len. reason_next grow w known test metric text along since names numbers few UnknownSeries len (unknown_reason grow w known test metric text along since unknown))
+        (unknown_only grow w known test metric text along since unknown) found
 
     module _ (last : ℕ) (k : IsKnownAt w known (record { test = test; metric = metric }) last) where
-      pub full_next : {E : Type 0} (found : Result (Option ℕ) E) → IfOk found (λ o. IfSome o (IsFullNext w known (record { test = test; metric = metric }) text))
-          → IfOk found (λ o. IfSome o (IsNext (Tells w.history known (Segment w.track.machine test metric)) text (length w.track.history)))
-      full_next (Ok (Some len)) next =
-          reason_next grow w known test metric text along since names numbers few (Full next.limit) len
-          (full_reason grow w known test metric text along since k.there last k.is_last next.limit next.full) next.begins
-      full_next (Ok None) next = tt
-      full_next (Err e) next = tt
+      pub stale_next : {E : Type 0} (len : ℕ) → known < last → BeginsWith text (reply_of (added w) (refuses (Stale last))) len
+          → IsCompared {E = E} (Tells w.history known (Segment w.track.machine test metric)) text (length w.track.history) (Ok (Some len))
+      stale_next len low begins = record {
+        some = reason_next grow w known test metric text along since names numbers few (Stale last) len (stale_reason grow w known test metric text along since k.there last k.is_last low) begins;
+        none = tt;
+      }
 
-      pub full_none : {E : Type 0} (found : Result (Option ℕ) E) → (known < last → (rest : List ℕ) → text ≢ text_of (reply_of (added w) (refuses (Stale last))) ++ rest)
-          → IfOk found (λ o. IfNone o (IsNotFull w known (record { test = test; metric = metric }) text))
-          → IfOk found (λ o. IfNone o (HasNone (Tells w.history known (Segment w.track.machine test metric)) text (length w.track.history)))
-      full_none (Ok (Some len)) stale none = tt
-      full_none (Ok None) stale none = no_reason grow w known test metric text along since k.there last k.is_last stale none
-      full_none (Err e) stale none = tt
+      pub full_next : {E : Type 0} (found : Result (Option ℕ) E) → (known < last → (rest : List ℕ) → text ≢ text_of (reply_of (added w) (refuses (Stale last))) ++ rest)
+          → IfOk found (λ o. IfSome o (IsFullNext w known (record { test = test; metric = metric }) text)) → IfOk found (λ o. IfNone o (IsNotFull w known (record { test = test; metric = metric }) text))
+          → IsCompared (Tells w.history known (Segment w.track.machine test metric)) text (length w.track.history) found
+      full_next (Ok (Some len)) stale next none = record {
+        some = reason_next grow w known test metric text along since names numbers few (Full next.limit) len
+            (full_reason grow w known test metric text along since k.there last k.is_last next.limit next.full) next.begins;
+        none = tt;
+      }
+      full_next (Ok None) stale next none = record { some = tt; none = no_reason grow w known test metric text along since k.there last k.is_last stale none }
+      full_next (Err e) stale next none = record { some = tt; none = tt }

@@ -1,5 +1,5 @@
 -- Private: no public contract cites this. A reply behind the entries of a walk, by what its request came to there.
-use Rattle.std.proofs.Common.{◌≡◌, ◌≢◌, ℕ, ◌^◌, ◌+◌, ◌<◌, ◌≤◌, false, List, [], ◌∷◌, ◌++◌, length, drop, Option, Some, None, refl, sym, ap, ◌∙◌, arith}
+use Rattle.std.proofs.Common.{◌≡◌, ◌≢◌, ℕ, ◌^◌, ◌+◌, ◌<◌, ◌≤◌, false, List, [], ◌∷◌, ◌++◌, length, drop, Option, Some, None, Ok, refl, sym, ap, ◌∙◌, arith}
 use Rattle.std.specs.Prelude.{slice_get, IfNone, IfSome}
 use Rattle.std.proofs.lemmas.List.{map-append}
 use Rattle.history_model.specs.declared.entries.Author.{Author}
@@ -20,9 +20,10 @@ use Rattle.reply_laws.specs.Laws.{OneAdds, OneBeside, OneTells, PlainBeside, Rep
 use Rattle.journal_walk.specs.Walks.{Walked, GoesOn, IsAlong, added, coming}
 use Rattle.audit_model.proofs.Exchanges.{at_end}
 use Rattle.play_audit.specs.Places.{IsBehind}
-use Rattle.play_audit.specs.Replies.{HasNone, IsNext}
+use Rattle.play_audit.specs.Replies.{HasNone, IsCompared, IsNext}
 use Rattle.play_audit.specs.Texts.{BeginsWith, HasEntry}
 use Rattle.play_audit.proofs.Answering.{none_added, one_added, plain_tells, plain_adds, tells_same, adds_same, tells_next, tells_no_text, adds_next, adds_no_text}
+use Rattle.play_audit.proofs.Compared.{compared_front}
 use Rattle.play_audit.proofs.Walking.{entries_length}
 
 -- a walk is behind its own entries
@@ -69,17 +70,6 @@ its-record : (p : Placed) (a : Author) (e : Entry) → a ≡ p.author → e ≡ 
 its-record p a e one two =
     ap (λ (x : Author). let y : Placed = record { author = x; entry = p.entry } in y) (sym one) ∙ ap (λ (x : Entry). let y : Placed = record { author = a; entry = x } in y) (sym two)
 
--- ---- by the text
-
-pub begins_of : (transcript text : List ℕ) (r : Reply) (len : ℕ) → text ≡ text_of r → len ≡ length text → transcript ≡ text ++ drop len transcript → BeginsWith transcript r len
-begins_of transcript text r len is size split = record {
-  text = split ∙ ap (λ (l : List ℕ). l ++ drop len transcript) is;
-  whole = size ∙ ap length is;
-}
-
-pub begins_not : (transcript text : List ℕ) (r : Reply) → text ≡ text_of r → ((rest : List ℕ) → transcript ≢ text ++ rest) → (rest : List ℕ) → transcript ≢ text_of r ++ rest
-begins_not transcript text r is none rest other = none rest (other ∙ ap (λ (l : List ℕ). l ++ rest) (sym is))
-
 -- the request came to this behind the walk
 module _ (names : RepliesAreNamed) (numbers : RepliesNameEntries) (alone : PlainBeside) (beside : OneBeside) (w v : Walked) (q : Request) (text : List ℕ) (o : Outcome) (r : Reply)
     (along : IsAlong w) (few : length w.history < 2 ^ 64) (plain : is_segment q ≡ false) (shared : stands_alone q ≡ false) (comes : ComesTo (added w) 0 q o)
@@ -98,23 +88,18 @@ module _ (names : RepliesAreNamed) (numbers : RepliesNameEntries) (alone : Plain
     tells-it : (known : ℕ) → known ≤ length w.track.history → Tells w.history known q r
     tells-it known since = plain_tells w.track.machine w.history known (length w.track.history) q w o r here since along.within plain comes step.told alone shared none-of
 
-    pub told_next : (len : ℕ) → BeginsWith text r len → (known : ℕ) → known ≤ length w.track.history → IsNext (Tells w.history known q) text (length w.track.history) len
+    told_next : (len : ℕ) → BeginsWith text r len → (known : ℕ) → known ≤ length w.track.history → IsNext (Tells w.history known q) text (length w.track.history) len
     told_next len begins known since =
         tells_next w.history known q text few names numbers once plain r len (length w.track.history) (tells-it known since) (step-told w o r step.told none-of) begins
 
-    pub told_none : ((rest : List ℕ) → text ≢ text_of r ++ rest) → (known : ℕ) → known ≤ length w.track.history → HasNone (Tells w.history known q) text (length w.track.history)
+    told_none : ((rest : List ℕ) → text ≢ text_of r ++ rest) → (known : ℕ) → known ≤ length w.track.history → HasNone (Tells w.history known q) text (length w.track.history)
     told_none none known since =
         tells_no_text w.history known q text few once plain r (length w.track.history) (tells-it known since) (step-told w o r step.told none-of) none
 
-    pub told_front : (front : List ℕ) → front ≡ text_of r → (found : Option ℕ) → IfSome found (λ len. (len ≡ length front) × (text ≡ front ++ drop len text))
-        → IfSome found (λ len. (known : ℕ) → known ≤ length w.track.history → IsNext (Tells w.history known q) text (length w.track.history) len)
-    told_front front is (Some len) p = told_next len (begins_of text front r len is p.0 p.1)
-    told_front front is None p = tt
-
-    pub told_front_none : (front : List ℕ) → front ≡ text_of r → (found : Option ℕ) → IfNone found ((rest : List ℕ) → text ≢ front ++ rest)
-        → IfNone found ((known : ℕ) → known ≤ length w.track.history → HasNone (Tells w.history known q) text (length w.track.history))
-    told_front_none front is (Some len) p = tt
-    told_front_none front is None p = told_none (begins_not text front r is p)
+    pub told_front : {E : Type 0} (front : List ℕ) → front ≡ text_of r → (found : Option ℕ) → IfSome found (λ len. (len ≡ length front) × (text ≡ front ++ drop len text))
+        → IfNone found ((rest : List ℕ) → text ≢ front ++ rest) → (known : ℕ) → known ≤ length w.track.history → IsCompared {E = E} (Tells w.history known q) text (length w.track.history) (Ok found)
+    told_front front is found f other known since =
+        compared_front (Tells w.history known q) text (length w.track.history) r (λ len begins. told_next len begins known since) (λ none. told_none none known since) front is found f other
 
     pub still_front : v.history ≡ w.history → (found : Option ℕ) → IfSome found (λ len. v ≡ w)
     still_front same (Some len) = still_there same
@@ -157,12 +142,12 @@ module _ (names : RepliesAreNamed) (numbers : RepliesNameEntries) (alone : Plain
       adds-it known since =
           plain_adds w.track.machine w.history known (length w.track.history) q w o r here since along.within plain comes step.told alone shared p.author p.entry adds-entry next
 
-      pub added_next : (len : ℕ) → BeginsWith text r len → (known : ℕ) → known ≤ length w.track.history
+      added_next : (len : ℕ) → BeginsWith text r len → (known : ℕ) → known ≤ length w.track.history
           → IsNext (Adds p.author w.history known q) text (length w.track.history + 1) len
       added_next len begins known since =
           adds_next w.history known q text few names numbers once p.author r len (length w.track.history + 1) (adds-it known since) (step_added w o r p.entry step.told adds-entry) begins
 
-      pub added_no_text : ((rest : List ℕ) → text ≢ text_of r ++ rest) → (known : ℕ) → known ≤ length w.track.history
+      added_no_text : ((rest : List ℕ) → text ≢ text_of r ++ rest) → (known : ℕ) → known ≤ length w.track.history
           → HasNone (Adds p.author w.history known q) text (length w.track.history + 1)
       added_no_text none known since =
           adds_no_text w.history known q text few once p.author r (length w.track.history + 1) (adds-it known since) (step_added w o r p.entry step.told adds-entry) none
@@ -178,15 +163,11 @@ module _ (names : RepliesAreNamed) (numbers : RepliesNameEntries) (alone : Plain
             ∙ map-append (λ (y : Placed). y.entry) w.track.history (record { author = author.Kept; entry = p.entry } ∷ []);
       }
 
-      pub added_front : (front : List ℕ) → front ≡ text_of r → (found : Option ℕ) → IfSome found (λ len. (len ≡ length front) × (text ≡ front ++ drop len text))
-          → IfSome found (λ len. (known : ℕ) → known ≤ length w.track.history → IsNext (Adds p.author w.history known q) text (length w.track.history + 1) len)
-      added_front front is (Some len) f = added_next len (begins_of text front r len is f.0 f.1)
-      added_front front is None f = tt
-
-      pub added_front_none : (front : List ℕ) → front ≡ text_of r → (found : Option ℕ) → IfNone found ((rest : List ℕ) → text ≢ front ++ rest)
-          → IfNone found ((known : ℕ) → known ≤ length w.track.history → HasNone (Adds p.author w.history known q) text (length w.track.history + 1))
-      added_front_none front is (Some len) f = tt
-      added_front_none front is None f = added_no_text (begins_not text front r is f)
+      pub added_front : {E : Type 0} (front : List ℕ) → front ≡ text_of r → (found : Option ℕ) → IfSome found (λ len. (len ≡ length front) × (text ≡ front ++ drop len text))
+          → IfNone found ((rest : List ℕ) → text ≢ front ++ rest) → (known : ℕ) → known ≤ length w.track.history
+          → IsCompared {E = E} (Adds p.author w.history known q) text (length w.track.history + 1) (Ok found)
+      added_front front is found f other known since =
+          compared_front (Adds p.author w.history known q) text (length w.track.history + 1) r (λ len begins. added_next len begins known since) (λ none. added_no_text none known since) front is found f other
 
       pub goes_front : v.history ≡ w.history → (found : Option ℕ) → IfSome found (λ len. GoesOn w v)
       goes_front same-history (Some len) = added_goes same-history

@@ -10,8 +10,9 @@ use Rattle.request_words.specs.Items.{Gives}
 use Rattle.audit_model.specs.declared.heard.Heard.{Heard}
 use Rattle.audit_model.specs.Verdicts.{IsCutOff, NoneCutOff}
 use Rattle.audit_model.proofs.Exchanges.{snoc_at}
+use Rattle.journal_reader.proofs.Lists.{some_at}
 use Rattle.play_audit.specs.Heard.{AskThese}
-use Rattle.play_audit.proofs.Listed.{same_at, some_at}
+use Rattle.play_audit.proofs.Listed.{same_at}
 
 -- what is left of a list
 pub left_some : {A : Type 0} (xs : List A) (n : ℕ) (x : A) (rest : List A) → x ∷ rest ≡ drop n xs → (slice_get xs n ≡ Some x) × (rest ≡ drop (n + 1) xs)

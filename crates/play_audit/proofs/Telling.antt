@@ -54,6 +54,12 @@ module _ (kinds : KindsAreTold) (named : RepliesAreNamed) (names : RepliesNameEn
       let same = (its-step r rest fits is).0 in
       absurd (omega (arith, high, bound.within, same))
 
+  -- what stands next of one kind stands next of both
+  next-on : (Fits : Reply → Type 0) (len now : ℕ) → now ≡ step → (next : IsNext Fits text step len) → IsReplyOn author j known q next.reply
+      → ((other : Reply) (rest : List ℕ) → IsReplyOn author j known q other → text ≡ text_of other ++ rest → other ≡ next.reply) → IsNext (IsReplyOn author j known q) text now len
+  next-on Fits len now same next fits only =
+      record { reply = next.reply; fits = fits; its_step = next.its_step ∙ sym same; begins = next.begins; only = only }
+
   -- the text tells that nothing was added
   module _ (kind : (asks_only q || tells_by_letter letter) ≡ true) where
     no-adds : (r : Reply) (rest : List ℕ) → text ≡ text_of r ++ rest → Adds author j known q r → ⊥
@@ -64,14 +70,9 @@ module _ (kinds : KindsAreTold) (named : RepliesAreNamed) (names : RepliesNameEn
         absurd (cc)
 
     pub heard_told : (len now : ℕ) (marks : List Bool) → now ≡ step → IsNext (Tells j known q) text step len → IsHeardNext author j known now q text len marks marks
+    unfolding next-on
     heard_told len now marks same next = record {
-      next = record {
-        reply = next.reply;
-        fits = inr next.fits;
-        its_step = next.its_step ∙ sym same;
-        begins = next.begins;
-        only = λ other rest fits is. only-told other rest next fits is;
-      };
+      next = next-on (Tells j known q) len now same next (inr next.fits) (λ other rest. only-told other rest next);
       marked = inr (λ adds. no-adds next.reply (drop len text) next.begins.text adds, refl);
     }
       where
@@ -94,14 +95,9 @@ module _ (kinds : KindsAreTold) (named : RepliesAreNamed) (names : RepliesNameEn
 
     pub heard_added : (len now : ℕ) (marks : List Bool) → now ≡ step → IsNext (Adds author j known q) text step len
         → IsHeardNext author j known now q text len marks (set marks (step - 1) true)
+    unfolding next-on
     heard_added len now marks same next = record {
-      next = record {
-        reply = next.reply;
-        fits = inl next.fits;
-        its_step = next.its_step ∙ sym same;
-        begins = next.begins;
-        only = λ other rest fits is. only-added other rest next fits is;
-      };
+      next = next-on (Adds author j known q) len now same next (inl next.fits) (λ other rest. only-added other rest next);
       marked = inl (next.fits, ap (λ (n : ℕ). set marks (n - 1) true) (sym next.its_step));
     }
       where
@@ -134,11 +130,15 @@ none_by (Ok (Some len)) P Q each none = tt
 none_by (Ok None) P Q each none = each none
 none_by (Err e) P Q each none = tt
 
-pub at_some : (o : Option ℕ) (len : ℕ) (P : ℕ → Type 0) → o ≡ Some len → IfSome o P → P len
-at_some o len P is some = let it : IfSome (Some len) P = subst (λ (x : Option ℕ). IfSome x P) is some in it
+pub in_some : {E : Type 0} (found : Result (Option ℕ) E) (o : Option ℕ) (len : ℕ) (P : ℕ → Type 0) → found ≡ Ok o → o ≡ Some len → IfOk found (λ x. IfSome x P) → P len
+in_some (Ok (Some k)) o len P is at some = let same : k ≡ len = cc in subst P same some
+in_some (Ok None) o len P is at some = absurd (cc)
+in_some (Err e) o len P is at some = absurd (cc)
 
-pub at_none : (o : Option ℕ) (P : Type 0) → o ≡ None → IfNone o P → P
-at_none o P is none = let it : IfNone {T = ℕ} None P = subst (λ (x : Option ℕ). IfNone x P) is none in it
+pub in_none : {E : Type 0} (found : Result (Option ℕ) E) (o : Option ℕ) (P : Type 0) → found ≡ Ok o → o ≡ None → IfOk found (λ x. IfNone x P) → P
+in_none (Ok (Some k)) o P is at none = absurd (cc)
+in_none (Ok None) o P is at none = none
+in_none (Err e) o P is at none = absurd (cc)
 
 pub outside_is : (step known count most : ℕ) → count ≡ most → (step < known) ⊎ (count < step) → (step < known) ⊎ (most < step)
 outside_is step known count most same (inl low) = inl low

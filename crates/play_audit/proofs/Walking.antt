@@ -9,6 +9,7 @@ use Rattle.history_model.specs.Entries.{entries_of}
 use Rattle.play_model.specs.Replies.{first_of}
 use Rattle.journal_walk.specs.Laws.{StaysAlong}
 use Rattle.journal_walk.specs.Walks.{Walked, GoesOn, IsAlong, IsStuck, added, coming}
+use Rattle.journal_reader.proofs.Lists.{some_at}
 use Rattle.play_audit.specs.Places.{IsBehind, IsBy}
 
 allowed_in : (before es : List Entry) (n : ℕ) (e : Entry) → AllowedAfter before es → slice_get es n ≡ Some e → Allowed (before ++ take n es) e
@@ -28,11 +29,6 @@ pub take_entries : (n : ℕ) (j : List Placed) → entries_of (take n j) ≡ tak
 take_entries zero j = refl
 take_entries (suc n) [] = refl
 take_entries (suc n) (p ∷ j) = ap (λ (l : List Entry). p.entry ∷ l) (take_entries n j)
-
-pub some_at : {A : Type 0} (xs : List A) (k : ℕ) → k < length xs → (x : A) × (slice_get xs k ≡ Some x)
-some_at [] k below = absurd (omega (arith, below))
-some_at (x ∷ xs) zero below = (x, refl)
-some_at (x ∷ xs) (suc k) below = some_at xs k (omega (arith, below))
 
 pub entries_length : (j : List Placed) → length (entries_of j) ≡ length j
 entries_length j = length-map j (λ (p : Placed). p.entry)

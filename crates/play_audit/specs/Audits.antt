@@ -13,7 +13,9 @@ pub record MayBeAudited (heard : List Heard) : Type 0 where
   pub short : All (λ (h : Heard). length h.script ≤ 2 ^ 30) heard
 
 -- the verdict on files, where no script is cut off; else the first that is, or that there was no memory
-pub record Audits (bytes : List ℕ) (heard : List Heard) (result : Result Verdict AuditStop) : Type 0 where
+pub record Audits (bytes : List ℕ) (heard : List Heard) (result : Result Verdict AuditStop)
+    : Type 0 where
   pub verdict : IfOk result (IsVerdict bytes heard)
   pub whole : OnOk result (NoneCutOff heard)
-  pub cut_off : (script offset : ℕ) → result ≡ Err (stop.CutOff script offset) → IsCutOff heard script offset
+  pub cut_off : (script offset : ℕ) → result ≡ Err (stop.CutOff script offset)
+      → IsCutOff heard script offset

@@ -21,7 +21,8 @@ mark_at rows at place = get_or (get_or rows at []) place false
 -- each row has a mark for each entry
 pub record AreRows (ts : List Track) (rows : List (List Bool)) : Type 0 where
   pub many : length rows ≡ length ts
-  pub each : (at : ℕ) (t : Track) → slice_get ts at ≡ Some t → length (get_or rows at []) ≡ length t.history
+  pub each : (at : ℕ) (t : Track) → slice_get ts at ≡ Some t
+      → length (get_or rows at []) ≡ length t.history
 
 -- nothing is marked
 abbrev pub NoneMarked : List (List Bool) → Type 0
@@ -30,36 +31,47 @@ NoneMarked rows = (at place : ℕ) → mark_at rows at place ≡ false
 -- ---- marks of what exchanges added
 
 -- a request of a script added the entry at a place of a machine's journal, behind these exchanges
-pub record IsAddedBy (ts : List Track) (i : ℕ) (xs : List Exchange) (x : Exchange) (t : Track) (place : ℕ) : Type 0 where
+pub record IsAddedBy (ts : List Track) (i : ℕ) (xs : List Exchange) (x : Exchange) (t : Track)
+    (place : ℕ) : Type 0 where
   pub request : Request
   pub asked : x.item ≡ Ok request
   pub about : machine_of request ≡ t.machine
-  pub adds : Adds (author.Script i) (history_in ts t.machine) (known_after (kept_count ts t.machine) t.machine xs) request x.reply
+  pub adds : Adds (author.Script i) (history_in ts t.machine)
+      (known_after (kept_count ts t.machine) t.machine xs) request x.reply
   pub its_step : x.reply.step ≡ place + 1
 
--- this exchange is marked, and nothing else
-pub record MarksOne (ts : List Track) (i : ℕ) (xs : List Exchange) (x : Exchange) (old new : List (List Bool)) : Type 0 where
+-- entries that are meant are marked, and no others than were marked before
+pub record MarksMore (ts : List Track) (IsMeant : Track → (place : ℕ) → Type 0)
+    (old new : List (List Bool)) : Type 0 where
   pub rows : AreRows ts new
   pub kept : (at place : ℕ) → mark_at old at place ≡ true → mark_at new at place ≡ true
-  pub added : (at place : ℕ) (t : Track) → slice_get ts at ≡ Some t → IsAddedBy ts i xs x t place → mark_at new at place ≡ true
-  pub only : (at place : ℕ) (t : Track) → slice_get ts at ≡ Some t → mark_at new at place ≡ true → (mark_at old at place ≡ true) ⊎ IsAddedBy ts i xs x t place
+  pub added : (at place : ℕ) (t : Track) → slice_get ts at ≡ Some t → IsMeant t place
+      → mark_at new at place ≡ true
+  pub only : (at place : ℕ) (t : Track) → slice_get ts at ≡ Some t → mark_at new at place ≡ true
+      → (mark_at old at place ≡ true) ⊎ IsMeant t place
+
+-- this exchange is marked, and nothing else
+abbrev pub MarksOne : List Track → ℕ → List Exchange → Exchange → (old new : List (List Bool))
+    → Type 0
+MarksOne ts i xs x old new = MarksMore ts (IsAddedBy ts i xs x) old new
 
 -- one of a script's exchanges added the entry
 abbrev pub IsAddedIn : List Track → ℕ → List Exchange → Track → ℕ → Type 0
-IsAddedIn ts i xs t place = IsAdded (author.Script i) t.machine (history_in ts t.machine) (kept_count ts t.machine) xs place
+IsAddedIn ts i xs t place =
+    IsAdded (author.Script i) t.machine (history_in ts t.machine) (kept_count ts t.machine) xs place
 
 -- these exchanges are marked, and nothing else
-pub record MarksAll (ts : List Track) (i : ℕ) (xs : List Exchange) (old new : List (List Bool)) : Type 0 where
-  pub rows : AreRows ts new
-  pub kept : (at place : ℕ) → mark_at old at place ≡ true → mark_at new at place ≡ true
-  pub added : (at place : ℕ) (t : Track) → slice_get ts at ≡ Some t → IsAddedIn ts i xs t place → mark_at new at place ≡ true
-  pub only : (at place : ℕ) (t : Track) → slice_get ts at ≡ Some t → mark_at new at place ≡ true → (mark_at old at place ≡ true) ⊎ IsAddedIn ts i xs t place
+abbrev pub MarksAll : List Track → ℕ → List Exchange → (old new : List (List Bool)) → Type 0
+MarksAll ts i xs old new = MarksMore ts (IsAddedIn ts i xs) old new
 
 -- exactly what the exchanges of all scripts added is marked
-pub record MarksThese (ts : List Track) (asked : ℕ → List Exchange) (rows : List (List Bool)) : Type 0 where
+pub record MarksThese (ts : List Track) (asked : ℕ → List Exchange) (rows : List (List Bool))
+    : Type 0 where
   pub rows_are : AreRows ts rows
-  pub added : (i at place : ℕ) (t : Track) → slice_get ts at ≡ Some t → IsAddedIn ts i (asked i) t place → mark_at rows at place ≡ true
-  pub only : (at place : ℕ) (t : Track) → slice_get ts at ≡ Some t → mark_at rows at place ≡ true → (i : ℕ) × IsAddedIn ts i (asked i) t place
+  pub added : (i at place : ℕ) (t : Track) → slice_get ts at ≡ Some t
+      → IsAddedIn ts i (asked i) t place → mark_at rows at place ≡ true
+  pub only : (at place : ℕ) (t : Track) → slice_get ts at ≡ Some t → mark_at rows at place ≡ true
+      → (i : ℕ) × IsAddedIn ts i (asked i) t place
 
 -- ---- entries of scripts that aren't marked
 

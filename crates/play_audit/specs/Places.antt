@@ -1,10 +1,13 @@
 -- Private: no public contract cites this. A script's way along the journal of a machine.
-use Rattle.std.specs.Prelude.{◌≡◌, ◌≤◌, ℕ, List, length, Option, Some, None}
+use Rattle.std.specs.Prelude.{◌≡◌, ◌<◌, ◌≤◌, ◌^◌, ℕ, false, List, length, Option, Some, None}
 use Rattle.std.specs.List.{AllByRecursion}
 use Rattle.history_model.specs.declared.entries.Placed.{Placed}
 use Rattle.history_model.specs.Allowed.{Legal}
 use Rattle.history_model.specs.Entries.{entries_of}
 use Rattle.journal_lines.specs.Lines.{HasLine}
+use Rattle.play_model.specs.Replies.{stands_alone}
+use Rattle.request_model.specs.declared.requests.Request.{Request}
+use Rattle.request_model.specs.Requests.{machine_of}
 use Rattle.journal_walk.specs.Walks.{Walked, IsAlong}
 use Rattle.play_audit.specs.declared.place.Place.{Place}
 
@@ -22,9 +25,24 @@ pub record IsBy (machine : List ℕ) (history : List Placed) (count : ℕ) (w : 
   pub within : count ≤ length history
 
 -- and exactly behind so many
-pub record IsBehind (machine : List ℕ) (history : List Placed) (count : ℕ) (w : Walked) : Type 0 where
+pub record IsBehind (machine : List ℕ) (history : List Placed) (count : ℕ) (w : Walked)
+    : Type 0 where
   pub by : IsBy machine history count w
   pub there : length w.track.history ≡ count
+
+-- a request about the machine of a walk, which scripts may ask at once
+pub record MayAsk (q : Request) (w : Walked) : Type 0 where
+  pub along : IsAlong w
+  pub few : length w.history < 2 ^ 64
+  pub asked : machine_of q ≡ w.track.machine
+  pub shared : stands_alone q ≡ false
+
+-- so many entries were known, behind a walk along a history that lines say
+pub record Knows (w : Walked) (known : ℕ) : Type 0 where
+  pub along : IsAlong w
+  pub sound : IsSound w.history
+  pub few : length w.history < 2 ^ 64
+  pub since : known ≤ length w.track.history
 
 -- a walk, if there is one, went no further than so many entries
 abbrev pub IsWay : List ℕ → List Placed → ℕ → Option Walked → Type 0

@@ -15,12 +15,12 @@ use Rattle.history_model.specs.Publications.{IsBaseAt, last_publication}
 use Rattle.history_model.specs.Runs.{Series, is_known}
 use Rattle.request_model.specs.declared.replies.Refusal.{Refusal}
 use Rattle.request_model.specs.declared.replies.Refusal.TheVariants.{Full, Stale, UnknownSeries}
-use Rattle.journal_walk.specs.Walks.{Walked, IsAlong, added}
+use Rattle.journal_walk.specs.Walks.{Walked, added}
 use Rattle.reply_text.specs.Replies.{text_of}
 use Rattle.track_model.specs.Outcomes.{refuses}
 use Rattle.track_model.specs.Publishing.{later, publication}
 use Rattle.track_model.specs.Replies.{reply_of}
-use Rattle.play_audit.specs.Places.{IsSound}
+use Rattle.play_audit.specs.Places.{Knows}
 use Rattle.play_audit.specs.Texts.{BeginsWith}
 use Rattle.play_model.specs.Replies.{first_of}
 
@@ -88,9 +88,8 @@ IsNotFull w known s transcript =
 
 -- behind a walk the series is known, this is the version of its last publication, and so many entries were known
 pub record IsKnownAt (w : Walked) (known : ℕ) (s : Series) (last : ℕ) : Type 0 where
-  pub along : IsAlong w
-  pub sound : IsSound w.history
-  pub since : known ≤ length w.track.history
+  pub knows : Knows w known
+  pub open knows use *
   pub there : is_known s (added w) ≡ true
   pub is_last : IsLastVersion (last_publication s (added w)) last
   pub past : last ≤ length w.track.history

@@ -1,11 +1,12 @@
 //! Replies to requests that segment nothing, compared with a transcript.
-ghost use Rattle.std.specs.Prelude.{◌≡◌, ◌≤◌, ◌<◌, ◌+◌, ◌-◌, ◌^◌, ℕ, Some, true, false, length, IfOk, IfSome, IfNone};
-ghost use Rattle.journal_walk.specs.Walks.{GoesOn, IsAlong, coming};
-ghost use Rattle.play_model.specs.Replies.{Adds, Tells, stands_alone};
+ghost use Rattle.std.specs.Prelude.{◌≡◌, ◌≤◌, ◌<◌, ◌+◌, ◌-◌, ℕ, Some, true, false, length, IfOk, IfSome};
+ghost use Rattle.journal_walk.specs.Walks.{GoesOn, coming};
+ghost use Rattle.play_model.specs.Replies.{Adds, Tells};
 ghost use Rattle.track_entry.specs.Texts.{IsEntry};
 ghost use Rattle.track_model.specs.Counts.{is_segment};
 ghost use Rattle.request_model.specs.Requests.{machine_of};
-ghost use Rattle.play_audit.specs.Replies.{HasNone, IsNext};
+ghost use Rattle.play_audit.specs.Places.{MayAsk};
+ghost use Rattle.play_audit.specs.Replies.{IsCompared};
 ghost use Rattle.play_audit.specs.Texts.{HasEntry, IsAnswered};
 
 use crate::NoMemory;
@@ -27,19 +28,11 @@ pub(crate) fn told_behind(
     request: &Request,
     transcript: &[u8],
 ) -> Result<Option<usize>, NoMemory>
-    requires along { IsAlong walk.old }
-    requires few { length walk.old.history < 2 ^ 64 }
-    requires asked { machine_of request.now ≡ walk.old.track.machine }
+    requires may { MayAsk request.now walk.old }
     requires plain { is_segment request.now ≡ false }
-    requires shared { stands_alone request.now ≡ false }
-    ensures some { IfOk result (λ o. IfSome o (λ len. (known : ℕ)
-        → known ≤ length walk.old.track.history → IsNext
-        (Tells walk.old.history known request.now) transcript.now
-        (length walk.old.track.history) len)) }
-    ensures none { IfOk result (λ o. IfNone o ((known : ℕ)
-        → known ≤ length walk.old.track.history → HasNone
-        (Tells walk.old.history known request.now) transcript.now
-        (length walk.old.track.history))) }
+    ensures compared { (known : ℕ) → known ≤ length walk.old.track.history
+        → IsCompared (Tells walk.old.history known request.now) transcript.now
+        (length walk.old.track.history) result }
     ensures same { IfOk result (λ o. IfSome o (λ len. walk.new ≡ walk.old)) }
 {
     texts_law();
@@ -72,21 +65,13 @@ pub(crate) fn added_behind(
     placed: &Placed,
     transcript: &[u8],
 ) -> Result<Option<usize>, NoMemory>
-    requires along { IsAlong walk.old }
-    requires few { length walk.old.history < 2 ^ 64 }
-    requires asked { machine_of request.now ≡ walk.old.track.machine }
+    requires may { MayAsk request.now walk.old }
     requires plain { is_segment request.now ≡ false }
-    requires shared { stands_alone request.now ≡ false }
     requires next { coming walk.old ≡ Some placed.now }
     requires said { IsEntry placed.now.entry }
-    ensures some { IfOk result (λ o. IfSome o (λ len. (known : ℕ)
-        → known ≤ length walk.old.track.history → IsNext
-        (Adds placed.now.author walk.old.history known request.now) transcript.now
-        (length walk.old.track.history + 1) len)) }
-    ensures none { IfOk result (λ o. IfNone o ((known : ℕ)
-        → known ≤ length walk.old.track.history → HasNone
-        (Adds placed.now.author walk.old.history known request.now) transcript.now
-        (length walk.old.track.history + 1))) }
+    ensures compared { (known : ℕ) → known ≤ length walk.old.track.history
+        → IsCompared (Adds placed.now.author walk.old.history known request.now) transcript.now
+        (length walk.old.track.history + 1) result }
     ensures goes { IfOk result (λ o. IfSome o (λ len. GoesOn walk.old walk.new)) }
 {
     texts_law();

@@ -3,13 +3,11 @@ ghost use Rattle.std.specs.Prelude.{◌≡◌, ◌≢◌, ℕ, true, false, [], 
 ghost use Rattle.std.specs.List.{AllByRecursion};
 ghost use Rattle.journal_reader.specs.Journals.{IsOther, Journal as Read};
 ghost use Rattle.play_model.specs.Replies.{stands_alone};
-ghost use Rattle.play_fits.specs.Scripts.{Exchange};
 ghost use Rattle.audit_model.specs.Heard.{is_of_store};
-ghost use Rattle.audit_model.specs.Hearing.{HearsNone};
 ghost use Rattle.play_audit.specs.declared.hearing.Told.TheVariants as told;
 ghost use Rattle.play_audit.specs.Known.{AreKnown, AreSound, tracks_of};
 ghost use Rattle.play_audit.specs.Marks.{AreRows, rows_of};
-ghost use Rattle.play_audit.specs.Heard.{HearsAll, HearsItem, RefusesAt};
+ghost use Rattle.play_audit.specs.Heard.{CanHear, Hears, HearsAll, RefusesAt};
 
 use crate::NoMemory;
 use crate::items::Item;
@@ -127,16 +125,9 @@ fn hear_item<'a>(
     transcript: &[u8],
     marks: &mut Vec<Vec<bool>>,
 ) -> Result<Option<usize>, NoMemory>
-    requires sound { AreSound journals.now }
-    requires known { (xs : List Exchange) × AreKnown journals.now xs places.old.items }
-    requires rows { AreRows (tracks_of journals.now) (rows_of marks.old.items) }
-    ensures some { IfOk result (λ o. IfSome o (λ len. (xs : List Exchange)
-        → AreKnown journals.now xs places.old.items
-        → HearsItem journals.now script xs item transcript.now len places.new.items
-        (rows_of marks.old.items) (rows_of marks.new.items))) }
-    ensures none { IfOk result (λ o. IfNone o ((xs : List Exchange)
-        → AreKnown journals.now xs places.old.items
-        → HearsNone (tracks_of journals.now) script xs item transcript.now)) }
+    requires { CanHear journals.now places.old.items (rows_of marks.old.items) }
+    ensures { Hears journals.now script item transcript.now result
+        places.old.items places.new.items (rows_of marks.old.items) (rows_of marks.new.items) }
 {
     match item {
         Ok(request) => {
@@ -155,16 +146,9 @@ fn hear_request<'a>(
     transcript: &[u8],
     marks: &mut Vec<Vec<bool>>,
 ) -> Result<Option<usize>, NoMemory>
-    requires sound { AreSound journals.now }
-    requires known { (xs : List Exchange) × AreKnown journals.now xs places.old.items }
-    requires rows { AreRows (tracks_of journals.now) (rows_of marks.old.items) }
-    ensures some { IfOk result (λ o. IfSome o (λ len. (xs : List Exchange)
-        → AreKnown journals.now xs places.old.items
-        → HearsItem journals.now script xs (Ok request.now) transcript.now len places.new.items
-        (rows_of marks.old.items) (rows_of marks.new.items))) }
-    ensures none { IfOk result (λ o. IfNone o ((xs : List Exchange)
-        → AreKnown journals.now xs places.old.items
-        → HearsNone (tracks_of journals.now) script xs (Ok request.now) transcript.now)) }
+    requires { CanHear journals.now places.old.items (rows_of marks.old.items) }
+    ensures { Hears journals.now script (Ok request.now) transcript.now result
+        places.old.items places.new.items (rows_of marks.old.items) (rows_of marks.new.items) }
 {
     if is_alone(request) {
         return begins_with(alloc, transcript, apart(Refusal::OnlyAlone));

@@ -3,11 +3,11 @@ ghost use Rattle.std.specs.Prelude.{◌≡◌, ◌≤◌, ◌<◌, ◌+◌, ◌-
 ghost use Rattle.history_model.specs.declared.entries.Author.TheVariants as made_by;
 ghost use Rattle.play_model.specs.Replies.{Adds, Tells, stands_alone};
 ghost use Rattle.request_model.specs.Requests.{machine_of};
-ghost use Rattle.journal_walk.specs.Walks.{GoesOn, IsAlong, coming};
+ghost use Rattle.journal_walk.specs.Walks.{GoesOn, coming};
 ghost use Rattle.reply_laws.specs.Kinds.{Names, asks_only, tells_by_letter};
 ghost use Rattle.track_entry.specs.Texts.{IsEntry};
-ghost use Rattle.play_audit.specs.Places.{IsBehind, IsBy, IsPlace, IsSound, Walks};
-ghost use Rattle.play_audit.specs.Replies.{HasNone, IsHeardNext, IsNext, IsUnheard};
+ghost use Rattle.play_audit.specs.Places.{IsBehind, IsBy, IsPlace, IsSound, Knows, MayAsk, Walks};
+ghost use Rattle.play_audit.specs.Replies.{IsCompared, IsHeardNext, IsUnheard};
 
 use crate::NoMemory;
 use crate::behind::{added_behind, told_behind};
@@ -152,12 +152,20 @@ fn hear_named(
     kinds_law();
     texts_law();
     replies_law();
+    along_law();
     if tells_of_none(request, named.letter) {
-        return hear_told(alloc, walk, known, history, request, named.step, transcript);
+        go_to(walk, named.step)?;
+        return told_here(alloc, walk, known, request, transcript);
     }
-    match hear_added(
-        alloc, walk, known, script, history, request, named.step, transcript,
-    ) {
+    if named.step == known {
+        return Ok(None);
+    }
+    let placed = &history[(named.step - 1) as usize];
+    if !is_of_script(placed.author, script) {
+        return Ok(None);
+    }
+    go_to(walk, named.step - 1)?;
+    match added_here(alloc, walk, known, request, placed, transcript) {
         Ok(Some(len)) => {
             mark(marks, named.step);
             Ok(Some(len))
@@ -183,35 +191,8 @@ fn mark(marks: &mut Vec<bool>, step: u64)
     marks[(step - 1) as usize] = true;
 }
 
-// How long the reply to a request is that adds nothing behind so many entries, no fewer than were known, where a transcript
-// begins with it. None exactly where it begins with no such reply.
-fn hear_told(
-    alloc: Global,
-    walk: &mut Walk,
-    known: u64,
-    history: &[Placed],
-    request: &Request,
-    step: u64,
-    transcript: &[u8],
-) -> Result<Option<usize>, NoMemory>
-    requires by { IsBy (machine_of request.now) history.now known walk.old }
-    requires shared { stands_alone request.now ≡ false }
-    requires sound { IsSound history.now }
-    requires since { known ≤ step }
-    requires few { length history.now < 2 ^ 64 }
-    requires within { step ≤ length history.now }
-    ensures by { IfOk result (λ o. IfSome o (λ len.
-        IsBy (machine_of request.now) history.now step walk.new)) }
-    ensures some { IfOk result (λ o. IfSome o (IsNext
-        (Tells history.now known request.now) transcript.now step)) }
-    ensures none { IfOk result (λ o. IfNone o (HasNone
-        (Tells history.now known request.now) transcript.now step)) }
-{
-    go_to(walk, step)?;
-    told_here(alloc, walk, known, request, transcript)
-}
-
-// The same behind the entries so far.
+// How long the reply to a request is that adds nothing behind the entries so far, where a transcript begins with it. None
+// exactly where it begins with no such reply.
 fn told_here(
     alloc: Global,
     walk: &mut Walk,
@@ -219,18 +200,10 @@ fn told_here(
     request: &Request,
     transcript: &[u8],
 ) -> Result<Option<usize>, NoMemory>
-    requires along { IsAlong walk.old }
-    requires sound { IsSound walk.old.history }
-    requires few { length walk.old.history < 2 ^ 64 }
-    requires asked { machine_of request.now ≡ walk.old.track.machine }
-    requires shared { stands_alone request.now ≡ false }
-    requires since { known ≤ length walk.old.track.history }
-    ensures some { IfOk result (λ o. IfSome o (IsNext
-        (Tells walk.old.history known request.now) transcript.now
-        (length walk.old.track.history))) }
-    ensures none { IfOk result (λ o. IfNone o (HasNone
-        (Tells walk.old.history known request.now) transcript.now
-        (length walk.old.track.history))) }
+    requires may { MayAsk request.now walk.old }
+    requires knows { Knows walk.old known }
+    ensures compared { IsCompared (Tells walk.old.history known request.now) transcript.now
+        (length walk.old.track.history) result }
     ensures same { IfOk result (λ o. IfSome o (λ len. walk.new ≡ walk.old)) }
 {
     match request {
@@ -241,45 +214,7 @@ fn told_here(
     }
 }
 
-// How long the reply to a request is that adds the entry of this step, which is the script's, where a transcript begins with
-// it. None exactly where it begins with no such reply.
-fn hear_added(
-    alloc: Global,
-    walk: &mut Walk,
-    known: u64,
-    script: u8,
-    history: &[Placed],
-    request: &Request,
-    step: u64,
-    transcript: &[u8],
-) -> Result<Option<usize>, NoMemory>
-    requires by { IsBy (machine_of request.now) history.now known walk.old }
-    requires shared { stands_alone request.now ≡ false }
-    requires sound { IsSound history.now }
-    requires since { known ≤ step }
-    requires few { length history.now < 2 ^ 64 }
-    requires within { step ≤ length history.now }
-    ensures by { IfOk result (λ o. IfSome o (λ len.
-        IsBy (machine_of request.now) history.now step walk.new)) }
-    ensures some { IfOk result (λ o. IfSome o (IsNext
-        (Adds (made_by.Script script) history.now known request.now) transcript.now step)) }
-    ensures none { IfOk result (λ o. IfNone o (HasNone
-        (Adds (made_by.Script script) history.now known request.now) transcript.now step)) }
-    ensures new { IfOk result (λ o. IfSome o (λ len. known < step)) }
-{
-    along_law();
-    if step == known {
-        return Ok(None);
-    }
-    let placed = &history[(step - 1) as usize];
-    if !is_of_script(placed.author, script) {
-        return Ok(None);
-    }
-    go_to(walk, step - 1)?;
-    added_here(alloc, walk, known, request, placed, transcript)
-}
-
-// The same of the journal's next entry.
+// The same of a reply that adds the journal's next entry.
 fn added_here(
     alloc: Global,
     walk: &mut Walk,
@@ -288,20 +223,12 @@ fn added_here(
     placed: &Placed,
     transcript: &[u8],
 ) -> Result<Option<usize>, NoMemory>
-    requires along { IsAlong walk.old }
-    requires sound { IsSound walk.old.history }
-    requires few { length walk.old.history < 2 ^ 64 }
-    requires asked { machine_of request.now ≡ walk.old.track.machine }
-    requires shared { stands_alone request.now ≡ false }
-    requires since { known ≤ length walk.old.track.history }
+    requires may { MayAsk request.now walk.old }
+    requires knows { Knows walk.old known }
     requires next { coming walk.old ≡ Some placed.now }
     requires said { IsEntry placed.now.entry }
-    ensures some { IfOk result (λ o. IfSome o (IsNext
-        (Adds placed.now.author walk.old.history known request.now) transcript.now
-        (length walk.old.track.history + 1))) }
-    ensures none { IfOk result (λ o. IfNone o (HasNone
-        (Adds placed.now.author walk.old.history known request.now) transcript.now
-        (length walk.old.track.history + 1))) }
+    ensures compared { IsCompared (Adds placed.now.author walk.old.history known request.now)
+        transcript.now (length walk.old.track.history + 1) result }
     ensures goes { IfOk result (λ o. IfSome o (λ len. GoesOn walk.old walk.new)) }
 {
     match request {

@@ -6,8 +6,8 @@ ghost use Rattle.history_model.specs.Runs.{is_known as known_in};
 ghost use Rattle.journal_walk.specs.Walks.{GoesOn, IsAlong, added, coming};
 ghost use Rattle.play_model.specs.Replies.{Adds, Tells};
 ghost use Rattle.request_model.specs.declared.requests.Request.TheVariants.{Segment};
-ghost use Rattle.play_audit.specs.Places.{IsSound};
-ghost use Rattle.play_audit.specs.Replies.{HasNone, IsNext};
+ghost use Rattle.play_audit.specs.Places.{IsSound, Knows};
+ghost use Rattle.play_audit.specs.Replies.{IsCompared};
 ghost use Rattle.metric_table.specs.Limits.{most};
 ghost use Rattle.metric_table.specs.declared.limits.Limit.TheVariants as limit;
 ghost use Rattle.reply_text.specs.Replies.{text_of};
@@ -40,19 +40,11 @@ pub(crate) fn published_behind(
     metric: &Name,
     transcript: &[u8],
 ) -> Result<Option<usize>, NoMemory>
-    requires sound { IsSound walk.old.history }
-    requires along { IsAlong walk.old }
-    requires few { length walk.old.history < 2 ^ 64 }
-    requires since { known ≤ length walk.old.track.history }
+    requires knows { Knows walk.old known }
     requires next { coming walk.old ≡ Some placed.now }
-    ensures some { IfOk result (λ o. IfSome o (IsNext
-        (Adds placed.now.author walk.old.history known
+    ensures compared { IsCompared (Adds placed.now.author walk.old.history known
         (Segment walk.old.track.machine test.now metric.now))
-        transcript.now (length walk.old.track.history + 1))) }
-    ensures none { IfOk result (λ o. IfNone o (HasNone
-        (Adds placed.now.author walk.old.history known
-        (Segment walk.old.track.machine test.now metric.now))
-        transcript.now (length walk.old.track.history + 1))) }
+        transcript.now (length walk.old.track.history + 1) result }
     ensures goes { IfOk result (λ o. IfSome o (λ len. GoesOn walk.old walk.new)) }
 {
     texts_law();
@@ -95,16 +87,10 @@ pub(crate) fn unpublished(
     metric: &Name,
     transcript: &[u8],
 ) -> Result<Option<usize>, NoMemory>
-    requires sound { IsSound walk.old.history }
-    requires along { IsAlong walk.old }
-    requires few { length walk.old.history < 2 ^ 64 }
-    requires since { known ≤ length walk.old.track.history }
-    ensures some { IfOk result (λ o. IfSome o (IsNext
+    requires knows { Knows walk.old known }
+    ensures compared { IsCompared
         (Tells walk.old.history known (Segment walk.old.track.machine test.now metric.now))
-        transcript.now (length walk.old.track.history))) }
-    ensures none { IfOk result (λ o. IfNone o (HasNone
-        (Tells walk.old.history known (Segment walk.old.track.machine test.now metric.now))
-        transcript.now (length walk.old.track.history))) }
+        transcript.now (length walk.old.track.history) result }
     ensures same { walk.new ≡ walk.old }
 {
     texts_law();
@@ -114,10 +100,13 @@ pub(crate) fn unpublished(
         return refused(alloc, walk, Refusal::UnknownSeries, transcript);
     }
     let last = last_version(walk, test, metric);
-    if known < last {
-        return stale_or_full(alloc, walk, known, last, test, metric, transcript);
+    if last <= known {
+        return full(alloc, walk, known, last, test, metric, transcript);
     }
-    full(alloc, walk, known, last, test, metric, transcript)
+    match refused(alloc, walk, Refusal::Stale(last), transcript)? {
+        Some(len) => Ok(Some(len)),
+        None => full(alloc, walk, known, last, test, metric, transcript),
+    }
 }
 
 fn is_known(walk: &Walk, test: &Name, metric: &Name) -> bool
@@ -135,36 +124,6 @@ fn last_version(walk: &Walk, test: &Name, metric: &Name) -> u64
     match walk.track().published(test, metric) {
         Some(done) => done.version,
         None => 0,
-    }
-}
-
-// The same of one whose series was published at a later version than was known.
-fn stale_or_full(
-    alloc: Global,
-    walk: &mut Walk,
-    known: u64,
-    last: u64,
-    test: &Name,
-    metric: &Name,
-    transcript: &[u8],
-) -> Result<Option<usize>, NoMemory>
-    requires known { IsKnownAt walk.old known (record { test = test.now; metric = metric.now }) last }
-    requires few { length walk.old.history < 2 ^ 64 }
-    requires low { known < last }
-    ensures some { IfOk result (λ o. IfSome o (IsNext
-        (Tells walk.old.history known (Segment walk.old.track.machine test.now metric.now))
-        transcript.now (length walk.old.track.history))) }
-    ensures none { IfOk result (λ o. IfNone o (HasNone
-        (Tells walk.old.history known (Segment walk.old.track.machine test.now metric.now))
-        transcript.now (length walk.old.track.history))) }
-    ensures same { walk.new ≡ walk.old }
-{
-    texts_law();
-    replies_law();
-    publication_law();
-    match refused(alloc, walk, Refusal::Stale(last), transcript)? {
-        Some(len) => Ok(Some(len)),
-        None => full(alloc, walk, known, last, test, metric, transcript),
     }
 }
 
@@ -190,28 +149,6 @@ fn full(
         let _cuts = walk.cuts_now(alloc, test, metric)?;
         return refused(alloc, walk, Refusal::Full(Limit::Steps), transcript);
     }
-    full_of_cuts(alloc, walk, known, last, test, metric, transcript)
-}
-
-// The same where there is room for one step more.
-
-fn full_of_cuts(
-    alloc: Global,
-    walk: &Walk,
-    known: u64,
-    last: u64,
-    test: &Name,
-    metric: &Name,
-    transcript: &[u8],
-) -> Result<Option<usize>, NoMemory>
-    requires known { IsKnownAt walk.now known (record { test = test.now; metric = metric.now }) last }
-    requires room { length walk.now.track.history < most limit.Steps }
-    ensures some { IfOk result (λ o. IfSome o (IsFullNext walk.now known
-        (record { test = test.now; metric = metric.now }) transcript.now)) }
-    ensures none { IfOk result (λ o. IfNone o (IsNotFull walk.now known
-        (record { test = test.now; metric = metric.now }) transcript.now)) }
-{
-    publication_law();
     match refused(alloc, walk, Refusal::Full(Limit::Cuts), transcript)? {
         Some(len) => {
             if passes_cuts(alloc, walk, known.max(last), test, metric)? {
@@ -231,9 +168,7 @@ fn passes_cuts(
     test: &Name,
     metric: &Name,
 ) -> Result<bool, NoMemory>
-    requires along { IsAlong walk.now }
-    requires sound { IsSound walk.now.history }
-    requires since { from ≤ length walk.now.track.history }
+    requires knows { Knows walk.now from }
     ensures yes { IfOk result (λ passes. passes ≡ true → PassesCuts walk.now.history
         (record { test = test.now; metric = metric.now }) from
         (length walk.now.track.history) (most limit.Cuts - cut_count (added walk.now))) }

@@ -46,14 +46,8 @@ overflow_add-request c = omega (arith, (turn c).0, c.loop-item.invariant.2, c.ar
 pub slice_bounds-hear_item-count : goal.slice_bounds-hear_item-count
 slice_bounds-hear_item-count c = let gone = c.loop-item.invariant.3 in gone.within
 
-pub hear_item-requires-clause-sound : goal.hear_item-requires-clause-sound
-hear_item-requires-clause-sound c = c.requires.sound
-
-pub hear_item-requires-clause-known : goal.hear_item-requires-clause-known
-hear_item-requires-clause-known c = let gone = c.loop-item.invariant.3 in (gone.xs, gone.known)
-
-pub hear_item-requires-clause-rows : goal.hear_item-requires-clause-rows
-hear_item-requires-clause-rows c = let gone = c.loop-item.invariant.3 in gone.marked.rows
+pub hear_item-requires : goal.hear_item-requires
+hear_item-requires c = let gone = c.loop-item.invariant.3 in record { sound = c.requires.sound; known = (gone.xs, gone.known); rows = gone.marked.rows }
 
 goes : (c : In-Some-2) → HasGone c.args.journals.now c.args.script c.args.items.items c.args.transcript.now (length c.loop-item.yielded + 1) (c.loop-item.at + c.in-Some-2.len)
     c.hear_item.new.places.items (rows_of c.args.marks.now.items) (rows_of c.hear_item.new.marks.items)

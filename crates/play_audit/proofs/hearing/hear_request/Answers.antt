@@ -23,34 +23,28 @@ use Rattle.play_audit.proofs.Named.{named_none, named_some}
 use Rattle.play_audit.specs.Marks.{rows_of}
 use Rattle.play_audit.proofs.Apart.{alone_apart, made_none, made_some, unknown_apart}
 use Rattle.play_audit.proofs.hearing.hear_request.Goals as goal
-use Rattle.play_audit.proofs.hearing.hear_request.Goals.{After-deref, In-Some, After-begins_with-in_default}
+use Rattle.play_audit.proofs.hearing.hear_request.Goals.{After-deref, In-Some}
 
-pub returns-then-is_alone-clause-some : goal.returns-then-is_alone-clause-some
-returns-then-is_alone-clause-some c =
-    made_some c.args.journals.now c.args.script (Ok c.args.request.now) (apart (refuses refusal.OnlyAlone))
-    (alone_apart c.args.journals.now c.args.script c.args.request.now (sym c.is_alone.ensures ∙ c.if-is_alone.true)) c.args.transcript.now
-    c.args.places.now.items (rows_of c.args.marks.now.items) c.apart.result c.apart.ensures c.requires.rows c.begins_with.result c.begins_with.ensures.some
+pub returns-then-is_alone : goal.returns-then-is_alone
+returns-then-is_alone c =
+    let told = alone_apart c.args.journals.now c.args.script c.args.request.now (sym c.is_alone.ensures ∙ c.if-is_alone.true) in
+    record {
+      some = made_some c.args.journals.now c.args.script (Ok c.args.request.now) (apart (refuses refusal.OnlyAlone)) told c.args.transcript.now
+          c.args.places.now.items (rows_of c.args.marks.now.items) c.apart.result c.apart.ensures c.requires.rows c.begins_with.result c.begins_with.ensures.some;
+      none = made_none c.args.journals.now c.args.script (Ok c.args.request.now) (apart (refuses refusal.OnlyAlone)) told c.args.transcript.now
+          c.args.places.now.items c.apart.result c.apart.ensures c.begins_with.result c.begins_with.ensures.none;
+    }
 
-pub returns-then-is_alone-clause-none : goal.returns-then-is_alone-clause-none
-returns-then-is_alone-clause-none c =
-    made_none c.args.journals.now c.args.script (Ok c.args.request.now) (apart (refuses refusal.OnlyAlone))
-    (alone_apart c.args.journals.now c.args.script c.args.request.now (sym c.is_alone.ensures ∙ c.if-is_alone.true)) c.args.transcript.now
-    c.args.places.now.items c.apart.result c.apart.ensures c.begins_with.result c.begins_with.ensures.none
-
-others : (c : After-begins_with-in_default) → AllByRecursion (IsOther (machine_of c.args.request.now)) c.args.journals.now
-others c = subst (λ (m : List ℕ). AllByRecursion (IsOther m) c.args.journals.now) c.machine.ensures c.in_default.ensures.none
-
-pub returns-in_default-clause-some : goal.returns-in_default-clause-some
-returns-in_default-clause-some c =
-    made_some c.args.journals.now c.args.script (Ok c.args.request.now) (apart (refuses refusal.UnknownMachine))
-    (unknown_apart c.args.journals.now c.args.script c.args.request.now (sym c.is_alone.ensures ∙ c.if-is_alone.false) (others c)) c.args.transcript.now
-    c.args.places.now.items (rows_of c.args.marks.now.items) c.apart-in_default.result c.apart-in_default.ensures c.requires.rows c.begins_with-in_default.result c.begins_with-in_default.ensures.some
-
-pub returns-in_default-clause-none : goal.returns-in_default-clause-none
-returns-in_default-clause-none c =
-    made_none c.args.journals.now c.args.script (Ok c.args.request.now) (apart (refuses refusal.UnknownMachine))
-    (unknown_apart c.args.journals.now c.args.script c.args.request.now (sym c.is_alone.ensures ∙ c.if-is_alone.false) (others c)) c.args.transcript.now
-    c.args.places.now.items c.apart-in_default.result c.apart-in_default.ensures c.begins_with-in_default.result c.begins_with-in_default.ensures.none
+pub returns-in_default : goal.returns-in_default
+returns-in_default c =
+    let others = subst (λ (m : List ℕ). AllByRecursion (IsOther m) c.args.journals.now) c.machine.ensures c.in_default.ensures.none in
+    let told = unknown_apart c.args.journals.now c.args.script c.args.request.now (sym c.is_alone.ensures ∙ c.if-is_alone.false) others in
+    record {
+      some = made_some c.args.journals.now c.args.script (Ok c.args.request.now) (apart (refuses refusal.UnknownMachine)) told c.args.transcript.now
+          c.args.places.now.items (rows_of c.args.marks.now.items) c.apart-in_default.result c.apart-in_default.ensures c.requires.rows c.begins_with-in_default.result c.begins_with-in_default.ensures.some;
+      none = made_none c.args.journals.now c.args.script (Ok c.args.request.now) (apart (refuses refusal.UnknownMachine)) told c.args.transcript.now
+          c.args.places.now.items c.apart-in_default.result c.apart-in_default.ensures c.begins_with-in_default.result c.begins_with-in_default.ensures.none;
+    }
 
 pub bounds-journals-i : goal.bounds-journals-i
 bounds-journals-i c = let s = c.in-Some.ensures.some in slice_get_within c.args.journals.now c.in-Some.i s.0 s.1
@@ -107,24 +101,22 @@ hear-requires-clause-sound c = subst IsSound (sym (history c)) (c.requires.sound
 pub hear-requires-clause-marks : goal.hear-requires-clause-marks
 hear-requires-clause-marks c = sym (ap length (row c)) ∙ c.requires.rows.each c.in-Some.i (track_of c.index-journals-i.result) (track_at c.args.journals.now c.in-Some.i c.index-journals-i.result (here c)) ∙ sym (ap length (history c))
 
-pub returns-clause-some : goal.returns-clause-some
-returns-clause-some c =
-    let d = (goal.at.returns-clause-some c).After-deref in
+pub returns : goal.returns
+returns c =
+    let d = (goal.at.returns c).After-deref in
     let js = c.args.journals.now in
     let i : ℕ = c.in-Some.i in
     let rows = rows_of c.args.marks.now.items in
-    subst (λ (new : List (List Bool)). IfOk c.hear.result (λ o. IfSome o (λ len. (xs : List Exchange) → AreKnown js xs c.args.places.now.items
-    → HearsItem js c.args.script xs (Ok c.args.request.now) c.args.transcript.now len (set c.args.places.now.items i c.hear.new.self) rows new)))
-    (sym (map_set (λ (v : Vec Bool Global). v.items) c.args.marks.now.items i c.hear.new.marks))
-    (named_some js c.requires.sound c.args.script c.args.request.now c.args.transcript.now i c.index-journals-i.result (here d) (about d) (sym c.is_alone.ensures ∙ c.if-is_alone.false)
-    c.args.places.now.items c.index_mut-place.result.now c.hear.new.self rows c.index_mut-row.result.now.items c.hear.new.marks.items (way d) c.requires.rows (sym (row d)) c.hear.result
-    (subst (λ (h : List Placed). IfOk c.hear.result (λ o. IfSome o (λ len. IsPlace (machine_of c.args.request.now) h c.hear.new.self))) (history d) c.hear.ensures.place)
-    (subst (λ (h : List Placed). IfOk c.hear.result (λ o. IfSome o (λ len. IsHeardNext (author.Script c.args.script) h c.index_mut-place.result.now.known c.hear.new.self.known c.args.request.now c.args.transcript.now len
-    c.index_mut-row.result.now.items c.hear.new.marks.items))) (history d) c.hear.ensures.some))
-
-pub returns-clause-none : goal.returns-clause-none
-returns-clause-none c =
-    let d = (goal.at.returns-clause-none c).After-deref in
-    named_none c.args.journals.now c.requires.sound c.args.script c.args.request.now c.args.transcript.now c.in-Some.i c.index-journals-i.result (here d) (about d) (sym c.is_alone.ensures ∙ c.if-is_alone.false)
-    c.args.places.now.items c.index_mut-place.result.now (way d) c.hear.result
-    (subst (λ (h : List Placed). IfOk c.hear.result (λ o. IfNone o (IsUnheard (author.Script c.args.script) h c.index_mut-place.result.now.known c.args.request.now c.args.transcript.now))) (history d) c.hear.ensures.none)
+    record {
+      some = subst (λ (new : List (List Bool)). IfOk c.hear.result (λ o. IfSome o (λ len. (xs : List Exchange) → AreKnown js xs c.args.places.now.items
+          → HearsItem js c.args.script xs (Ok c.args.request.now) c.args.transcript.now len (set c.args.places.now.items i c.hear.new.self) rows new)))
+          (sym (map_set (λ (v : Vec Bool Global). v.items) c.args.marks.now.items i c.hear.new.marks))
+          (named_some js c.requires.sound c.args.script c.args.request.now c.args.transcript.now i c.index-journals-i.result (here d) (about d) (sym c.is_alone.ensures ∙ c.if-is_alone.false)
+          c.args.places.now.items c.index_mut-place.result.now c.hear.new.self rows c.index_mut-row.result.now.items c.hear.new.marks.items (way d) c.requires.rows (sym (row d)) c.hear.result
+          (subst (λ (h : List Placed). IfOk c.hear.result (λ o. IfSome o (λ len. IsPlace (machine_of c.args.request.now) h c.hear.new.self))) (history d) c.hear.ensures.place)
+          (subst (λ (h : List Placed). IfOk c.hear.result (λ o. IfSome o (λ len. IsHeardNext (author.Script c.args.script) h c.index_mut-place.result.now.known c.hear.new.self.known c.args.request.now c.args.transcript.now len
+          c.index_mut-row.result.now.items c.hear.new.marks.items))) (history d) c.hear.ensures.some));
+      none = named_none c.args.journals.now c.requires.sound c.args.script c.args.request.now c.args.transcript.now c.in-Some.i c.index-journals-i.result (here d) (about d) (sym c.is_alone.ensures ∙ c.if-is_alone.false)
+          c.args.places.now.items c.index_mut-place.result.now (way d) c.hear.result
+          (subst (λ (h : List Placed). IfOk c.hear.result (λ o. IfNone o (IsUnheard (author.Script c.args.script) h c.index_mut-place.result.now.known c.args.request.now c.args.transcript.now))) (history d) c.hear.ensures.none);
+    }
