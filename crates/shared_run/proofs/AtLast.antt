@@ -44,13 +44,7 @@ still-unasked (t ∷ tallies) all = (record { asks = all.0; counts = omega arith
 -- what main did, where less is said of it
 pub finishes-less : {A : Type 0} (r : runner.Ghosts A) (plan : Plan) (left journals : List Track) (worked ended : List A) (done full : Bool) → (full ≡ true → done ≡ true) → Finishes r plan left journals worked ended done
     → Finishes r plan left journals worked ended full
-finishes-less r plan left journals worked ended done full so f = record {
-  published = f.published;
-  recomputes = f.recomputes;
-  bisects = f.bisects;
-  series = λ is one. f.series (so is) one;
-  jobs = λ is one. f.jobs (so is) one;
-}
+finishes-less r plan left journals worked ended done full so f = record { main = f.main; series = λ is one. f.series (so is) one; jobs = λ is one. f.jobs (so is) one }
 
 -- as many machines are there then
 pub recomputes-long : (workers : ℕ) (olds news : List Track) → RecomputesLast workers olds news → length news ≡ length olds

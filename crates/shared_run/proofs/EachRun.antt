@@ -20,6 +20,7 @@ use Rattle.script_loop.specs.declared.stop.Stop.TheVariants as stop
 use Rattle.play_script.specs.Played.{in_full}
 use Rattle.play_crew.specs.Sights.{Home, Sight}
 use Rattle.play_crew.specs.Players.{Playing, Plays, end_of, open_of, players_from}
+use Rattle.play_crew.proofs.Gathered.{mapped-at, mapped-from}
 
 -- ---- lists
 pub some-same : {A : Type 0} (x y : A) → Some x ≡ Some y → x ≡ y
@@ -35,16 +36,6 @@ zip-at R [] ys all k x is = absurd (cc)
 zip-at R (z ∷ xs) [] all k x is = absurd all
 zip-at R (z ∷ xs) (y ∷ ys) all zero x is = record { it = y; there = refl; holds = subst (λ a. R a y) (some-same z x is) all.0 }
 zip-at R (z ∷ xs) (y ∷ ys) all (suc k) x is = let rest = zip-at R xs ys all.1 k x is in record { it = rest.it; there = rest.there; holds = rest.holds }
-
-pub mapped-back : {A B : Type 0} (f : A → B) (xs : List A) (k : ℕ) (y : B) → slice_get (map f xs) k ≡ Some y → (x : A) × (slice_get xs k ≡ Some x) × (f x ≡ y)
-mapped-back f [] k y is = absurd (cc)
-mapped-back f (x ∷ xs) zero y is = (x, refl, some-same (f x) y is)
-mapped-back f (x ∷ xs) (suc k) y is = mapped-back f xs k y is
-
-pub mapped-on : {A B : Type 0} (f : A → B) (xs : List A) (k : ℕ) (x : A) → slice_get xs k ≡ Some x → slice_get (map f xs) k ≡ Some (f x)
-mapped-on f [] k x is = absurd (cc)
-mapped-on f (z ∷ xs) zero x is = ap (λ a. Some (f a)) (some-same z x is)
-mapped-on f (z ∷ xs) (suc k) x is = mapped-on f xs k x is
 
 pub there-at : {A : Type 0} (xs : List A) (k : ℕ) → k < length xs → (x : A) × (slice_get xs k ≡ Some x)
 there-at [] k less = absurd (omega (arith, less))
@@ -142,22 +133,21 @@ module _ {I O : Type 0} (i : source.Ghosts I) (o : sink.Ghosts O) (told : Option
       let sum = sum_by-cons (λ (b : Bool). cond (not b) 1 0) (in_full p.ended) (map in_full (map end_of played)) in
       omega (arith, first, rest, sum)
 
-  -- one whose input failed is among the inputs that did
-  pub input-counts : (played : List (Playing I O)) (k : ℕ) (p : Playing I O) → slice_get played k ≡ Some p → 0 < i.faults p.input → 0 < failed_inputs i (map open_of played)
-  input-counts [] k p is some = absurd (cc)
-  input-counts (q ∷ played) zero p is some =
+  -- one that failed is counted among those that did
+  one-counts : (faults : Playing I O → ℕ) (failed : List (Playing I O) → ℕ) → ((q : Playing I O) (rest : List (Playing I O)) → failed (q ∷ rest) ≡ (if nat_lt 0 (faults q) then 1 else 0) + failed rest)
+      → (played : List (Playing I O)) (k : ℕ) (p : Playing I O) → slice_get played k ≡ Some p → 0 < faults p → 0 < failed played
+  one-counts faults failed more [] k p is some = absurd (cc)
+  one-counts faults failed more (q ∷ played) zero p is some =
       let same : q ≡ p = some-same q p is in
-      let one = one-if (i.faults q.input) (subst (λ (r : Playing I O). 0 < i.faults r.input) (sym same) some) in
-      omega (arith, one)
-  input-counts (q ∷ played) (suc k) p is some = let rest = input-counts played k p is some in omega (arith, rest)
+      let one = one-if (faults q) (subst (λ (r : Playing I O). 0 < faults r) (sym same) some) in
+      omega (arith, one, more q played)
+  one-counts faults failed more (q ∷ played) (suc k) p is some = let rest = one-counts faults failed more played k p is some in omega (arith, rest, more q played)
+
+  pub input-counts : (played : List (Playing I O)) (k : ℕ) (p : Playing I O) → slice_get played k ≡ Some p → 0 < i.faults p.input → 0 < failed_inputs i (map open_of played)
+  input-counts = one-counts (λ p. i.faults p.input) (λ l. failed_inputs i (map open_of l)) (λ q rest. refl)
 
   pub output-counts : (played : List (Playing I O)) (k : ℕ) (p : Playing I O) → slice_get played k ≡ Some p → 0 < o.faults p.output → 0 < failed_outputs o (map open_of played)
-  output-counts [] k p is some = absurd (cc)
-  output-counts (q ∷ played) zero p is some =
-      let same : q ≡ p = some-same q p is in
-      let one = one-if (o.faults q.output) (subst (λ (r : Playing I O). 0 < o.faults r.output) (sym same) some) in
-      omega (arith, one)
-  output-counts (q ∷ played) (suc k) p is some = let rest = output-counts played k p is some in omega (arith, rest)
+  output-counts = one-counts (λ p. o.faults p.output) (λ l. failed_outputs o (map open_of l)) (λ q rest. refl)
 
   -- ---- what the files tell of a script's bytes
   pub left-is : (script bytes : List ℕ) (left : Option (List ℕ)) → IfSome told (λ names. left ≡ bytes_at script names) → option_and_then (bytes_at script) told ≡ Some bytes → left ≡ Some bytes

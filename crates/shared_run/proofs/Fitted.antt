@@ -229,9 +229,7 @@ module _ {F I O K A : Type 0} (t : Told F I O K) (i : source.Ghosts I) (r : runn
     whole = n.whole;
     left = n.left;
     closed = n.closed;
-    published = n.finishes.published;
-    recomputes = n.finishes.recomputes;
-    bisects = n.finishes.bisects;
+    main = n.finishes.main;
     legal = n.legal;
     new = new;
     runners = refl;

@@ -34,6 +34,7 @@ use Rattle.play_script.specs.Played.{in_full}
 use Rattle.play_crew.specs.Gathered.{AreKept}
 use Rattle.play_crew.specs.Seats.{AreDifferent}
 use Rattle.play_crew.specs.Players.{Playing, Plays, end_of, open_of, players_from}
+use Rattle.play_crew.proofs.Gathered.{mapped-at, mapped-from}
 use Rattle.shared_run.specs.declared.stop.RunStop.{RunStop}
 use Rattle.shared_run.specs.declared.stop.RunStop.TheVariants as run
 use Rattle.shared_run.specs.Beginnings.{Begins, Keeps, WasStarted}
@@ -46,7 +47,7 @@ use Rattle.shared_run.proofs.Beginning.{first-different, first-kept, room-differ
 use Rattle.shared_run.proofs.Decided.{Decided, FirstDecides, LaterDecides, MemoryDecides, decided, not-in}
 use Rattle.shared_run.proofs.Fitted.{Laws, run-fits, run-quiet}
 use Rattle.shared_run.proofs.Taken.{failed-part, took-part}
-use Rattle.shared_run.proofs.EachRun.{WasRun, all-failed, all-run, input-counts, left-is, mapped-back, mapped-on, output-counts, rose-some, some-same, there-at, zip-at}
+use Rattle.shared_run.proofs.EachRun.{WasRun, all-failed, all-run, input-counts, left-is, output-counts, rose-some, some-same, there-at, zip-at}
 
 -- ---- what the output took
 part-of : {O : Type 0} (o : sink.Ghosts O) (old new : O) (text : List ℕ) (later : Result (Unit {0}) RunStop) → WritesText o old new text later → TookPart o old new text
@@ -176,7 +177,7 @@ module _ {F I O K A : Type 0} (t : Told F I O K) (r : runner.Ghosts A) (plan : P
 
   here-of : (place : ℕ) (e : Result (Unit {0}) Stop) → slice_get ends place ≡ Some e → Here place e
   here-of place e is =
-      let back : (p : Playing I O) × (slice_get played place ≡ Some p) × (end_of p ≡ e) = mapped-back end_of played place e (subst (λ (l : List (Result (Unit {0}) Stop)). slice_get l place ≡ Some e) same-ends is) in
+      let back : (p : Playing I O) × (slice_get played place ≡ Some p) × (end_of p ≡ e) = mapped-from end_of played place e (subst (λ (l : List (Result (Unit {0}) Stop)). slice_get l place ≡ Some e) same-ends is) in
       let within : place < length played = slice_get_within played place back.0 back.1 in
       let below : place < length plan.scripts = omega (arith, within, size) in
       let name : (n : List ℕ) × (slice_get plan.scripts place ≡ Some n) = there-at plan.scripts place below in
@@ -199,7 +200,7 @@ module _ {F I O K A : Type 0} (t : Told F I O K) (r : runner.Ghosts A) (plan : P
   well-of : (place : ℕ) → slice_get ends place ≡ Some (Ok tt) → endings.EndsSo t plan before.files place end × (slice_get short place ≡ Some true)
   well-of place is = (
     well-at place (here-of place (Ok tt) is),
-    mapped-on in_full (map end_of played) place (Ok tt) (subst (λ (l : List (Result (Unit {0}) Stop)). slice_get l place ≡ Some (Ok tt)) same-ends is),
+    mapped-at in_full (map end_of played) place (Ok tt) (subst (λ (l : List (Result (Unit {0}) Stop)). slice_get l place ≡ Some (Ok tt)) same-ends is),
   )
 
   all-well : NoneStopped ends → endings.WereWell t plan before.files short (length plan.scripts)

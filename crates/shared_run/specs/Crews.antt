@@ -14,7 +14,7 @@ use Rattle.play_crew.specs.Sights.{EndsWhole, Home, IsFirstOf, Sight}
 use Rattle.play_fits.specs.Workers.{Asked}
 use Rattle.play_crew.specs.Shared.{JoinsAll, SplitsAll}
 use Rattle.play_crew.specs.Players as players
-use Rattle.worker_crew.specs.Runs.{BisectsLast, IsNew, RecomputesLast, runners_by}
+use Rattle.worker_crew.specs.Runs.{DoesLast, IsNew, runners_by}
 use Rattle.worker_crew.specs.Last.{HasQuietJobs, HasQuietSeries}
 use Rattle.worker_crew.specs.Whole.{tallies}
 use Rattle.worker_crew.specs.Workers as workers
@@ -77,9 +77,9 @@ pub record RanCrew {F I O A : Type 0} (f : files.Ghosts F I O) (i : source.Ghost
 -- main did what the workers left: all of it, or as much as there was memory for
 pub record Finishes {A : Type 0} (r : runner.Ghosts A) (plan : Plan) (left journals : List Track)
     (worked ended : List A) (full : Bool) : Type 0 where
-  pub published : List Track
-  pub recomputes : RecomputesLast plan.recompute left published
-  pub bisects : BisectsLast plan.bisect (word_of plan) published journals (tallies r worked) (tallies r ended)
+  pub main : DoesLast plan.recompute plan.bisect (word_of plan) left journals (tallies r worked)
+      (tallies r ended)
+  pub open main use *
   pub series : full ≡ true → 1 ≤ plan.recompute → AllByRecursion HasQuietSeries published
   pub jobs : full ≡ true → 1 ≤ plan.bisect → AllByRecursion HasQuietJobs journals
 

@@ -59,30 +59,6 @@ pub fn run_scripts<R: Threads + Wait + Sync, F: Files, K: Keeper, N: Runner + Se
 {
     reading_law();
     rows_law();
-    run_plan(rt, alloc, plan, out, files, keeper, runners, gate)
-}
-
-// The same, without what is due.
-fn run_plan<R: Threads + Wait + Sync, F: Files, K: Keeper, N: Runner + Send, G: Gate>(
-    rt: &R,
-    alloc: Global,
-    plan: &PlayPlan<'_>,
-    out: &mut F::Output,
-    files: &mut F,
-    keeper: &mut K,
-    runners: &mut [N],
-    gate: &G,
-) -> Result<(), RunStop>
-    requires scripts { AreScripts plan.now.scripts }
-    requires enough { plan.now.bisect ≤ length runners.old }
-    requires new { AreNew N.Runner runners.old }
-    ensures as_many { length runners.new ≡ length runners.old }
-    ensures ends { EndsRun
-        (record { files = F.Files; input = F.Input.Source; out = F.Output.Sink; keeper = K.Keeper })
-        plan.now (asked_by N.Runner runners.old runners.new)
-        (record { files = files.old; out = out.old; keeper = keeper.old })
-        (record { files = files.new; out = out.new; keeper = keeper.new }) result }
-{
     let Loaded { states, version } = match first_machines(alloc, plan, keeper) {
         Ok(loaded) => loaded,
         Err(why) => return Err(why),

@@ -28,9 +28,7 @@ returns-clause-done g c =
     let same = c.recompute.ensures in
     let alike = c.bisect.ensures in
     record {
-      published = tracks_of made;
-      recomputes = recomputes;
-      bisects = rw journals bisects;
+      main = record { published = tracks_of made; recomputes = recomputes; bisects = rw journals bisects };
       series = λ so many. c.finish_series-done.ensures.quiet (first-true c.finish_series-done.result c.finish_jobs-over.result c.both.result c.both.ensures so) (omega (arith, many, same));
       jobs = λ so many. rw journals (c.finish_jobs-over.ensures.quiet (second-true c.finish_series-done.result c.finish_jobs-over.result c.both.result c.both.ensures so) (omega (arith, many, alike)));
     }

@@ -92,6 +92,14 @@ module _ (g : Over) (c : After-run_crew g) where
   size : length played ≡ length passes
   size = AllZip-long (Plays g.F.Input.Source g.F.Output.Sink) (players_from c.args.room.now 1 passes opened) played plays ∙ shorter c.args.room.now 1 passes opened pair
 
+  -- each script has a seat
+  seats : length played ≡ length c.scripts-count.result.now
+  seats =
+      let one = length-map c.scripts-count.result.now (λ s. s.now) in
+      let is = ap length c.scripts-count.ensures in
+      let many = c.in_ok-split.ensures.ok.of_scripts.many in
+      omega (arith, size, one, is, many)
+
   still : AllByRecursion (players.IsOfRoom c.args.room.now) played
   still = still-of-room g.F.Input.Source g.F.Output.Sink c.args.room.now (players_from c.args.room.now 1 passes opened) played plays (of-room c.args.room.now 1 passes opened c.in_ok-split.ensures.ok.of_scripts.of_room)
 
@@ -143,23 +151,11 @@ leave-requires-clause-players g c = still g (goal.at.leave-requires-clause-playe
 
 pub leave-requires-clause-ended : goal.leave-requires-clause-ended
 leave-requires-clause-ended g c =
-    let seats = size g (goal.at.leave-requires-clause-ended g c).After-run_crew in
-    let one = length-map c.scripts-count.result.now (λ s. s.now) in
-    let is = ap length c.scripts-count.ensures in
-    let many = c.in_ok-split.ensures.ok.of_scripts.many in
-    let none = ap length c.in_ok-ended.ensures.items in
-    let space = c.in_ok-ended.ensures.capacity in
-    omega (arith, seats, one, is, many, none, space)
+    omega (arith, seats g (goal.at.leave-requires-clause-ended g c).After-run_crew, ap length c.in_ok-ended.ensures.items, c.in_ok-ended.ensures.capacity)
 
 pub leave-requires-clause-files : goal.leave-requires-clause-files
 leave-requires-clause-files g c =
-    let seats = size g (goal.at.leave-requires-clause-files g c).After-run_crew in
-    let one = length-map c.scripts-count.result.now (λ s. s.now) in
-    let is = ap length c.scripts-count.ensures in
-    let many = c.in_ok-split.ensures.ok.of_scripts.many in
-    let none = ap length c.in_ok-left.ensures.items in
-    let space = c.in_ok-left.ensures.capacity in
-    omega (arith, seats, one, is, many, none, space)
+    omega (arith, seats g (goal.at.leave-requires-clause-files g c).After-run_crew, ap length c.in_ok-left.ensures.items, c.in_ok-left.ensures.capacity)
 
 pub leave_workers-one-requires-clause-workers : goal.leave_workers-one-requires-clause-workers
 leave_workers-one-requires-clause-workers g c =
