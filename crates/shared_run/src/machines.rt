@@ -27,17 +27,6 @@ pub enum ListFault {
     NoMemory,
 }
 
-impl From<AllocError> for ListFault {
-    ghost use Rattle.std.specs.Prelude.{◌≡◌};
-    ghost use Rattle.shared_run.specs.declared.machines.ListFault.TheVariants as fault;
-
-    ghost from_gives = { λ _ f. f ≡ fault.NoMemory };
-
-    fn from(_: AllocError) -> ListFault {
-        ListFault::NoMemory
-    }
-}
-
 /// Adds the machines of the list that aren't there, in order. A refusal leaves those that were added before it. Linear in the
 /// list, for each of the machines that are there.
 pub fn add_listed(

@@ -1,6 +1,8 @@
 //! Why a shared run ends as it does, and which of several stops decides.
 ghost use Rattle.std.specs.Prelude.{◌≡◌, ◌↔◌, ◌<◌, ◌^◌, length, Contains, IsTrue, IfSome, IfNone, Err};
 ghost use Rattle.script_loop.specs.declared.stop.Stop.TheVariants as script;
+ghost use Rattle.shared_run.specs.Causes.{append_stop, open_stop};
+ghost use Rattle.shared_run.specs.declared.stop.RunStop.{RunStop};
 ghost use Rattle.shared_run.specs.Stops.{Decides, IsFirstStop, NoneStopped};
 
 use script_files::OpenFault;
@@ -87,10 +89,7 @@ pub(crate) fn first_stop(scripts: &[Result<(), Stop>]) -> Option<(u64, Stop)>
 }
 
 impl From<AllocError> for RunStop {
-    ghost use Rattle.std.specs.Prelude.{◌≡◌};
-    ghost use Rattle.shared_run.specs.declared.stop.RunStop.TheVariants as stop;
-
-    ghost from_gives = { λ _ s. s ≡ stop.NoMemory };
+    ghost from_gives = { λ _ s. s ≡ RunStop.NoMemory };
 
     fn from(_: AllocError) -> RunStop {
         RunStop::NoMemory
@@ -98,9 +97,6 @@ impl From<AllocError> for RunStop {
 }
 
 impl From<AppendFault> for RunStop {
-    ghost use Rattle.std.specs.Prelude.{◌≡◌};
-    ghost use Rattle.shared_run.specs.Causes.{append_stop};
-
     ghost from_gives = { λ fault stop. stop ≡ append_stop fault };
 
     fn from(fault: AppendFault) -> RunStop {
@@ -112,9 +108,6 @@ impl From<AppendFault> for RunStop {
 }
 
 impl From<OpenFault> for RunStop {
-    ghost use Rattle.std.specs.Prelude.{◌≡◌};
-    ghost use Rattle.shared_run.specs.Causes.{open_stop};
-
     ghost from_gives = { λ fault stop. stop ≡ open_stop fault };
 
     fn from(fault: OpenFault) -> RunStop {
