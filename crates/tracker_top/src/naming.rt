@@ -20,7 +20,7 @@ pub fn put_play_status<O: Sink>(err: &mut O, names: &[&str], status: Status) -> 
 {
     match status {
         Status::CutOff(number, offset) => match name_of(names, number) {
-            Some(name) => put_cut_off(err, name, offset),
+            Some(name) => put_place(err, b"cut off: ", name, b" at ", offset),
             None => put_status(err, status),
         },
         Status::InputTooLong(number) => match name_of(names, number) {
@@ -45,13 +45,19 @@ pub fn put_audit_status<O: Sink>(
         (record { journal = journal.now; scripts = shown scripts.now }) status)) }
 {
     match status {
-        Status::Differs(Verdict::JournalLine(line)) => put_differs(err, journal, b" line ", line),
+        Status::Differs(Verdict::JournalLine(line)) => put_place(
+            err,
+            b"differs: ",
+            journal,
+            b" line ",
+            line,
+        ),
         Status::Differs(Verdict::Request { script, request }) => match name_of(scripts, script) {
-            Some(name) => put_differs(err, name, b" request ", request),
+            Some(name) => put_place(err, b"differs: ", name, b" request ", request),
             None => put_status(err, status),
         },
         Status::CutOff(number, offset) => match name_of(scripts, number) {
-            Some(name) => put_cut_off(err, name, offset),
+            Some(name) => put_place(err, b"cut off: ", name, b" at ", offset),
             None => put_status(err, status),
         },
         Status::InputTooLong(place) => put_file_too_long(err, journal, scripts, place),
@@ -69,18 +75,6 @@ fn name_of<'a>(names: &[&'a str], number: u64) -> Option<&'a str>
     names.get((number - 1) as usize).copied()
 }
 
-// Writes where a script of this name is cut off.
-fn put_cut_off<O: Sink>(err: &mut O, name: &str, offset: u64) -> Result<(), Failed>
-    ensures ok { OnOk result (Took O.Sink err.old err.new
-        (codes "cut off: " ++ (name.now ++ (codes " at " ++ (decimal offset ++ 10 ∷ []))))) }
-    ensures err { OnErr result (FailedIn O.Sink err.old err.new
-        (codes "cut off: " ++ (name.now ++ (codes " at " ++ (decimal offset ++ 10 ∷ []))))) }
-{
-    put_all(err, b"cut off: ")?;
-    put_all(err, name.as_bytes())?;
-    put_numbered(err, b" at ", offset)
-}
-
 // Writes that a file is too long: its name, and what ends the name and the line.
 fn put_too_long<O: Sink>(err: &mut O, name: &str, rest: &[u8]) -> Result<(), Failed>
     ensures ok { OnOk result (Took O.Sink err.old err.new
@@ -93,14 +87,20 @@ fn put_too_long<O: Sink>(err: &mut O, name: &str, rest: &[u8]) -> Result<(), Fai
     put_all(err, rest)
 }
 
-// Writes where a file of this name differs: behind the word, the number of a line or a request.
-fn put_differs<O: Sink>(err: &mut O, name: &str, word: &[u8], number: u64) -> Result<(), Failed>
+// Writes that a file of this name differs or is cut off, and where: behind the word, the number there.
+fn put_place<O: Sink>(
+    err: &mut O,
+    what: &[u8],
+    name: &str,
+    word: &[u8],
+    number: u64,
+) -> Result<(), Failed>
     ensures ok { OnOk result (Took O.Sink err.old err.new
-        (codes "differs: " ++ (name.now ++ (word.now ++ decimal number ++ 10 ∷ [])))) }
+        (what.now ++ (name.now ++ (word.now ++ decimal number ++ 10 ∷ [])))) }
     ensures err { OnErr result (FailedIn O.Sink err.old err.new
-        (codes "differs: " ++ (name.now ++ (word.now ++ decimal number ++ 10 ∷ [])))) }
+        (what.now ++ (name.now ++ (word.now ++ decimal number ++ 10 ∷ [])))) }
 {
-    put_all(err, b"differs: ")?;
+    put_all(err, what)?;
     put_all(err, name.as_bytes())?;
     put_numbered(err, word, number)
 }
