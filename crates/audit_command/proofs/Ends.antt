@@ -1,10 +1,10 @@
 -- How an audit ends, from what its parts promise.
-use Rattle.std.proofs.Common.{◌≡◌, ◌∙◌, ℕ, ◌^◌, inl, inr, length, List, ◌++◌, Option, Ok, Err, refl, sym, arith}
+use Rattle.std.proofs.Common.{◌≡◌, ◌∙◌, ℕ, ◌^◌, inl, inr, length, List, ◌++◌, Ok, Err, refl, sym, arith}
 use Rattle.std.specs.Prelude.{option_map}
 use Rattle.std.specs.List.{AllZip}
 use Rattle.std.proofs.lemmas.List.{take_all}
 use Rattle.track_outside.specs.Calls.{IsUntouched}
-use Rattle.track_outside.specs.Named.{NamedBytes, Call}
+use Rattle.track_outside.specs.Named.{Call}
 use Rattle.track_outside.specs.declared.files.Files as files
 use Rattle.track_outside.specs.declared.sink.Sink as sink
 use Rattle.track_outside.specs.declared.source.Source as source
@@ -12,11 +12,10 @@ use Rattle.audit_model.specs.declared.heard.Heard.{Heard}
 use Rattle.audit_command.specs.declared.end.FileStop.{FileStop}
 use Rattle.audit_command.specs.declared.end.FileStop.TheVariants as stop
 use Rattle.audit_command.specs.declared.end.AuditEnd.{AuditEnd}
-use Rattle.audit_command.specs.declared.end.AuditEnd.TheVariants.{Done, Differs, ReadFault, WriteFault, CutOff, TooLong, NoMemory}
-use Rattle.audit_command.specs.Endings.{AreTexts, EndsAudit, EndsFiles, EndsVerdict}
-use Rattle.audit_command.specs.Opening.{Asks, IsKept, IsOpen, calls_for}
+use Rattle.audit_command.specs.declared.end.AuditEnd.TheVariants.{Done, Differs, Unread, NoVerdict, WriteFault}
+use Rattle.audit_command.specs.Endings.{EndsFiles, EndsVerdict, HasCause}
+use Rattle.audit_command.specs.Opening.{Asks, IsKept, IsOpen, WereMade, calls_for}
 use Rattle.audit_command.specs.Reading.{StopsAll}
-use Rattle.audit_command.specs.Stops.{end_of}
 use Rattle.audit_command.proofs.Asked.{kept_then}
 use Rattle.audit_command.proofs.Gathered.{past_at}
 
@@ -29,7 +28,7 @@ module _ {F I O : Type 0} (g : files.Ghosts F I O) (i : source.Ghosts I) (names 
   noted_still made is same = same ∙ is
 
   -- not all were opened
-  pub ends_unopened : (why : FileStop) → Asks g names old mid (Err why) → IsKept g old mid → IsKept g mid new → g.asked new ≡ g.asked mid → EndsFiles g names old new (end_of why)
+  pub ends_unopened : (why : FileStop) → Asks g names old mid (Err why) → IsKept g old mid → IsKept g mid new → g.asked new ≡ g.asked mid → EndsFiles g names old new (Unread why)
   ends_unopened stop.ReadFault asks kept then same = record {
     made = asks.made;
     were = inr asks.due;
@@ -48,7 +47,7 @@ module _ {F I O : Type 0} (g : files.Ghosts F I O) (i : source.Ghosts I) (names 
 
   -- all were opened, and not read
   pub ends_unread : (inputs : List I) (why : FileStop) → Asks g names old mid (Ok tt) → AllZip (IsOpen i (g.contents old)) names inputs → IsKept g old mid → StopsAll g i inputs (2 ^ 30) 0 mid new why
-      → IsKept g mid new → g.asked new ≡ g.asked mid → EndsFiles g names old new (end_of why)
+      → IsKept g mid new → g.asked new ≡ g.asked mid → EndsFiles g names old new (Unread why)
   ends_unread inputs stop.ReadFault asks opened kept stops then same = record {
     made = asks.made;
     were = inl asks.due;
@@ -82,41 +81,19 @@ module _ {F I O : Type 0} (g : files.Ghosts F I O) (i : source.Ghosts I) (names 
   }
 
 module _ {F I O : Type 0} (g : files.Ghosts F I O) (names : List (List ℕ)) (old new : F) where
-  -- where all was read, memory may be wanting then
-  pub ends_wanting : EndsFiles g names old new Done → EndsFiles g names old new NoMemory
-  ends_wanting ends = record {
-    made = ends.made;
-    were = (length (calls_for names), omega arith, ends.were ∙ sym (take_all (length (calls_for names)) (calls_for names) (omega arith)));
-    noted = ends.noted;
-    kept = ends.kept;
-    cause = tt;
-  }
+  -- where all was read, it may end otherwise
+  ends_as : (end : AuditEnd) (ends : EndsFiles g names old new Done) → WereMade (calls_for names) end ends.made → HasCause g names old new end → EndsFiles g names old new end
+  ends_as end ends were cause = record { made = ends.made; were = were; noted = ends.noted; kept = ends.kept; cause = cause }
+
+  -- memory may be wanting then
+  pub ends_wanting : EndsFiles g names old new Done → EndsFiles g names old new (Unread stop.NoMemory)
+  ends_wanting ends = ends_as (Unread stop.NoMemory) ends (length (calls_for names), omega arith, ends.were ∙ sym (take_all (length (calls_for names)) (calls_for names) (omega arith))) tt
 
   -- or there is a verdict, or none
   pub ends_told : {P : Type 0} (h : sink.Ghosts P) (bytes : List ℕ) (heard : List Heard) (out out' : P) (end : AuditEnd) → EndsFiles g names old new Done
       → EndsVerdict h bytes heard out out' end → EndsFiles g names old new end
+  ends_told h bytes heard out out' (Unread why) ends told = absurd told
   ends_told h bytes heard out out' Done ends told = ends
-  ends_told h bytes heard out out' (Differs verdict) ends told = record { made = ends.made; were = ends.were; noted = ends.noted; kept = ends.kept; cause = tt }
-  ends_told h bytes heard out out' WriteFault ends told = record { made = ends.made; were = ends.were; noted = ends.noted; kept = ends.kept; cause = tt }
-  ends_told h bytes heard out out' (CutOff script offset) ends told = record { made = ends.made; were = ends.were; noted = ends.noted; kept = ends.kept; cause = tt }
-  ends_told h bytes heard out out' NoMemory ends told = ends_wanting ends
-  ends_told h bytes heard out out' ReadFault ends told = absurd told
-  ends_told h bytes heard out out' (TooLong place) ends told = absurd told
-
-module _ {O : Type 0} (h : sink.Ghosts O) (told : Option (List NamedBytes)) (journal : List ℕ) (scripts : List (List ℕ)) where
-  -- what was read is told so
-  pub audited : (bytes : List ℕ) (heard : List Heard) (old new : O) (end : AuditEnd) → AreTexts told journal scripts bytes heard → EndsVerdict h bytes heard old new end
-      → EndsAudit h told journal scripts old new end
-  audited bytes heard old new Done are ends = (bytes, heard, are, ends)
-  audited bytes heard old new (Differs verdict) are ends = (bytes, heard, are, ends)
-  audited bytes heard old new WriteFault are ends = (bytes, heard, are, ends)
-  audited bytes heard old new (CutOff script offset) are ends = (bytes, heard, are, ends)
-  audited bytes heard old new NoMemory are ends = ends
-  audited bytes heard old new ReadFault are ends = absurd ends
-  audited bytes heard old new (TooLong place) are ends = absurd ends
-
-  -- where nothing was read, nothing is told
-  pub unread : (out : O) (why : FileStop) → EndsAudit h told journal scripts out out (end_of why)
-  unread out stop.ReadFault = untouched h out
-  unread out (stop.TooLong place) = untouched h out
-  unread out stop.NoMemory = untouched h out
+  ends_told h bytes heard out out' (Differs verdict) ends told = ends_as (Differs verdict) ends ends.were tt
+  ends_told h bytes heard out out' (NoVerdict why) ends told = ends_as (NoVerdict why) ends ends.were tt
+  ends_told h bytes heard out out' WriteFault ends told = ends_as WriteFault ends ends.were tt

@@ -8,10 +8,12 @@ use Rattle.track_outside.specs.declared.files.Files as files
 use Rattle.track_outside.specs.declared.sink.Sink as sink
 use Rattle.audit_model.specs.Verdicts.{IsCutOff, IsVerdict, NoneCutOff}
 use Rattle.audit_model.specs.declared.heard.Heard.{Heard}
+use Rattle.audit_model.specs.declared.verdict.AuditStop.TheVariants as audit
 use Rattle.audit_model.specs.declared.verdict.Verdict.{Verdict}
 use Rattle.audit_model.specs.declared.verdict.Verdict.TheVariants as verdict
 use Rattle.audit_command.specs.declared.end.AuditEnd.{AuditEnd}
-use Rattle.audit_command.specs.declared.end.AuditEnd.TheVariants.{Done, Differs, ReadFault, WriteFault, CutOff, TooLong, NoMemory}
+use Rattle.audit_command.specs.declared.end.AuditEnd.TheVariants.{Done, Differs, Unread, NoVerdict, WriteFault}
+use Rattle.audit_command.specs.declared.end.FileStop.TheVariants as stop
 use Rattle.audit_command.specs.Opening.{IsKept, WereMade, calls_for, names_of}
 use Rattle.audit_command.specs.Text.{shown_text}
 
@@ -55,8 +57,8 @@ pub record IsPastAt (files : List NamedBytes) (names : List (List ℕ)) (place :
 
 -- why it ends so, as far as the files tell: at a fault of reading their count rose
 abbrev pub HasCause : {F I O : Type 0} → files.Ghosts F I O → List (List ℕ) → F → F → AuditEnd → Type 0
-HasCause g names old new ReadFault = Rose (g.read_faults old) (g.read_faults new)
-HasCause g names old new (TooLong place) =
+HasCause g names old new (Unread stop.ReadFault) = Rose (g.read_faults old) (g.read_faults new)
+HasCause g names old new (Unread (stop.TooLong place)) =
     IfSome (g.contents old) (λ files. IsPastAt files names place)
 HasCause g names old new end = Unit {0}
 
@@ -91,11 +93,10 @@ EndsVerdict h bytes heard old new WriteFault =
     × FailedIn h old new (shown_text machines steps requests)
 EndsVerdict h bytes heard old new (Differs other) =
     IsOther other × NoneCutOff heard × IsVerdict bytes heard other × IsUntouched h old new
-EndsVerdict h bytes heard old new (CutOff script offset) =
+EndsVerdict h bytes heard old new (NoVerdict (audit.CutOff script offset)) =
     IsCutOff heard script offset × IsUntouched h old new
-EndsVerdict h bytes heard old new NoMemory = IsUntouched h old new
-EndsVerdict h bytes heard old new ReadFault = ⊥
-EndsVerdict h bytes heard old new (TooLong place) = ⊥
+EndsVerdict h bytes heard old new (NoVerdict audit.NoMemory) = IsUntouched h old new
+EndsVerdict h bytes heard old new (Unread why) = ⊥
 
 -- these bytes and scripts were read, and the output is so
 abbrev pub EndsRead : {O : Type 0} → sink.Ghosts O → Option (List NamedBytes) → List ℕ → List (List ℕ) → O
@@ -107,7 +108,5 @@ EndsRead h told journal scripts old new end =
 -- the output, at this end of an audit of files that tell this
 abbrev pub EndsAudit : {O : Type 0} → sink.Ghosts O → Option (List NamedBytes) → List ℕ → List (List ℕ) → O
     → O → AuditEnd → Type 0
-EndsAudit h told journal scripts old new ReadFault = IsUntouched h old new
-EndsAudit h told journal scripts old new (TooLong place) = IsUntouched h old new
-EndsAudit h told journal scripts old new NoMemory = IsUntouched h old new
+EndsAudit h told journal scripts old new (Unread why) = IsUntouched h old new
 EndsAudit h told journal scripts old new end = EndsRead h told journal scripts old new end

@@ -9,7 +9,7 @@ use Rattle.command_words.specs.Plans.{transcript_of}
 use Rattle.audit_command.specs.declared.end.FileStop.{FileStop}
 use Rattle.audit_command.specs.declared.end.FileStop.TheVariants as stop
 use Rattle.audit_command.specs.declared.end.AuditEnd.{AuditEnd}
-use Rattle.audit_command.specs.declared.end.AuditEnd.TheVariants.{ReadFault, NoMemory}
+use Rattle.audit_command.specs.declared.end.AuditEnd.TheVariants.{Unread}
 
 -- ---- the files, in the order in which they are opened
 
@@ -53,8 +53,8 @@ AreMade due (Err stop.NoMemory) made = AreFirst due made
 
 -- so it was at this end of an audit: a fault came when a file was opened, or when all were open
 abbrev pub WereMade : List Call → AuditEnd → List Call → Type 0
-WereMade due ReadFault made = (made ≡ due) ⊎ FailsAt due made
-WereMade due NoMemory made = AreFirst due made
+WereMade due (Unread stop.ReadFault) made = (made ≡ due) ⊎ FailsAt due made
+WereMade due (Unread stop.NoMemory) made = AreFirst due made
 WereMade due end made = made ≡ due
 
 -- the count of reading rose where it failed

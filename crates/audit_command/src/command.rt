@@ -4,7 +4,6 @@ ghost use Rattle.audit_model.specs.declared.heard.Heard.{Heard as AHeard};
 ghost use Rattle.command_words.specs.Texts.{shown, texts};
 ghost use Rattle.audit_command.specs.Endings.{AreTexts, EndsAudit, EndsFiles, EndsVerdict, HaveAll, texts_of};
 ghost use Rattle.audit_command.specs.Opening.{names_of};
-ghost use Rattle.audit_command.specs.Stops.{end_of};
 ghost use Rattle.audit_command.specs.Text.{shown_text};
 ghost use Rattle.audit_command.specs.declared.end.AuditEnd.TheVariants as end;
 
@@ -12,7 +11,7 @@ use crate::end::{AuditEnd, FileStop};
 use crate::files::{close_all, names_for, open_all};
 use crate::reading::{in_pairs, read_all};
 use crate::text::put_shown;
-use audit_model::{Bytes, Heard, Verdict};
+use audit_model::{AuditStop, Bytes, Heard, Verdict};
 use line_text::NoMemory;
 use play_audit::audit;
 use std::alloc::{AllocError, Global};
@@ -49,7 +48,7 @@ pub fn audit_files<F: Files>(
 {
     match read_files(alloc, files, journal, scripts) {
         Ok(read) => tell(alloc, out, read.journal.as_slice(), &read.heard),
-        Err(stop) => AuditEnd::from(stop),
+        Err(stop) => AuditEnd::Unread(stop),
     }
 }
 
@@ -65,7 +64,7 @@ fn read_files<F: Files>(
     ensures ok { OnOk result (EndsFiles F.Files (names_of journal.now (shown scripts.now))
         files.old files.new end.Done) }
     ensures stop { IfErr result (λ stop. EndsFiles F.Files
-        (names_of journal.now (shown scripts.now)) files.old files.new (end_of stop)) }
+        (names_of journal.now (shown scripts.now)) files.old files.new (end.Unread stop)) }
 {
     let Ok(names) = names_for(alloc, journal, scripts) else {
         return Err(FileStop::NoMemory);
@@ -91,7 +90,7 @@ fn texts_at<F: Files>(
     ensures ok { OnOk result (EndsFiles F.Files (texts names.now)
         files.old files.new end.Done) }
     ensures stop { IfErr result (λ stop. EndsFiles F.Files (texts names.now)
-        files.old files.new (end_of stop)) }
+        files.old files.new (end.Unread stop)) }
 {
     let mut inputs = Vec::new(alloc);
     if let Err(stop) = open_all(alloc, files, names, &mut inputs) {
@@ -128,7 +127,7 @@ fn tell<O: Sink>(alloc: Global, out: &mut O, journal: &[u8], heard: &[Heard]) ->
 {
     let verdict = match audit(alloc, journal, heard) {
         Ok(verdict) => verdict,
-        Err(stop) => return AuditEnd::from(stop),
+        Err(stop) => return AuditEnd::NoVerdict(stop),
     };
     match verdict {
         Verdict::Shown {
@@ -137,7 +136,7 @@ fn tell<O: Sink>(alloc: Global, out: &mut O, journal: &[u8], heard: &[Heard]) ->
             requests,
         } => {
             let Ok(text) = text_of(alloc, machines, steps, requests) else {
-                return AuditEnd::NoMemory;
+                return AuditEnd::NoVerdict(AuditStop::NoMemory);
             };
             match put_all(out, &text) {
                 Ok(()) => AuditEnd::Done,

@@ -14,7 +14,7 @@ mod files;
 mod reading;
 mod text;
 
-pub use audit_model::Verdict;
+pub use audit_model::{AuditStop, Verdict};
 pub use command::audit_files;
-pub use end::AuditEnd;
+pub use end::{AuditEnd, FileStop};
 pub use text::put_shown;

@@ -69,12 +69,14 @@ fn read_one<I: Source>(
     ensures few { GaveAtMost (room + 1) (I.left input.old) (I.left input.new) }
     ensures counts { I.faults input.old ≤ I.faults input.new }
 {
-    let Ok(mut buffer) = vec![in alloc; 0u8; PIECE] else {
+    let Ok(mut piece) = vec![in alloc; 0u8; PIECE] else {
         return Err(FileStop::NoMemory);
     };
+    let buffer = piece.as_mut_slice();
     let mut text = Vec::new(alloc);
     loop {
-        let count = match read_more(input, &mut buffer, room, place, &mut text) {
+        let len = (room - text.len()).min(PIECE - 1) + 1;
+        let count = match read_more(input, &mut buffer[..len], room, place, &mut text) {
             Ok(count) => count,
             Err(stop) => return Err(stop),
         };
@@ -84,31 +86,9 @@ fn read_one<I: Source>(
     }
 }
 
-// Reads more bytes behind the text, and answers how many: none at the end. The file may have so many; one byte past them
-// shows that it has more.
+// Reads more bytes behind the text, and answers how many: none at the end. The file may have so many; the buffer has one
+// byte more than there is room for, at most, and that byte shows that the file has more.
 fn read_more<I: Source>(
-    input: &mut I,
-    buffer: &mut [u8],
-    room: usize,
-    place: u64,
-    text: &mut Vec<u8>,
-) -> Result<usize, FileStop>
-    requires some { 0 < length buffer.old }
-    requires fits { length text.old.items ≤ room }
-    ensures more { IfOk result (ReadsMore I.Source input.old input.new
-        text.old.items text.new.items room) }
-    ensures stop { IfErr result (StopsBehind I.Source input.old input.new
-        (length text.old.items) room place) }
-    ensures few { GaveAtMost (room - length text.old.items + 1)
-        (I.left input.old) (I.left input.new) }
-    ensures counts { I.faults input.old ≤ I.faults input.new }
-{
-    let len = (room - text.len()).min(buffer.len() - 1) + 1;
-    read_into(input, &mut buffer[..len], room, place, text)
-}
-
-// The same into a buffer of one byte more than there is room for, at most.
-fn read_into<I: Source>(
     input: &mut I,
     buffer: &mut [u8],
     room: usize,

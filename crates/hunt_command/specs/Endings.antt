@@ -1,36 +1,30 @@
 -- How a hunt ends, on its objects.
 use Rattle.std.specs.Io.KnownBytes.{IsAtEnd}
-use Rattle.std.specs.Prelude.{◌≡◌, ◌≢◌, ◌⊎◌, ℕ, ◌+◌, ◌-◌, ◌^◌, ◌<◌, ◌≤◌, List, length, Option, IfSome}
+use Rattle.std.specs.Prelude.{◌≡◌, ◌≢◌, ◌⊎◌, ℕ, ◌+◌, ◌-◌, ◌^◌, ◌<◌, ◌≤◌, List, length, Option}
 use Rattle.track_outside.specs.Calls.{Took, FailedIn, IsUntouched, GaveAtMost}
-use Rattle.track_outside.specs.Counts.{Rose}
 use Rattle.track_outside.specs.declared.source.Source as source
 use Rattle.track_outside.specs.declared.sink.Sink as sink
 use Rattle.track_outside.specs.declared.runner.Runner as runner
 use Rattle.wide_bisect.specs.Searches.{Search}
-use Rattle.line_pieces.specs.declared.stop.Refusal.TheVariants as refusal
-use Rattle.commit_lines.specs.Reading.{AreNamesOfInput, IsTooLong, Refuses}
-use Rattle.commit_lines.specs.Stops.{GaveMayGoOn}
+use Rattle.line_pieces.specs.declared.stop.Stop.TheVariants as stop
+use Rattle.commit_lines.specs.Reading.{AreNamesOfInput}
+use Rattle.commit_lines.specs.Stops.{StopsFor}
 use Rattle.hunt_rounds.specs.Asked.{WereAskedOf}
 use Rattle.hunt_rounds.specs.Hunts.{IsHunted}
 use Rattle.hunt_command.specs.Text.{hunt_text}
 use Rattle.hunt_command.specs.declared.end.HuntEnd.{HuntEnd}
-use Rattle.hunt_command.specs.declared.end.HuntEnd.TheVariants.{Done, ReadFault, WriteFault, NoMemory, TooLong, BadLine, Full, TooFew}
+use Rattle.hunt_command.specs.declared.end.HuntEnd.TheVariants.{Done, Stopped, TooFew, WriteFault}
 
 -- the lines of the input have so many names, fewer than two
 abbrev pub HasFew : Option (List ℕ) → ℕ → Type 0
 HasFew left count =
     (count < 2) × ((names : List (List ℕ)) × AreNamesOfInput left names × (length names ≡ count))
 
--- why a hunt ends so, as far as its input tells: at a fault of the input its count rose, and what it gave may go on; of the
--- output's fault and of want of memory nothing is said; else the bytes show the end, where the input tells them
+-- why a hunt ends so, as far as its input tells; of the output's fault nothing is said
 abbrev pub HasCause : {I : Type 0} → source.Ghosts I → I → I → HuntEnd → Type 0
 HasCause g old new Done = Unit {0}
 HasCause g old new WriteFault = Unit {0}
-HasCause g old new NoMemory = Unit {0}
-HasCause g old new ReadFault = Rose (g.faults old) (g.faults new) × GaveMayGoOn (g.left old) (g.left new)
-HasCause g old new TooLong = IfSome (g.left old) IsTooLong
-HasCause g old new (BadLine k) = IfSome (g.left old) (λ bytes. Refuses refusal.Bad bytes k)
-HasCause g old new (Full k) = IfSome (g.left old) (λ bytes. Refuses refusal.Full bytes k)
+HasCause g old new (Stopped why) = StopsFor g old new why
 HasCause g old new (TooFew count) = HasFew (g.left old) count
 
 -- the input, at this end
@@ -59,5 +53,5 @@ EndsHunt h g left test width out out' old new Done =
     (names : List (List ℕ)) × (s : Search) × CameTo g left test width old new names s × Took h out out' (hunt_text names s)
 EndsHunt h g left test width out out' old new WriteFault =
     (names : List (List ℕ)) × (s : Search) × CameTo g left test width old new names s × FailedIn h out out' (hunt_text names s)
-EndsHunt h g left test width out out' old new NoMemory = IsUntouched h out out' × AskedSome g left test old new
+EndsHunt h g left test width out out' old new (Stopped stop.NoMemory) = IsUntouched h out out' × AskedSome g left test old new
 EndsHunt h g left test width out out' old new end = IsUntouched h out out' × (new ≡ old)

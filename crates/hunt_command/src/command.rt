@@ -5,7 +5,7 @@ ghost use Rattle.hunt_command.specs.Text.{hunt_text};
 
 use crate::end::HuntEnd;
 use crate::text::put_hunt;
-use commit_lines::read_commits;
+use commit_lines::{Stop, read_commits};
 use hunt_rounds::hunt;
 use line_text::{Name, NoMemory};
 use std::alloc::Global;
@@ -36,17 +36,17 @@ pub fn hunt_commits<W: Threads + Wait + Sync, I: Source, O: Sink, A: Runner + Se
 {
     let commits = match read_commits(alloc, input) {
         Ok(commits) => commits,
-        Err(stop) => return HuntEnd::from(stop),
+        Err(stop) => return HuntEnd::Stopped(stop),
     };
     let names = commits.as_slice();
     if names.len() < 2 {
         return HuntEnd::TooFew(names.len() as u64);
     }
     let Ok(search) = hunt(rt, alloc, test, names, width, runners) else {
-        return HuntEnd::NoMemory;
+        return HuntEnd::Stopped(Stop::NoMemory);
     };
     let Ok(text) = text_of(alloc, names, &search) else {
-        return HuntEnd::NoMemory;
+        return HuntEnd::Stopped(Stop::NoMemory);
     };
     match put_all(out, &text) {
         Ok(()) => HuntEnd::Done,

@@ -12,5 +12,6 @@ mod end;
 mod text;
 
 pub use command::hunt_commits;
+pub use commit_lines::{Refusal, Stop};
 pub use end::HuntEnd;
 pub use text::put_hunt;

@@ -1,4 +1,6 @@
 //! Worked hunts: what is printed, how each ends, and what was asked of which runner.
+use hunt_command::Refusal::Bad;
+use hunt_command::Stop::{Fault, Refused};
 use hunt_command::{HuntEnd, hunt_commits};
 use std::alloc::Global;
 use std::sync::Wait;
@@ -58,13 +60,31 @@ const ROWS: [Row; 17] = [
         HuntEnd::Done,
         "found c0 c1 skipped 0 rounds 1\n",
     ),
-    (1, "a b", &[], HuntEnd::BadLine(1), ""),
-    (1, "c0\n#\nc1 c2\n", &[], HuntEnd::BadLine(3), ""),
-    (1, "c0\nc1\nc0\nc3 c4\n", &[], HuntEnd::BadLine(3), ""),
-    (1, "c0\nc1\n%63%30\n", &[], HuntEnd::BadLine(3), ""),
-    (1, "c0\n%zz\n", &[], HuntEnd::BadLine(2), ""),
-    (1, "c0\n%zz", &[], HuntEnd::BadLine(2), ""),
-    (1, " # c0\n", &[], HuntEnd::BadLine(1), ""),
+    (1, "a b", &[], HuntEnd::Stopped(Refused(Bad, 1)), ""),
+    (
+        1,
+        "c0\n#\nc1 c2\n",
+        &[],
+        HuntEnd::Stopped(Refused(Bad, 3)),
+        "",
+    ),
+    (
+        1,
+        "c0\nc1\nc0\nc3 c4\n",
+        &[],
+        HuntEnd::Stopped(Refused(Bad, 3)),
+        "",
+    ),
+    (
+        1,
+        "c0\nc1\n%63%30\n",
+        &[],
+        HuntEnd::Stopped(Refused(Bad, 3)),
+        "",
+    ),
+    (1, "c0\n%zz\n", &[], HuntEnd::Stopped(Refused(Bad, 2)), ""),
+    (1, "c0\n%zz", &[], HuntEnd::Stopped(Refused(Bad, 2)), ""),
+    (1, " # c0\n", &[], HuntEnd::Stopped(Refused(Bad, 1)), ""),
     (
         8,
         "c0\nc1\nc2\n",
@@ -76,15 +96,21 @@ const ROWS: [Row; 17] = [
 
 /// Inputs whose second read fails: a line that had begun is refused, or may go on.
 const FAILING: [Row; 9] = [
-    (1, "c0\nc1\nc0", &[], HuntEnd::ReadFault, ""),
-    (1, "c0\nc1\nc2  ", &[], HuntEnd::ReadFault, ""),
-    (1, "c0\nc1\nc0 ", &[], HuntEnd::BadLine(3), ""),
-    (1, "c0\nc1\n%zz", &[], HuntEnd::BadLine(3), ""),
-    (1, "c0\nc1\n%6", &[], HuntEnd::ReadFault, ""),
-    (1, "c0\nc1\n%e2%82", &[], HuntEnd::ReadFault, ""),
-    (1, "c0\nc1\n%c3c", &[], HuntEnd::BadLine(3), ""),
-    (1, "c0\nc1 c", &[], HuntEnd::BadLine(2), ""),
-    (1, "c0\nc0\nc1", &[], HuntEnd::BadLine(2), ""),
+    (1, "c0\nc1\nc0", &[], HuntEnd::Stopped(Fault), ""),
+    (1, "c0\nc1\nc2  ", &[], HuntEnd::Stopped(Fault), ""),
+    (1, "c0\nc1\nc0 ", &[], HuntEnd::Stopped(Refused(Bad, 3)), ""),
+    (1, "c0\nc1\n%zz", &[], HuntEnd::Stopped(Refused(Bad, 3)), ""),
+    (1, "c0\nc1\n%6", &[], HuntEnd::Stopped(Fault), ""),
+    (1, "c0\nc1\n%e2%82", &[], HuntEnd::Stopped(Fault), ""),
+    (
+        1,
+        "c0\nc1\n%c3c",
+        &[],
+        HuntEnd::Stopped(Refused(Bad, 3)),
+        "",
+    ),
+    (1, "c0\nc1 c", &[], HuntEnd::Stopped(Refused(Bad, 2)), ""),
+    (1, "c0\nc0\nc1", &[], HuntEnd::Stopped(Refused(Bad, 2)), ""),
 ];
 
 // Eight runners that answer alike.

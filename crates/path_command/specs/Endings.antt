@@ -1,31 +1,23 @@
 -- How a path ends, on its objects.
 use Rattle.std.specs.Io.KnownBytes.{IsAtEnd}
-use Rattle.std.specs.Prelude.{◌≡◌, ℕ, ℤ, ◌+◌, ◌^◌, ◌≤◌, List, Option, IfSome}
+use Rattle.std.specs.Prelude.{◌≡◌, ℕ, ℤ, ◌+◌, ◌^◌, ◌≤◌, List, Option}
 use Rattle.track_outside.specs.Calls.{Took, FailedIn, IsUntouched, GaveAtMost}
-use Rattle.track_outside.specs.Counts.{Rose}
 use Rattle.track_outside.specs.declared.source.Source as source
 use Rattle.track_outside.specs.declared.sink.Sink as sink
 use Rattle.segment_model.specs.Segments.{Position}
-use Rattle.line_pieces.specs.declared.stop.Refusal.TheVariants as refusal
-use Rattle.cut_lines.specs.Reading.{AreInputPointsWithin, IsTooLongWithin, RefusesWithin}
-use Rattle.cut_lines.specs.Stops.{GaveWithin}
+use Rattle.cut_lines.specs.Reading.{AreInputPointsWithin}
+use Rattle.cut_lines.specs.Stops.{StopsWithin}
 use Rattle.penalty_path.specs.declared.stretch.Stretch.{Stretch}
 use Rattle.penalty_path.specs.Paths.{IsPath}
 use Rattle.penalty_path.specs.Text.{path_text}
 use Rattle.path_command.specs.declared.end.PathEnd.{PathEnd}
-use Rattle.path_command.specs.declared.end.PathEnd.TheVariants.{Done, ReadFault, WriteFault, NoMemory, TooLong, BadLine, Full}
+use Rattle.path_command.specs.declared.end.PathEnd.TheVariants.{Done, Stopped, WriteFault}
 
--- why a path ends so, as far as its input tells: at a fault of the input its count rose, and what it gave may go on; of the
--- output's fault and of want of memory nothing is said; else the bytes show the end, where the input tells them
+-- why a path ends so, as far as its input tells; of the output's fault nothing is said
 abbrev pub HasCause : {I : Type 0} → source.Ghosts I → I → I → PathEnd → Type 0
 HasCause g old new Done = Unit {0}
 HasCause g old new WriteFault = Unit {0}
-HasCause g old new NoMemory = Unit {0}
-HasCause g old new ReadFault =
-    Rose (g.faults old) (g.faults new) × GaveWithin 1_024 (g.left old) (g.left new)
-HasCause g old new TooLong = IfSome (g.left old) (λ bytes. IsTooLongWithin 1_024 bytes)
-HasCause g old new (BadLine k) = IfSome (g.left old) (λ bytes. RefusesWithin 1_024 refusal.Bad bytes k)
-HasCause g old new (Full k) = IfSome (g.left old) (λ bytes. RefusesWithin 1_024 refusal.Full bytes k)
+HasCause g old new (Stopped why) = StopsWithin 1_024 g old new why
 
 -- the input, at this end
 pub record EndsInput {I : Type 0} (g : source.Ghosts I) (old new : I) (end : PathEnd) : Type 0 where

@@ -5,7 +5,7 @@ ghost use Rattle.penalty_path.specs.Text.{path_text};
 ghost use Rattle.path_command.specs.Endings.{EndsInput, EndsPath};
 
 use crate::end::PathEnd;
-use cut_lines::read_points_within;
+use cut_lines::{Stop, read_points_within};
 use line_text::NoMemory;
 use penalty_path::{Stretches, path, put_path};
 use std::alloc::Global;
@@ -29,13 +29,13 @@ pub fn path_points<I: Source, O: Sink>(
 {
     let points = match read_points_within(alloc, POSITIONS, input) {
         Ok(points) => points,
-        Err(stop) => return PathEnd::from(stop),
+        Err(stop) => return PathEnd::Stopped(stop),
     };
     let Ok(stretches) = path(alloc, &points, low, high) else {
-        return PathEnd::NoMemory;
+        return PathEnd::Stopped(Stop::NoMemory);
     };
     let Ok(text) = text_of(alloc, &stretches) else {
-        return PathEnd::NoMemory;
+        return PathEnd::Stopped(Stop::NoMemory);
     };
     match put_all(out, &text) {
         Ok(()) => PathEnd::Done,

@@ -8,4 +8,5 @@ mod command;
 mod end;
 
 pub use command::path_points;
+pub use cut_lines::{Refusal, Stop};
 pub use end::PathEnd;

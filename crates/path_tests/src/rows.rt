@@ -1,4 +1,6 @@
 //! Worked paths from cut lines to their text, and inputs that end early.
+use path_command::Refusal::{Bad, Full};
+use path_command::Stop::Refused;
 use path_command::{PathEnd, path_points};
 use std::alloc::Global;
 use std::test::Fail;
@@ -33,9 +35,9 @@ const ROWS: [Row; 7] = [
         stretch 5 5\n\
         points 1\npenalty 5\ncuts\ntotal 0\nleast -5 0\nback 0 0\npruned 0 0\n",
     ),
-    (0, 1, "1 0\n2\n", PathEnd::BadLine(2), ""),
-    (0, 1, "1 0\n2 x", PathEnd::BadLine(2), ""),
-    (0, 1, "x\n2 0\n", PathEnd::BadLine(1), ""),
+    (0, 1, "1 0\n2\n", PathEnd::Stopped(Refused(Bad, 2)), ""),
+    (0, 1, "1 0\n2 x", PathEnd::Stopped(Refused(Bad, 2)), ""),
+    (0, 1, "x\n2 0\n", PathEnd::Stopped(Refused(Bad, 1)), ""),
 ];
 
 // How the path of some bytes ends, and whether it prints this.
@@ -87,10 +89,14 @@ fn a_line_past_the_positions_is_named(rt: HostRuntime) -> Result<(), Fail> {
     let Some(mut lines) = falling(rt.alloc(), 1_026) else {
         return Err(Fail::new("no memory"));
     };
-    assert!(rt; ends(rt.alloc(), 0, 1, &lines, b"") == Some(PathEnd::Full(1_025)));
+    assert!(rt;
+        ends(rt.alloc(), 0, 1, &lines, b"") == Some(PathEnd::Stopped(Refused(Full, 1_025)))
+    );
     if lines.extend_from_slice(b"x\n").is_err() {
         return Err(Fail::new("no memory"));
     }
-    assert!(rt; ends(rt.alloc(), 0, 1, &lines, b"") == Some(PathEnd::Full(1_025)));
+    assert!(rt;
+        ends(rt.alloc(), 0, 1, &lines, b"") == Some(PathEnd::Stopped(Refused(Full, 1_025)))
+    );
     Ok(())
 }

@@ -4,7 +4,9 @@ use Rattle.track_outside.specs.Calls.{Took, FailedIn}
 use Rattle.track_outside.specs.declared.files.Files as files
 use Rattle.track_outside.specs.declared.sink.Sink as sink
 use Rattle.audit_command.specs.declared.end.AuditEnd.{AuditEnd}
+use Rattle.audit_model.specs.declared.verdict.AuditStop.TheVariants as stop
 use Rattle.audit_command.specs.declared.end.AuditEnd.TheVariants as audit
+use Rattle.audit_command.specs.declared.end.FileStop.TheVariants as unread
 use Rattle.audit_command.specs.Endings.{EndsFiles, EndsAudit as PutsAudit}
 use Rattle.audit_command.specs.Opening.{files_of, names_of}
 use Rattle.command_words.specs.Plans.{Files}
@@ -17,11 +19,12 @@ use Rattle.tracker_top.specs.Plays.{script_name}
 pub never-bad-audit : (why : AuditEnd) → audit_status_of why ≡ BadWords → ⊥
 never-bad-audit audit.Done is = cc
 never-bad-audit (audit.Differs verdict) is = cc
-never-bad-audit audit.ReadFault is = cc
+never-bad-audit (audit.Unread unread.ReadFault) is = cc
+never-bad-audit (audit.Unread (unread.TooLong place)) is = cc
+never-bad-audit (audit.Unread unread.NoMemory) is = cc
+never-bad-audit (audit.NoVerdict (stop.CutOff script offset)) is = cc
+never-bad-audit (audit.NoVerdict stop.NoMemory) is = cc
 never-bad-audit audit.WriteFault is = cc
-never-bad-audit (audit.CutOff script offset) is = cc
-never-bad-audit (audit.TooLong place) is = cc
-never-bad-audit audit.NoMemory is = cc
 
 -- the line is told by a call that was given these names
 pub is-told-of : {E O : Type 0} (h : sink.Ghosts O) (named given : Files) (old new : O) (status : Status) (r : Result (Unit {0}) E) → named ≡ given

@@ -15,7 +15,9 @@ use Rattle.audit_model.specs.declared.verdict.Verdict.{Verdict}
 use Rattle.audit_model.specs.declared.verdict.Verdict.TheVariants as verdict
 use Rattle.play_audit.specs.Laws.{OneCutOff, OneVerdict}
 use Rattle.audit_command.specs.declared.end.AuditEnd.{AuditEnd}
+use Rattle.audit_model.specs.declared.verdict.AuditStop.TheVariants as stop
 use Rattle.audit_command.specs.declared.end.AuditEnd.TheVariants as audit
+use Rattle.audit_command.specs.declared.end.FileStop.TheVariants as unread
 use Rattle.audit_command.specs.Endings.{AreTexts, EndsAudit as PutsAudit, HasCause, HasText, IsOther, IsPastAt, size_of, texts_of}
 use Rattle.audit_command.specs.Opening.{names_of}
 use Rattle.command_words.specs.declared.command.Command.TheVariants.{Audit}
@@ -186,11 +188,12 @@ module _ (one_verdict : OneVerdict) (one_cut : OneCutOff) where
     audit-due audit.WriteFault cause (bytes, heard, are, ends) = always WriteFault (inr (inr ends.5.rose))
     audit-due (audit.Differs v) cause (bytes, heard, are, ends) =
         texts-show bytes heard (Differs v) are (inr (ends.1, (v, ends.2, other-status v ends.0)))
-    audit-due (audit.CutOff script offset) cause (bytes, heard, are, ends) =
+    audit-due (audit.NoVerdict (stop.CutOff script offset)) cause (bytes, heard, are, ends) =
         texts-show bytes heard (CutOff script offset) are (inl (script, offset, ends.0, refl))
-    audit-due audit.ReadFault cause output = always ReadFault (inr (inl cause))
-    audit-due (audit.TooLong place) cause output = past-shows place cause
-    audit-due audit.NoMemory cause output = always NoMemory (inl refl)
+    audit-due (audit.Unread unread.ReadFault) cause output = always ReadFault (inr (inl cause))
+    audit-due (audit.Unread (unread.TooLong place)) cause output = past-shows place cause
+    audit-due (audit.Unread unread.NoMemory) cause output = always NoMemory (inl refl)
+    audit-due (audit.NoVerdict stop.NoMemory) cause output = always NoMemory (inl refl)
 
     pub ends-due : (status : Status) → EndsAudit g h named before after old new status → Comes status
     ends-due status ends = subst Comes (sym ends.told) (audit-due ends.why ends.files.cause ends.output)

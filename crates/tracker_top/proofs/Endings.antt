@@ -63,28 +63,10 @@ abbrev Comes : Type 0 → Type 0 → Type 0 → Status → Status → Type 0
 Comes R W K result status = (result ≡ status) ⊎ ((result ≡ NoMemory) ⊎ (R ⊎ (W ⊎ K)))
 
 module _ {I O K : Type 0} (g : source.Ghosts I) (h : sink.Ghosts O) (k : keeper.Ghosts K) (words : List (List ℕ)) (start finish : Streams I O K) (one_command : AreOneCommand) (once : OneStatusIsDue) where
-  abbrev old : I
-  old = start.input
-
-  abbrev new : I
-  new = finish.input
-
-  abbrev before : O
-  before = start.output
-
-  abbrev after : O
-  after = finish.output
-
-  abbrev first : K
-  first = start.keeper
-
-  abbrev last : K
-  last = finish.keeper
-
   abbrev DueComes : Option (List (List ℕ)) → Status → Type 0
   DueComes rows result =
-      IfSome (g.left old) (λ bytes. (status : Status) → IsDue words rows bytes status
-      → Comes (Rose (g.faults old) (g.faults new)) (Rose (h.faults before) (h.faults after)) (Rose (k.faults first) (k.faults last)) result status)
+      IfSome (g.left start.input) (λ bytes. (status : Status) → IsDue words rows bytes status
+      → Comes (Rose (g.faults start.input) (g.faults finish.input)) (Rose (h.faults start.output) (h.faults finish.output)) (Rose (k.faults start.keeper) (k.faults finish.keeper)) result status)
 
   module _ (rows : Option (List (List ℕ))) (command : Command) (spelled : IsSpelled words command) where
     shown : (known : Option (List ℕ)) (result : Status) (R W S : Type 0) → IfSome known (λ bytes. Shows command rows bytes result)
@@ -93,24 +75,24 @@ module _ {I O K : Type 0} (g : source.Ghosts I) (h : sink.Ghosts O) (k : keeper.
     shown (Some bytes) result R W S shows = λ status due. inl (once words rows bytes result status (inr (command, spelled, shows)) due)
 
   module _ (rows : Option (List (List ℕ))) where
-    failed_read : (result : Status) → Rose (g.faults old) (g.faults new) → DueComes rows result
-    failed_read result rose = if_some (g.left old) (λ bytes status due. inr (inr (inl rose)))
+    failed_read : (result : Status) → Rose (g.faults start.input) (g.faults finish.input) → DueComes rows result
+    failed_read result rose = if_some (g.left start.input) (λ bytes status due. inr (inr (inl rose)))
 
-    failed_write : (result : Status) → Rose (h.faults before) (h.faults after) → DueComes rows result
-    failed_write result rose = if_some (g.left old) (λ bytes status due. inr (inr (inr (inl rose))))
+    failed_write : (result : Status) → Rose (h.faults start.output) (h.faults finish.output) → DueComes rows result
+    failed_write result rose = if_some (g.left start.input) (λ bytes status due. inr (inr (inr (inl rose))))
 
-    failed_store : (result : Status) → Rose (k.faults first) (k.faults last) → DueComes rows result
-    failed_store result rose = if_some (g.left old) (λ bytes status due. inr (inr (inr (inr rose))))
+    failed_store : (result : Status) → Rose (k.faults start.keeper) (k.faults finish.keeper) → DueComes rows result
+    failed_store result rose = if_some (g.left start.input) (λ bytes status due. inr (inr (inr (inr rose))))
 
     wanted : DueComes rows NoMemory
-    wanted = if_some (g.left old) (λ bytes status due. inr (inl refl))
+    wanted = if_some (g.left start.input) (λ bytes status due. inr (inl refl))
 
   -- ---- cut
   module _ (rows : Option (List (List ℕ))) (cut : CutPlan) (spelled : IsSpelled words (Cut cut)) where
-    cut_shown : (result : Status) → IfSome (g.left old) (λ bytes. CutShows bytes result) → DueComes rows result
-    cut_shown result shows = shown rows (Cut cut) spelled (g.left old) result _ _ _ shows
+    cut_shown : (result : Status) → IfSome (g.left start.input) (λ bytes. CutShows bytes result) → DueComes rows result
+    cut_shown result shows = shown rows (Cut cut) spelled (g.left start.input) result _ _ _ shows
 
-    cut_comes : (Answers : List ℕ → Type 0) (result : Status) → HasCause g old new result → EndsOutput h Answers before after result → DueComes rows result
+    cut_comes : (Answers : List ℕ → Type 0) (result : Status) → HasCause g start.input finish.input result → EndsOutput h Answers start.output finish.output result → DueComes rows result
     cut_comes Answers ReadFault cause output = failed_read rows ReadFault cause.0
     cut_comes Answers WriteFault cause output = failed_write rows WriteFault output.2.rose
     cut_comes Answers NoMemory cause output = wanted rows
@@ -123,18 +105,18 @@ module _ {I O K : Type 0} (g : source.Ghosts I) (h : sink.Ghosts O) (k : keeper.
 
   -- ---- path
   module _ (rows : Option (List (List ℕ))) (plan : PathPlan) (spelled : IsSpelled words (Path plan)) where
-    path_shown : (result : Status) → IfSome (g.left old) (λ bytes. PathShows bytes result) → DueComes rows result
-    path_shown result shows = shown rows (Path plan) spelled (g.left old) result _ _ _ shows
+    path_shown : (result : Status) → IfSome (g.left start.input) (λ bytes. PathShows bytes result) → DueComes rows result
+    path_shown result shows = shown rows (Path plan) spelled (g.left start.input) result _ _ _ shows
 
-    path_comes : (why : PathEnd) → HasPathCause g old new why → PutsPath h (g.left old) (pos plan.low) (pos plan.high) before after why
+    path_comes : (why : PathEnd) → HasPathCause g start.input finish.input why → PutsPath h (g.left start.input) (pos plan.low) (pos plan.high) start.output finish.output why
         → DueComes rows (path_status_of why)
-    path_comes path.Done cause output = path_shown Done (points_show (g.left old) output.1.points output.1.points_are)
-    path_comes path.ReadFault cause output = failed_read rows ReadFault cause.0
+    path_comes path.Done cause output = path_shown Done (points_show (g.left start.input) output.1.points output.1.points_are)
     path_comes path.WriteFault cause output = failed_write rows WriteFault output.2.rose
-    path_comes path.NoMemory cause output = wanted rows
-    path_comes path.TooLong cause output = path_shown (InputTooLong 0) (stop_shows (g.left old) lines.TooLong cause)
-    path_comes (path.BadLine k) cause output = path_shown (BadLine k) (stop_shows (g.left old) (lines.Refused refusal.Bad k) cause)
-    path_comes (path.Full k) cause output = path_shown (Full k) (stop_shows (g.left old) (lines.Refused refusal.Full k) cause)
+    path_comes (path.Stopped lines.Fault) cause output = failed_read rows ReadFault cause.0
+    path_comes (path.Stopped lines.NoMemory) cause output = wanted rows
+    path_comes (path.Stopped lines.TooLong) cause output = path_shown (InputTooLong 0) (stop_shows (g.left start.input) lines.TooLong cause)
+    path_comes (path.Stopped (lines.Refused refusal.Bad k)) cause output = path_shown (BadLine k) (stop_shows (g.left start.input) (lines.Refused refusal.Bad k) cause)
+    path_comes (path.Stopped (lines.Refused refusal.Full k)) cause output = path_shown (Full k) (stop_shows (g.left start.input) (lines.Refused refusal.Full k) cause)
 
   -- ---- apply
   script_shows : (known : Option (List ℕ)) (items : List Item) (ending : Ending) → IfSome known (λ bytes. IsScript bytes items ending)
@@ -143,23 +125,23 @@ module _ {I O K : Type 0} (g : source.Ghosts I) (h : sink.Ghosts O) (k : keeper.
   script_shows (Some bytes) items ending script = (items, ending, script, refl)
 
   -- where what a script shows is shown, what is due comes
-  module _ (rows : Option (List (List ℕ))) (show : (result : Status) → IfSome (g.left old) (λ bytes. ScriptShows bytes result) → DueComes rows result) where
+  module _ (rows : Option (List (List ℕ))) (show : (result : Status) → IfSome (g.left start.input) (λ bytes. ScriptShows bytes result) → DueComes rows result) where
     script_comes : (items : List Item) (text : List ℕ) (result : Result (Unit {0}) ScriptStop)
-        → HasRead g old new items result → HasWritten h before after text result → DueComes rows (script_status result)
-    script_comes items text (Ok done) read wrote = show Done (script_shows (g.left old) items end read.0)
+        → HasRead g start.input finish.input items result → HasWritten h start.output finish.output text result → DueComes rows (script_status result)
+    script_comes items text (Ok done) read wrote = show Done (script_shows (g.left start.input) items end read.0)
     script_comes items text (Err script.ReadFault) read wrote = failed_read rows ReadFault read.0
     script_comes items text (Err script.WriteFault) read wrote = failed_write rows WriteFault wrote.rose
-    script_comes items text (Err (script.CutOff offset)) read wrote = show (CutOff 0 offset) (script_shows (g.left old) items (cut_off offset) read)
-    script_comes items text (Err script.InputTooLong) read wrote = show (InputTooLong 0) (script_shows (g.left old) items unfinished read)
+    script_comes items text (Err (script.CutOff offset)) read wrote = show (CutOff 0 offset) (script_shows (g.left start.input) items (cut_off offset) read)
+    script_comes items text (Err script.InputTooLong) read wrote = show (InputTooLong 0) (script_shows (g.left start.input) items unfinished read)
     script_comes items text (Err script.NoMemory) read wrote = wanted rows
 
-    append_comes : (result : Status) → AppendCause k first last result → DueComes rows result
+    append_comes : (result : Status) → AppendCause k start.keeper finish.keeper result → DueComes rows result
     append_comes StoreFault cause = failed_store rows StoreFault cause
     append_comes NoMemory cause = wanted rows
     append_comes other cause = absurd cause
 
     ends_so_comes : (store : Option (List ℕ)) (items : List Item) (text : List ℕ) (why : Result (Unit {0}) ScriptStop) (result : Status)
-        → HasRead g old new items why → HasWritten h before after text why → EndsSo k store first last why result → DueComes rows result
+        → HasRead g start.input finish.input items why → HasWritten h start.output finish.output text why → EndsSo k store start.keeper finish.keeper why result → DueComes rows result
     ends_so_comes store items text (Err stop) result read wrote ends = subst (DueComes rows) (sym ends) (script_comes items text (Err stop) read wrote)
     ends_so_comes None items text (Ok done) result read wrote ends = subst (DueComes rows) (sym ends) (script_comes items text (Ok done) read wrote)
     ends_so_comes (Some name) items text (Ok done) result read wrote (inl ends) = subst (DueComes rows) (sym ends) (script_comes items text (Ok done) read wrote)
@@ -173,9 +155,9 @@ module _ {I O K : Type 0} (g : source.Ghosts I) (h : sink.Ghosts O) (k : keeper.
         subst (λ c. Shows c None bytes status) (one_command words command (Apply (Some name)) its spelled) shows
 
     bad_shown : (rows : Option (List (List ℕ))) (row : ℕ) → IfSome rows (λ told. IsFirstBad told row) → DueComes rows (BadStore row)
-    bad_shown None row bad = if_some (g.left old) (λ bytes status due. absurd (none_due bytes status due))
+    bad_shown None row bad = if_some (g.left start.input) (λ bytes status due. absurd (none_due bytes status due))
     bad_shown (Some told) row bad =
-        if_some (g.left old) (λ bytes status due. inl (once words (Some told) bytes (BadStore row) status (inr (Apply (Some name), spelled, inl (row, bad, refl))) due))
+        if_some (g.left start.input) (λ bytes status due. inl (once words (Some told) bytes (BadStore row) status (inr (Apply (Some name), spelled, inl (row, bad, refl))) due))
 
     store_shown : (rows : Option (List (List ℕ))) (stored : Stored) → IfSome rows (λ told. LeadTo told stored)
         → (known : Option (List ℕ)) (result : Status) (R W S : Type 0) → IfSome known (λ bytes. ScriptShows bytes result)
@@ -185,35 +167,35 @@ module _ {I O K : Type 0} (g : source.Ghosts I) (h : sink.Ghosts O) (k : keeper.
     store_shown (Some told) stored led (Some bytes) result R W S shows =
         λ status due. inl (once words (Some told) bytes result status (inr (Apply (Some name), spelled, inr (stored, led, shows))) due)
 
-    unread_comes : (result : Status) → LoadCause k first last result → DueComes (k.kept first) result
-    unread_comes StoreFault cause = failed_store (k.kept first) StoreFault cause
-    unread_comes (BadStore row) cause = bad_shown (k.kept first) row cause
-    unread_comes NoMemory cause = wanted (k.kept first)
+    unread_comes : (result : Status) → LoadCause k start.keeper finish.keeper result → DueComes (k.kept start.keeper) result
+    unread_comes StoreFault cause = failed_store (k.kept start.keeper) StoreFault cause
+    unread_comes (BadStore row) cause = bad_shown (k.kept start.keeper) row cause
+    unread_comes NoMemory cause = wanted (k.kept start.keeper)
     unread_comes other cause = absurd cause
 
   apply_comes : (store : Option (List ℕ)) → IsSpelled words (Apply store) → (result : Status)
-      → EndsApply g h k start finish store result → DueComes (k.kept first) result
+      → EndsApply g h k start finish store result → DueComes (k.kept start.keeper) result
   apply_comes None spelled result e =
-      ends_so_comes (k.kept first) (λ status shows. shown (k.kept first) (Apply None) spelled (g.left old) status _ _ _ shows)
+      ends_so_comes (k.kept start.keeper) (λ status shows. shown (k.kept start.keeper) (Apply None) spelled (g.left start.input) status _ _ _ shows)
       None e.answers.items e.answers.text e.result result e.answers.read e.answers.wrote e.ends
   apply_comes (Some name) spelled result (inl e) = unread_comes name spelled result e.cause
   apply_comes (Some name) spelled result (inr e) =
-      ends_so_comes (k.kept first) (λ status shows. store_shown name spelled (k.kept first) (record { machines = e.machines; version = e.version }) e.begins.1 (g.left old) status _ _ _ shows)
+      ends_so_comes (k.kept start.keeper) (λ status shows. store_shown name spelled (k.kept start.keeper) (record { machines = e.machines; version = e.version }) e.begins.1 (g.left start.input) status _ _ _ shows)
       (Some name) e.answers.items e.answers.text e.result result e.answers.read e.answers.wrote e.ends
 
   -- ---- gen
   gen_comes : (rows : Option (List (List ℕ))) (number : ℕ) → IsSpelled words (Gen number) → (result : Status) → IsOfOutput result
-      → EndsOutput h (λ text. text ≡ script_of number) before after result → DueComes rows result
-  gen_comes rows number spelled Done cause output = shown rows (Gen number) spelled (g.left old) Done _ _ _ (if_some (g.left old) (λ bytes. refl))
+      → EndsOutput h (λ text. text ≡ script_of number) start.output finish.output result → DueComes rows result
+  gen_comes rows number spelled Done cause output = shown rows (Gen number) spelled (g.left start.input) Done _ _ _ (if_some (g.left start.input) (λ bytes. refl))
   gen_comes rows number spelled WriteFault cause output = failed_write rows WriteFault output.2.rose
   gen_comes rows number spelled NoMemory cause output = wanted rows
   gen_comes rows number spelled other cause output = absurd cause
 
   -- ---- trial
   trial_comes : (rows : Option (List (List ℕ))) (number : ℕ) → IsSpelled words (Trial number) → (items : List Item) (text : List ℕ) (result : Result (Unit {0}) ScriptStop)
-      → HasAsked (script_of number) items result → HasWritten h before after text result → DueComes rows (script_status result)
+      → HasAsked (script_of number) items result → HasWritten h start.output finish.output text result → DueComes rows (script_status result)
   trial_comes rows number spelled items text (Ok done) read wrote =
-      shown rows (Trial number) spelled (g.left old) Done _ _ _ (if_some (g.left old) (λ bytes. refl))
+      shown rows (Trial number) spelled (g.left start.input) Done _ _ _ (if_some (g.left start.input) (λ bytes. refl))
   trial_comes rows number spelled items text (Err script.ReadFault) read wrote = absurd read
   trial_comes rows number spelled items text (Err script.WriteFault) read wrote = failed_write rows WriteFault wrote.rose
   trial_comes rows number spelled items text (Err (script.CutOff offset)) read wrote = absurd read
@@ -221,14 +203,14 @@ module _ {I O K : Type 0} (g : source.Ghosts I) (h : sink.Ghosts O) (k : keeper.
   trial_comes rows number spelled items text (Err script.NoMemory) read wrote = wanted rows
 
   pub comes : (command : Command) (result : Status) → IsSpelled words command → Ends g h k start finish command result
-      → DueComes (k.kept first) result
-  comes (Cut cut) result spelled ends = cut_comes (k.kept first) cut spelled (IsCertificateText cut (g.left old)) result ends.0.input.cause ends.0.output
+      → DueComes (k.kept start.keeper) result
+  comes (Cut cut) result spelled ends = cut_comes (k.kept start.keeper) cut spelled (IsCertificateText cut (g.left start.input)) result ends.0.input.cause ends.0.output
   comes (Apply store) result spelled ends = apply_comes store spelled result ends
-  comes (Gen number) result spelled ends = gen_comes (k.kept first) number spelled result ends.0.cause ends.0.output
+  comes (Gen number) result spelled ends = gen_comes (k.kept start.keeper) number spelled result ends.0.cause ends.0.output
   comes (Trial number) result spelled ends =
-      subst (DueComes (k.kept first)) (sym ends.0.run.told) (trial_comes (k.kept first) number spelled ends.0.run.items ends.0.run.text ends.0.run.result ends.0.run.read ends.0.run.wrote)
+      subst (DueComes (k.kept start.keeper)) (sym ends.0.run.told) (trial_comes (k.kept start.keeper) number spelled ends.0.run.items ends.0.run.text ends.0.run.result ends.0.run.read ends.0.run.wrote)
   comes (Path plan) result spelled ends =
-      subst (DueComes (k.kept first)) (sym ends.0.told) (path_comes (k.kept first) plan spelled ends.0.why ends.0.input.cause ends.0.output)
+      subst (DueComes (k.kept start.keeper)) (sym ends.0.told) (path_comes (k.kept start.keeper) plan spelled ends.0.why ends.0.input.cause ends.0.output)
   comes (Play plan) result spelled ends = absurd ends
   comes (Hunt plan) result spelled ends = absurd ends
   comes (Audit named) result spelled ends = absurd ends

@@ -10,7 +10,7 @@ use Rattle.line_pieces.specs.declared.stop.Stop.TheVariants as stop
 use Rattle.commit_lines.specs.Reading.{AreNamesOfInput}
 use Rattle.commit_lines.specs.Stops.{BytesShow, OneStop, OneListOfNames, NoStopOfNames}
 use Rattle.hunt_command.specs.Endings.{EndsHunt as PutsHunt, HasCause}
-use Rattle.hunt_command.specs.Stops.{end_of}
+use Rattle.tracker_top.specs.Statuses.{status_of}
 use Rattle.hunt_command.specs.declared.end.HuntEnd.{HuntEnd}
 use Rattle.hunt_command.specs.declared.end.HuntEnd.TheVariants as hunt
 use Rattle.command_words.specs.declared.command.HuntPlan.{HuntPlan}
@@ -23,25 +23,24 @@ use Rattle.tracker_top.specs.Hunts.{HuntShows, HuntsAsDue, IsHuntDue, counted_st
 -- a hunt never ends as bad words do
 pub never-bad-hunt : (why : HuntEnd) → hunt_status_of why ≡ BadWords → ⊥
 never-bad-hunt hunt.Done is = cc
-never-bad-hunt hunt.ReadFault is = cc
 never-bad-hunt hunt.WriteFault is = cc
-never-bad-hunt hunt.NoMemory is = cc
-never-bad-hunt hunt.TooLong is = cc
-never-bad-hunt (hunt.BadLine k) is = cc
-never-bad-hunt (hunt.Full k) is = cc
 never-bad-hunt (hunt.TooFew count) is = cc
+never-bad-hunt (hunt.Stopped stop.Fault) is = cc
+never-bad-hunt (hunt.Stopped stop.TooLong) is = cc
+never-bad-hunt (hunt.Stopped (stop.Refused refusal.Bad k)) is = cc
+never-bad-hunt (hunt.Stopped (stop.Refused refusal.Full k)) is = cc
+never-bad-hunt (hunt.Stopped stop.NoMemory) is = cc
 
 -- as many runners stand there
 pub as-many : {O R : Type 0} (h : sink.Ghosts O) (n : runner.Ghosts R) (left : Option (List ℕ)) (test : List ℕ) (width : ℕ) (out out' : O) (old new : List R) (why : HuntEnd)
     → PutsHunt h n left test width out out' old new why → length new ≡ length old
 as-many h n left test width out out' old new hunt.Done ends = ends.2.hunted.goes.asked.kept
 as-many h n left test width out out' old new hunt.WriteFault ends = ends.2.hunted.goes.asked.kept
-as-many h n left test width out out' old new hunt.NoMemory (untouched, inl same) = ap length same
-as-many h n left test width out out' old new hunt.NoMemory (untouched, inr (names, are, asked)) = asked.kept
-as-many h n left test width out out' old new hunt.ReadFault ends = ap length ends.1
-as-many h n left test width out out' old new hunt.TooLong ends = ap length ends.1
-as-many h n left test width out out' old new (hunt.BadLine k) ends = ap length ends.1
-as-many h n left test width out out' old new (hunt.Full k) ends = ap length ends.1
+as-many h n left test width out out' old new (hunt.Stopped stop.NoMemory) (untouched, inl same) = ap length same
+as-many h n left test width out out' old new (hunt.Stopped stop.NoMemory) (untouched, inr (names, are, asked)) = asked.kept
+as-many h n left test width out out' old new (hunt.Stopped stop.Fault) ends = ap length ends.1
+as-many h n left test width out out' old new (hunt.Stopped stop.TooLong) ends = ap length ends.1
+as-many h n left test width out out' old new (hunt.Stopped (stop.Refused why k)) ends = ap length ends.1
 as-many h n left test width out out' old new (hunt.TooFew count) ends = ap length ends.1
 
 -- ---- what the bytes show
@@ -57,7 +56,7 @@ names_show : (known : Option (List ℕ)) (names : List (List ℕ)) (status : Sta
 names_show None names status are is = tt
 names_show (Some bytes) names status are is = inl (names, are, is)
 
-stop_shows : (known : Option (List ℕ)) (why : Stop) → IfSome known (λ bytes. BytesShow bytes why) → IfSome known (λ bytes. HuntShows bytes (hunt_status_of (end_of why)))
+stop_shows : (known : Option (List ℕ)) (why : Stop) → IfSome known (λ bytes. BytesShow bytes why) → IfSome known (λ bytes. HuntShows bytes (status_of why))
 stop_shows None why show = tt
 stop_shows (Some bytes) why show = inr (why, refl, show)
 
@@ -88,7 +87,7 @@ module _ {I O R : Type 0} (g : source.Ghosts I) (h : sink.Ghosts O) (n : runner.
   once bytes one other (inl (names, are, is)) (inr (why, its, shown)) = absurd (no_stop bytes names why are shown)
   once bytes one other (inr (why, is, shown)) (inl (names, are, its)) = absurd (no_stop bytes names why are shown)
   once bytes one other (inr (why, is, shown)) (inr (next, its, told)) =
-      is ∙ ap (λ (w : Stop). hunt_status_of (end_of w)) (one_stop bytes why next shown told) ∙ sym its
+      is ∙ ap (λ (w : Stop). status_of w) (one_stop bytes why next shown told) ∙ sym its
 
   due_shown : (bytes : List ℕ) (result due : Status) → HuntShows bytes result → IsHuntDue words bytes due → result ≡ due
   due_shown bytes result due shows (inl (is, none)) = absurd (none (Hunt plan) spelled)
@@ -107,12 +106,12 @@ module _ {I O R : Type 0} (g : source.Ghosts I) (h : sink.Ghosts O) (n : runner.
 
   pub hunt-due : (why : HuntEnd) → HasCause g old new why → PutsHunt h n (g.left old) plan.test plan.width before after runners runners' why → Comes (hunt_status_of why)
   hunt-due hunt.Done cause output = comes Done (names_show (g.left old) output.0 Done output.2.names_are (enough output.0 output.2.many))
-  hunt-due hunt.ReadFault cause output = if_some (g.left old) (λ bytes due is. inr (inr (inl cause.0)))
+  hunt-due (hunt.Stopped stop.Fault) cause output = if_some (g.left old) (λ bytes due is. inr (inr (inl cause.0)))
   hunt-due hunt.WriteFault cause output = if_some (g.left old) (λ bytes due is. inr (inr (inr output.3.rose)))
-  hunt-due hunt.NoMemory cause output = if_some (g.left old) (λ bytes due is. inr (inl refl))
-  hunt-due hunt.TooLong cause output = comes (InputTooLong 0) (stop_shows (g.left old) stop.TooLong cause)
-  hunt-due (hunt.BadLine k) cause output = comes (BadLine k) (stop_shows (g.left old) (stop.Refused refusal.Bad k) cause)
-  hunt-due (hunt.Full k) cause output = comes (Full k) (stop_shows (g.left old) (stop.Refused refusal.Full k) cause)
+  hunt-due (hunt.Stopped stop.NoMemory) cause output = if_some (g.left old) (λ bytes due is. inr (inl refl))
+  hunt-due (hunt.Stopped stop.TooLong) cause output = comes (InputTooLong 0) (stop_shows (g.left old) stop.TooLong cause)
+  hunt-due (hunt.Stopped (stop.Refused refusal.Bad k)) cause output = comes (BadLine k) (stop_shows (g.left old) (stop.Refused refusal.Bad k) cause)
+  hunt-due (hunt.Stopped (stop.Refused refusal.Full k)) cause output = comes (Full k) (stop_shows (g.left old) (stop.Refused refusal.Full k) cause)
   hunt-due (hunt.TooFew count) cause output =
       comes (TooFew count) (names_show (g.left old) cause.1.0 (TooFew count) cause.1.1
       (ap TooFew (sym cause.1.2) ∙ few cause.1.0 (subst (λ (m : ℕ). m < 2) (sym cause.1.2) cause.0)))

@@ -7,10 +7,12 @@ use Rattle.track_outside.specs.declared.files.Files as files
 use Rattle.track_outside.specs.declared.sink.Sink as sink
 use Rattle.audit_model.specs.Verdicts.{IsCutOff, IsVerdict, NoneCutOff}
 use Rattle.audit_model.specs.declared.heard.Heard.{Heard}
+use Rattle.audit_model.specs.declared.verdict.AuditStop.TheVariants as stop
 use Rattle.audit_model.specs.declared.verdict.Verdict.{Verdict}
 use Rattle.audit_model.specs.declared.verdict.Verdict.TheVariants as verdict
 use Rattle.audit_command.specs.declared.end.AuditEnd.{AuditEnd}
 use Rattle.audit_command.specs.declared.end.AuditEnd.TheVariants as audit
+use Rattle.audit_command.specs.declared.end.FileStop.TheVariants as unread
 use Rattle.audit_command.specs.Endings.{AreTexts, EndsFiles, EndsAudit as PutsAudit, IsPastAt}
 use Rattle.audit_command.specs.Opening.{names_of}
 use Rattle.command_words.specs.declared.command.Command.TheVariants.{Audit}
@@ -27,11 +29,12 @@ use Rattle.tracker_top.specs.Text.{line_of}
 abbrev pub audit_status_of : AuditEnd → Status
 audit_status_of audit.Done = Done
 audit_status_of (audit.Differs verdict) = Differs verdict
-audit_status_of audit.ReadFault = ReadFault
+audit_status_of (audit.Unread unread.ReadFault) = ReadFault
+audit_status_of (audit.Unread (unread.TooLong place)) = InputTooLong place
+audit_status_of (audit.Unread unread.NoMemory) = NoMemory
+audit_status_of (audit.NoVerdict (stop.CutOff script offset)) = CutOff script offset
+audit_status_of (audit.NoVerdict stop.NoMemory) = NoMemory
 audit_status_of audit.WriteFault = WriteFault
-audit_status_of (audit.CutOff script offset) = CutOff script offset
-audit_status_of (audit.TooLong place) = InputTooLong place
-audit_status_of audit.NoMemory = NoMemory
 
 -- the files and the output, at this status of `audit`: why it ended, which files were opened, what
 -- they have, and what was written

@@ -118,8 +118,8 @@ pub record HasAdded {K : Type 0} (k : keeper.Ghosts K) (name : List ℕ) (versio
 
 -- what became of the keeper: without a store it had no call; else it was started, and has the new
 -- rows of these machines behind its own where all is done, and its own at any other status
-abbrev pub Keeps : {K : Type 0} → keeper.Ghosts K → Option (List ℕ) → ℕ → List Track → K → K → Status
-    → Type 0
+abbrev pub Keeps : {K : Type 0} → keeper.Ghosts K → Option (List ℕ) → ℕ → List Track → K → K
+    → Status → Type 0
 Keeps k None version machines first last status = last ≡ first
 Keeps k (Some name) version machines first last Done = HasAdded k name version machines first last
 Keeps k (Some name) version machines first last status =
@@ -303,7 +303,8 @@ IsPlain command = Unit {0}
 
 -- memory was wanting to read the words, so no command was begun: nothing was read, written, kept or
 -- counted
-pub record EndsUnbegun {I O K : Type 0} (before after : Streams I O K) (status : Status) : Type 0 where
+pub record EndsUnbegun {I O K : Type 0} (before after : Streams I O K) (status : Status)
+    : Type 0 where
   pub wanting : status ≡ NoMemory
   pub untouched : after ≡ before
 

@@ -8,25 +8,21 @@ use Rattle.line_pieces.specs.declared.stop.Stop.{Stop}
 use Rattle.commit_lines.specs.Reading.{AreNamesOf}
 use Rattle.commit_lines.specs.Stops.{BytesShow}
 use Rattle.hunt_command.specs.Endings.{EndsInput as LeavesInput, EndsHunt as PutsHunt}
-use Rattle.hunt_command.specs.Stops.{end_of}
 use Rattle.hunt_command.specs.declared.end.HuntEnd.{HuntEnd}
 use Rattle.hunt_command.specs.declared.end.HuntEnd.TheVariants as hunt
 use Rattle.command_words.specs.declared.command.HuntPlan.{HuntPlan}
 use Rattle.command_words.specs.declared.command.Command.TheVariants.{Hunt}
 use Rattle.command_words.specs.Commands.{AreNoCommand, IsSpelled}
 use Rattle.tracker_top.specs.declared.status.Status.{Status}
-use Rattle.tracker_top.specs.declared.status.Status.TheVariants.{Done, BadWords, ReadFault, WriteFault, NoMemory, InputTooLong, BadLine, Full, TooFew}
+use Rattle.tracker_top.specs.declared.status.Status.TheVariants.{Done, BadWords, WriteFault, NoMemory, TooFew}
+use Rattle.tracker_top.specs.Statuses.{status_of}
 
 -- the status at which `hunt` ends so
 abbrev pub hunt_status_of : HuntEnd → Status
 hunt_status_of hunt.Done = Done
-hunt_status_of hunt.ReadFault = ReadFault
-hunt_status_of hunt.WriteFault = WriteFault
-hunt_status_of hunt.NoMemory = NoMemory
-hunt_status_of hunt.TooLong = InputTooLong 0
-hunt_status_of (hunt.BadLine line) = BadLine line
-hunt_status_of (hunt.Full line) = Full line
+hunt_status_of (hunt.Stopped stop) = status_of stop
 hunt_status_of (hunt.TooFew count) = TooFew count
+hunt_status_of hunt.WriteFault = WriteFault
 
 -- the input, the output and the runners, at this status of `hunt`: why it ended, what the input
 -- showed, and what was asked and written
@@ -56,7 +52,7 @@ counted_status count = if nat_lt count 2 then TooFew count else Done
 abbrev pub HuntShows : List ℕ → Status → Type 0
 HuntShows bytes status =
     ((names : List (List ℕ)) × AreNamesOf bytes names × (status ≡ counted_status (length names)))
-    ⊎ ((stop : Stop) × (status ≡ hunt_status_of (end_of stop)) × BytesShow bytes stop)
+    ⊎ ((stop : Stop) × (status ≡ status_of stop) × BytesShow bytes stop)
 
 -- the words and the bytes show this status: the words are no command, or a hunt of which the bytes
 -- show it

@@ -7,17 +7,14 @@ use Rattle.path_command.specs.Endings.{EndsInput as LeavesInput, EndsPath as Put
 use Rattle.path_command.specs.declared.end.PathEnd.{PathEnd}
 use Rattle.path_command.specs.declared.end.PathEnd.TheVariants as path
 use Rattle.tracker_top.specs.declared.status.Status.{Status}
-use Rattle.tracker_top.specs.declared.status.Status.TheVariants.{Done, ReadFault, WriteFault, NoMemory, InputTooLong, BadLine, Full}
+use Rattle.tracker_top.specs.declared.status.Status.TheVariants.{Done, WriteFault}
+use Rattle.tracker_top.specs.Statuses.{status_of}
 
 -- the status at which `path` ends so
 abbrev pub path_status_of : PathEnd → Status
 path_status_of path.Done = Done
-path_status_of path.ReadFault = ReadFault
+path_status_of (path.Stopped stop) = status_of stop
 path_status_of path.WriteFault = WriteFault
-path_status_of path.NoMemory = NoMemory
-path_status_of path.TooLong = InputTooLong 0
-path_status_of (path.BadLine line) = BadLine line
-path_status_of (path.Full line) = Full line
 
 -- the input and the output, at this status of `path`: why it ended, what the input showed, and what
 -- was written of the path of its points over these penalties

@@ -7,24 +7,15 @@ use Rattle.command_words.specs.declared.command.Command.TheVariants.{Play}
 use Rattle.command_words.specs.Commands.{AreNoCommand, IsSpelled}
 use Rattle.command_words.specs.Plans.{Plan}
 use Rattle.play_fits.specs.Workers.{Asked}
-use Rattle.script_loop.specs.declared.stop.Stop.{Stop}
-use Rattle.script_loop.specs.declared.stop.Stop.TheVariants as script
 use Rattle.shared_run.specs.declared.stop.RunStop.{RunStop}
 use Rattle.shared_run.specs.declared.stop.RunStop.TheVariants as run
 use Rattle.shared_run.specs.Endings.{EndsRun, HasFailed, IsDue, Objects, Told}
 use Rattle.tracker_top.specs.declared.status.Status.{Status}
 use Rattle.tracker_top.specs.declared.status.Status.TheVariants.{Done, BadWords, ReadFault, WriteFault, StoreFault, BadStore, CutOff, NoMemory, InputTooLong, Full}
+use Rattle.tracker_top.specs.Statuses.{stopped_status_of}
 use Rattle.tracker_top.specs.Text.{line_of}
 
 -- ---- statuses
-
--- the status at which `play` ends where the script of this number stops
-abbrev pub stopped_status_of : ℕ → Stop → Status
-stopped_status_of number script.ReadFault = ReadFault
-stopped_status_of number script.WriteFault = WriteFault
-stopped_status_of number (script.CutOff offset) = CutOff number offset
-stopped_status_of number script.InputTooLong = InputTooLong number
-stopped_status_of number script.NoMemory = NoMemory
 
 -- the status at which `play` ends where its run stops
 abbrev pub run_status_of : RunStop → Status

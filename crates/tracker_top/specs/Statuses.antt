@@ -29,13 +29,17 @@ status_of (stop.Refused refusal.Bad k) = BadLine k
 status_of (stop.Refused refusal.Full k) = Full k
 status_of stop.NoMemory = NoMemory
 
--- the status at which a command ends where the answering of the script on standard input stops
+-- the status at which a command ends where the answering of the script of this number stops, and of
+-- the one on standard input
+abbrev pub stopped_status_of : ℕ → ScriptStop → Status
+stopped_status_of number script.ReadFault = ReadFault
+stopped_status_of number script.WriteFault = WriteFault
+stopped_status_of number (script.CutOff offset) = CutOff number offset
+stopped_status_of number script.InputTooLong = InputTooLong number
+stopped_status_of number script.NoMemory = NoMemory
+
 abbrev pub script_status_of : ScriptStop → Status
-script_status_of script.ReadFault = ReadFault
-script_status_of script.WriteFault = WriteFault
-script_status_of (script.CutOff offset) = CutOff 0 offset
-script_status_of script.InputTooLong = InputTooLong 0
-script_status_of script.NoMemory = NoMemory
+script_status_of stop = stopped_status_of 0 stop
 
 abbrev pub script_status : Result (Unit {0}) ScriptStop → Status
 script_status (Ok done) = Done

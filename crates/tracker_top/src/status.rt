@@ -1,15 +1,15 @@
 //! How a command ends.
 ghost use Rattle.std.specs.Prelude.{◌≡◌};
 ghost use Rattle.std.specs.Process.{exit_status};
-ghost use Rattle.tracker_top.specs.Statuses.{append_status_of, load_status_of, number_of, script_status_of, status_of};
+ghost use Rattle.tracker_top.specs.Statuses.{append_status_of, load_status_of, number_of, script_status_of, status_of, stopped_status_of};
 ghost use Rattle.tracker_top.specs.Audits.{audit_status_of};
 ghost use Rattle.tracker_top.specs.Hunts.{hunt_status_of};
 ghost use Rattle.tracker_top.specs.Paths.{path_status_of};
-ghost use Rattle.tracker_top.specs.Plays.{run_status_of, stopped_status_of};
+ghost use Rattle.tracker_top.specs.Plays.{run_status_of};
 ghost use Rattle.tracker_top.specs.declared.status.Status.{Status};
 
-use audit_command::{AuditEnd, Verdict};
-use cut_lines::{Refusal, Stop as CutStop};
+use audit_command::{AuditEnd, AuditStop, FileStop, Verdict};
+use cut_lines::{Refusal, Stop};
 use hunt_command::HuntEnd;
 use keep_rows::{AppendFault, LoadFault};
 use path_command::PathEnd;
@@ -88,17 +88,17 @@ impl From<AllocError> for Status {
     }
 }
 
-/// How a command ends where reading of its cut lines stops.
-impl From<CutStop> for Status {
+/// How a command ends where reading of its lines stops.
+impl From<Stop> for Status {
     ghost from_gives = { λ stop status. status ≡ status_of stop };
 
-    fn from(stop: CutStop) -> Status {
+    fn from(stop: Stop) -> Status {
         match stop {
-            CutStop::Fault => Status::ReadFault,
-            CutStop::TooLong => Status::InputTooLong(0),
-            CutStop::Refused(Refusal::Bad, line) => Status::BadLine(line),
-            CutStop::Refused(Refusal::Full, line) => Status::Full(line),
-            CutStop::NoMemory => Status::NoMemory,
+            Stop::Fault => Status::ReadFault,
+            Stop::TooLong => Status::InputTooLong(0),
+            Stop::Refused(Refusal::Bad, line) => Status::BadLine(line),
+            Stop::Refused(Refusal::Full, line) => Status::Full(line),
+            Stop::NoMemory => Status::NoMemory,
         }
     }
 }
@@ -110,12 +110,8 @@ impl From<PathEnd> for Status {
     fn from(end: PathEnd) -> Status {
         match end {
             PathEnd::Done => Status::Done,
-            PathEnd::ReadFault => Status::ReadFault,
+            PathEnd::Stopped(stop) => Status::from(stop),
             PathEnd::WriteFault => Status::WriteFault,
-            PathEnd::NoMemory => Status::NoMemory,
-            PathEnd::TooLong => Status::InputTooLong(0),
-            PathEnd::BadLine(line) => Status::BadLine(line),
-            PathEnd::Full(line) => Status::Full(line),
         }
     }
 }
@@ -127,13 +123,9 @@ impl From<HuntEnd> for Status {
     fn from(end: HuntEnd) -> Status {
         match end {
             HuntEnd::Done => Status::Done,
-            HuntEnd::ReadFault => Status::ReadFault,
-            HuntEnd::WriteFault => Status::WriteFault,
-            HuntEnd::NoMemory => Status::NoMemory,
-            HuntEnd::TooLong => Status::InputTooLong(0),
-            HuntEnd::BadLine(line) => Status::BadLine(line),
-            HuntEnd::Full(line) => Status::Full(line),
+            HuntEnd::Stopped(stop) => Status::from(stop),
             HuntEnd::TooFew(count) => Status::TooFew(count),
+            HuntEnd::WriteFault => Status::WriteFault,
         }
     }
 }
@@ -146,11 +138,14 @@ impl From<AuditEnd> for Status {
         match end {
             AuditEnd::Done => Status::Done,
             AuditEnd::Differs(verdict) => Status::Differs(verdict),
-            AuditEnd::ReadFault => Status::ReadFault,
+            AuditEnd::Unread(FileStop::ReadFault) => Status::ReadFault,
+            AuditEnd::Unread(FileStop::TooLong(place)) => Status::InputTooLong(place),
+            AuditEnd::Unread(FileStop::NoMemory) => Status::NoMemory,
+            AuditEnd::NoVerdict(AuditStop::CutOff { script, offset }) => {
+                Status::CutOff(script, offset)
+            }
+            AuditEnd::NoVerdict(AuditStop::NoMemory) => Status::NoMemory,
             AuditEnd::WriteFault => Status::WriteFault,
-            AuditEnd::CutOff(script, offset) => Status::CutOff(script, offset),
-            AuditEnd::TooLong(place) => Status::InputTooLong(place),
-            AuditEnd::NoMemory => Status::NoMemory,
         }
     }
 }
@@ -160,13 +155,7 @@ impl From<ScriptStop> for Status {
     ghost from_gives = { λ stop status. status ≡ script_status_of stop };
 
     fn from(stop: ScriptStop) -> Status {
-        match stop {
-            ScriptStop::ReadFault => Status::ReadFault,
-            ScriptStop::WriteFault => Status::WriteFault,
-            ScriptStop::CutOff(offset) => Status::CutOff(0, offset),
-            ScriptStop::InputTooLong => Status::InputTooLong(0),
-            ScriptStop::NoMemory => Status::NoMemory,
-        }
+        stopped(0, stop)
     }
 }
 
@@ -213,7 +202,7 @@ impl From<RunStop> for Status {
     }
 }
 
-// How `play` ends where the script of this number stops.
+// How a command ends where the script of this number stops.
 fn stopped(number: u64, stop: ScriptStop) -> Status
     ensures { result ≡ stopped_status_of number stop }
 {

@@ -6,27 +6,27 @@ use Rattle.audit_command.specs.Opening.{IsOpen}
 use Rattle.audit_command.specs.Reading.{ReadsAll, StopsAll}
 use Rattle.audit_command.proofs.Gathered.{have_all}
 use Rattle.audit_command.proofs.Ends.{ends_unread}
+use Rattle.audit_command.proofs.command.texts_at.Given.{Over}
+use Rattle.audit_command.proofs.command.texts_at.Goals.{After-into_iter-2}
 use Rattle.audit_command.proofs.command.texts_at.Goals as goal
+
+-- the files that were opened, as they are read
+opened : (g : Over) (c : After-into_iter-2 g) → AllZip (IsOpen g.F.Input.Source (g.F.Files.contents c.args.files.now)) (texts c.args.names.now) (into_iter_items c.into_iter-2.result)
+opened g c =
+    let told = g.F.Files.contents c.args.files.now in
+    let more = c.in_default.ensures.open in
+    let grown : c.open_all.new.inputs.items ≡ more.more = more.grown ∙ ap (λ l. l ++ more.more) c.new-inputs.ensures.items in
+    subst (λ l. AllZip (IsOpen g.F.Input.Source told) (texts c.args.names.now) l) (sym (c.into_iter-2.ensures.rest ∙ grown)) more.are_open
 
 pub returns-in-Ok-clause-have : goal.returns-in-Ok-clause-have
 returns-in-Ok-clause-have g c =
     let told = g.F.Files.contents c.args.files.now in
-    let names = texts c.args.names.now in
-    let more = c.in_default.ensures.open in
-    let grown : c.open_all.new.inputs.items ≡ more.more = more.grown ∙ ap (λ l. l ++ more.more) c.new-inputs.ensures.items in
-    let opened : AllZip (IsOpen g.F.Input.Source told) names (into_iter_items c.into_iter-2.result) =
-    subst (λ l. AllZip (IsOpen g.F.Input.Source told) names l) (sym (c.into_iter-2.ensures.rest ∙ grown)) more.are_open in
     let reads = subst (λ (l : List (List ℕ)). ReadsAll g.F.Input.Source (into_iter_items c.into_iter-2.result) (2 ^ 30) l c.read_all.new.texts.items) c.new-found.ensures.items c.in-Ok.ensures.read in
-    have_all g.F.Input.Source told names (into_iter_items c.into_iter-2.result) c.read_all.new.texts.items opened reads
+    have_all g.F.Input.Source told (texts c.args.names.now) (into_iter_items c.into_iter-2.result) c.read_all.new.texts.items
+    (opened g (goal.at.returns-in-Ok-clause-have g c).After-into_iter-2) reads
 
 pub returns-in-Err-read_all-clause-stop : goal.returns-in-Err-read_all-clause-stop
 returns-in-Err-read_all-clause-stop g c =
-    let told = g.F.Files.contents c.args.files.now in
-    let names = texts c.args.names.now in
-    let more = c.in_default.ensures.open in
-    let grown : c.open_all.new.inputs.items ≡ more.more = more.grown ∙ ap (λ l. l ++ more.more) c.new-inputs.ensures.items in
-    let opened : AllZip (IsOpen g.F.Input.Source told) names (into_iter_items c.into_iter-2.result) =
-    subst (λ l. AllZip (IsOpen g.F.Input.Source told) names l) (sym (c.into_iter-2.ensures.rest ∙ grown)) more.are_open in
     let stops = subst (λ (l : List (List ℕ)). StopsAll g.F.Files g.F.Input.Source (into_iter_items c.into_iter-2.result) (2 ^ 30) (length l) c.open_all.new.files c.read_all.new.files c.in-Err-read_all.stop) c.new-found.ensures.items c.in-Err-read_all.ensures.stop in
-    ends_unread g.F.Files g.F.Input.Source names c.args.files.now c.open_all.new.files c.read_all.new.files (into_iter_items c.into_iter-2.result) c.in-Err-read_all.stop
-    c.in_default.ensures.asks opened c.in_default.ensures.kept stops c.read_all.ensures.kept c.read_all.ensures.noted
+    ends_unread g.F.Files g.F.Input.Source (texts c.args.names.now) c.args.files.now c.open_all.new.files c.read_all.new.files (into_iter_items c.into_iter-2.result) c.in-Err-read_all.stop
+    c.in_default.ensures.asks (opened g (goal.at.returns-in-Err-read_all-clause-stop g c).After-into_iter-2) c.in_default.ensures.kept stops c.read_all.ensures.kept c.read_all.ensures.noted

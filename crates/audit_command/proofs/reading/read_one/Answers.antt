@@ -1,13 +1,13 @@
-use Rattle.std.proofs.Common.{refl, ◌+◌, ◌≡◌, ℕ, List, ◌++◌, length, take, drop, sym, subst, arith, length-append}
-use Rattle.std.proofs.lemmas.List.{length-take, length-drop}
+use Rattle.std.proofs.Common.{refl, ◌+◌, ℕ, List, sym, subst, arith}
 use Rattle.audit_command.specs.Reading.{HasRead, IsTextOf}
 use Rattle.audit_command.proofs.Gathered.{gave_more, gave_nothing, gave_text, read_none, read_more, read_all, stops_since}
 use Rattle.audit_command.proofs.reading.read_one.Goals as goal
 
 pub loop-count-init : goal.loop-count-init
-loop-count-init g c =
-    let count : length c.in-Ok.buffer.items ≡ 65_536 = omega (arith, c.in-Ok.ensures.len) in
-    (subst (λ (l : List ℕ). HasRead g.I.Source c.args.input.now c.args.input.now l c.args.room) (sym c.new-text.ensures.items) (read_none g.I.Source c.args.input.now c.args.room), count)
+loop-count-init g c = (
+  subst (λ (l : List ℕ). HasRead g.I.Source c.args.input.now c.args.input.now l c.args.room) (sym c.new-text.ensures.items) (read_none g.I.Source c.args.input.now c.args.room),
+  omega (arith, c.in-Ok.ensures.len),
+)
 
 pub returns-then-count-eq0-clause-text : goal.returns-then-count-eq0-clause-text
 returns-then-count-eq0-clause-text g c =
@@ -17,15 +17,11 @@ returns-then-count-eq0-clause-text g c =
     (read_all g.I.Source c.args.input.now c.read_more.new.input c.read_more.new.text.items c.args.room has (c.in-Ok-read_more.ensures.more.end c.if-count-eq0.true))
 
 pub loop-count-preserved : goal.loop-count-preserved
-loop-count-preserved g c =
-    let new : List ℕ = c.read_more.new.buffer in
-    let back : List ℕ = drop (length new) c.loop-count.buffer.items in
-    let same : length new ≡ length c.loop-count.buffer.items = omega (arith, c.read_more.auto.buffer, c.deref_mut.ensures.len) in
-    let all : length (take c.loop-count.buffer.len (new ++ back)) ≡ 65_536 = omega (arith, length-take c.loop-count.buffer.len (new ++ back), length-append new back, length-drop (length new) c.loop-count.buffer.items, c.loop-count.invariant.1) in (
-      read_more g.I.Source c.args.input.now c.loop-count.input c.read_more.new.input c.loop-count.text.items c.read_more.new.text.items c.args.room c.in-Ok-read_more.count
-          c.loop-count.invariant.0 c.in-Ok-read_more.ensures.more c.read_more.ensures.counts,
-      all,
-    )
+loop-count-preserved g c = (
+  read_more g.I.Source c.args.input.now c.loop-count.input c.read_more.new.input c.loop-count.text.items c.read_more.new.text.items c.args.room c.in-Ok-read_more.count
+      c.loop-count.invariant.0 c.in-Ok-read_more.ensures.more c.read_more.ensures.counts,
+  omega arith,
+)
 
 pub returns-in-Err-clause-stop : goal.returns-in-Err-clause-stop
 returns-in-Err-clause-stop g c =
