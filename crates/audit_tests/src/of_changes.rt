@@ -281,49 +281,9 @@ fn agree(alloc: Global, seed: u64) -> bool {
 }
 
 #[test]
-fn the_first_250_changes_are_found_as_by_the_plain_audit(rt: HostRuntime) -> Result<(), Fail> {
-    assert!(rt; agree(rt.alloc(), 1));
-    Ok(())
-}
-
-#[test]
-fn the_second_250_changes_are_found_as_by_the_plain_audit(rt: HostRuntime) -> Result<(), Fail> {
-    assert!(rt; agree(rt.alloc(), 2));
-    Ok(())
-}
-
-#[test]
-fn the_third_250_changes_are_found_as_by_the_plain_audit(rt: HostRuntime) -> Result<(), Fail> {
-    assert!(rt; agree(rt.alloc(), 3));
-    Ok(())
-}
-
-#[test]
-fn the_fourth_250_changes_are_found_as_by_the_plain_audit(rt: HostRuntime) -> Result<(), Fail> {
-    assert!(rt; agree(rt.alloc(), 4));
-    Ok(())
-}
-
-#[test]
-fn the_fifth_250_changes_are_found_as_by_the_plain_audit(rt: HostRuntime) -> Result<(), Fail> {
-    assert!(rt; agree(rt.alloc(), 5));
-    Ok(())
-}
-
-#[test]
-fn the_sixth_250_changes_are_found_as_by_the_plain_audit(rt: HostRuntime) -> Result<(), Fail> {
-    assert!(rt; agree(rt.alloc(), 6));
-    Ok(())
-}
-
-#[test]
-fn the_seventh_250_changes_are_found_as_by_the_plain_audit(rt: HostRuntime) -> Result<(), Fail> {
-    assert!(rt; agree(rt.alloc(), 7));
-    Ok(())
-}
-
-#[test]
-fn the_last_250_changes_are_found_as_by_the_plain_audit(rt: HostRuntime) -> Result<(), Fail> {
-    assert!(rt; agree(rt.alloc(), 8));
+fn the_changes_of_eight_seeds_are_found_as_by_the_plain_audit(rt: HostRuntime) -> Result<(), Fail> {
+    for seed in 1..=8 {
+        assert!(rt; agree(rt.alloc(), seed), "seed {seed}");
+    }
     Ok(())
 }
