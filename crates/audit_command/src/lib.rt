@@ -17,4 +17,5 @@ mod text;
 pub use audit_model::{AuditStop, Verdict};
 pub use command::audit_files;
 pub use end::{AuditEnd, FileStop};
+pub use play_audit::one_verdict_law;
 pub use text::put_shown;

@@ -22,11 +22,11 @@ use Rattle.history_model.specs.Allowed.{first_passed}
 use Rattle.history_model.specs.Entries.{entries_of}
 use Rattle.history_model.specs.Followed.{JobsAreNamed}
 use Rattle.history_model.specs.Jobs.{job_in, jobs}
-use Rattle.track_follow.specs.Settling.{IsPut, IsTaken, entry_said}
-use Rattle.track_follow.specs.declared.settling.Settled.{Settled}
+use Rattle.track_room.specs.Settling.{IsPut, IsTaken, entry_said}
+use Rattle.track_room.specs.Settled.{Settled}
 use Rattle.track_model.specs.Tracks.{Track, with_entry}
-use Rattle.track_state.specs.Work.{bare}
-use Rattle.track_state.specs.declared.questions.Question.{Question}
+use Rattle.track_room.specs.Work.{bare}
+use Rattle.track_room.specs.Question.{Question}
 use Rattle.track_room.specs.Asked.{ChangesAt}
 use Rattle.track_room.specs.Sights.{SeesMore, Sight, Visits, own_marks, seeing, track_of}
 use Rattle.track_room.specs.Taking.{IsQuestion, OfSeen, Settles, seen_of}

@@ -19,15 +19,15 @@ use Rattle.history_model.specs.Allowed.{first_passed}
 use Rattle.history_model.specs.Entries.{entries_of}
 use Rattle.history_model.specs.Jobs.{asked}
 use Rattle.history_model.specs.Laws.{FirstKept}
-use Rattle.track_follow.specs.Settling.{IsPut, IsSettled, IsTaken, entry_said}
-use Rattle.track_follow.specs.declared.settling.Settled.{Settled}
+use Rattle.track_room.specs.Settling.{IsPut, IsSettled, IsTaken, entry_said}
+use Rattle.track_room.specs.Settled.{Settled}
 use Rattle.track_model.specs.Tracks.{Track, with_entry}
-use Rattle.track_state.specs.Questions.{IsQuestion, NoneIsAsked}
-use Rattle.track_state.specs.declared.questions.Question.{Question}
+use Rattle.track_room.specs.Questions.{IsQuestion, NoneIsAsked}
+use Rattle.track_room.specs.Question.{Question}
 use Rattle.bisect_workers.specs.Bisecting.{IsBisected, IsDue, IsSaidBy, RoseBy}
 use Rattle.bisect_workers.specs.Failures.{failures}
 use Rattle.worker_model.specs.Findings.{AsksCommit, Finding, asked_name, finding_of, named_asked}
-use Rattle.track_follow.proofs.Bisecting.{takes}
+use Rattle.track_room.proofs.Bisecting.{takes}
 use Rattle.bisect_workers.specs.Findings.{asks_of, give_ups}
 use Rattle.bisect_workers.specs.Quiet.{NoneAsks}
 

@@ -4,7 +4,7 @@ use Rattle.track_outside.specs.Asked.{Ask}
 use Rattle.history_model.specs.declared.entries.Author.{Author}
 use Rattle.history_model.specs.declared.entries.Placed.{Placed}
 use Rattle.history_model.specs.Entries.{entries_of}
-use Rattle.track_follow.specs.Settling.{entry_said}
+use Rattle.track_room.specs.Settling.{entry_said}
 use Rattle.track_model.specs.Tracks.{Track}
 use Rattle.worker_model.specs.Findings.{AsksCommit, findings_behind}
 use Rattle.bisect_workers.specs.Findings.{Use, asks_of, found_of, give_ups}

@@ -3,4 +3,4 @@ pub mod Bisecting
 pub mod Failures
 pub mod Quiet
 pub mod Beside
-pub use Rattle.track_follow.specs.Settling
+pub use Rattle.track_room.specs.Settling

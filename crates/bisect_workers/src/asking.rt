@@ -7,7 +7,7 @@ ghost use Rattle.bisect_workers.specs.Failures.{failures};
 use crate::NoMemory;
 use std::alloc::Global;
 use track_outside::{OutError, Runner};
-use track_state::Question;
+use track_room::Question;
 
 // The status of the test of a question's commit; none where no test could be had.
 pub(crate) fn ask<R: Runner>(

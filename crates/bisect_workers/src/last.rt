@@ -6,7 +6,7 @@ ghost use Rattle.history_model.specs.declared.entries.Author.TheVariants as auth
 ghost use Rattle.bisect_workers.specs.Bisecting.{IsBisected};
 ghost use Rattle.worker_model.specs.Quiet.{JobsAreQuiet};
 ghost use Rattle.bisect_workers.specs.Quiet.{NoneAsks};
-ghost use Rattle.track_state.specs.Work.{IsUntaken, history_of};
+ghost use Rattle.track_room.specs.Work.{IsUntaken, history_of};
 
 use crate::NoMemory;
 use crate::asking::ask;
@@ -14,7 +14,7 @@ use history_model::{Author, within_law};
 use metric_table::Limit;
 use std::alloc::Global;
 use track_outside::Runner;
-use track_state::{TrackState, open_question};
+use track_room::{TrackState, open_question};
 
 // Asks the first question there is and says what was found; tells whether there was one.
 fn turn<R: Runner>(

@@ -11,8 +11,7 @@ use history_model::{Author, jobs_law};
 use std::alloc::Global;
 use std::sync::Wait;
 use track_outside::{Gate, Place, Runner};
-use track_room::{AtGate, Ended, Pace, Room, RoomPass};
-use track_state::Question;
+use track_room::{AtGate, Ended, Pace, Question, Room, RoomPass};
 
 // Asks a question of the runner, and says what became of it.
 fn finish<R: Wait, A: Runner, P: Pace>(

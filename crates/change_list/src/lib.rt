@@ -14,6 +14,7 @@ pub use beside::{Beside, commits_beside};
 pub use change::Change;
 pub use last::last_centre;
 pub use made::changes;
+pub use segment_cost::one_certificate_law;
 
 /// A list of changes.
 pub type ChangeItems = line_text::Items<Change>;

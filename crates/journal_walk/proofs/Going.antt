@@ -16,7 +16,7 @@ use Rattle.history_model.proofs.Chosen.{entries-push}
 use Rattle.request_model.specs.declared.replies.Reply.{Reply}
 use Rattle.track_model.specs.Outcomes.{Outcome}
 use Rattle.track_model.specs.Tracks.{IsStep, Track, with_added, with_entry}
-use Rattle.track_replay.specs.Replays.{IsReplayed}
+use Rattle.track_step.specs.Replays.{IsReplayed}
 use Rattle.journal_lines.specs.Authors.{IsPublication}
 use Rattle.journal_walk.specs.Ahead.{AllMet, IsReady, KeepsAhead}
 use Rattle.journal_walk.specs.Steps.{Publishes}

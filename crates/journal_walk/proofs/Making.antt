@@ -21,7 +21,7 @@ use Rattle.history_model.specs.Runs.{Series, is_known}
 use Rattle.publication_index.specs.Kept.{series_of}
 use Rattle.track_model.specs.Publishing.{redone_since}
 use Rattle.track_model.specs.Tracks.{is_setting}
-use Rattle.track_series.specs.declared.redone.Redone.{Redone}
+use Rattle.track_step.specs.Redone.{Redone}
 use Rattle.machine_state.specs.Made.{publication_from, setting_in}
 use Rattle.journal_walk.specs.Made.{IsMadeFor, IsSegmented}
 use Rattle.journal_walk.specs.Versions.{IsOf}

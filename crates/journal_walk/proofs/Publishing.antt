@@ -22,8 +22,8 @@ use Rattle.track_model.specs.Outcomes.{Outcome}
 use Rattle.track_model.specs.Publishing.{SegmentComesFrom, later}
 use Rattle.track_model.specs.Tracks.{IsFinishStep, Track, with_finished}
 use Rattle.machine_state.specs.Made.{entry_of, publication_from}
-use Rattle.track_series.specs.Publications.{IsAdded, IsPublished, IsTaken, passed}
-use Rattle.track_series.specs.declared.publishing.Published.TheVariants as published
+use Rattle.track_step.specs.Publications.{IsAdded, IsPublished, IsTaken, passed}
+use Rattle.track_step.specs.Published.TheVariants as published
 use Rattle.journal_walk.specs.Steps.{Publishes}
 
 -- ---- lists with one item more

@@ -10,7 +10,7 @@ use Rattle.history_model.specs.Runs.{Series}
 use Rattle.track_model.specs.Tracks.{Track, base_of, with_home, with_taken}
 use Rattle.machine_state.specs.State.{BeginsWith}
 use Rattle.machine_state.specs.declared.base.Base.{Base}
-use Rattle.track_series.specs.Begun.{Begins}
+use Rattle.track_step.specs.TrackSeriesBegun.{Begins}
 
 either : (b : Bool) (t u : Track) → u.machine ≡ t.machine → u.history ≡ t.history → ((cond b t u).machine ≡ t.machine) × ((cond b t u).history ≡ t.history)
 either true t u machine history = (refl, refl)

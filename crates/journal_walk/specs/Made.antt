@@ -6,7 +6,7 @@ use Rattle.segment_model.specs.Segments.{Position}
 use Rattle.history_model.specs.declared.entries.Entry.{Entry}
 use Rattle.history_model.specs.declared.publication.Publication.{Publication}
 use Rattle.publication_index.specs.Standing.{table_for}
-use Rattle.track_series.specs.declared.redone.Redone.{Redone}
+use Rattle.track_step.specs.Redone.{Redone}
 use Rattle.machine_state.specs.Made.{IsMadeFrom, publication_from}
 use Rattle.journal_walk.specs.declared.version.Version.{Version}
 

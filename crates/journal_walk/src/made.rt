@@ -21,7 +21,7 @@ use point_list::{FrozenPoints, common_prefix};
 use segment_cost::Done;
 use segment_model::{agreeing_costs_law, best_list_law, cost_law};
 use std::alloc::Global;
-use track_series::{Redone, Snapshot, compute_apart};
+use track_step::{Redone, Snapshot, compute_apart};
 
 // The best segmentation of a publication's series as it was at its version, as one that was redone from older positions. A
 // table that was kept is redone, whichever it is.

@@ -1,6 +1,6 @@
 //! What a segmentation begins with.
 ghost use Rattle.std.specs.Prelude.{◌≡◌, IfOk};
-ghost use Rattle.track_series.specs.Begun.{Begins};
+ghost use Rattle.track_step.specs.TrackSeriesBegun.{Begins};
 
 use crate::NoMemory;
 use crate::made::is_same_setting;

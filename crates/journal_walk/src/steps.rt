@@ -15,7 +15,7 @@ use crate::tables::Tables;
 use history_model::{Author, Placed, Publication};
 use machine_state::MachineState;
 use request_model::Reply;
-use track_series::{Published, Redone, finish};
+use track_step::{Published, Redone, finish};
 
 // Adds what was made, and gives the reply to the request for it; none where it isn't allowed.
 fn publish(track: &mut MachineState, made: Redone) -> Result<Option<Reply>, NoMemory>

@@ -23,8 +23,7 @@ use machine_state::MachineState;
 use request_model::{Reply, Request};
 use std::alloc::Global;
 use std::marker::Model;
-use track_replay::replay;
-use track_step::step;
+use track_step::{replay, step};
 
 /// A walk along a history: its first entries, so many, are those of a state.
 #[derive(Drop)]

@@ -9,7 +9,7 @@ use Rattle.history_model.specs.Entries.{entries_of}
 use Rattle.store_rows.specs.Laws.{RowsAreUnique}
 use Rattle.store_rows.specs.Rows.{Row, IsRowOf}
 use Rattle.track_model.specs.Tracks.{Track, with_entry}
-use Rattle.machine_state.specs.Made.{IsPlain}
+use Rattle.track_replay.specs.Made.{IsPlain}
 use Rattle.track_replay.specs.Replays.{IsReplayed}
 use Rattle.keep_rows.specs.Kept.{is_kept, AreKept}
 use Rattle.keep_rows.specs.Loading.{Stored, SpellsIn, AddsEntry, Adds, Makes}

@@ -9,11 +9,11 @@ use crate::NoMemory;
 use crate::states::is_kept;
 use history_model::{Author, Placed};
 use line_text::Name;
-use machine_state::MachineState;
 use std::alloc::Global;
 use store_rows::{AppendFault, Recorded, append_each, put_entry_row, put_machine_row};
 use track_entry::put_entry;
 use track_outside::Keeper;
+use track_replay::MachineState;
 
 /// Adds the new rows of the machines to a store of this version by one call of the keeper, also where there are none; or
 /// adds none.

@@ -1,6 +1,6 @@
 //! What was loaded from a keeper.
-use machine_state::MachineState;
 use std::marker::Model;
+use track_replay::MachineState;
 
 /// The machines of a store, and the version of its rows: 2 where `format 2` stands among them, else 1.
 #[derive(Drop)]

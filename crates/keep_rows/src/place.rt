@@ -5,7 +5,7 @@ ghost use Rattle.keep_rows.specs.Machines.{is_track};
 ghost use Rattle.keep_rows.specs.Places.{IsFirstAt};
 
 use line_text::Name;
-use machine_state::MachineState;
+use track_replay::MachineState;
 
 /// The place of a machine's track, which is its first; none exactly where there is none of that name. Linear in the
 /// machines, and takes no memory.

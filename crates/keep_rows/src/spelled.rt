@@ -4,8 +4,8 @@ ghost use Rattle.std.specs.List.{AllByRecursion};
 ghost use Rattle.keep_rows.specs.Growth.{HasTextIfShort, MayBeKept};
 
 use crate::laws::kept_law;
-use machine_state::MachineState;
 use track_entry::{entry_law, legal_law};
+use track_replay::MachineState;
 
 /// Each of the machines may be kept: its name is a name, its entries have texts, and what is kept of them is legal. Changes
 /// nothing: its contract is what it is for.

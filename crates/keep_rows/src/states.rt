@@ -13,13 +13,12 @@ use crate::loaded::Loaded;
 use crate::place::place_of;
 use history_model::Entry;
 use line_text::{Name, Names};
-use machine_state::MachineState;
 use metric_table::Limit;
 use std::alloc::Global;
 use std::marker::Model;
 use store_rows::{Restored, RowFault, read_row, rows_law};
 use track_entry::{EntryFault, entries_law, entries_v1_law, read_entry_v1_with, read_entry_with};
-use track_replay::replay;
+use track_replay::{MachineState, replay};
 
 // How many names are kept, so that they are shared where they come again.
 const NAMES: usize = 4_096;

@@ -11,3 +11,4 @@ mod Ready
 pub mod Series
 mod Asked
 mod Reporting
+pub use Rattle.track_model.proofs.Rows

@@ -3,3 +3,7 @@ pub mod Following
 pub mod Indexes
 pub mod State
 pub mod Asked
+pub use Rattle.track_model.specs.Forms
+pub use Rattle.track_model.specs.Tracks
+pub use Rattle.track_model.specs.Outcomes
+pub use Rattle.track_model.specs.Laws

@@ -23,3 +23,4 @@ mod state;
 pub use base::Base;
 pub use state::MachineState;
 pub use std::alloc::AllocError as NoMemory;
+pub use track_model::tune_law;

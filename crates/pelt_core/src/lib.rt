@@ -28,5 +28,6 @@ mod steps;
 mod table;
 
 pub use from_points::{certificate_by, segmentation};
+pub use segment_cost::{Done, Square};
 pub use steps::Steps;
 pub use table::Table;

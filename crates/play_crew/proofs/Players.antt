@@ -12,7 +12,7 @@ use Rattle.script_loop.specs.Folds.{AnswersItem, AreAnswers}
 use Rattle.script_loop.specs.Paced.{IsLeft, Paced}
 use Rattle.script_loop.specs.declared.stop.Stop.{Stop}
 use Rattle.script_loop.specs.declared.stop.Stop.TheVariants as stop
-use Rattle.play_script.specs.Played.{IsPlayed}
+use Rattle.play_seats.specs.Played.{IsPlayed}
 use Rattle.play_seats.specs.Rooms.{AreSame, IsPassOf, badge}
 use Rattle.play_seats.specs.Sights.{Home, Sight}
 use Rattle.play_seats.specs.Seats.{AnswersAt, FailsAt, Seat, Stays, post_of}

@@ -6,3 +6,4 @@ pub use Rattle.play_seats.specs.Rooms
 pub use Rattle.play_seats.specs.Seats
 pub use Rattle.play_seats.specs.Shared
 pub use Rattle.play_seats.specs.Sights
+pub use Rattle.play_seats.specs.Played

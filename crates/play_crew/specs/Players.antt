@@ -7,7 +7,7 @@ use Rattle.request_words.specs.Bodies.{Item}
 use Rattle.script_files.specs.declared.open.OpenScript.{OpenScript}
 use Rattle.script_loop.specs.Endings.{HasRead, HasWritten}
 use Rattle.script_loop.specs.declared.stop.Stop.{Stop}
-use Rattle.play_script.specs.Played.{IsEmpty, IsPlayed}
+use Rattle.play_seats.specs.Played.{IsEmpty, IsPlayed}
 use Rattle.play_seats.specs.Rooms.{AreSame, IsPassOf}
 use Rattle.play_seats.specs.Sights.{Home, Sight}
 use Rattle.play_seats.specs.Fitting.{seat_at}

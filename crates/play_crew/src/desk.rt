@@ -4,8 +4,7 @@ ghost use Rattle.play_seats.specs.Seats.{IsSeated};
 
 use crate::NoMemory;
 use history_model::Author;
-use play_script::Beside;
-use play_seats::{Room, RoomPass};
+use play_seats::{Beside, Room, RoomPass};
 use request_model::{Reply, Request};
 use script_loop::Desk;
 use std::alloc::Global;

@@ -7,8 +7,7 @@ ghost use Rattle.play_seats.specs.Shared.{JoinsAll};
 ghost use Rattle.play_crew.specs.Players.{IsOfRoom, end_of, open_of, pass_of};
 
 use crate::player::Player;
-use play_script::Stop;
-use play_seats::{Room, RoomPass};
+use play_seats::{Room, RoomPass, Stop};
 use script_files::OpenScript;
 use std::sync::Wait;
 use std::vec::IntoIter;

@@ -1,8 +1,7 @@
 //! A script that is played.
 use crate::desk::RoomDesk;
 use history_model::Author;
-use play_script::{OnReply, Stop, play_script};
-use play_seats::{Room, RoomPass};
+use play_seats::{OnReply, Room, RoomPass, Stop, play_script};
 use script_files::OpenScript;
 use side_by_side::Job;
 use std::alloc::Global;

@@ -6,3 +6,4 @@ pub mod Fitting
 pub use Rattle.track_room.specs.Asked
 pub use Rattle.track_room.specs.Rooms
 pub use Rattle.track_room.specs.Sights
+pub use Rattle.play_script.specs.Played

@@ -9,4 +9,5 @@
 mod laws;
 
 pub use laws::joining_law;
+pub use play_script::{Beside, OnReply, Stop, play_script};
 pub use track_room::{Ended, Room, RoomPass};

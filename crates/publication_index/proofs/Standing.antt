@@ -4,7 +4,7 @@ use Rattle.std.proofs.Math.Logic.{∥∥₁_elim}
 use denote.Struct.Props.{props}
 use Rattle.std.specs.Prelude.{IfSome}
 use Rattle.segment_model.specs.Values.{values_by_position}
-use Rattle.segment_cost.specs.declared.done.Done.{Done}
+use Rattle.pelt_core.specs.Done.{Done}
 use Rattle.pelt_core.specs.Seen.{Tabled, table_of}
 use Rattle.publication_index.specs.Standing.{IsTableFor, IsKeptTable}
 

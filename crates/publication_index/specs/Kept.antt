@@ -4,7 +4,7 @@ use Rattle.std.specs.Ordering.{nat_cmp, is_eq}
 use Rattle.std.specs.Cmp.Lexicographic.{slice_cmp}
 use Rattle.std.specs.Map.{lookup}
 use Rattle.history_model.specs.Runs.{Series}
-use Rattle.segment_cost.specs.declared.done.Done.{Done}
+use Rattle.pelt_core.specs.Done.{Done}
 use Rattle.pelt_core.specs.Seen.{Tabled}
 use Rattle.publication_index.specs.declared.held.Held.{Held}
 

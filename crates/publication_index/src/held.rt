@@ -2,8 +2,7 @@
 ghost use Rattle.std.specs.Prelude.{◌≡◌, None, Some, option_copied};
 ghost use Rattle.publication_index.specs.Standing.{IsTableFor};
 
-use pelt_core::Table;
-use segment_cost::{Done, Square};
+use pelt_core::{Done, Square, Table};
 
 // A finished segmentation, and the table of its points at its penalty, unless that was taken.
 #[derive(Drop)]

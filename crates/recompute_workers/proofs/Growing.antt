@@ -16,10 +16,10 @@ use Rattle.history_model.specs.Penalties.{SettingStays}
 use Rattle.history_model.specs.Runs.{Series, is_known}
 use Rattle.touch_model.specs.Laws.{KnownGrows, LatestStays, TouchesGrow}
 use Rattle.track_model.specs.Tracks.{Track, with_entry}
-use Rattle.track_state.specs.Work.{bare}
+use Rattle.track_room.specs.Work.{bare}
 use Rattle.recompute_workers.specs.Quiet.{IsQuiet}
 use Rattle.recompute_workers.specs.Recomputing.{AddsOne, AddsPublications, IsPublicationBy}
-use Rattle.track_state.proofs.Handed.{last-allowed}
+use Rattle.track_room.proofs.Handed.{last-allowed}
 use Rattle.recompute_workers.proofs.Quieting.{quiet-stays, same-known}
 
 pub adds-more : (author : Author) (a b c : Track) → AddsPublications author a b → AddsOne author b c → AddsPublications author a c

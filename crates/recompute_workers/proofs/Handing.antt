@@ -29,14 +29,14 @@ use Rattle.touch_model.specs.Laws.{KnownGrows, TouchesArePast, TouchesGrow}
 use Rattle.touch_model.specs.Stale.{is_behind, is_stale}
 use Rattle.touch_model.specs.Touches.{last_touch}
 use Rattle.track_model.specs.Tracks.{Track, with_entry}
-use Rattle.track_series.specs.Publications.{IsAdded, IsPublished, IsTaken, later, passed}
-use Rattle.track_series.specs.Snapshots.{IsRedone, IsTakenAt}
-use Rattle.track_series.specs.declared.publishing.Published.{Published}
-use Rattle.track_series.specs.declared.publishing.Published.TheVariants as published
-use Rattle.track_series.specs.declared.redone.Redone.{Redone}
-use Rattle.track_series.specs.declared.snapshot.Snapshot.{Snapshot}
+use Rattle.track_room.specs.Publications.{IsAdded, IsPublished, IsTaken, later, passed}
+use Rattle.track_room.specs.Snapshots.{IsRedone, IsTakenAt}
+use Rattle.track_room.specs.Published.{Published}
+use Rattle.track_room.specs.Published.TheVariants as published
+use Rattle.track_room.specs.Redone.{Redone}
+use Rattle.track_room.specs.Snapshot.{Snapshot}
 use Rattle.machine_state.specs.Made.{IsMadeFrom, entry_of, publication_from}
-use Rattle.track_state.specs.Work.{bare}
+use Rattle.track_room.specs.Work.{bare}
 use Rattle.worker_model.specs.Quiet.{HasAllSteps, WouldPassCuts}
 use Rattle.recompute_workers.specs.Quiet.{IsQuiet}
 use Rattle.recompute_workers.specs.Recomputing.{AddsOne}

@@ -14,12 +14,12 @@ use Rattle.history_model.specs.Entries.{entries_of}
 use Rattle.history_model.specs.Publications.{last_publication}
 use Rattle.publication_index.specs.Kept.{series_of}
 use Rattle.track_model.specs.Tracks.{Track, with_entry}
-use Rattle.track_state.specs.Work.{bare}
+use Rattle.track_room.specs.Work.{bare}
 use Rattle.track_room.specs.Asked.{ChangesAt}
 use Rattle.track_room.specs.Sights.{AddsOneAtMost, SeesMore, Sight, Visits, own_marks, seeing, track_of}
 use Rattle.track_room.specs.Taking.{Publishes}
-use Rattle.track_series.specs.Publications.{IsAdded, IsTaken, later, passed}
-use Rattle.track_series.specs.declared.publishing.Published.{Published}
+use Rattle.track_room.specs.Publications.{IsAdded, IsTaken, later, passed}
+use Rattle.track_room.specs.Published.{Published}
 use Rattle.machine_state.specs.Made.{entry_of, publication_from}
 use Rattle.recompute_workers.specs.Recomputing.{IsPublicationBy}
 use Rattle.recompute_workers.specs.Works.{IsByWorker, Works}

@@ -2,4 +2,4 @@ pub mod Quiet
 pub mod Recomputing
 pub mod Stays
 pub mod Works
-pub use Rattle.track_state.specs.Work
+pub use Rattle.track_room.specs.Work

@@ -6,7 +6,7 @@ use Rattle.history_model.specs.declared.entries.Entry.TheVariants.{Publish}
 use Rattle.history_model.specs.declared.entries.Placed.{Placed}
 use Rattle.history_model.specs.declared.publication.Publication.{Publication}
 use Rattle.track_model.specs.Tracks.{Track, with_entry}
-use Rattle.track_state.specs.Work.{bare}
+use Rattle.track_room.specs.Work.{bare}
 
 -- a publication by this author
 pub record IsPublicationBy (author : Author) (p : Placed) : Type 0 where

@@ -5,15 +5,14 @@ ghost use Rattle.history_model.specs.Runs.{is_known};
 ghost use Rattle.worker_model.specs.Quiet.{SeriesAreQuiet};
 ghost use Rattle.recompute_workers.specs.Quiet.{IsQuiet};
 ghost use Rattle.recompute_workers.specs.Recomputing.{AddsOne, AddsPublications};
-ghost use Rattle.track_state.specs.Work.{IsUntaken, history_of};
+ghost use Rattle.track_room.specs.Work.{IsUntaken, history_of};
 
 use crate::NoMemory;
 use history_model::{Author, growth_law, publication_law, setting_law};
 use series_index::SeriesName;
 use std::alloc::Global;
 use touch_model::{stale_law, touch_law};
-use track_series::compute_apart;
-use track_state::TrackState;
+use track_room::{TrackState, compute_apart};
 
 // Publishes a series, where it is stale.
 fn recompute_series(alloc: Global, work: &mut TrackState, name: &SeriesName) -> Result<(), NoMemory>

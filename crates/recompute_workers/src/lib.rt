@@ -13,6 +13,5 @@ mod worker;
 
 pub use last::recompute_last;
 pub use std::alloc::AllocError as NoMemory;
-pub use track_room::{AtGate, leave_each, unclaimed};
-pub use track_state::TrackState;
+pub use track_room::{AtGate, TrackState, leave_each, unclaimed};
 pub use worker::{recompute, recompute_by};

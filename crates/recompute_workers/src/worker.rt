@@ -11,8 +11,7 @@ use history_model::{Author, publication_law};
 use std::alloc::Global;
 use std::sync::Wait;
 use track_outside::{Gate, Place};
-use track_room::{AtGate, Ended, Pace, Room, RoomPass, SeriesClaim};
-use track_series::{Snapshot, compute_apart};
+use track_room::{AtGate, Ended, Pace, Room, RoomPass, SeriesClaim, Snapshot, compute_apart};
 
 // Computes a series that was taken, and publishes it; gives it back where there is no memory.
 fn finish<R: Wait>(

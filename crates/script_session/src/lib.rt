@@ -22,5 +22,6 @@ mod laws;
 
 pub use counted::answer_counted;
 pub use laws::{count_law, output_law, part_law, trial_law};
+pub use script_desk::{Session, Trial};
 pub use script_loop::Stop;
 pub use std::alloc::AllocError as NoMemory;

@@ -10,8 +10,8 @@ use Rattle.history_model.specs.declared.entries.Author.TheVariants.{Recompute}
 use Rattle.track_model.specs.Tracks.{Track}
 use Rattle.worker_crew.specs.Recomputing.{AddsPublications}
 use Rattle.worker_crew.specs.Work.{Work}
-use Rattle.play_crew.specs.Fitting.{IsUnasked}
-use Rattle.play_crew.specs.Sights.{tracks_of}
+use Rattle.worker_crew.specs.Fitting.{IsUnasked}
+use Rattle.worker_crew.specs.Sights.{tracks_of}
 use Rattle.worker_crew.specs.Runs.{BisectsEach, BisectsLast, IsNew, RecomputesLast, Tally, runners_by}
 use Rattle.shared_run.specs.Crews.{Finishes}
 use Rattle.shared_run.proofs.Running.{whole-of}

@@ -12,10 +12,10 @@ use Rattle.history_model.specs.Entries.{entries_of}
 use Rattle.track_model.specs.Tracks.{Track}
 use Rattle.keep_rows.specs.Kept.{kept, kept_entries, kept_of}
 use Rattle.keep_rows.specs.Machines.{AreDifferent, IsOther, is_track, names_of}
-use Rattle.play_crew.specs.Rooms.{IsPassOf}
-use Rattle.play_crew.specs.Sights.{Home, IsFirstOf, Sight}
-use Rattle.play_crew.specs.Gathered.{AreKept}
-use Rattle.play_crew.specs.Seats as seats
+use Rattle.worker_crew.specs.Rooms.{IsPassOf}
+use Rattle.worker_crew.specs.Sights.{Home, IsFirstOf, Sight}
+use Rattle.worker_crew.specs.Gathered.{AreKept}
+use Rattle.worker_crew.specs.Seats as seats
 use Rattle.keep_rows.specs.Loading.{Stored}
 use Rattle.shared_run.specs.Beginnings.{AreStored, Begins, MayBeStarted, WasStarted}
 use Rattle.shared_run.specs.Lists.{listed_track, with_listed, with_machine}

@@ -4,7 +4,7 @@ use Rattle.std.specs.Prelude.{Result}
 use Rattle.std.specs.List.{AllByRecursion}
 use Rattle.command_words.specs.Plans.{Plan}
 use Rattle.play_fits.specs.Workers.{Asked}
-use Rattle.play_crew.specs.Fitting.{IsUnasked}
+use Rattle.worker_crew.specs.Fitting.{IsUnasked}
 use Rattle.shared_run.specs.declared.stop.RunStop.{RunStop}
 use Rattle.shared_run.specs.declared.stop.RunStop.TheVariants as run
 use Rattle.shared_run.specs.Beginnings.{MayBeStarted, NoneCause, WasStarted}

@@ -15,17 +15,17 @@ use Rattle.script_files.specs.declared.open.OpenScript.{OpenScript}
 use Rattle.script_files.specs.Opening.{IsOpen}
 use Rattle.script_files.specs.Closing.{HaveWritten}
 use Rattle.script_loop.specs.declared.stop.Stop.{Stop}
-use Rattle.play_crew.specs.Rooms.{AreSame, IsPassOf, IsWhole}
-use Rattle.play_crew.specs.Sights.{EndsWhole, Home, IsFirstOf, Sight}
+use Rattle.worker_crew.specs.Rooms.{AreSame, IsPassOf, IsWhole}
+use Rattle.worker_crew.specs.Sights.{EndsWhole, Home, IsFirstOf, Sight}
 use Rattle.play_fits.specs.Fits.{Fits, Play}
 use Rattle.play_fits.specs.Scripts.{Exchange, IsWritten}
 use Rattle.play_fits.specs.Quiet.{IsQuiet}
-use Rattle.play_script.specs.Played.{in_full}
-use Rattle.play_crew.specs.Fitting.{ArePlayedFrom}
-use Rattle.play_crew.specs.Gathered.{AreKept}
-use Rattle.play_crew.specs.Seats.{AreDifferent, Seat}
-use Rattle.play_crew.specs.Shared as shared
-use Rattle.play_crew.specs.Shared.{JoinsAll}
+use Rattle.worker_crew.specs.Played.{in_full}
+use Rattle.worker_crew.specs.Fitting.{ArePlayedFrom}
+use Rattle.worker_crew.specs.Gathered.{AreKept}
+use Rattle.worker_crew.specs.Seats.{AreDifferent, Seat}
+use Rattle.worker_crew.specs.Shared as shared
+use Rattle.worker_crew.specs.Shared.{JoinsAll}
 use Rattle.worker_crew.specs.Laws.{RunOfPlayersFits, RunOfPlayersIsQuiet}
 use Rattle.worker_crew.specs.Runs.{RunsPlayers}
 use Rattle.worker_crew.specs.Last.{HasQuietSeries}
@@ -33,7 +33,7 @@ use Rattle.worker_crew.specs.Seated.{AreSeated, BisectorsSit, RecomputersSit, Se
 use Rattle.worker_crew.specs.Whole.{CrewRuns, RunsCrew}
 use Rattle.worker_crew.specs.Workers as workers
 use Rattle.worker_crew.specs.Workers.{Working}
-use Rattle.play_crew.specs.Players.{IsOfRoom, Playing, Plays, end_of, open_of, pass_of, players_from}
+use Rattle.worker_crew.specs.Players.{IsOfRoom, Playing, Plays, end_of, open_of, pass_of, players_from}
 use Rattle.shared_run.specs.Endings as endings
 use Rattle.shared_run.specs.Endings.{Told}
 use Rattle.shared_run.specs.Crews.{AreNew, RanCrew, RanIn, asked_by, word_of}

@@ -26,15 +26,15 @@ use Rattle.script_files.specs.Closing.{RoseBy, failed_inputs, failed_outputs}
 use Rattle.script_loop.specs.Endings.{HasRead, HasWritten}
 use Rattle.script_loop.specs.declared.stop.Stop.{Stop}
 use Rattle.script_loop.specs.declared.stop.Stop.TheVariants as stop
-use Rattle.play_crew.specs.Sights.{Home, Sight}
+use Rattle.worker_crew.specs.Sights.{Home, Sight}
 use Rattle.play_fits.specs.Fits.{Fits}
 use Rattle.play_fits.specs.Quiet.{IsQuiet}
 use Rattle.play_fits.specs.Workers.{Asked}
-use Rattle.play_script.specs.Played.{in_full}
-use Rattle.play_crew.specs.Gathered.{AreKept}
-use Rattle.play_crew.specs.Seats.{AreDifferent}
-use Rattle.play_crew.specs.Players.{Playing, Plays, end_of, open_of, players_from}
-use Rattle.play_crew.proofs.Gathered.{mapped-at, mapped-from}
+use Rattle.worker_crew.specs.Played.{in_full}
+use Rattle.worker_crew.specs.Gathered.{AreKept}
+use Rattle.worker_crew.specs.Seats.{AreDifferent}
+use Rattle.worker_crew.specs.Players.{Playing, Plays, end_of, open_of, players_from}
+use Rattle.worker_crew.proofs.Gathered.{mapped-at, mapped-from}
 use Rattle.shared_run.specs.declared.stop.RunStop.{RunStop}
 use Rattle.shared_run.specs.declared.stop.RunStop.TheVariants as run
 use Rattle.shared_run.specs.Beginnings.{Begins, Keeps, WasStarted}

@@ -15,10 +15,10 @@ use Rattle.script_files.specs.Closing.{AreClosable, IsClosable}
 use Rattle.script_loop.specs.Endings.{HasWritten}
 use Rattle.script_loop.specs.declared.stop.Stop.{Stop}
 use Rattle.script_loop.specs.declared.stop.Stop.TheVariants as stop
-use Rattle.play_crew.specs.Rooms.{IsPassOf, badge}
-use Rattle.play_crew.specs.Sights.{Home, Sight}
-use Rattle.play_crew.specs.Seats.{AreDifferent, IsSeated}
-use Rattle.play_crew.specs.Players.{CanPlay, IsOfRoom, Playing, Plays, open_of, players_from}
+use Rattle.worker_crew.specs.Rooms.{IsPassOf, badge}
+use Rattle.worker_crew.specs.Sights.{Home, Sight}
+use Rattle.worker_crew.specs.Seats.{AreDifferent, IsSeated}
+use Rattle.worker_crew.specs.Players.{CanPlay, IsOfRoom, Playing, Plays, open_of, players_from}
 use Rattle.shared_run.specs.declared.stop.RunStop.{RunStop}
 use Rattle.shared_run.specs.declared.stop.RunStop.TheVariants.{NoMemory}
 use Rattle.shared_run.specs.Causes.{open_stop}

@@ -4,10 +4,10 @@ use Rattle.std.specs.List.{AllByRecursion}
 use Rattle.std.proofs.lemmas.List.{length-append, take-append-drop}
 use Rattle.side_by_side.specs.Runs.{AllWorked}
 use Rattle.track_outside.specs.declared.runner.Runner as runner
-use Rattle.play_crew.specs.Rooms.{IsPassOf}
-use Rattle.play_crew.specs.Sights.{Home, Sight, splitting}
-use Rattle.play_crew.specs.Seats.{Seat}
-use Rattle.play_crew.specs.Shared.{SplitsAll}
+use Rattle.worker_crew.specs.Rooms.{IsPassOf}
+use Rattle.worker_crew.specs.Sights.{Home, Sight, splitting}
+use Rattle.worker_crew.specs.Seats.{Seat}
+use Rattle.worker_crew.specs.Shared.{SplitsAll}
 use Rattle.worker_crew.specs.Seated.{bisect_seat, recompute_seat}
 use Rattle.worker_crew.specs.Workers.{Bisects, HaveWorked, IsOfRoom, IsSeated, Working, workers_from}
 

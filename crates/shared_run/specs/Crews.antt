@@ -9,11 +9,11 @@ use Rattle.command_words.specs.Plans.{Plan}
 use Rattle.script_loop.specs.declared.stop.Stop.{Stop}
 use Rattle.side_by_side.specs.Runs.{AllWorked}
 use Rattle.track_model.specs.Tracks.{Track}
-use Rattle.play_crew.specs.Rooms.{IsPassOf}
-use Rattle.play_crew.specs.Sights.{EndsWhole, Home, IsFirstOf, Sight}
+use Rattle.worker_crew.specs.Rooms.{IsPassOf}
+use Rattle.worker_crew.specs.Sights.{EndsWhole, Home, IsFirstOf, Sight}
 use Rattle.play_fits.specs.Workers.{Asked}
-use Rattle.play_crew.specs.Shared.{JoinsAll, SplitsAll}
-use Rattle.play_crew.specs.Players as players
+use Rattle.worker_crew.specs.Shared.{JoinsAll, SplitsAll}
+use Rattle.worker_crew.specs.Players as players
 use Rattle.worker_crew.specs.Runs.{DoesLast, IsNew, runners_by}
 use Rattle.worker_crew.specs.Last.{HasQuietJobs, HasQuietSeries}
 use Rattle.worker_crew.specs.Whole.{tallies}

@@ -19,7 +19,7 @@ use Rattle.request_reader.specs.Scripts.{Ending, end, cut_off, unfinished, IsScr
 use Rattle.play_fits.specs.Fits.{Play, Played, Fits}
 use Rattle.play_fits.specs.Quiet.{IsQuiet}
 use Rattle.play_fits.specs.Workers.{Asked}
-use Rattle.play_crew.specs.Fitting.{IsUnasked}
+use Rattle.worker_crew.specs.Fitting.{IsUnasked}
 use Rattle.script_files.specs.declared.open.OpenScript.{OpenScript}
 use Rattle.script_files.specs.Opening.{Asks, IsOpen, calls_for}
 use Rattle.script_files.specs.Closing.{Closes}

@@ -12,8 +12,8 @@ use Rattle.script_loop.specs.declared.stop.Stop.{Stop}
 use Rattle.history_model.specs.Allowed.{Legal}
 use Rattle.history_model.specs.Entries.{entries_of}
 use Rattle.track_model.specs.Tracks.{Track}
-use Rattle.play_crew.specs.Sights.{Home, Sight}
-use Rattle.play_crew.specs.Players.{Playing, Plays, end_of, open_of, players_from}
+use Rattle.worker_crew.specs.Sights.{Home, Sight}
+use Rattle.worker_crew.specs.Players.{Playing, Plays, end_of, open_of, players_from}
 use Rattle.shared_run.specs.declared.stop.RunStop.{RunStop}
 use Rattle.shared_run.specs.declared.stop.RunStop.TheVariants.{CreateFault, NoMemory, OpenFault}
 

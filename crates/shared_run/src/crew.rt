@@ -1,14 +1,13 @@
 //! The scripts of a run, and its workers beside them.
 ghost use Rattle.std.specs.Prelude.{◌≤◌, length};
 ghost use Rattle.std.specs.List.{AllByRecursion, AllZip};
-ghost use Rattle.play_crew.specs.Players.{CanPlay, Plays};
+ghost use Rattle.worker_crew.specs.Players.{CanPlay, Plays};
 ghost use Rattle.worker_crew.specs.Workers.{HaveWorked, IsSeated, Recomputes};
 
-use play_crew::{Ended, Player};
 use std::sync::Wait;
 use std::thread::Threads;
 use track_outside::{Gate, Runner, Sink, Source};
-use worker_crew::{RoomWorker, work_beside};
+use worker_crew::{Ended, Player, RoomWorker, work_beside};
 
 // Plays the scripts at once, and beside them has the workers work, each that bisects with the runner in its place. Returns when
 // all have ended; runners behind the last worker stay as they are.

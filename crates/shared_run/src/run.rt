@@ -1,22 +1,24 @@
 //! The scripts and the workers of a run, at once on its machines.
 ghost use Rattle.std.specs.Prelude.{◌≡◌, ◌≤◌, length, IfOk, IfErr, OnErr, Err};
 ghost use Rattle.command_words.specs.Plans.{AreScripts};
-ghost use Rattle.play_crew.specs.Rooms.{IsFirst, IsPassOf};
-ghost use Rattle.play_crew.specs.Seats.{AreDifferent};
+ghost use Rattle.worker_crew.specs.Rooms.{IsFirst, IsPassOf};
+ghost use Rattle.worker_crew.specs.Seats.{AreDifferent};
 ghost use Rattle.shared_run.specs.Crews.{RanCrew, SplitsFor, word_of};
 ghost use Rattle.shared_run.specs.Ran.{NotBegun};
 
 use crate::crew::run_crew;
 use crate::stop::RunStop;
 use command_words::PlayPlan;
-use play_crew::{Ended, Room, RoomPass, leave, seat_scripts, split_passes};
 use script_files::{close_scripts, open_scripts};
 use script_loop::Stop;
 use std::alloc::{AllocError, Global};
 use std::sync::Wait;
 use std::thread::Threads;
 use track_outside::{Files, Gate, Runner};
-use worker_crew::{Staff, crew_law, leave_workers, seat_workers};
+use worker_crew::{
+    Ended, Room, RoomPass, Staff, crew_law, leave, leave_workers, seat_scripts, seat_workers,
+    split_passes,
+};
 
 /// Runs the scripts at once, and beside them the plan's workers, each with a pass of its own that is joined back; and each worker
 /// that bisects with the runner in its place. Says how each script ended, and whether a worker met want of memory. All memory

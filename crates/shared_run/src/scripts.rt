@@ -17,14 +17,13 @@ use crate::stop::{RunStop, deciding_stop};
 use command_words::PlayPlan;
 use keep_rows::{Loaded, rows_law};
 use machine_state::MachineState;
-use play_crew::{Ended, Room, joining_law};
 use request_reader::reading_law;
 use script_loop::Stop;
 use std::alloc::Global;
 use std::sync::Wait;
 use std::thread::Threads;
 use track_outside::{Files, Gate, Keeper, Runner};
-use worker_crew::{crew_law, run_law, unclaimed};
+use worker_crew::{Ended, Room, crew_law, joining_law, run_law, unclaimed};
 
 /// Runs the plan's scripts at once, and beside them its workers, on the machines of its store and its list; then does what the
 /// workers left, as the first of each kind; writes the journals of the machines, and adds their new rows to the store, where

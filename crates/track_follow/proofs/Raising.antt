@@ -20,10 +20,10 @@ use Rattle.request_model.specs.declared.replies.Refusal.TheVariants as refusal
 use Rattle.track_model.specs.Following as following
 use Rattle.track_model.specs.Laws.{StepsAreFull, StepIsAdded}
 use Rattle.track_model.specs.Outcomes.{Outcome, refuses, refusal_if, unless, adds_within}
-use Rattle.machine_state.specs.Made.{publication_from, IsMadeFrom}
+use Rattle.track_replay.specs.Made.{publication_from, IsMadeFrom}
 use Rattle.track_follow.specs.Raised.{raised_from}
-use Rattle.machine_state.specs.State.{IsLast}
-use Rattle.machine_state.proofs.Published.{tells-last}
+use Rattle.track_replay.specs.State.{IsLast}
+use Rattle.track_replay.proofs.Published.{tells-last}
 
 pub range : (count number : ℕ) → is_number count number ≡ true → (1 ≤ number) × (number ≤ count)
 range count number is =

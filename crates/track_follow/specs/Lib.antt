@@ -1,2 +1,9 @@
 pub mod Raised
 pub mod Settling
+pub use Rattle.track_replay.specs.declared.verdict.Verdict
+pub use Rattle.track_replay.specs.Verdicts
+pub use Rattle.track_replay.specs.Replays
+pub use Rattle.track_replay.specs.Indexes
+pub use Rattle.track_replay.specs.Made
+pub use Rattle.track_replay.specs.State
+pub use Rattle.track_replay.specs.MachineState

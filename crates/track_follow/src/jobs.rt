@@ -14,13 +14,12 @@ use crate::NoMemory;
 use bisect_core::Job;
 use history_model::{Author, Entry, JobEvent, between_law, growth_law, jobs_law};
 use line_text::{Duplicate, Name};
-use machine_state::MachineState;
 use metric_table::Limit;
 use report_lines::{asked, told};
 use report_model::Told;
 use request_model::{Answer, Refusal, Reply};
 use track_model::{begin_law, say_law, steps_law};
-use track_replay::open_after;
+use track_replay::{MachineState, open_after};
 
 // Where a job stands, its commits by name.
 fn standing(track: &MachineState, number: u64, job: &Job) -> Result<Told, NoMemory>

@@ -15,3 +15,4 @@ pub use jobs::{answer_job, bisect, job, resume};
 pub use regressions::{regress, set_state};
 pub use settling::{Settled, settle};
 pub use std::alloc::AllocError as NoMemory;
+pub use track_replay::{MachineState, Verdict, replay, retract_refusal, room_for};

@@ -11,14 +11,13 @@ use crate::NoMemory;
 use change_list::commits_beside;
 use history_model::{Author, Entry, Raised, RegressionEvent};
 use line_text::{Duplicate, Name};
-use machine_state::MachineState;
 use metric_table::Limit;
 use regression_state::{State, may_move};
 use request_model::{Answer, Refusal, Reply};
 use segment_cost::Done;
 use std::alloc::Global;
 use track_model::{follow_law, steps_law};
-use track_replay::state_of;
+use track_replay::{MachineState, state_of};
 
 // Whether a number is one of so many, from 1 on.
 fn is_number(count: u64, number: u64) -> bool

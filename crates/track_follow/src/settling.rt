@@ -12,9 +12,9 @@ ghost use Rattle.track_follow.specs.Settling.{IsPut, IsSettled, said_of};
 use crate::NoMemory;
 use bisect_core::{Answered, Job, Outcome};
 use history_model::{Author, Entry, JobEvent, within_law};
-use machine_state::MachineState;
 use metric_table::Limit;
 use track_model::say_law;
+use track_replay::MachineState;
 
 /// What became of something that was said of a place of a job.
 #[derive(Clone, Copy, Debug, PartialEq, Eq)]

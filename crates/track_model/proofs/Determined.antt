@@ -5,8 +5,8 @@ use Rattle.segment_model.specs.Segments.{Position, segment}
 use Rattle.segment_model.specs.Cuts.{place_before, place_behind}
 use Rattle.segment_model.specs.Laws.{CentreIsUnique}
 use Rattle.metric_table.specs.Table.{row_of}
-use Rattle.segment_cost.specs.Certificate.{OneCertificate}
-use Rattle.segment_cost.specs.declared.cert.Cert.{Cert}
+use Rattle.change_list.specs.Certificate.{OneCertificate}
+use Rattle.change_list.specs.Cert.{Cert}
 use Rattle.change_list.specs.Changes.{IsWorse, IsChange, AreChanges}
 use Rattle.change_list.specs.declared.change.Change.{Change}
 use Rattle.series_noise.specs.Noise.{OneNoise}

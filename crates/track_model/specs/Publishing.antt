@@ -2,8 +2,8 @@
 -- relation, since a best cut list is one list among all.
 use Rattle.std.specs.Prelude.{◌≡◌, ℕ, pos, ◌*◌, ◌-◌, Bool, true, false, nat_lt, ◌&&◌, nat_le, max, if◌then◌else◌, List, [], ◌∷◌, map, length, take, unwrap_or, Option, Some, None}
 use Rattle.metric_table.specs.declared.limits.Limit.TheVariants.{Cuts, Steps}
-use Rattle.segment_cost.specs.Certificate.{StandsFor}
-use Rattle.segment_cost.specs.declared.cert.Cert.{Cert}
+use Rattle.change_list.specs.Certificate.{StandsFor}
+use Rattle.change_list.specs.Cert.{Cert}
 use Rattle.change_list.specs.Changes.{AreChanges}
 use Rattle.change_list.specs.declared.change.Change.{Change}
 use Rattle.series_noise.specs.Noise.{IsNoise}

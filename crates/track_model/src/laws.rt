@@ -27,10 +27,10 @@ ghost use Rattle.track_model.specs.Laws.{
   OneOutcome,
 };
 
+use change_list::one_certificate_law;
 use history_model::{
     growth_law, jobs_law, limits_law, publication_law, regressions_law, within_law,
 };
-use segment_cost::one_certificate_law;
 use segment_model::centre_law;
 use series_noise::noise_law;
 

@@ -9,12 +9,11 @@ ghost use Rattle.track_model.specs.Tracks.{IsStep};
 use crate::NoMemory;
 use history_model::{Author, Entry, limits_law};
 use line_text::{Boxed, Duplicate, Name};
-use machine_state::MachineState;
 use metric_table::Limit;
 use request_model::{Answer, Refusal, Reply};
 use series_noise::noise;
 use track_model::tune_law;
-use track_replay::tune_refusal;
+use track_replay::{MachineState, tune_refusal};
 
 /// `tune M METRIC PENALTY LENGTH`: the metric has this penalty from here on, and this least length, or the one that it has.
 /// Logarithmic time.

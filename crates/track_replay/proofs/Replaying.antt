@@ -11,14 +11,14 @@ use Rattle.history_model.specs.declared.entries.Entry.{Entry}
 use Rattle.history_model.specs.declared.entries.Entry.TheVariants as entry
 use Rattle.history_model.specs.Allowed.{KeepsLimits, count_of, first_passed}
 use Rattle.history_model.specs.Commits.{declaration, declarations, number_of, name_of}
-use Rattle.track_model.specs.Forms as forms
-use Rattle.track_model.specs.Outcomes.{first, refusal_if}
+use Rattle.machine_state.specs.Forms as forms
+use Rattle.machine_state.specs.Outcomes.{first, refusal_if}
 use Rattle.request_model.specs.declared.replies.Answer.TheVariants as answer
 use Rattle.request_model.specs.declared.replies.Refusal.TheVariants as refusal
 use Rattle.history_model.specs.Runs.{Retraction, accepted, retracted}
 use Rattle.history_model.proofs.Chosen.{chosen-push}
 use Rattle.history_model.specs.Laws.{LimitsAfterCommit, LimitsAfterRetract, LimitsAfterTune}
-use Rattle.track_model.specs.Laws.{TuneMayFollow}
+use Rattle.machine_state.specs.Laws.{TuneMayFollow}
 use Rattle.track_replay.specs.Replays.{IsAllowance, commit_fits, retraction_fits, tuning_fits}
 use Rattle.track_replay.proofs.Retractions.{free-run}
 use Rattle.machine_state.proofs.Series.{no-more}

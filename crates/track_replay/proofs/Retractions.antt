@@ -6,11 +6,11 @@ use Rattle.history_model.specs.declared.entries.Entry.{Entry}
 use Rattle.request_model.specs.declared.replies.Answer.{Answer}
 use Rattle.request_model.specs.declared.replies.Answer.TheVariants as answer
 use Rattle.request_model.specs.declared.replies.Refusal.TheVariants as refusal
-use Rattle.track_model.specs.Outcomes.{refusal_if, first}
+use Rattle.machine_state.specs.Outcomes.{refusal_if, first}
 use Rattle.history_model.specs.Runs.{Retraction, accepted, retracted, takes_back, is_run, acceptances, retractions}
-use Rattle.track_model.specs.Forms as forms
+use Rattle.machine_state.specs.Forms as forms
 use Rattle.history_model.proofs.Lists.{find-passes, same-bytes}
-use Rattle.track_model.proofs.Rows.{first-none, option_map-none}
+use Rattle.machine_state.proofs.Rows.{first-none, option_map-none}
 use Rattle.sample_store.specs.declared.store.Stored.{Stored}
 use Rattle.sample_store.specs.Runs.{names}
 use Rattle.machine_state.specs.Indexes.{stored, stored_runs}

@@ -7,9 +7,9 @@ use Rattle.history_model.specs.declared.entries.Entry.{Entry}
 use Rattle.history_model.specs.Allowed.{Allowed}
 use Rattle.history_model.specs.Commits.{declarations, number_of, name_of}
 use Rattle.history_model.specs.Entries.{entries_of}
-use Rattle.track_model.specs.Forms as forms
+use Rattle.machine_state.specs.Forms as forms
 use Rattle.history_model.specs.Runs.{known_series}
-use Rattle.track_model.specs.Tracks.{Track, with_entry}
+use Rattle.machine_state.specs.Tracks.{Track, with_entry}
 
 -- the entry was added exactly where it was allowed; else nothing changed
 pub record IsReplayed (old : Track) (e : Entry) (added : Bool) (new : Track) : Type 0 where

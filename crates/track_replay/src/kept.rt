@@ -12,9 +12,8 @@ use crate::refusals::{retract_refusal, tune_refusal};
 use crate::verdict::Verdict;
 use history_model::{Author, Entry, Run, accept_law, limits_law, retraction_law, within_law};
 use line_text::Name;
-use machine_state::MachineState;
+use machine_state::{MachineState, tune_law};
 use metric_table::Limit;
-use track_model::tune_law;
 
 fn commit_fits(track: &MachineState, number: u64, name: &Name) -> bool
     ensures { result ≡ commit_fits (entries_of track.now.history) number name.now }

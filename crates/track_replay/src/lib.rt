@@ -15,6 +15,7 @@ mod verdict;
 pub use events::{open_after, state_of};
 pub use kept::replay;
 pub use limits::room_for;
+pub use machine_state::MachineState;
 pub use refusals::{retract_refusal, tune_refusal};
 pub use std::alloc::AllocError as NoMemory;
 pub use verdict::Verdict;

@@ -1,7 +1,7 @@
 //! Why a run can't be retracted, and a metric can't be tuned.
 ghost use Rattle.std.specs.Prelude.{◌≡◌};
 ghost use Rattle.history_model.specs.Entries.{entries_of};
-ghost use Rattle.track_model.specs.Forms as forms;
+ghost use Rattle.machine_state.specs.Forms as forms;
 
 use line_text::Name;
 use machine_state::MachineState;

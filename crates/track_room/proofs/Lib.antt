@@ -10,3 +10,8 @@ pub mod Jobs
 pub mod Outs
 pub mod Firsts
 pub mod Sent
+pub use Rattle.track_state.proofs.Handed
+pub use Rattle.track_state.proofs.Snapped
+pub use Rattle.track_state.proofs.Untaken
+pub use Rattle.track_state.proofs.Segmenting
+pub use Rattle.track_state.proofs.Bisecting

@@ -18,16 +18,16 @@ use Rattle.track_model.specs.Outcomes.{Outcome, refuses}
 use Rattle.track_model.specs.Publishing.{IsPublishedFrom, OfLatest, SegmentComesFrom, later}
 use Rattle.track_model.specs.Tracks.{Track}
 use Rattle.history_model.specs.Publications.{last_publication}
-use Rattle.machine_state.specs.Made.{IsMadeFrom}
-use Rattle.track_series.specs.Snapshots.{IsRedone, IsTakenAt}
-use Rattle.track_series.specs.declared.beside.Begun.TheVariants.{Known, Unknown}
-use Rattle.track_series.specs.declared.redone.Redone.{Redone}
-use Rattle.track_series.specs.declared.snapshot.Snapshot.{Snapshot}
-use Rattle.track_series.proofs.Segmenting.{made-from, series-is}
-use Rattle.machine_state.proofs.Publishing.{made-later}
+use Rattle.track_state.specs.Made.{IsMadeFrom}
+use Rattle.track_state.specs.Snapshots.{IsRedone, IsTakenAt}
+use Rattle.track_state.specs.Begun.TheVariants.{Known, Unknown}
+use Rattle.track_state.specs.Redone.{Redone}
+use Rattle.track_state.specs.Snapshot.{Snapshot}
+use Rattle.track_state.proofs.Segmenting.{made-from, series-is}
+use Rattle.track_state.proofs.Publishing.{made-later}
 use Rattle.track_state.proofs.Snapped.{bare-taken, entries-taken}
 use Rattle.track_state.specs.Work.{Work, bare, history_of}
-use Rattle.machine_state.proofs.Told.{unknown}
+use Rattle.track_state.proofs.Told.{unknown}
 use Rattle.history_model.specs.Laws.{LastStands, VersionsStay}
 use Rattle.track_room.specs.Asked.{IsReplied}
 use Rattle.track_room.specs.Sights.{Sight, SeesMore, Visits, own_marks, seeing}

@@ -30,7 +30,7 @@ use Rattle.track_room.specs.contracts.machine.MachineLock as MachineLock
 use Rattle.track_room.specs.contracts.machine.MachinePass as MachinePass
 use Rattle.track_room.specs.contracts.room.Room as Room
 use Rattle.track_room.specs.contracts.room.RoomPass as RoomPass
-use Rattle.machine_state.specs.contracts.state.MachineState as MachineState
+use Rattle.track_state.specs.MachineState as MachineState
 use Rattle.track_state.specs.contracts.state.TrackState as TrackState
 use base.Fml.{Fml}
 use denote.Param.Send.{IsSend, IsSync, part_keyless, sendable, owning_send}

@@ -27,12 +27,12 @@ use Rattle.history_model.specs.Entries.{entries_of}
 use Rattle.history_model.specs.Publications.{last_publication}
 use Rattle.publication_index.specs.Kept.{series_of}
 use Rattle.track_model.specs.Publishing.{later}
-use Rattle.machine_state.specs.Made.{entry_of}
-use Rattle.track_series.specs.Publications.{IsAdded, IsPublished, IsTaken, passed}
-use Rattle.track_series.specs.declared.publishing.Published.{Published}
-use Rattle.track_follow.specs.Settling.{IsPut, IsSettled, entry_said}
-use Rattle.track_follow.specs.Settling as settling
-use Rattle.track_follow.specs.declared.settling.Settled.{Settled}
+use Rattle.track_state.specs.Made.{entry_of}
+use Rattle.track_state.specs.Publications.{IsAdded, IsPublished, IsTaken, passed}
+use Rattle.track_state.specs.Published.{Published}
+use Rattle.track_state.specs.Settling.{IsPut, IsSettled, entry_said}
+use Rattle.track_state.specs.Settling as settling
+use Rattle.track_state.specs.Settled.{Settled}
 use Rattle.track_room.specs.Visits.{DoesOrStays, Grows, IsFound, Stays}
 use Rattle.track_room.specs.declared.guarded.Owner.{Owner}
 use Rattle.track_room.specs.Inside.{owner_of, sight_of}

@@ -3,7 +3,7 @@ use Rattle.std.specs.Prelude.{◌≡◌, ℕ, List, Option, option_map}
 use Rattle.std.specs.List.{AllZip}
 use Rattle.segment_cost.specs.declared.done.Done.{Done}
 use Rattle.touch_index.specs.declared.key.SeriesKey.{SeriesKey}
-use Rattle.track_series.specs.declared.snapshot.Snapshot.{Snapshot}
+use Rattle.track_state.specs.Snapshot.{Snapshot}
 use Rattle.track_state.specs.declared.taking.TakenSeries.{TakenSeries}
 use Rattle.track_room.specs.Asked.{ChangesAt}
 use Rattle.track_room.specs.Sights.{Sight, SeesMore, Visits}

@@ -7,3 +7,15 @@ pub mod Asked
 pub mod Taking
 pub mod Whole
 pub mod Claims
+pub use Rattle.track_state.specs.Work
+pub use Rattle.track_state.specs.Taking as TrackStateTaking
+pub use Rattle.track_state.specs.declared.questions.Question
+pub use Rattle.track_state.specs.Questions
+pub use Rattle.track_state.specs.Asking
+pub use Rattle.track_state.specs.Publications
+pub use Rattle.track_state.specs.Snapshots
+pub use Rattle.track_state.specs.Published
+pub use Rattle.track_state.specs.Redone
+pub use Rattle.track_state.specs.Snapshot
+pub use Rattle.track_state.specs.Settling
+pub use Rattle.track_state.specs.Settled

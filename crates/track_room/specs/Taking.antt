@@ -9,10 +9,10 @@ use Rattle.history_model.specs.Entries.{entries_of}
 use Rattle.history_model.specs.Jobs.{jobs, job_in}
 use Rattle.touch_index.specs.declared.key.SeriesKey.{SeriesKey}
 use Rattle.touch_index.specs.declared.mark.Claim.TheVariants.{Free}
-use Rattle.track_follow.specs.declared.settling.Settled.{Settled}
+use Rattle.track_state.specs.Settled.{Settled}
 use Rattle.track_model.specs.Tracks.{Track}
-use Rattle.track_series.specs.Snapshots.{IsTakenAt}
-use Rattle.track_series.specs.declared.publishing.Published.{Published}
+use Rattle.track_state.specs.Snapshots.{IsTakenAt}
+use Rattle.track_state.specs.Published.{Published}
 use Rattle.track_state.specs.Questions as questions
 use Rattle.track_state.specs.Taking as taking
 use Rattle.track_state.specs.Work.{Work, ClaimBecomes, history_of, series_of}

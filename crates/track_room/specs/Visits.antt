@@ -10,8 +10,8 @@ use Rattle.request_model.specs.declared.replies.Reply.{Reply}
 use Rattle.segment_cost.specs.declared.done.Done.{Done}
 use Rattle.track_model.specs.Outcomes.{Outcome}
 use Rattle.track_model.specs.Tracks.{ComesTo, IsStep, Track}
-use Rattle.track_series.specs.Beside.{IsBegun}
-use Rattle.track_series.specs.declared.beside.Begun.{Begun}
+use Rattle.track_state.specs.Beside.{IsBegun}
+use Rattle.track_state.specs.Begun.{Begun}
 use Rattle.track_state.specs.Taking as taking
 use Rattle.track_state.specs.Work.{Work, bare, history_of}
 use Rattle.track_room.specs.Sights.{Sight, SeesMore, track_of}

@@ -14,7 +14,7 @@ use line_text::Name;
 use request_model::{Reply, Request};
 use std::alloc::Global;
 use std::sync::Wait;
-use track_series::{Begun, compute_apart};
+use track_state::{Begun, compute_apart};
 
 impl MachineLock {
     // Answers a request about this machine.

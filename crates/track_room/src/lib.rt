@@ -40,3 +40,4 @@ pub use pace::{AtGate, Pace};
 pub use room::{Room, RoomPass};
 pub use states::{leave_each, unclaimed};
 pub use std::alloc::AllocError as NoMemory;
+pub use track_state::{Question, Snapshot, TrackState, compute_apart, open_question};

@@ -5,10 +5,9 @@ ghost use Rattle.track_room.specs.Sights.{tracks_of};
 ghost use Rattle.track_state.specs.Work as work;
 
 use crate::NoMemory;
-use machine_state::MachineState;
 use std::alloc::Global;
 use std::vec::IntoIter;
-use track_state::TrackState;
+use track_state::{MachineState, TrackState};
 
 /// These machines, of which nothing is claimed. Linear in them.
 pub fn unclaimed(alloc: Global, machines: Vec<MachineState>) -> Result<Vec<TrackState>, NoMemory>

@@ -8,9 +8,7 @@ use history_model::Author;
 use pelt_core::Table;
 use segment_cost::{Done, Square};
 use touch_index::SeriesKey;
-use track_follow::Settled;
-use track_series::Published;
-use track_state::{Question, TakenSeries, TrackState};
+use track_state::{Published, Question, Settled, TakenSeries, TrackState};
 
 // The first stale series that nobody claims.
 #[derive(Drop)]
@@ -60,7 +58,7 @@ pub(crate) struct Publishing {
 
 impl Act for Publishing {
     ghost use Rattle.publication_index.specs.Standing.{table_for};
-    ghost use Rattle.machine_state.specs.Made.{IsMadeFrom};
+    ghost use Rattle.track_state.specs.Made.{IsMadeFrom};
     ghost use Rattle.track_state.specs.Work.{history_of};
     ghost use Rattle.track_room.specs.Taking.{Publishes};
     ghost use Rattle.track_room.specs.Visits.{DoesOrStays};

@@ -8,8 +8,7 @@ use line_text::Name;
 use pelt_core::Table;
 use request_model::{Reply, Request};
 use segment_cost::{Done, Square};
-use track_series::Begun;
-use track_state::TrackState;
+use track_state::{Begun, TrackState};
 
 // A request that segments nothing is answered.
 #[derive(Drop)]
@@ -68,7 +67,7 @@ pub(crate) struct Finishing {
 
 impl Act for Finishing {
     ghost use Rattle.publication_index.specs.Standing.{table_for};
-    ghost use Rattle.machine_state.specs.Made.{IsMadeFrom};
+    ghost use Rattle.track_state.specs.Made.{IsMadeFrom};
     ghost use Rattle.track_state.specs.Work.{history_of};
     ghost use Rattle.track_room.specs.Visits.{Finishes, DoesOrStays};
 

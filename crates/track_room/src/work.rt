@@ -4,7 +4,7 @@ ghost use Rattle.std.specs.List.{AllZip};
 ghost use Rattle.metric_table.specs.Limits.{most};
 ghost use Rattle.metric_table.specs.declared.limits.Limit.TheVariants.{Machines};
 ghost use Rattle.publication_index.specs.Standing.{table_for};
-ghost use Rattle.machine_state.specs.Made.{IsMadeFrom};
+ghost use Rattle.track_state.specs.Made.{IsMadeFrom};
 ghost use Rattle.track_room.specs.Asked.{ChangesAt};
 ghost use Rattle.track_room.specs.Claims.{all_placed, taken_with, EndsClaim, IsOf};
 ghost use Rattle.track_room.specs.Rooms.{AreSame, IsPassOf};
@@ -24,9 +24,7 @@ use history_model::{Author, publication_law};
 use std::alloc::Global;
 use std::sync::Wait;
 use touch_index::SeriesKey;
-use track_follow::Settled;
-use track_series::{Published, Redone, Snapshot};
-use track_state::{Question, TakenSeries};
+use track_state::{Published, Question, Redone, Settled, Snapshot, TakenSeries};
 
 // Takes some work of the first machine that has some.
 fn take_first<R: Wait, T: Take>(

@@ -11,8 +11,8 @@ use Rattle.history_model.proofs.Members.{behind, either, here, none-in-nil}
 use Rattle.sample_store.specs.Runs.{names}
 use Rattle.sample_store.specs.declared.store.Stored.{Stored}
 use Rattle.touch_model.specs.Touches.{has_sample}
-use Rattle.machine_state.specs.Indexes.{stored, stored_runs}
-use Rattle.machine_state.proofs.Marks.{look-up}
+use Rattle.track_step.specs.Indexes.{stored, stored_runs}
+use Rattle.track_step.proofs.Marks.{look-up}
 use Rattle.track_state.specs.Touching.{named, sampled, touched_by}
 
 -- ---- a run that is retracted

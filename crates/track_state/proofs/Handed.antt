@@ -25,11 +25,11 @@ use Rattle.touch_model.specs.Laws.{KnownGrows, LatestStays, TouchesArePast, Touc
 use Rattle.touch_model.specs.Stale.{is_behind}
 use Rattle.touch_model.specs.Touches.{last_touch}
 use Rattle.track_model.specs.Tracks.{Track}
-use Rattle.track_series.specs.Publications.{IsAdded, IsPublished, IsTaken, later, passed}
-use Rattle.track_series.specs.declared.publishing.Published.{Published}
-use Rattle.track_series.specs.declared.publishing.Published.TheVariants as published
-use Rattle.machine_state.specs.Made.{entry_of, publication_from}
-use Rattle.machine_state.specs.State.{IsKept}
+use Rattle.track_step.specs.Publications.{IsAdded, IsPublished, IsTaken, later, passed}
+use Rattle.track_step.specs.Published.{Published}
+use Rattle.track_step.specs.Published.TheVariants as published
+use Rattle.track_step.specs.Made.{entry_of, publication_from}
+use Rattle.track_step.specs.State.{IsKept}
 use Rattle.track_state.specs.Covering.{Covers, Fits, IsMark, IsMarked, IsRefusedBy, MakeSame}
 use Rattle.track_state.specs.Work.{claim_by, key_of, series_of}
 use Rattle.track_state.proofs.Covering.{all-taken, caught, claims-grown, covers-grown, either, not-less, not-less-is}

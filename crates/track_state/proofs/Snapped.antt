@@ -5,7 +5,7 @@ use Rattle.history_model.specs.declared.entries.Placed.{Placed}
 use Rattle.history_model.specs.Entries.{entries_of}
 use Rattle.history_model.specs.Runs.{Series}
 use Rattle.track_model.specs.Tracks.{IsSameButTables, Track, with_taken}
-use Rattle.track_series.proofs.Segmenting.{taken-history, taken-tables}
+use Rattle.track_step.proofs.Segmenting.{taken-history, taken-tables}
 use Rattle.history_model.specs.declared.entries.Entry.{Entry}
 use Rattle.touch_index.specs.Marks.{Entries, mark_of}
 use Rattle.track_state.specs.Covering.{MakeSame}

@@ -8,12 +8,12 @@ use Rattle.publication_index.specs.Kept.{series_of as series_of_done}
 use Rattle.touch_index.specs.declared.mark.Claim.{Claim}
 use Rattle.touch_index.specs.declared.mark.Claim.TheVariants.{Free, Taken, Refused}
 use Rattle.touch_model.specs.Touches.{last_touch}
-use Rattle.track_follow.specs.declared.settling.Settled.{Settled}
-use Rattle.track_follow.specs.declared.settling.Settled.TheVariants as settled
+use Rattle.track_step.specs.Settled.{Settled}
+use Rattle.track_step.specs.Settled.TheVariants as settled
 use Rattle.track_model.specs.Tracks.{Track}
-use Rattle.track_series.specs.declared.publishing.Published.{Published}
-use Rattle.track_series.specs.declared.publishing.Published.TheVariants as published
-use Rattle.track_series.specs.declared.snapshot.Snapshot.{Snapshot}
+use Rattle.track_step.specs.Published.{Published}
+use Rattle.track_step.specs.Published.TheVariants as published
+use Rattle.track_step.specs.Snapshot.{Snapshot}
 use Rattle.track_state.specs.declared.questions.Question.{Question}
 use Rattle.track_state.specs.Questions.{Settles, jobs_after}
 use Rattle.track_state.specs.Taking.{Publishes, TakesStale, claim_after}

@@ -5,9 +5,9 @@ use Rattle.bisect_core.specs.Bisections.{Bisection, asked_by}
 use Rattle.history_model.specs.declared.entries.Author.{Author}
 use Rattle.history_model.specs.declared.entries.Entry.{Entry}
 use Rattle.history_model.specs.Jobs.{asked, job_in, jobs}
-use Rattle.track_follow.specs.Settling.{IsSettled}
-use Rattle.track_follow.specs.declared.settling.Settled.{Settled}
-use Rattle.track_follow.specs.declared.settling.Settled.TheVariants as settled
+use Rattle.track_step.specs.Settling.{IsSettled}
+use Rattle.track_step.specs.Settled.{Settled}
+use Rattle.track_step.specs.Settled.TheVariants as settled
 use Rattle.track_model.specs.Following.{asked_commit, named_by}
 use Rattle.track_state.specs.declared.questions.Question.{Question}
 use Rattle.track_state.specs.Work.{Work, ClaimsStay, IsSame, history_of}

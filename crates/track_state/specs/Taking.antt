@@ -13,12 +13,12 @@ use Rattle.request_model.specs.declared.replies.Reply.{Reply}
 use Rattle.track_model.specs.Outcomes.{Outcome}
 use Rattle.track_model.specs.Publishing.{SegmentComesFrom}
 use Rattle.track_model.specs.Tracks.{IsFinishStep, with_taken}
-use Rattle.track_series.specs.Publications.{IsPublished}
-use Rattle.track_series.specs.Snapshots.{IsTakenAt}
-use Rattle.track_series.specs.declared.snapshot.Snapshot.{Snapshot}
+use Rattle.track_step.specs.Publications.{IsPublished}
+use Rattle.track_step.specs.Snapshots.{IsTakenAt}
+use Rattle.track_step.specs.Snapshot.{Snapshot}
 use Rattle.touch_model.specs.Stale.{is_stale}
-use Rattle.track_series.specs.declared.publishing.Published.{Published}
-use Rattle.track_series.specs.declared.publishing.Published.TheVariants as published
+use Rattle.track_step.specs.Published.{Published}
+use Rattle.track_step.specs.Published.TheVariants as published
 use Rattle.track_state.specs.declared.taking.TakenSeries.{TakenSeries}
 use Rattle.track_state.specs.Work.{Work, history_of, series_of, claim_on, ClaimBecomes, ClaimsStay, IsSame, IsOpen, IsFirstOpen}
 

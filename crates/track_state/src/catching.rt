@@ -7,12 +7,12 @@ ghost use Rattle.track_state.specs.Touching.{named, sampled, touched_by};
 use crate::NoMemory;
 use history_model::{Entry, growth_law, publication_law};
 use line_text::Name;
-use machine_state::MachineState;
 use sample_model::Sample;
 use series_index::SeriesName;
 use std::alloc::Global;
 use touch_index::{SeriesKey, TouchIndex};
 use touch_model::{stale_law, touch_law};
+use track_step::MachineState;
 
 // The series of these samples were touched in a step.
 fn touch_samples(

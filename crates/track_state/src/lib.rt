@@ -26,5 +26,4 @@ pub use request_model::{
 pub use state::TrackState;
 pub use std::alloc::AllocError as NoMemory;
 pub use taking::TakenSeries;
-pub use track_follow::Settled;
-pub use track_series::{Published, Redone, Snapshot};
+pub use track_step::{Begun, MachineState, Published, Redone, Settled, Snapshot, compute_apart};

@@ -5,10 +5,10 @@ ghost use Rattle.history_model.specs.Publications.{last_publication};
 ghost use Rattle.history_model.specs.Runs.{is_known};
 ghost use Rattle.publication_index.specs.Standing.{table_for};
 ghost use Rattle.touch_index.specs.declared.mark.Claim.TheVariants as claim;
-ghost use Rattle.machine_state.specs.Made.{IsMadeFrom};
-ghost use Rattle.track_series.specs.Beside.{IsBegun};
-ghost use Rattle.track_series.specs.declared.publishing.Published.{Published};
-ghost use Rattle.track_series.specs.Publications.{later};
+ghost use Rattle.track_step.specs.Made.{IsMadeFrom};
+ghost use Rattle.track_step.specs.Beside.{IsBegun};
+ghost use Rattle.track_step.specs.Published.{Published};
+ghost use Rattle.track_step.specs.Publications.{later};
 ghost use Rattle.track_state.specs.Covering.{Covers, IsMarked, IsRefusedBy, MakeSame};
 ghost use Rattle.track_state.specs.Taking.{Finishes, IsBegunOn, Publishes};
 ghost use Rattle.track_state.specs.Work.{ClaimBecomes, IsSame, history_of, series_of};
@@ -18,13 +18,12 @@ use crate::catching::catch_up;
 use crate::state::TrackState;
 use history_model::{Author, growth_law, publication_law};
 use line_text::Name;
-use machine_state::MachineState;
 use pelt_core::Table;
 use request_model::Reply;
 use segment_cost::{Done, Square};
 use touch_index::{Claim, Mark, SeriesKey, TouchIndex};
 use touch_model::{stale_law, touch_law};
-use track_series::{Begun, Finished, Published, begin, finish};
+use track_step::{Begun, Finished, MachineState, Published, begin, finish};
 
 // The step that the mark of a known series has; where it has none, it is fresh and is given one.
 fn marked(track: &MachineState, touched: &mut TouchIndex, key: &SeriesKey) -> Result<u64, NoMemory>

@@ -10,11 +10,10 @@ use crate::NoMemory;
 use crate::state::TrackState;
 use history_model::{Author, growth_law, jobs_law, publication_law};
 use line_text::{Duplicate, Name};
-use machine_state::MachineState;
 use report_lines::asked as asked_commit;
 use std::alloc::Global;
 use touch_model::{stale_law, touch_law};
-use track_follow::{Settled, settle};
+use track_step::{MachineState, Settled, settle};
 
 /// What an open job asks.
 #[derive(Clone, Debug, Drop)]

@@ -4,8 +4,8 @@ ghost use Rattle.track_model.specs.Counts.{is_segment};
 ghost use Rattle.track_model.specs.Outcomes.{Outcome};
 ghost use Rattle.request_model.specs.Requests.{machine_of};
 ghost use Rattle.track_model.specs.Tracks.{ComesTo, IsStep};
-ghost use Rattle.machine_state.specs.Made.{IsPlain};
-ghost use Rattle.track_replay.specs.Replays.{IsReplayed};
+ghost use Rattle.track_step.specs.Made.{IsPlain};
+ghost use Rattle.track_step.specs.Replays.{IsReplayed};
 ghost use Rattle.track_state.specs.Kept.{KeepsClaims};
 ghost use Rattle.track_state.specs.Work.{history_of};
 
@@ -14,8 +14,7 @@ use crate::state::TrackState;
 use history_model::{Author, Entry, publication_law};
 use request_model::{Reply, Request};
 use touch_model::{stale_law, touch_law};
-use track_replay::replay;
-use track_step::step;
+use track_step::{replay, step};
 
 impl TrackState {
     /// Answers a request about this machine that segments nothing. All claims stay, but for those that a limit left on

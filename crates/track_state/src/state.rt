@@ -6,10 +6,10 @@ ghost use Rattle.track_state.specs.Work.{unclaimed};
 use crate::NoMemory;
 use history_model::Placed;
 use line_text::Name;
-use machine_state::MachineState;
 use std::alloc::Global;
 use std::marker::Model;
 use touch_index::TouchIndex;
+use track_step::MachineState;
 
 /// A machine's state with the claims on its series and jobs.
 #[derive(Drop)]

@@ -4,7 +4,7 @@ ghost use Rattle.history_model.specs.Entries.{entries_of};
 ghost use Rattle.history_model.specs.Publications.{last_publication};
 ghost use Rattle.touch_model.specs.Stale as stale;
 ghost use Rattle.track_state.specs.Covering.{Covers, MakeSame};
-ghost use Rattle.track_series.specs.Snapshots.{IsSnapshot};
+ghost use Rattle.track_step.specs.Snapshots.{IsSnapshot};
 ghost use Rattle.track_state.specs.Taking.{IsBegunOn, Takes, TakesStale};
 ghost use Rattle.track_state.specs.Work.{IsFirstBy, IsSame, NoneIsOpenBy, series_of};
 
@@ -12,9 +12,8 @@ use crate::NoMemory;
 use crate::catching::catch_up;
 use crate::state::TrackState;
 use line_text::Name;
-use machine_state::MachineState;
 use touch_index::{Claim, SeriesKey, TouchIndex};
-use track_series::{Snapshot, take_snapshot};
+use track_step::{MachineState, Snapshot, take_snapshot};
 
 /// A series that somebody took: its name, and what the history has of it.
 #[derive(Drop)]

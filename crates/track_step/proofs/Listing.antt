@@ -7,7 +7,7 @@ use Rattle.request_model.specs.declared.runs.RunLine.{RunLine}
 use Rattle.history_model.specs.Commits.{declarations}
 use Rattle.track_model.specs.Forms.{run_line}
 use Rattle.history_model.specs.Runs.{Retraction, acceptances, retractions, retracted}
-use Rattle.machine_state.specs.Indexes.{stored, stored_runs}
+use Rattle.track_follow.specs.Indexes.{stored, stored_runs}
 use Rattle.track_step.specs.Lines.{line_of}
 
 pub lines-are : (h : List Entry) → map (line_of (declarations h)) (stored_runs h) ≡ map (run_line h) (acceptances h)

@@ -13,8 +13,8 @@ use Rattle.history_model.specs.Runs.{accepted, retractions, same_run}
 use Rattle.sample_store.specs.Judged as judge
 use Rattle.sample_store.specs.Runs.{samples_in}
 use Rattle.sample_store.specs.declared.answers.Accepted.TheVariants as taken
-use Rattle.machine_state.specs.Indexes.{stored, stored_runs}
-use Rattle.machine_state.proofs.Marks.{look-up}
+use Rattle.track_follow.specs.Indexes.{stored, stored_runs}
+use Rattle.track_follow.proofs.Marks.{look-up}
 use Rattle.track_step.specs.Told.{told_of}
 
 pub told-by-judge : (h : List Entry) (new : Run) → told_of (judge.judged (stored_runs h) new) ≡ option_map (forms.told_again new) (accepted new.run h)

@@ -8,11 +8,10 @@ ghost use Rattle.track_model.specs.Tracks.{IsStep};
 use crate::NoMemory;
 use history_model::{Author, Declaration, Entry};
 use line_text::{Duplicate, Name};
-use machine_state::MachineState;
 use metric_table::Limit;
 use request_model::{Answer, Refusal, Reply};
+use track_follow::{MachineState, retract_refusal};
 use track_model::{commit_law, retract_law};
-use track_replay::retract_refusal;
 
 // What a commit is answered where it adds nothing.
 fn commit_refusal(

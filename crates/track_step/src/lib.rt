@@ -18,3 +18,7 @@ pub use requests::{answer, step};
 pub use run_lines::runs;
 pub use std::alloc::AllocError as NoMemory;
 pub use submissions::submit;
+pub use track_follow::{MachineState, Settled, replay, settle};
+pub use track_series::{
+    Begun, Finished, Published, Redone, Snapshot, begin, compute_apart, finish, take_snapshot,
+};

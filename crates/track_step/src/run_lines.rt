@@ -10,11 +10,11 @@ ghost use Rattle.track_step.specs.Lines.{line_of};
 use crate::NoMemory;
 use history_model::runs_law;
 use line_text::Duplicate;
-use machine_state::MachineState;
 use order_index::OrderIndex;
 use request_model::{Answer, Reply, RunLine, Runs};
 use sample_store::Stored;
 use std::alloc::Global;
+use track_follow::MachineState;
 
 /// `runs M`: adds nothing. Linear in the number of runs.
 pub fn runs(track: &MachineState) -> Result<Reply, NoMemory>

@@ -10,11 +10,10 @@ ghost use Rattle.track_step.specs.Told.{told_of};
 use crate::NoMemory;
 use history_model::{Author, Entry, Run, accept_law, retraction_law, within_law};
 use line_text::{Duplicate, Name, Text};
-use machine_state::MachineState;
 use request_model::{Answer, Refusal, Reply};
 use sample_model::Samples;
 use sample_store::Accepted;
-use track_replay::{Verdict, room_for};
+use track_follow::{MachineState, Verdict, room_for};
 
 // The run that a submission at a commit of that number would add; at 0 where the commit has none.
 fn submitted(

@@ -13,7 +13,7 @@ use Rattle.audit_model.specs.Verdicts.{IsCutOff, NoneCutOff}
 use Rattle.audit_model.specs.declared.heard.Heard.{Heard}
 use Rattle.audit_model.specs.declared.verdict.Verdict.{Verdict}
 use Rattle.audit_model.specs.declared.verdict.Verdict.TheVariants as verdict
-use Rattle.play_audit.specs.Laws.{OneCutOff, OneVerdict}
+use Rattle.audit_command.specs.Laws.{OneCutOff, OneVerdict}
 use Rattle.audit_command.specs.declared.end.AuditEnd.{AuditEnd}
 use Rattle.audit_model.specs.declared.verdict.AuditStop.TheVariants as stop
 use Rattle.audit_command.specs.declared.end.AuditEnd.TheVariants as audit

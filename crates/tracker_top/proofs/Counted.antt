@@ -8,13 +8,13 @@ use Rattle.request_model.specs.declared.replies.Refusal.{Refusal}
 use Rattle.request_model.specs.declared.replies.Reply.{Reply}
 use Rattle.request_words.specs.Bodies.{Item}
 use Rattle.track_model.specs.Counts.{is_full}
-use Rattle.script_desk.specs.Counting.{Counted, Counting, counted}
-use Rattle.script_desk.specs.Sessions.{State, AnswersFor}
+use Rattle.trial_script.specs.Counting.{Counted, Counting, counted}
+use Rattle.trial_script.specs.Sessions.{State, AnswersFor}
 use Rattle.script_loop.specs.declared.stop.Stop.{Stop}
 use Rattle.script_loop.specs.declared.stop.Stop.TheVariants as stop
 use Rattle.script_loop.specs.Folds.{AreAnswers}
 use Rattle.script_loop.specs.Endings.{HasAnswered, HasRead, HasWritten, Stands}
-use Rattle.script_session.specs.Counts.{NoneIsFull, RoseByRedone, SessionsCount}
+use Rattle.trial_script.specs.Counts.{NoneIsFull, RoseByRedone, SessionsCount}
 use Rattle.track_outside.specs.Calls.{GaveAtMost}
 use Rattle.track_outside.specs.declared.sink.Sink as sink
 use Rattle.track_outside.specs.declared.source.Source as source

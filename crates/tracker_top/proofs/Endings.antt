@@ -28,7 +28,7 @@ use Rattle.command_words.specs.declared.command.Command.TheVariants.{Cut, Apply,
 use Rattle.tracker_top.specs.declared.status.Status.{Status}
 use Rattle.tracker_top.specs.declared.status.Status.TheVariants.{Done, BadWords, ReadFault, WriteFault, StoreFault, BadStore, CutOff, NoMemory, InputTooLong, BadLine, Full, Differs, TooFew}
 use Rattle.command_words.specs.Commands.{AreNoCommand, IsSpelled, AreOneCommand}
-use Rattle.script_session.specs.Counts.{RoseByRedone}
+use Rattle.trial_script.specs.Counts.{RoseByRedone}
 use Rattle.tracker_top.specs.Statuses.{AsksAudit, AsksHunt, AsksPlay, status_of, script_status_of, script_status, ended, CutShows, PathShows, ScriptShows, Shows, IsDue, OneStatusIsDue}
 use Rattle.tracker_top.specs.Text.{line_of}
 use Rattle.tracker_top.specs.Endings.{HasCause, EndsOutput, AnswersScript, Begins, WasStarted, Keeps, Prints, AppendCause, LoadCause, EndsSo, EndsScript, EndsApply, IsOfOutput, HasAsked, IsPlain, Ends, IsTold, Streams}
@@ -37,9 +37,9 @@ use Rattle.track_outside.specs.Kept.{with_more}
 use Rattle.keep_rows.specs.Kept.{AreKept}
 use Rattle.keep_rows.specs.Loading.{Stored, LeadTo, IsFirstBad}
 use Rattle.keep_rows.specs.Rows.{new_rows}
-use Rattle.script_desk.specs.Growth.{ComesBack, stored_after}
+use Rattle.trial_script.specs.Growth.{ComesBack, stored_after}
 use Rattle.track_model.specs.Tracks.{Track}
-use Rattle.script_desk.specs.Sessions.{State, AnswersFor}
+use Rattle.trial_script.specs.Sessions.{State, AnswersFor}
 use Rattle.script_loop.specs.Outputs.{IsOutput}
 use Rattle.series_gen.specs.Script.{script as script_of}
 

@@ -10,13 +10,13 @@ use Rattle.request_model.specs.declared.replies.Reply.{Reply}
 use Rattle.request_words.specs.Bodies.{Item}
 use Rattle.script_loop.specs.declared.stop.Stop.{Stop}
 use Rattle.script_loop.specs.declared.stop.Stop.TheVariants as stop
-use Rattle.script_desk.specs.Counting.{Counted, Counting, counted}
-use Rattle.script_desk.specs.Sessions.{State, AnswersFor, AnswersSome}
+use Rattle.trial_script.specs.Counting.{Counted, Counting, counted}
+use Rattle.trial_script.specs.Sessions.{State, AnswersFor, AnswersSome}
 use Rattle.request_reader.specs.Scripts.{end, cut_off, unfinished}
 use Rattle.script_loop.specs.Folds.{AreAnswers}
 use Rattle.script_loop.specs.Outputs.{Out}
-use Rattle.script_session.specs.Counts.{TrialsCount}
-use Rattle.script_session.specs.Part.{OneReplyEach}
+use Rattle.trial_script.specs.Counts.{TrialsCount}
+use Rattle.trial_script.specs.Part.{OneReplyEach}
 use Rattle.script_loop.specs.Endings.{HasRead, HasAnswered, HasWritten}
 use Rattle.tracker_top.specs.declared.status.Status.TheVariants.{Done, NoMemory}
 use Rattle.tracker_top.specs.Answers.{new_state, PublishesWell, AllPublishWell}

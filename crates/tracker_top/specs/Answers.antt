@@ -12,7 +12,7 @@ use Rattle.history_model.specs.Entries.{entries_of}
 use Rattle.history_model.specs.Followed.{AllFinishWell}
 use Rattle.history_model.specs.Publications.{publications, Stands}
 use Rattle.track_model.specs.Tracks.{Track}
-use Rattle.script_desk.specs.Sessions.{State}
+use Rattle.trial_script.specs.Sessions.{State}
 
 -- the certificate stands for the points, by squares or by distances
 abbrev pub StandsBy : Bool → List Position → ℕ → ℕ → Cert → Type 0

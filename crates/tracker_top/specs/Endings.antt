@@ -21,10 +21,10 @@ use Rattle.script_loop.specs.declared.stop.Stop.{Stop}
 use Rattle.script_loop.specs.declared.stop.Stop.TheVariants as stop
 use Rattle.script_loop.specs.Endings.{HasRead, HasAnswered, HasWritten}
 use Rattle.script_loop.specs.Outputs.{AsksFirst, Out}
-use Rattle.script_session.specs.Counts.{redone_by, RoseByRedone}
-use Rattle.script_session.specs.Part.{IsPart}
-use Rattle.script_desk.specs.Growth.{stored_after}
-use Rattle.script_desk.specs.Sessions.{State, AnswersFor, AnswersSome}
+use Rattle.trial_script.specs.Counts.{redone_by, RoseByRedone}
+use Rattle.trial_script.specs.Part.{IsPart}
+use Rattle.trial_script.specs.Growth.{stored_after}
+use Rattle.trial_script.specs.Sessions.{State, AnswersFor, AnswersSome}
 use Rattle.series_gen.specs.Script.{script as script_of}
 use Rattle.command_words.specs.declared.command.Command.{Command}
 use Rattle.command_words.specs.declared.command.CutPlan.{CutPlan}

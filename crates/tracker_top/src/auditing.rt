@@ -11,9 +11,8 @@ ghost use Rattle.tracker_top.specs.Statuses.{AsksAudit};
 use crate::naming::put_audit_status;
 use crate::printing::put_status;
 use crate::status::Status;
-use audit_command::audit_files;
+use audit_command::{audit_files, one_verdict_law};
 use command_words::{AuditPlan, Command, command_of, one_command_law};
-use play_audit::one_verdict_law;
 use std::alloc::Global;
 use track_outside::{Files, NoMemory};
 

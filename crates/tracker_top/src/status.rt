@@ -13,10 +13,10 @@ use cut_lines::{Refusal, Stop};
 use hunt_command::HuntEnd;
 use keep_rows::{AppendFault, LoadFault};
 use path_command::PathEnd;
-use script_session::Stop as ScriptStop;
 use shared_run::RunStop;
 use std::alloc::AllocError;
 use std::process::ExitCode;
+use trial_script::Stop as ScriptStop;
 
 /// How a command ends. A line is named by its number, from 1, and an input by its script's number, where standard
 /// input is 0; in `audit` by its file's place in the order of opening.

@@ -1,7 +1,7 @@
 //! The commands that run no threads and open no file.
 ghost use Rattle.std.specs.Prelude.{◌≡◌, ◌≢◌, ℕ, ◌^◌, ◌≤◌, ◌⊎◌, List, [], IfOk, IfSome, Result, Some};
 ghost use Rattle.track_outside.specs.Counts.{Rose};
-ghost use Rattle.script_desk.specs.Sessions.{State};
+ghost use Rattle.trial_script.specs.Sessions.{State};
 ghost use Rattle.script_loop.specs.declared.stop.Stop.{Stop};
 ghost use Rattle.command_words.specs.declared.command.Command.{Command};
 ghost use Rattle.command_words.specs.declared.command.Command.TheVariants.{Cut, Path};
@@ -24,15 +24,15 @@ use keep_rows::{Loaded, append_all, load, rows_law};
 use machine_state::MachineState;
 use path_command::path_points;
 use pelt_core::{Steps, segmentation};
-use script_desk::{Session, Trial};
-use script_session::{Stop, answer_counted, count_law, output_law, part_law};
 use segment_cost::{Cert, Points};
 use series_gen::put_script;
 use std::alloc::Global;
 use std::mem::forget;
 use std::sync::ledger::Ledger;
 use track_outside::{Keeper, NoMemory, Sink, Source, SureSource, put_all};
-use trial_script::{accepted_law, script_law};
+use trial_script::{
+    Session, Stop, Trial, accepted_law, answer_counted, count_law, output_law, part_law, script_law,
+};
 
 /// No words, rows of a store and bytes of an input have two statuses, but for those that the outside or the memory give.
 /// Does nothing: its contract is what it is for.

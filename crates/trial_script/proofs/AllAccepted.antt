@@ -15,7 +15,7 @@ use Rattle.series_gen.specs.Script.{place, value, state_after}
 use Rattle.trial_script.specs.Requests as asked
 use Rattle.trial_script.specs.Accepted.{EachIsAccepted, NoneIsRefused}
 use Rattle.trial_script.specs.Laws.{ScriptIsWhole}
-use Rattle.script_desk.specs.Sessions.{AnswersFor}
+use Rattle.script_session.specs.Sessions.{AnswersFor}
 use Rattle.script_loop.specs.Folds.{AreAnswers}
 use Rattle.trial_script.proofs.Reached.{Reached}
 use Rattle.trial_script.proofs.Parts.{machine_asked, commits_asked, tune_asked, runs_asked, retracts_asked, segment_asked, changes_asked}

@@ -21,7 +21,7 @@ use Rattle.history_model.specs.Runs.{Series}
 use Rattle.request_model.specs.declared.replies.Answer.{Answer}
 use Rattle.track_model.specs.Tracks.{Track, new_track, with_added, with_answered, with_home, with_segmented, with_taken, base_of, base_asked, ComesTo}
 use Rattle.request_words.specs.Bodies.{Item}
-use Rattle.script_desk.specs.Sessions.{Answered, State, Answers, AnswersAbout, AnswersFor, is_track, stepped}
+use Rattle.script_session.specs.Sessions.{Answered, State, Answers, AnswersAbout, AnswersFor, is_track, stepped}
 use Rattle.script_loop.specs.Folds.{AreAnswers}
 use Rattle.trial_script.specs.Requests.{machine, asked_in_turn}
 use Rattle.trial_script.specs.Accepted.{IsAccepted}

@@ -4,7 +4,7 @@ use Rattle.std.specs.List.{AllByRecursion}
 use Rattle.request_model.specs.declared.replies.Refusal.{Refusal}
 use Rattle.request_model.specs.declared.replies.Answer.TheVariants as answer
 use Rattle.request_model.specs.declared.replies.Reply.{Reply}
-use Rattle.script_desk.specs.Sessions.{State, AnswersFor}
+use Rattle.script_session.specs.Sessions.{State, AnswersFor}
 use Rattle.script_loop.specs.Folds.{AreAnswers}
 use Rattle.script_loop.specs.Outputs.{Out}
 use Rattle.request_reader.specs.Scripts.{Ending}

@@ -14,3 +14,4 @@
 mod laws;
 
 pub use laws::{accepted_law, script_law};
+pub use script_session::{Session, Stop, Trial, answer_counted, count_law, output_law, part_law};

@@ -11,3 +11,5 @@ mod Rests
 mod Whole
 mod Sent
 mod Paired
+pub use Rattle.play_crew.proofs.Gathered
+pub use Rattle.play_crew.proofs.Sent as PlayCrewSent

@@ -6,3 +6,12 @@ pub mod Seated
 pub mod Whole
 pub use Rattle.recompute_workers.specs.Recomputing
 pub use Rattle.recompute_workers.specs.Work
+pub use Rattle.play_crew.specs.Players
+pub use Rattle.play_crew.specs.Sights
+pub use Rattle.play_crew.specs.Rooms
+pub use Rattle.play_crew.specs.Seats
+pub use Rattle.play_crew.specs.Shared
+pub use Rattle.play_crew.specs.Fitting
+pub use Rattle.play_crew.specs.Gathered
+pub use Rattle.play_crew.specs.contracts.player.Player
+pub use Rattle.play_crew.specs.Played

@@ -21,6 +21,9 @@ pub use beside::work_beside;
 pub use last::{bisect_each, recompute_each};
 pub use laws::{crew_law, run_law};
 pub use leaving::leave_workers;
+pub use play_crew::{
+    Ended, Player, Room, RoomPass, joining_law, leave, seat_scripts, split_passes,
+};
 pub use recompute_workers::{TrackState, leave_each, unclaimed};
 pub use seating::seat_workers;
 pub use std::alloc::AllocError as NoMemory;

@@ -1,7 +1,10 @@
 //! Texts, numbers, tables.
 
 use fixed_value::{Numeral, OutOfRange, put_fixed, scale};
-use line_text::{Duplicate, Name, NameError, NoMemory, Numbers, Text, next_word, put_escaped, put_i128, put_name, put_u64, read_i64, read_name, read_u128, read_u64};
+use line_text::{
+    Duplicate, Name, NameError, NoMemory, Numbers, Text, next_word, put_escaped, put_i128,
+    put_name, put_u64, read_i64, read_name, read_u64, read_u128,
+};
 use metric_table::{Limit, decimals, default_penalty, larger_is_better};
 use std::alloc::Global;
 

@@ -1,6 +1,5 @@
 //! Each call with ample memory, and values from outside.
-use line_text::Duplicate;
-use line_text::*;
+use line_text::{Duplicate, *};
 use std::alloc::Global;
 
 // Each ASCII byte that a canonical spelling leaves as it is.

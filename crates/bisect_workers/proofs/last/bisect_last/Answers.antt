@@ -6,8 +6,8 @@ use Rattle.history_model.specs.declared.entries.Placed.{Placed}
 use Rattle.history_model.specs.Allowed.{KeepsLimits}
 use Rattle.history_model.specs.Entries.{entries_of}
 use Rattle.track_model.specs.Tracks.{Track}
-use Rattle.track_state.specs.Work.{IsUntaken, Work}
-use Rattle.track_state.proofs.Untaken.{unclaimed-untaken}
+use Rattle.track_room.specs.Work.{IsUntaken, Work}
+use Rattle.track_room.proofs.Untaken.{unclaimed-untaken}
 use Rattle.bisect_workers.specs.Bisecting.{IsBisected}
 use Rattle.bisect_workers.proofs.Closed.{jobs-closed}
 use Rattle.bisect_workers.proofs.Joined.{joined, nothing}

@@ -1,6 +1,6 @@
 use Rattle.std.proofs.Common.{◌-◌, length}
 use Rattle.history_model.specs.declared.entries.Author.TheVariants.{Bisect}
-use Rattle.track_state.specs.Work.{IsUntaken}
+use Rattle.track_room.specs.Work.{IsUntaken}
 use Rattle.bisect_workers.specs.Bisecting.{IsBisected}
 use Rattle.bisect_workers.proofs.last.bisect_last.Given as goal
 

@@ -7,13 +7,13 @@ use Rattle.bisect_core.specs.Bisections.{Bisection}
 use Rattle.history_model.specs.declared.entries.Author.TheVariants.{Bisect}
 use Rattle.history_model.specs.declared.entries.Entry.{Entry}
 use Rattle.history_model.specs.Entries.{entries_of}
-use Rattle.track_follow.specs.Settling.{entry_said}
+use Rattle.track_room.specs.Settling.{entry_said}
 use Rattle.track_model.specs.Tracks.{Track, with_entry}
-use Rattle.track_state.specs.Asking.{IsOpenQuestion}
-use Rattle.track_state.specs.Work.{IsUntaken, Work}
-use Rattle.track_state.specs.Questions.{IsFirstQuestion}
-use Rattle.track_state.specs.declared.questions.Question.{Question}
-use Rattle.track_state.proofs.Untaken.{settled-untaken}
+use Rattle.track_room.specs.Asking.{IsOpenQuestion}
+use Rattle.track_room.specs.Work.{IsUntaken, Work}
+use Rattle.track_room.specs.Questions.{IsFirstQuestion}
+use Rattle.track_room.specs.Question.{Question}
+use Rattle.track_room.proofs.Untaken.{settled-untaken}
 use Rattle.bisect_workers.specs.Bisecting.{IsBisected}
 use Rattle.bisect_workers.proofs.Joined.{nothing}
 use Rattle.bisect_workers.proofs.Turning.{none-asks, recorded, unused, used}

@@ -4,7 +4,7 @@ use Rattle.history_model.specs.declared.entries.Author.{Author}
 use Rattle.history_model.specs.declared.entries.Author.TheVariants.{Bisect}
 use Rattle.track_room.specs.Sights.{Sight}
 use Rattle.track_room.specs.Taking.{IsQuestion, OfSeen}
-use Rattle.track_state.specs.declared.questions.Question.{Question}
+use Rattle.track_room.specs.Question.{Question}
 use Rattle.bisect_workers.proofs.Besides.{joined, nothing}
 use Rattle.bisect_workers.proofs.worker.turn.Goals as goal
 

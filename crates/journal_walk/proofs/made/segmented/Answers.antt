@@ -5,7 +5,7 @@ use Rattle.segment_model.specs.Segments.{Position}
 use Rattle.segment_cost.specs.Certificate.{StandsFor}
 use Rattle.checkpoint_redo.proofs.Fronts.{common-within}
 use Rattle.history_model.specs.declared.setting.Setting.{Setting}
-use Rattle.track_series.specs.Begun.{Begins}
+use Rattle.track_step.specs.TrackSeriesBegun.{Begins}
 use Rattle.journal_walk.proofs.Making.{fits}
 use Rattle.journal_walk.proofs.made.segmented.Goals as goal
 

@@ -7,7 +7,7 @@ use Rattle.history_model.specs.Allowed.{Legal}
 use Rattle.history_model.specs.Entries.{entries_of}
 use Rattle.history_model.specs.Runs.{Series, is_known}
 use Rattle.track_model.specs.Tracks.{Track}
-use Rattle.track_state.specs.Work.{Work, history_of}
+use Rattle.track_room.specs.Work.{Work, history_of}
 use Rattle.recompute_workers.specs.Quiet.{IsQuiet}
 use Rattle.recompute_workers.proofs.Current.{current-of}
 use Rattle.recompute_workers.proofs.Growing.{adds-more, known-more, quiet-more}

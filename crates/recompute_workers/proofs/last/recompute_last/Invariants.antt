@@ -4,7 +4,7 @@ use Rattle.history_model.specs.declared.entries.Author.TheVariants.{Recompute}
 use Rattle.history_model.specs.Allowed.{Legal}
 use Rattle.history_model.specs.Entries.{entries_of}
 use Rattle.history_model.specs.Runs.{Series}
-use Rattle.track_state.specs.Work.{IsUntaken, history_of}
+use Rattle.track_room.specs.Work.{IsUntaken, history_of}
 use Rattle.recompute_workers.specs.Quiet.{IsQuiet}
 use Rattle.recompute_workers.specs.Recomputing.{AddsPublications}
 use Rattle.recompute_workers.specs.Stays.{SameKnown}

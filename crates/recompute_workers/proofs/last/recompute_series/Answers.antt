@@ -10,15 +10,15 @@ use Rattle.history_model.specs.Entries.{entries_of}
 use Rattle.history_model.specs.Runs.{Series}
 use Rattle.publication_index.specs.Kept.{series_of}
 use Rattle.track_model.specs.Tracks.{Track, with_entry}
-use Rattle.track_series.specs.Publications.{passed}
-use Rattle.track_series.specs.Snapshots.{IsTakenAt}
-use Rattle.track_series.specs.declared.snapshot.Snapshot.{Snapshot}
-use Rattle.track_series.proofs.Segmenting.{made-from, series-is}
+use Rattle.track_room.specs.Publications.{passed}
+use Rattle.track_room.specs.Snapshots.{IsTakenAt}
+use Rattle.track_room.specs.Snapshot.{Snapshot}
+use Rattle.track_room.proofs.Segmenting.{made-from, series-is}
 use Rattle.machine_state.specs.Made.{IsMadeFrom, entry_of}
-use Rattle.track_state.specs.Taking.{TakesStale}
-use Rattle.track_state.specs.Work.{IsUntaken, bare, history_of}
-use Rattle.track_state.proofs.Snapped.{bare-taken, entries-taken}
-use Rattle.track_state.proofs.Untaken.{published-untaken, stale-untaken, untaken-stays}
+use Rattle.track_room.specs.TrackStateTaking.{TakesStale}
+use Rattle.track_room.specs.Work.{IsUntaken, bare, history_of}
+use Rattle.track_room.proofs.Snapped.{bare-taken, entries-taken}
+use Rattle.track_room.proofs.Untaken.{published-untaken, stale-untaken, untaken-stays}
 use Rattle.touch_model.specs.Stale.{is_stale}
 use Rattle.recompute_workers.specs.Quiet.{IsQuiet}
 use Rattle.recompute_workers.specs.Recomputing.{AddsOne}

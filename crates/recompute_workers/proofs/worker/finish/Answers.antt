@@ -7,8 +7,8 @@ use Rattle.history_model.specs.declared.entries.Entry.{Entry}
 use Rattle.history_model.specs.Allowed.{Legal}
 use Rattle.history_model.specs.Entries.{entries_of}
 use Rattle.machine_state.specs.Made.{IsMadeFrom}
-use Rattle.track_series.proofs.Segmenting.{made-from}
-use Rattle.track_state.specs.Work.{series_of}
+use Rattle.track_room.proofs.Segmenting.{made-from}
+use Rattle.track_room.specs.Work.{series_of}
 use Rattle.track_room.specs.Sights.{SeesMore, Visits}
 use Rattle.track_room.specs.Taking.{Publishes}
 use Rattle.track_room.proofs.Segments.{made-of-taken}

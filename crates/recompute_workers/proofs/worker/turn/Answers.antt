@@ -6,7 +6,7 @@ use Rattle.history_model.specs.declared.entries.Author.TheVariants.{Recompute}
 use Rattle.track_room.specs.Claims.{Claimed, taken_with}
 use Rattle.track_room.specs.Sights.{SeesMore, Sight}
 use Rattle.track_room.specs.Taking.{IsTaken, OfSeen}
-use Rattle.track_series.specs.declared.snapshot.Snapshot.{Snapshot}
+use Rattle.track_room.specs.Snapshot.{Snapshot}
 use Rattle.recompute_workers.specs.Works.{Works}
 use Rattle.recompute_workers.proofs.Working.{works-sees, works-trans, zip-from, zip-trans}
 use Rattle.recompute_workers.proofs.worker.turn.Goals as goal

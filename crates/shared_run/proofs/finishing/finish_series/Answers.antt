@@ -1,5 +1,5 @@
 use Rattle.std.proofs.Common.{sym, ◌∙◌}
-use Rattle.play_crew.specs.Sights.{tracks_of}
+use Rattle.worker_crew.specs.Sights.{tracks_of}
 use Rattle.shared_run.proofs.AtLast.{recomputes-none, recomputes-some, when-ok}
 use Rattle.shared_run.proofs.finishing.finish_series.Goals as goal
 

@@ -10,9 +10,9 @@ use Rattle.script_files.specs.Opening.{Asks, IsOpen}
 use Rattle.script_files.specs.declared.open.OpenScript.{OpenScript}
 use Rattle.script_loop.specs.declared.stop.Stop.{Stop}
 use Rattle.side_by_side.specs.Runs.{AllWorked}
-use Rattle.play_crew.specs.Sights.{Sight}
-use Rattle.play_crew.specs.Players as players
-use Rattle.play_crew.specs.Players.{Playing, Plays, end_of, open_of, players_from}
+use Rattle.worker_crew.specs.Sights.{Sight}
+use Rattle.worker_crew.specs.Players as players
+use Rattle.worker_crew.specs.Players.{Playing, Plays, end_of, open_of, players_from}
 use Rattle.worker_crew.specs.Workers as workers
 use Rattle.worker_crew.specs.Workers.{Bisects, HaveWorked, IsOfRoom, Recomputes, Working, workers_from}
 use Rattle.shared_run.specs.Crews.{word_of}

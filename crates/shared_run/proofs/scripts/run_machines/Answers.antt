@@ -1,8 +1,8 @@
 use Rattle.std.proofs.Common.{subst, arith}
 use Rattle.std.specs.List.{AllByRecursion, AllZip}
 use Rattle.std.proofs.lemmas.List.{length-map}
-use Rattle.play_crew.specs.Rooms.{IsWhole}
-use Rattle.play_crew.specs.Sights.{IsFirstOf, tracks_of}
+use Rattle.worker_crew.specs.Rooms.{IsWhole}
+use Rattle.worker_crew.specs.Sights.{IsFirstOf, tracks_of}
 use Rattle.worker_crew.specs.Work.{Work}
 use Rattle.shared_run.specs.Ran.{HasLegalHistory}
 use Rattle.shared_run.proofs.AtLast.{finishes-less, first-true}

@@ -4,7 +4,7 @@ use Rattle.metric_table.specs.Limits.{most}
 use Rattle.metric_table.specs.declared.limits.Limit.TheVariants.{Machines}
 use Rattle.keep_rows.specs.Loading.{Stored}
 use Rattle.keep_rows.specs.Machines.{AreDifferent, names_of}
-use Rattle.play_crew.specs.Fitting.{IsUnasked}
+use Rattle.worker_crew.specs.Fitting.{IsUnasked}
 use Rattle.worker_crew.specs.Whole.{tallies}
 use Rattle.shared_run.specs.Beginnings.{Begins}
 use Rattle.shared_run.specs.Crews.{asked_by}

@@ -3,7 +3,7 @@ use Rattle.std.specs.Prelude.{IsSome, unwrap_or}
 use Rattle.history_model.specs.declared.entries.Entry.{Entry}
 use Rattle.history_model.specs.Commits.{name_of, number_of}
 use Rattle.history_model.specs.Entries.{entries_of}
-use Rattle.machine_state.proofs.Named.{number-is-named}
+use Rattle.track_replay.proofs.Named.{number-is-named}
 use Rattle.track_follow.proofs.jobs.bisect.Goals as goal
 
 named : (h : List Entry) (name : List ℕ) (n : ℕ) → number_of name h ≡ Some n → IsSome (name_of n h)

@@ -17,14 +17,14 @@ use Rattle.request_model.specs.declared.replies.Refusal.TheVariants as refusal
 use Rattle.request_model.specs.declared.replies.Reply.{Reply}
 use Rattle.track_model.specs.Following as following
 use Rattle.track_model.specs.Outcomes.{Outcome, refuses}
-use Rattle.machine_state.specs.Made.{publication_from}
-use Rattle.machine_state.specs.State.{IsLast}
-use Rattle.machine_state.proofs.Followed.{followed-length}
+use Rattle.track_replay.specs.Made.{publication_from}
+use Rattle.track_replay.specs.State.{IsLast}
+use Rattle.track_replay.proofs.Followed.{followed-length}
 use Rattle.track_follow.proofs.Raising.{comes, change-is, none-such, free, full, added}
-use Rattle.machine_state.proofs.Published.{tells-none}
-use Rattle.machine_state.proofs.Series.{no-more}
-use Rattle.machine_state.proofs.Steps.{added-step}
-use Rattle.machine_state.proofs.Told.{tells-it}
+use Rattle.track_replay.proofs.Published.{tells-none}
+use Rattle.track_replay.proofs.Series.{no-more}
+use Rattle.track_replay.proofs.Steps.{added-step}
+use Rattle.track_replay.proofs.Told.{tells-it}
 use Rattle.track_follow.proofs.regressions.regress.Goals.{After-is_number, In_ok-raised}
 use Rattle.track_follow.proofs.regressions.regress.Goals as goal
 

@@ -3,7 +3,7 @@ use Rattle.std.proofs.lemmas.List.{length-map}
 use Rattle.history_model.specs.declared.entries.Entry.TheVariants as entry
 use Rattle.history_model.specs.declared.entries.Placed.{Placed}
 use Rattle.history_model.specs.Entries.{entries_of}
-use Rattle.machine_state.proofs.Series.{no-more}
+use Rattle.track_replay.proofs.Series.{no-more}
 use Rattle.track_follow.proofs.settling.put_said.Goals as goal
 
 pub add-requires-clause-allowed : goal.add-requires-clause-allowed

@@ -10,8 +10,8 @@ use Rattle.request_model.specs.declared.replies.Answer.TheVariants as answer
 use Rattle.request_model.specs.declared.replies.Refusal.TheVariants as refusal
 use Rattle.track_model.specs.Outcomes.{Outcome}
 use Rattle.track_model.specs.Publishing.{CalibrateComesTo, OfKnown, OfMany, IsCalibrated, is_factor}
-use Rattle.machine_state.specs.State.{IsFound}
-use Rattle.machine_state.proofs.Told.{tells-it, factor-out, factor-in, unknown, known, few}
+use Rattle.track_replay.specs.State.{IsFound}
+use Rattle.track_replay.proofs.Told.{tells-it, factor-out, factor-in, unknown, known, few}
 use Rattle.track_penalties.proofs.penalties.calibrate.Goals as goal
 use Rattle.track_penalties.proofs.penalties.calibrate.Goals.{then-factor-lt1-via-then-factor-lt1, then-factor-lt1-via-else-factor-lt1+then-factor-gt1000}
 

@@ -1,7 +1,7 @@
 use Rattle.std.proofs.Common.{refl}
 use Rattle.history_model.specs.declared.entries.Entry.TheVariants as entry
 use Rattle.history_model.specs.Entries.{entries_of}
-use Rattle.machine_state.proofs.Series.{no-more}
+use Rattle.track_replay.proofs.Series.{no-more}
 use Rattle.track_penalties.proofs.penalties.set.Goals as goal
 
 pub add-requires-clause-more : goal.add-requires-clause-more

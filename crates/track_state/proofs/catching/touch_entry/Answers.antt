@@ -6,7 +6,7 @@ use Rattle.history_model.specs.Entries.{entries_of}
 use Rattle.history_model.specs.Runs.{Series}
 use Rattle.sample_store.specs.Runs.{names}
 use Rattle.sample_store.specs.declared.store.Stored.{Stored}
-use Rattle.machine_state.specs.Indexes.{stored_runs}
+use Rattle.track_step.specs.Indexes.{stored_runs}
 use Rattle.track_state.specs.Touching.{named, sampled, touched_by}
 use Rattle.track_state.proofs.Found.{metric-of, no-run, run-of}
 use Rattle.track_state.proofs.Touching.{nothing, same-all, some-same}

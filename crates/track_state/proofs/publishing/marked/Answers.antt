@@ -9,8 +9,8 @@ use Rattle.touch_index.specs.Marks.{mark_of}
 use Rattle.touch_index.specs.declared.key.SeriesKey.{SeriesKey}
 use Rattle.touch_index.specs.declared.mark.Claim.TheVariants.{Free}
 use Rattle.touch_index.specs.declared.mark.Mark.{Mark}
-use Rattle.machine_state.specs.Made.{publication_from}
-use Rattle.machine_state.specs.State.{IsKept}
+use Rattle.track_step.specs.Made.{publication_from}
+use Rattle.track_step.specs.State.{IsKept}
 use Rattle.track_state.specs.Covering.{Fits}
 use Rattle.track_state.specs.Work.{series_of}
 use Rattle.track_state.proofs.Handed.{kept-none, kept-some, put-claims, put-covers, was-published}

@@ -12,8 +12,8 @@ use Rattle.history_model.specs.Commits.{declarations}
 use Rattle.history_model.specs.Entries.{entries_of}
 use Rattle.track_model.specs.Forms as forms
 use Rattle.track_model.specs.Laws.{CommitFits}
-use Rattle.machine_state.proofs.Steps.{told-step, added-step}
-use Rattle.machine_state.proofs.Series.{no-more}
+use Rattle.track_follow.proofs.Steps.{told-step, added-step}
+use Rattle.track_follow.proofs.Series.{no-more}
 use Rattle.track_step.proofs.commits.commit.Goals.{In_default, In_ok-name}
 use Rattle.track_step.proofs.commits.commit.Goals as goal
 

@@ -9,8 +9,8 @@ use Rattle.history_model.specs.declared.entries.Placed.{Placed}
 use Rattle.history_model.specs.Allowed.{Allowed, KeepsLimits}
 use Rattle.history_model.specs.Entries.{entries_of}
 use Rattle.track_model.specs.Forms as forms
-use Rattle.track_replay.proofs.Retractions.{free-run}
-use Rattle.machine_state.proofs.Series.{no-more}
+use Rattle.track_follow.proofs.Retractions.{free-run}
+use Rattle.track_follow.proofs.Series.{no-more}
 use Rattle.track_step.proofs.commits.retract.Goals as goal
 
 pub add-requires-clause-allowed : goal.add-requires-clause-allowed

@@ -16,7 +16,7 @@ use Rattle.history_model.specs.declared.entries.Author.{Author}
 use Rattle.track_model.specs.Publishing.{ChangesComeTo, VerifyComesTo}
 use Rattle.track_model.specs.Reports.{ReportComesTo}
 use Rattle.track_model.specs.Tracks.{ComesTo, IsStep, IsTold, Track, with_added}
-use Rattle.machine_state.proofs.Told.{tells-it, any-step}
+use Rattle.track_follow.proofs.Told.{tells-it, any-step}
 use Rattle.track_step.proofs.requests.step.Goals as goal
 
 pub returns-in_ok-machine-in-Machine-clause-step : goal.returns-in_ok-machine-in-Machine-clause-step

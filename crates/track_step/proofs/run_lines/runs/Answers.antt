@@ -11,7 +11,7 @@ use Rattle.track_model.specs.Outcomes.{tells}
 use Rattle.track_model.specs.Replies.{reply_of}
 use Rattle.history_model.specs.Runs.{acceptances, retractions}
 use Rattle.sample_store.specs.declared.store.Stored.{Stored}
-use Rattle.machine_state.specs.Indexes.{stored, stored_runs}
+use Rattle.track_follow.specs.Indexes.{stored, stored_runs}
 use Rattle.track_step.specs.Lines.{line_of}
 use Rattle.track_step.proofs.Listing.{lines-are}
 use Rattle.track_step.proofs.run_lines.runs.Goals as goal

@@ -6,9 +6,9 @@ use Rattle.history_model.specs.Commits.{name_of}
 use Rattle.history_model.specs.Entries.{entries_of}
 use Rattle.track_model.specs.Forms as forms
 use Rattle.sample_model.specs.Samples.{AreSamples}
-use Rattle.track_replay.specs.declared.verdict.Verdict.{Verdict}
-use Rattle.track_replay.specs.Verdicts.{IsVerdict}
-use Rattle.machine_state.proofs.Named.{number-is-named}
+use Rattle.track_follow.specs.Verdict.{Verdict}
+use Rattle.track_follow.specs.Verdicts.{IsVerdict}
+use Rattle.track_follow.proofs.Named.{number-is-named}
 use Rattle.track_step.proofs.Submits.{free-submit}
 use Rattle.track_step.proofs.submissions.submit.Goals as goal
 

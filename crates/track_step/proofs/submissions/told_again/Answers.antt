@@ -2,7 +2,7 @@ use Rattle.std.proofs.Common.{◌≡◌, List, ap, ◌∙◌}
 use Rattle.history_model.specs.Entries.{entries_of}
 use Rattle.sample_store.specs.Judged as judge
 use Rattle.sample_store.specs.declared.store.Stored.{Stored}
-use Rattle.machine_state.specs.Indexes.{stored_runs}
+use Rattle.track_follow.specs.Indexes.{stored_runs}
 use Rattle.track_step.specs.Told.{told_of}
 use Rattle.track_step.proofs.ToldAgain.{told-by-judge}
 use Rattle.track_step.proofs.submissions.told_again.Goals as goal

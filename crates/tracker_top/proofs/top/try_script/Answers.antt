@@ -3,8 +3,8 @@ use Rattle.std.proofs.lemmas.List.Elements.{All-weaker}
 use Rattle.history_model.specs.declared.entries.Author.TheVariants as author
 use Rattle.history_model.specs.Entries.{entries_of}
 use Rattle.script_loop.specs.Endings.{HasAnswered}
-use Rattle.script_desk.specs.Counting.{Counting, counted}
-use Rattle.script_desk.specs.Sessions.{State, AnswersSome, HasLegalHistory}
+use Rattle.trial_script.specs.Counting.{Counting, counted}
+use Rattle.trial_script.specs.Sessions.{State, AnswersSome, HasLegalHistory}
 use Rattle.track_model.specs.Tracks.{Track}
 use Rattle.tracker_top.specs.Answers.{new_state, PublishesWell}
 use Rattle.tracker_top.specs.Endings.{RunsScript}

@@ -4,7 +4,7 @@ use Rattle.history_model.specs.declared.entries.Entry.{Entry}
 use Rattle.history_model.specs.declared.entries.Placed.{Placed}
 use Rattle.history_model.specs.Entries.{entries_of}
 use Rattle.machine_state.specs.Made.{IsPlain}
-use Rattle.track_replay.specs.Replays.{IsReplayed}
+use Rattle.track_step.specs.Replays.{IsReplayed}
 use Rattle.journal_walk.specs.Walks.{GoesOn, IsPublishedNext, IsStuck, PublishesNothing, Walked, coming}
 use Rattle.journal_walk.proofs.Going.{Met, goes-replayed, if-not, if-there, item-at, keeps-replayed, met-now, same-replayed, stuck-published, stuck-replayed, walk}
 use Rattle.journal_walk.proofs.walk.Walk.go_on.Goals as goal

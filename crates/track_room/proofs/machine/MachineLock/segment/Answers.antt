@@ -5,10 +5,10 @@ use Rattle.std.proofs.Common.{◌≡◌, ℕ, List, ap, subst}
 use Rattle.history_model.specs.Runs.{Series}
 use Rattle.request_model.specs.declared.replies.Reply.{Reply}
 use Rattle.request_model.specs.declared.requests.Request.TheVariants as request
-use Rattle.track_series.specs.declared.redone.Redone.{Redone}
-use Rattle.track_series.specs.declared.snapshot.Snapshot.{Snapshot}
-use Rattle.track_series.specs.declared.beside.Begun.{Begun}
-use Rattle.track_series.specs.declared.beside.Begun.TheVariants.{Known, Unknown}
+use Rattle.track_state.specs.Redone.{Redone}
+use Rattle.track_state.specs.Snapshot.{Snapshot}
+use Rattle.track_state.specs.Begun.{Begun}
+use Rattle.track_state.specs.Begun.TheVariants.{Known, Unknown}
 use Rattle.track_room.specs.Asked.{IsReplied}
 use Rattle.track_room.specs.Sights.{Home, Sight, SeesMore, Visits}
 use Rattle.track_room.specs.Visits.{Begins, Finishes}

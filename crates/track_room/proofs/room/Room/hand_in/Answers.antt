@@ -1,6 +1,6 @@
 use Rattle.std.proofs.Common.{ap, subst, sym, ◌∙◌, Option}
 use Rattle.std.specs.Prelude.{unwrap_or}
-use Rattle.machine_state.specs.Made.{IsMadeFrom}
+use Rattle.track_state.specs.Made.{IsMadeFrom}
 use Rattle.track_room.specs.Sights.{Sight}
 use Rattle.track_room.specs.Taking.{Publishes, seen_of}
 use Rattle.track_room.proofs.Segments.{made-still}

@@ -3,8 +3,8 @@ use Rattle.history_model.specs.Allowed.{Legal}
 use Rattle.history_model.specs.Entries.{entries_of}
 use Rattle.history_model.specs.Runs.{Series}
 use Rattle.track_model.specs.Tracks.{Track}
-use Rattle.track_series.specs.Beside.{IsBegun}
-use Rattle.track_series.specs.declared.beside.Begun.{Begun}
+use Rattle.track_state.specs.Beside.{IsBegun}
+use Rattle.track_state.specs.Begun.{Begun}
 use Rattle.track_state.specs.Taking.{IsBegunOn}
 use Rattle.track_state.specs.Work.{Work, bare, history_of}
 use Rattle.track_state.proofs.Snapped.{bare-taken}

@@ -14,9 +14,9 @@ use Rattle.touch_index.specs.declared.mark.Claim.{Claim}
 use Rattle.touch_index.specs.declared.mark.Claim.TheVariants.{Free, Refused}
 use Rattle.touch_model.specs.Touches.{last_touch}
 use Rattle.track_model.specs.Tracks.{Track}
-use Rattle.track_series.specs.Publications.{IsPublished, later}
-use Rattle.track_series.specs.declared.publishing.Published.{Published}
-use Rattle.track_series.specs.declared.publishing.Published.TheVariants as published
+use Rattle.track_step.specs.Publications.{IsPublished, later}
+use Rattle.track_step.specs.Published.{Published}
+use Rattle.track_step.specs.Published.TheVariants as published
 use Rattle.track_state.specs.Covering.{Covers, MakeSame}
 use Rattle.track_state.specs.Taking.{Finishes, Publishes, claim_after}
 use Rattle.track_state.specs.Work.{Work, claim_by, key_of, series_of}

@@ -8,8 +8,8 @@ use Rattle.touch_index.specs.declared.key.SeriesKey.{SeriesKey}
 use Rattle.touch_index.specs.declared.mark.Claim.{Claim}
 use Rattle.touch_index.specs.declared.mark.Claim.TheVariants.{Taken}
 use Rattle.track_model.specs.Tracks.{Track, with_taken}
-use Rattle.track_series.specs.Snapshots.{IsSnapshot, IsTakenAt}
-use Rattle.track_series.specs.declared.snapshot.Snapshot.{Snapshot}
+use Rattle.track_step.specs.Snapshots.{IsSnapshot, IsTakenAt}
+use Rattle.track_step.specs.Snapshot.{Snapshot}
 use Rattle.track_state.specs.Covering.{Covers, MakeSame}
 use Rattle.track_state.specs.Taking.{TakesFirst}
 use Rattle.track_state.specs.Work.{Work, IsFirstBy, claim_by, key_of, series_of}

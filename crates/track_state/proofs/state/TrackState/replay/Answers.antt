@@ -2,7 +2,7 @@ use Rattle.std.proofs.Common.{◌≡◌, Bool, true, false, cond, Option, Some, 
 use Rattle.history_model.specs.declared.entries.Author.TheVariants.{Kept}
 use Rattle.history_model.specs.declared.entries.Entry.{Entry}
 use Rattle.track_model.specs.Tracks.{Track, with_added, with_entry}
-use Rattle.track_replay.specs.Replays.{IsReplayed}
+use Rattle.track_step.specs.Replays.{IsReplayed}
 use Rattle.track_state.specs.Work.{Work}
 use Rattle.track_state.proofs.Stepping.{keeps-claims, step-covers}
 use Rattle.track_state.proofs.state.TrackState.replay.Goals as goal
