@@ -1,4 +1,4 @@
--- Private: no public contract cites this. Two numbers, and what lies between them.
+-- No public contract cites this. Two numbers, and what lies between them.
 use Rattle.std.specs.Prelude.{ℤ, List, All, ◌≤ℤ◌}
 use Rattle.segment_model.specs.Limits.{IsSmall}
 use Rattle.absolute_cost.specs.declared.ends.Ends.{Ends}

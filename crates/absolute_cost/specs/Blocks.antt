@@ -1,4 +1,4 @@
--- Private: no public contract cites this. Values of which each whole block of 32 stands in order.
+-- No public contract cites this. Values of which each whole block of 32 stands in order.
 use Rattle.std.specs.Prelude.{◌≡◌, ℕ, ℤ, ◌+◌, ◌*◌, ◌%◌, ◌<◌, ◌≤◌, List, ◌++◌, length, take, drop, slice_index_or, sum_by, ◌≤ℤ◌}
 
 -- none comes before a smaller one

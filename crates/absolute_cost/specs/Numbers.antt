@@ -1,4 +1,4 @@
--- Private: no public contract cites this. A number by how far it is above another.
+-- No public contract cites this. A number by how far it is above another.
 use Rattle.std.specs.Prelude.{ℕ, ℤ, pos, ◌+ℤ◌}
 
 abbrev pub number_of : ℤ → ℕ → ℤ

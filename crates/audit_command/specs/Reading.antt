@@ -1,4 +1,4 @@
--- Private: no public contract cites this. What was read of files that are open.
+-- No public contract cites this. What was read of files that are open.
 use Rattle.std.specs.Prelude.{◌≡◌, ℕ, ◌+◌, ◌-◌, ◌<◌, ◌≤◌, zero, suc, List, [], ◌∷◌, ◌++◌, length, sum_by, IfSome}
 use Rattle.std.specs.List.{AllZip}
 use Rattle.std.specs.Io.KnownBytes.{prepend_known, IsAtEnd}

@@ -1,4 +1,4 @@
--- Private: no public contract cites this. What was heard so far of a script with its transcript.
+-- What was heard so far of a script with its transcript.
 use Rattle.std.specs.Prelude.{◌≡◌, ◌≢◌, ℕ, List, ◌++◌, take}
 use Rattle.track_model.specs.Tracks.{Track}
 use Rattle.request_model.specs.declared.replies.Reply.{Reply}

@@ -1,4 +1,4 @@
--- Private: no public contract cites this. What a status says of its place, as a case, and where an answer leads.
+-- No public contract cites this. What a status says of its place, as a case, and where an answer leads.
 use Rattle.std.specs.Prelude.{ℕ, ◌+◌, if◌then◌else◌, List, Option, Some, None}
 use Rattle.bisect_core.specs.declared.progress.Verdict.{Verdict}
 use Rattle.bisect_core.specs.declared.progress.Verdict.TheVariants.{Good, Bad, Untestable}

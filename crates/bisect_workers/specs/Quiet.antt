@@ -1,4 +1,4 @@
--- Private: no public contract cites this. When no job asks.
+-- No public contract cites this. When no job asks.
 use Rattle.std.specs.Prelude.{◌≡◌, ℕ, List, None}
 use Rattle.history_model.specs.declared.entries.Entry.{Entry}
 use Rattle.history_model.specs.Jobs.{asked}

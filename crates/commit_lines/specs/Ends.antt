@@ -1,4 +1,4 @@
--- The ends that are tried behind a line that has begun. Private: no public contract cites this.
+-- The ends that are tried behind a line that has begun. No public contract cites this.
 use Rattle.std.specs.Prelude.{ℕ, ◌+◌, ◌*◌, ◌/◌, ◌%◌, nat_lt, if◌then◌else◌, List, [], ◌∷◌, ◌++◌, take}
 use Rattle.std.specs.Char.{digit_char}
 

@@ -1,4 +1,4 @@
--- What a reader keeps of the bytes that it has read. Private: no public contract cites this.
+-- What a reader keeps of the bytes that it has read. No public contract cites this.
 use Rattle.std.specs.Prelude.{◌≡◌, ◌⊎◌, ℕ, ◌<◌, ◌≤◌, List, [], ◌∷◌, ◌++◌, length, slice_index, Contains}
 use Rattle.line_text.specs.Lines.{lines_of, words_of}
 use Rattle.commit_lines.specs.declared.line.LineKind.{LineKind}

@@ -1,4 +1,4 @@
--- Readers of names, which have no limit of their own. Private: no public contract cites this.
+-- Readers of names, which have no limit of their own. No public contract cites this.
 use Rattle.line_pieces.specs.Pieces.{Reading}
 use Rattle.commit_lines.specs.declared.reader.Reader.{Reader}
 use Rattle.commit_lines.specs.HasRead.{HasRead}

@@ -1,4 +1,4 @@
--- Private: no public contract cites this. What is looked at of a certificate, entry by entry.
+-- No public contract cites this. What is looked at of a certificate, entry by entry.
 use Rattle.std.specs.Prelude.{◌≡◌, ◌≢◌, ℕ, ℤ, ◌+◌, ◌*◌, ◌^◌, ◌<◌, ◌≤◌, List, length, slice_index, slice_index_or, false, ◌⊎◌, ◌↔◌, pos, neg_ℤ, ◌+ℤ◌, ◌≤ℤ◌, ◌<ℤ◌}
 use Rattle.segment_model.specs.Computed.{least_sum_of}
 use Rattle.segment_model.specs.Tables.{int_at, IsCandidate, IsDear, IsMark, IsOpenAt, IsUnmarkedBefore, IsSettled, IsTable}

@@ -1,4 +1,4 @@
--- Private: no public contract cites this. Least totals, and costs of segments, in their ranges.
+-- No public contract cites this. Least totals, and costs of segments, in their ranges.
 use Rattle.std.specs.Prelude.{ℕ, ℤ, ◌^◌, ◌<◌, ◌≤◌, List, length, pos, neg_ℤ, ◌≤ℤ◌}
 use Rattle.segment_model.specs.Tables.{int_at}
 

@@ -1,4 +1,4 @@
--- What the end of a line does to the points, and why it is refused. Private: no public contract
+-- What the end of a line does to the points, and why it is refused. No public contract
 -- cites this.
 use Rattle.std.specs.Prelude.{◌≡◌, ℕ, ℤ, ◌<◌, ◌≤◌, ◌⊎◌, List, length}
 use Rattle.segment_model.specs.Segments.{Position, values_of}

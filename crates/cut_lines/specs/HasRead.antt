@@ -1,4 +1,4 @@
--- What a reader keeps of the bytes that it has read. Private: no public contract cites this.
+-- What a reader keeps of the bytes that it has read. No public contract cites this.
 use Rattle.std.specs.Prelude.{◌≡◌, ℕ, ◌<◌, List, [], ◌∷◌, ◌++◌, length, take}
 use Rattle.segment_model.specs.Segments.{Position}
 use Rattle.line_text.specs.Lines.{lines_of}

@@ -1,5 +1,5 @@
 -- What a line's kind says of it, and how a line that is longer than a line may be is skipped.
--- Private: no public contract cites this.
+-- No public contract cites this.
 use Rattle.std.specs.Prelude.{◌≡◌, ◌≢◌, ℕ, ℤ, ◌<◌, ◌⊎◌, List, [], ◌∷◌, ◌++◌, decimal, slice_index}
 use Rattle.std.specs.Fmt.{signed_decimal}
 use Rattle.line_text.specs.Lines.{words_of}

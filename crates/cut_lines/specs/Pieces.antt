@@ -1,4 +1,4 @@
--- Readers of cut lines. Private: no public contract cites this.
+-- Readers of cut lines. No public contract cites this.
 use Rattle.line_pieces.specs.Pieces.{Reading}
 use Rattle.cut_lines.specs.declared.reader.Reader.{Reader}
 use Rattle.cut_lines.specs.HasRead.{HasRead}

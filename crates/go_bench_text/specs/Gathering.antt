@@ -1,4 +1,4 @@
--- Private: no public contract cites this. What has become of the samples while a text is read.
+-- No public contract cites this. What has become of the samples while a text is read.
 use Rattle.std.specs.Prelude.{◌≡◌, ℕ, ◌<◌, ◌≤◌, ◌⊎◌, true, false, List, ◌++◌, length}
 use Rattle.metric_table.specs.Limits.{most}
 use Rattle.metric_table.specs.declared.limits.Limit.TheVariants.{RunSamples}

@@ -1,4 +1,4 @@
--- Private: no public contract cites this. The pairs of a line, as they are read.
+-- No public contract cites this. The pairs of a line, as they are read.
 use Rattle.std.specs.Prelude.{◌≡◌, ℕ, ◌<◌, ◌≤◌, ◌^◌, List, map, length, All, unsigned_abs}
 use Rattle.fixed_value.specs.Numerals.{HasNumeral}
 use Rattle.metric_value.specs.Values.{IsValueOf, HasNoneInRange}

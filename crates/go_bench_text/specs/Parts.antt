@@ -1,4 +1,4 @@
--- Private: no public contract cites this. Where a field ends.
+-- No public contract cites this. Where a field ends.
 use Rattle.std.specs.Prelude.{◌≡◌, ℕ, ◌<◌, Bool, true, false, List, [], ◌∷◌}
 use Rattle.std.specs.Char.{is_whitespace}
 

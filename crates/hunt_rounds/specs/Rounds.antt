@@ -1,4 +1,4 @@
--- Private: no public contract cites this. One round of asks.
+-- No public contract cites this. One round of asks.
 use Rattle.std.specs.Prelude.{◌≡◌, ◌<◌, ℕ, get_or, List, [], ◌∷◌, length, slice_index, slice_index_or, nat_lt, if◌then◌else◌, Option, None, Result, Ok, Err}
 use Rattle.track_outside.specs.Asked.{Ask}
 use Rattle.hunt_rounds.specs.declared.asking.Asking.{Asking}

@@ -1,4 +1,4 @@
--- Private: no public contract cites this. The next journal of a text, and where it is refused.
+-- No public contract cites this. The next journal of a text, and where it is refused.
 use Rattle.std.specs.Prelude.{◌≡◌, ℕ, ◌+◌, ◌<◌, ◌^◌, List, [], ◌++◌, length}
 use Rattle.std.specs.List.{AllByRecursion}
 use Rattle.metric_table.specs.Limits.{most}

@@ -1,4 +1,4 @@
--- Private: no public contract cites this. What a walk keeps for publications that are to come.
+-- No public contract cites this. What a walk keeps for publications that are to come.
 use Rattle.std.specs.Prelude.{◌≡◌, ◌<◌, ◌≤◌, ℕ, Bool, true, false, List, length, take, slice_get, Option, Some}
 use Rattle.history_model.specs.declared.entries.Entry.{Entry}
 use Rattle.history_model.specs.declared.entries.Entry.TheVariants.{Publish}

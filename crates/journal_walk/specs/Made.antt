@@ -1,4 +1,4 @@
--- Private: no public contract cites this. The segmentation that a publication is of.
+-- No public contract cites this. The segmentation that a publication is of.
 use Rattle.std.specs.Prelude.{◌≡◌, ◌-◌, List, length}
 use Rattle.point_list.specs.Places.{common}
 use Rattle.segment_cost.specs.Certificate.{StandsFor}

@@ -1,4 +1,4 @@
--- Private: no public contract cites this. What is needed for the publications of a history, and when.
+-- No public contract cites this. What is needed for the publications of a history, and when.
 use Rattle.std.specs.Prelude.{ℕ, ◌+◌, Bool, true, false, List, [], ◌∷◌, ◌++◌}
 use Rattle.std.specs.List.Sorted.{IsPermutation, IsNonDecreasingBy}
 use Rattle.history_model.specs.declared.entries.Entry.{Entry}

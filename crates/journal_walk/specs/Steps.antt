@@ -1,4 +1,4 @@
--- Private: no public contract cites this. A publication, added behind a history.
+-- No public contract cites this. A publication, added behind a history.
 use Rattle.std.specs.Prelude.{◌≡◌, [], ◌∷◌, ◌++◌, take, Some}
 use Rattle.history_model.specs.declared.entries.Entry.TheVariants.{Publish}
 use Rattle.history_model.specs.declared.publication.Publication.{Publication}

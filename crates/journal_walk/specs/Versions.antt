@@ -1,4 +1,4 @@
--- Private: no public contract cites this. What a series is at a version of a history.
+-- No public contract cites this. What a series is at a version of a history.
 use Rattle.std.specs.Prelude.{◌≡◌, true, false, List, Option, Some, None}
 use Rattle.history_model.specs.declared.entries.Entry.{Entry}
 use Rattle.history_model.specs.Penalties.{setting_of}

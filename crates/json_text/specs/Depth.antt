@@ -1,4 +1,4 @@
--- Private: no public contract cites this. How many levels lie in one another in what the machine has read.
+-- No public contract cites this. How many levels lie in one another in what the machine has read.
 use Rattle.std.specs.Prelude.{ℕ, ◌+◌, List, [], ◌∷◌, max}
 use Rattle.json_text.specs.Tree.{nesting, items_nesting, members_nesting}
 use Rattle.json_text.specs.Machine.{Frame, in_list, in_member, as_value, as_key, Mode, value, first_item, first_key, next_key, colon, letters, digits, content, ended, State}

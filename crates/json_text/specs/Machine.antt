@@ -1,4 +1,4 @@
--- Private: no public contract cites this. What reads JSON text byte by byte: a state says what is open and what has to come. It has no limit of nesting.
+-- No public contract cites this. What reads JSON text byte by byte: a state says what is open and what has to come. It has no limit of nesting.
 use Rattle.std.specs.Prelude.{ℕ, ◌+◌, ◌*◌, Bool, true, false, cond, ◌&&◌, ◌==◌, nat_le, nat_lt, ◌<◌, ◌≤◌, ◌⊎◌, List, [], ◌∷◌, ◌++◌, length, Option, Some, None, option_map, option_and_then}
 use Rattle.std.specs.Char.{digit_value, encode_utf8, IsScalar}
 use Rattle.json_text.specs.Tree.{Tree, null, boolean, number, text, list, object, Items, no_items, Members, no_members}

@@ -1,4 +1,4 @@
--- Private: no public contract cites this. What the reader answers, in terms of the machine.
+-- No public contract cites this. What the reader answers, in terms of the machine.
 use Rattle.std.specs.Prelude.{◌≡◌, ℕ, ◌+◌, ◌<◌, ◌⊎◌, List, length, take, Some, None, Result, Ok, Err}
 use Rattle.json_text.specs.View.{tree_of}
 use Rattle.json_text.specs.Reached.{ended_tree, Reaches}

@@ -1,4 +1,4 @@
--- Private: no public contract cites this. Where the machine stands after some of the bytes, and what leads it from one place to another.
+-- No public contract cites this. Where the machine stands after some of the bytes, and what leads it from one place to another.
 use Rattle.std.specs.Prelude.{◌≡◌, ℕ, ◌<◌, ◌≤◌, List, [], ◌∷◌, ◌++◌, length, take, slice_index, slice_range, Option, Some, None}
 use Rattle.json_text.specs.Tree.{Tree}
 use Rattle.json_text.specs.Places.{most_levels}

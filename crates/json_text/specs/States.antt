@@ -1,4 +1,4 @@
--- Private: no public contract cites this. The reader's state as the machine's, and what a token of it gives.
+-- No public contract cites this. The reader's state as the machine's, and what a token of it gives.
 use Rattle.std.specs.Prelude.{◌≡◌, ℕ, ◌+◌, ◌<◌, ◌≤◌, ◌⊎◌, false, List, [], ◌∷◌, length, slice_index, Option, Some, None, IsTrue, Result, Ok, Err}
 use Rattle.json_text.specs.declared.state.Open.{Open}
 use Rattle.json_text.specs.declared.state.Open.TheVariants as open_frame

@@ -1,4 +1,4 @@
--- Private: no public contract cites this. What values with tracks are told apart by.
+-- What values with tracks are told apart by.
 use Rattle.std.specs.Coded.{codes}
 use Rattle.track_model.specs.Tracks.{coded_home}
 

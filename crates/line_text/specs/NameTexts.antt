@@ -1,4 +1,4 @@
--- Private: no public contract cites this. The bytes of a name's text, wherever it lies.
+-- No public contract cites this. The bytes of a name's text, wherever it lies.
 use Rattle.std.specs.Prelude.{ℕ, List, string_bytes}
 use Rattle.line_text.specs.declared.name_text.NameText.{NameText}
 use Rattle.line_text.specs.declared.name_text.NameText.TheVariants as text

@@ -1,4 +1,4 @@
--- Private: no public contract cites this. What the steps of reading a run say of it.
+-- No public contract cites this. What the steps of reading a run say of it.
 use Rattle.std.specs.Prelude.{◌≡◌, ℕ, ◌⊎◌, List, Option, Some, None, Result, Ok, Err}
 use Rattle.json_text.specs.Tree.{Tree}
 use Rattle.json_text.specs.declared.reading.JsonFault.{JsonFault}

@@ -1,4 +1,4 @@
--- Private: no public contract cites this. How far the samples of a run have been gathered.
+-- No public contract cites this. How far the samples of a run have been gathered.
 use Rattle.std.specs.Prelude.{◌⊎◌, ◌≡◌, ℕ, ◌+◌, ◌-◌, ◌^◌, ◌<◌, ◌≤◌, Bool, true, false, ℤ, List, [], ◌++◌, length, min, All, Result, MatchResult}
 use Rattle.metric_table.specs.Limits.{most}
 use Rattle.metric_table.specs.declared.limits.Limit.TheVariants.{RunSamples}

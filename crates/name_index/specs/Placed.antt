@@ -1,4 +1,4 @@
--- Private: no public contract cites this. Where the names of a list are found.
+-- No public contract cites this. Where the names of a list are found.
 use Rattle.std.specs.Prelude.{◌≡◌, ◌≢◌, ◌⊎◌, ℕ, ◌+◌, ◌<◌, ◌%◌, List, [], length, get_or, Some, None}
 use Rattle.std.specs.Hash.FoldHasher as fold
 use Rattle.std.specs.Hash.DefaultHasher as sip

@@ -1,4 +1,4 @@
--- Private: no public contract cites this. What an index of commits keeps.
+-- No public contract cites this. What an index of commits keeps.
 use Rattle.std.specs.Prelude.{◌≡◌, ℕ, ◌<◌, ◌≤◌, List, [], ◌∷◌, map, Option, Some, None}
 use Rattle.std.specs.List.{position_from, AllByRecursion}
 use Rattle.std.specs.Ordering.{nat_cmp}

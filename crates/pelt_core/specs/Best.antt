@@ -1,4 +1,4 @@
--- Private: no public contract cites this. The cut list that a table of last cuts gives.
+-- No public contract cites this. The cut list that a table of last cuts gives.
 use Rattle.std.specs.Prelude.{◌≡◌, ℕ, ℤ}
 use Rattle.segment_model.specs.Cuts.{IsBest, total}
 use Rattle.pelt_core.specs.declared.table.Best.{Best}

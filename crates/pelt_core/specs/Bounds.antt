@@ -1,4 +1,4 @@
--- Private: no public contract cites this. Lower bounds of what the candidates of each block make.
+-- No public contract cites this. Lower bounds of what the candidates of each block make.
 use Rattle.std.specs.Prelude.{◌≡◌, ◌≢◌, ℕ, ℤ, ◌+◌, ◌*◌, ◌^◌, ◌<◌, ◌≤◌, List, length, slice_index, slice_index_or, ◌⊎◌, pos, neg_ℤ, ◌+ℤ◌, ◌≤ℤ◌, ◌<ℤ◌}
 use Rattle.segment_model.specs.Values.{AreWithinLimits}
 use Rattle.pelt_core.specs.declared.bounds.Bound.{Bound}

@@ -1,4 +1,4 @@
--- Private: no public contract cites this. What a pruned table keeps: three tables in full, and as candidates the places from
+-- No public contract cites this. What a pruned table keeps: three tables in full, and as candidates the places from
 -- which the next last segment may begin, but for those that were pruned long enough ago.
 use Rattle.std.specs.Prelude.{◌≡◌, ◌≢◌, ℕ, ℤ, ◌+◌, ◌-◌, ◌*◌, ◌^◌, ◌<◌, ◌≤◌, Bool, true, false, List, [], ◌∷◌, ◌++◌, length, slice_index, filter, pos, ◌+ℤ◌, ◌≤ℤ◌, vec_len, vec_capacity}
 use Rattle.segment_model.specs.Limits.{IsLength}

@@ -1,4 +1,4 @@
--- Private: no public contract cites this. The totals of two cut lists as lines over the penalty.
+-- No public contract cites this. The totals of two cut lists as lines over the penalty.
 use Rattle.std.specs.Prelude.{◌≡◌, ℤ, List, length, ◌⊎◌, pos, ◌+ℤ◌, ◌-ℤ◌, ◌*ℤ◌, ◌<ℤ◌}
 use Rattle.segment_model.specs.Segments.{Position}
 use Rattle.segment_cost.specs.declared.cert.Cert.{Cert}

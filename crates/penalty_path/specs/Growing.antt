@@ -1,4 +1,4 @@
--- Private: no public contract cites this. A path as it grows.
+-- No public contract cites this. A path as it grows.
 use Rattle.std.specs.Prelude.{◌^◌, List, [], ◌∷◌, ◌++◌, length, pos, ◌*ℤ◌, ◌≤ℤ◌}
 use Rattle.segment_cost.specs.declared.cert.Cert.{Cert}
 use Rattle.penalty_path.specs.declared.stretch.Stretch.{Stretch}

@@ -1,4 +1,4 @@
--- Private: no public contract cites this. What is known of the best cut lists of some points at all penalties.
+-- No public contract cites this. What is known of the best cut lists of some points at all penalties.
 use Rattle.std.specs.Prelude.{◌≡◌, ℕ, ℤ, ◌≤◌, List, length, ◌≤ℤ◌}
 use Rattle.segment_model.specs.Segments.{Position}
 use Rattle.segment_cost.specs.Certificate.{StandsFor}

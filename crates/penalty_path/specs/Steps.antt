@@ -1,4 +1,4 @@
--- Private: no public contract cites this. A stretch of a path, and those behind it.
+-- No public contract cites this. A stretch of a path, and those behind it.
 use Rattle.std.specs.Prelude.{◌≡◌, ◌≢◌, ℤ, List, [], ◌∷◌, ◌<ℤ◌}
 use Rattle.segment_model.specs.Segments.{Position}
 use Rattle.penalty_path.specs.declared.stretch.Stretch.{Stretch}

@@ -1,4 +1,4 @@
--- Private: no public contract cites this. What was heard of scripts by the journals.
+-- No public contract cites this. What was heard of scripts by the journals.
 use Rattle.std.specs.Prelude.{◌≡◌, ◌+◌, ◌-◌, ◌<◌, ℕ, Bool, List, [], ◌∷◌, ◌++◌, drop, length, slice_get, sum_by, Some, Vec, IfNone, IfOk, IfSome, Option, Result}
 use Rattle.std.specs.declared.alloc.Global.{Global}
 use Rattle.request_model.specs.declared.replies.Reply.{Reply}

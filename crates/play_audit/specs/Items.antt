@@ -1,4 +1,4 @@
--- Private: no public contract cites this. What a script asks, read item by item.
+-- No public contract cites this. What a script asks, read item by item.
 use Rattle.std.specs.Prelude.{◌≡◌, ℕ, ◌<◌, ◌≤◌, false, List, ◌++◌, length}
 use Rattle.request_words.specs.Bodies.{Item}
 use Rattle.request_reader.specs.Scripts.{ArePieces, IsScript, cut_off, end, input_limit}

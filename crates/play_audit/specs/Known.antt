@@ -1,4 +1,4 @@
--- Private: no public contract cites this. The journals that scripts are heard by, and a script's ways along them.
+-- No public contract cites this. The journals that scripts are heard by, and a script's ways along them.
 use Rattle.std.specs.Prelude.{◌≡◌, ◌+◌, ℕ, List, length, map, slice_get, sum_by, Some}
 use Rattle.track_model.specs.Tracks.{Track}
 use Rattle.journal_reader.specs.Journals.{Journal, AreDifferent}

@@ -1,4 +1,4 @@
--- Private: no public contract cites this. Marks on the entries of journals, which were asked for.
+-- No public contract cites this. Marks on the entries of journals, which were asked for.
 use Rattle.std.specs.Prelude.{◌≡◌, ◌⊎◌, ◌+◌, ◌<◌, ℕ, Bool, true, false, List, [], length, get_or, map, slice_get, Some, Ok, Vec}
 use Rattle.std.specs.declared.alloc.Global.{Global}
 use Rattle.history_model.specs.declared.entries.Author.TheVariants as author

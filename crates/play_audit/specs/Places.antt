@@ -1,4 +1,4 @@
--- Private: no public contract cites this. A script's way along the journal of a machine.
+-- No public contract cites this. A script's way along the journal of a machine.
 use Rattle.std.specs.Prelude.{◌≡◌, ◌<◌, ◌≤◌, ◌^◌, ℕ, false, List, length, Option, Some, None}
 use Rattle.std.specs.List.{AllByRecursion}
 use Rattle.history_model.specs.declared.entries.Placed.{Placed}

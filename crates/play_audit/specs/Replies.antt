@@ -1,4 +1,4 @@
--- Private: no public contract cites this. What a transcript has next, by the journal of a machine.
+-- No public contract cites this. What a transcript has next, by the journal of a machine.
 use Rattle.std.specs.Prelude.{◌≡◌, ◌≢◌, ◌⊎◌, ℕ, ◌-◌, Bool, true, List, ◌++◌, set, IfNone, IfOk, IfSome, Option, Result}
 use Rattle.history_model.specs.declared.entries.Author.{Author}
 use Rattle.history_model.specs.declared.entries.Placed.{Placed}

@@ -1,4 +1,4 @@
--- Private: no public contract cites this. Segmentations that a journal may have published, or not.
+-- No public contract cites this. Segmentations that a journal may have published, or not.
 use Rattle.std.specs.Prelude.{◌≡◌, ◌≢◌, ◌⊎◌, ℕ, ◌≤◌, ◌<◌, true, false, List, [], ◌∷◌, ◌++◌, length, Option, Some, None}
 use Rattle.metric_table.specs.declared.limits.Limit.{Limit}
 use Rattle.metric_table.specs.declared.limits.Limit.TheVariants.{Cuts, Steps}

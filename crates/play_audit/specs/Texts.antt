@@ -1,4 +1,4 @@
--- Private: no public contract cites this. A transcript that begins with a reply, and replies behind a walk.
+-- No public contract cites this. A transcript that begins with a reply, and replies behind a walk.
 use Rattle.std.specs.Prelude.{◌≡◌, ℕ, List, ◌++◌, drop, length, slice_get, Some}
 use Rattle.history_model.specs.declared.entries.Author.TheVariants.{Kept}
 use Rattle.history_model.specs.declared.entries.Entry.{Entry}

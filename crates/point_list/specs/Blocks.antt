@@ -1,4 +1,4 @@
--- Private: no public contract cites this. Positions in blocks of one length, and what tells one block from another.
+-- No public contract cites this. Positions in blocks of one length, and what tells one block from another.
 use Rattle.std.specs.Prelude.{◌≡◌, ℕ, ℤ, ◌*◌, ◌≤◌, List, [], ◌∷◌, ◌++◌, length, take}
 use Rattle.segment_model.specs.Segments.{Position, values_of}
 

@@ -1,4 +1,4 @@
--- Private: no public contract cites this. Where a commit stands among positions whose commits rise.
+-- No public contract cites this. Where a commit stands among positions whose commits rise.
 use Rattle.std.specs.Prelude.{◌≡◌, ℕ, zero, suc, ◌<◌, ◌≤◌, List, [], ◌∷◌}
 use Rattle.segment_model.specs.Segments.{Position}
 

@@ -1,4 +1,4 @@
--- Private: no public contract cites this. Positions in slots, and their order as a list of slots.
+-- No public contract cites this. Positions in slots, and their order as a list of slots.
 use Rattle.std.specs.Prelude.{◌≡◌, ◌≢◌, ℕ, ◌<◌, ◌≤◌, ◌==◌, if◌then◌else◌, List, [], ◌∷◌, length, map, slice_index_or}
 use Rattle.segment_model.specs.Segments.{Position}
 

@@ -1,4 +1,4 @@
--- Private: no public contract cites this. Counts and sums that are stored apart.
+-- No public contract cites this. Counts and sums that are stored apart.
 use Rattle.std.specs.Prelude.{ℕ, List, [], ◌∷◌}
 use Rattle.prefix_sums.specs.declared.sums.Sums.{Sums}
 use Rattle.prefix_sums.specs.declared.sum_list.Totals.{Totals}

@@ -1,4 +1,4 @@
--- Private: no public contract cites this. Which series main may leave: one that isn't stale, or of which a publication has no
+-- No public contract cites this. Which series main may leave: one that isn't stale, or of which a publication has no
 -- room.
 use Rattle.std.specs.Prelude.{◌≡◌, ◌⊎◌, false, List}
 use Rattle.history_model.specs.declared.entries.Entry.{Entry}

@@ -1,4 +1,4 @@
--- Private: no public contract cites this. What publications leave as it is.
+-- No public contract cites this. What publications leave as it is.
 use Rattle.std.specs.Prelude.{◌≡◌, List}
 use Rattle.history_model.specs.declared.entries.Entry.{Entry}
 use Rattle.history_model.specs.Runs.{Series, is_known}

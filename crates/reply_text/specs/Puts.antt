@@ -1,4 +1,4 @@
--- Private: no public contract cites this. What is left of a text to which more is put.
+-- No public contract cites this. What is left of a text to which more is put.
 use Rattle.std.specs.Prelude.{◌≡◌, ℕ, List, ◌++◌, Result, MatchResult}
 
 -- the new text begins with the old one

@@ -1,4 +1,4 @@
--- Private: no public contract cites this. The first members of a report in JSON.
+-- No public contract cites this. The first members of a report in JSON.
 use Rattle.std.specs.Prelude.{ℕ, List, ◌++◌, map, codes}
 use Rattle.json.specs.Print.{quoted}
 use Rattle.serde_json.specs.Data.{array}

@@ -1,4 +1,4 @@
--- Private: no public contract cites this. A line that has come with its line feed.
+-- No public contract cites this. A line that has come with its line feed.
 use Rattle.std.specs.Prelude.{◌≡◌, ℕ, ◌+◌, List, ◌∷◌, ◌++◌, length}
 use Rattle.request_words.specs.declared.head.Head.{Head}
 use Rattle.request_words.specs.Heads.{IsHead}

@@ -1,4 +1,4 @@
--- Private: no public contract cites this. What reading more bytes of an input comes to.
+-- No public contract cites this. What reading more bytes of an input comes to.
 use Rattle.std.specs.Prelude.{◌≡◌, ℕ, ◌+◌, ◌<◌, ◌≤◌, List, [], ◌++◌, length, Option, IfSome}
 use Rattle.std.specs.Io.KnownBytes.{prepend_known}
 use Rattle.track_outside.specs.Counts.{Rose}

@@ -1,4 +1,4 @@
--- Private: no public contract cites this. What the last line of an input comes to.
+-- No public contract cites this. What the last line of an input comes to.
 use Rattle.std.specs.Prelude.{◌≡◌, ◌+◌, true, [], length}
 use Rattle.request_reader.specs.declared.asked.Asked.{Asked}
 use Rattle.request_reader.specs.declared.stop.ReadStop.{ReadStop}

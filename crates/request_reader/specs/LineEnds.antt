@@ -1,4 +1,4 @@
--- Private: no public contract cites this. Where the next line ends.
+-- No public contract cites this. Where the next line ends.
 use Rattle.std.specs.Prelude.{◌≡◌, ℕ, ◌<◌, List, [], ◌∷◌, ◌++◌, length, Option, Some, None, IfSome}
 use Rattle.track_outside.specs.declared.source.Source.{Ghosts}
 use Rattle.request_reader.specs.declared.line.LineEnd.{LineEnd}

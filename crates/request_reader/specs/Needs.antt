@@ -1,4 +1,4 @@
--- Private: no public contract cites this. Reading on until so many bytes are kept.
+-- No public contract cites this. Reading on until so many bytes are kept.
 use Rattle.std.specs.Prelude.{◌≡◌, ℕ, ◌<◌, ◌≤◌, Bool, true, false, List, [], ◌++◌, length, Option, Some, None, IfSome}
 use Rattle.track_outside.specs.declared.source.Source.{Ghosts}
 use Rattle.request_reader.specs.declared.stop.ReadStop.{ReadStop}

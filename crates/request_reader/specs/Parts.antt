@@ -1,4 +1,4 @@
--- Private: no public contract cites this. What each part of a call that reads the next request comes to.
+-- No public contract cites this. What each part of a call that reads the next request comes to.
 use Rattle.std.specs.Prelude.{◌≡◌, ℕ, ◌+◌, List, [], ◌∷◌, Option, drop, slice_range}
 use Rattle.track_outside.specs.declared.source.Source.{Ghosts}
 use Rattle.request_reader.specs.declared.asked.Asked.{Asked}

@@ -1,4 +1,4 @@
--- Private: no public contract cites this. Passing bytes of an input: those of a body that is not kept, and pieces that ask
+-- No public contract cites this. Passing bytes of an input: those of a body that is not kept, and pieces that ask
 -- nothing.
 use Rattle.std.specs.Prelude.{◌≡◌, ℕ, ◌+◌, ◌<◌, ◌≤◌, Bool, true, false, List, [], ◌++◌, length, Option, Some, None, IfSome}
 use Rattle.std.specs.Io.KnownBytes.{prepend_known}

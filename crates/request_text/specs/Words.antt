@@ -1,4 +1,4 @@
--- Private: no public contract cites this. The words of a line, as they are written.
+-- No public contract cites this. The words of a line, as they are written.
 use Rattle.std.specs.Prelude.{ℕ, List, [], ◌∷◌, ◌++◌, decimal}
 use Rattle.std.specs.List.{flat_map}
 use Rattle.std.specs.Fmt.{signed_decimal}

@@ -1,4 +1,4 @@
--- Private: no public contract cites this. The refusals that the faults of bodies are.
+-- No public contract cites this. The refusals that the faults of bodies are.
 use Rattle.std.specs.Prelude.{◌≡◌, ◌≢◌, Result, Ok, Err}
 use Rattle.go_bench_text.specs.declared.read.GoFault.{GoFault}
 use Rattle.go_bench_text.specs.declared.read.GoFault.TheVariants as go

@@ -1,4 +1,4 @@
--- Private: no public contract cites this. How long the last of the names of a request may be.
+-- No public contract cites this. How long the last of the names of a request may be.
 use Rattle.std.specs.Prelude.{ℕ, ◌≤◌, List, length}
 use Rattle.request_words.specs.declared.names.Last.{Last}
 use Rattle.request_words.specs.declared.names.Last.TheVariants.{Metric, Any}

@@ -1,4 +1,4 @@
--- Private: no public contract cites this. The words that a request line begins with.
+-- No public contract cites this. The words that a request line begins with.
 use Rattle.std.specs.Prelude.{ℕ, List, codes}
 use Rattle.request_words.specs.Forms.{series_word, job_word}
 use Rattle.request_words.specs.declared.verb.Verb.{Verb}

@@ -1,4 +1,4 @@
--- Private: no public contract cites this. What one turn of a session gathers and writes, and what a
+-- No public contract cites this. What one turn of a session gathers and writes, and what a
 -- session has done between turns.
 use Rattle.std.specs.Prelude.{◌≡◌, ℕ, ◌+◌, ◌≤◌, ◌⊎◌, Bool, true, false, List, [], ◌++◌, length, Option, Result, IfSome, Err}
 use Rattle.std.specs.Io.KnownBytes.{prepend_known}

@@ -1,4 +1,4 @@
--- Private: no public contract cites this. The known series, one after another.
+-- No public contract cites this. The known series, one after another.
 use Rattle.std.specs.Prelude.{ℕ, Bool, if◌then◌else◌, List, [], ◌∷◌, ◌++◌, map, get_or, is_some, Option, option_map}
 use Rattle.history_model.specs.Runs.{Series}
 use Rattle.series_index.specs.declared.tracked.Tracked.{Tracked}

@@ -1,4 +1,4 @@
--- Private: no public contract cites this. A series that takes some samples whatever they are.
+-- No public contract cites this. A series that takes some samples whatever they are.
 use Rattle.std.specs.Prelude.{◌≡◌, ℕ, ◌+◌, ◌<◌, ◌≤◌, false, length, is_none}
 use Rattle.segment_model.specs.Segments.{values_of}
 use Rattle.segment_model.specs.Edits.{has_commit}

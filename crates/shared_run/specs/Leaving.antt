@@ -1,4 +1,4 @@
--- Private: no public contract cites this. What is done with the journals of a run: they are written, and their new rows added.
+-- No public contract cites this. What is done with the journals of a run: they are written, and their new rows added.
 use Rattle.std.specs.Prelude.{ℕ, List, Result, Ok, Err}
 use Rattle.track_outside.specs.Calls.{Took, FailedIn, TookPart}
 use Rattle.track_outside.specs.declared.sink.Sink as sink

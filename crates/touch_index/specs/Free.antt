@@ -1,4 +1,4 @@
--- Private: no public contract cites this. The first free series of a list of marks.
+-- The first free series of a list of marks.
 use Rattle.std.specs.Prelude.{ℕ, List, [], ◌∷◌, Option, Some, None}
 use Rattle.touch_index.specs.Marks.{Entries}
 use Rattle.touch_index.specs.declared.key.SeriesKey.{SeriesKey}

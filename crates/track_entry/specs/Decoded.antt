@@ -1,4 +1,4 @@
--- Private: no public contract cites this. What words stand for, whether or not they are canonical.
+-- No public contract cites this. What words stand for, whether or not they are canonical.
 use Rattle.std.specs.Prelude.{ℕ, ℤ, pos, neg_ℤ, ◌==◌, if◌then◌else◌, List, [], ◌∷◌, map, drop, slice_index, bytes_eq, Option, Some, None}
 use Rattle.std.specs.Str.Parse.{digits_value}
 use Rattle.percent_encoding.specs.Percent.{percent_decode}

@@ -1,4 +1,4 @@
--- Private: no public contract cites this. The kinds of entries, and their words.
+-- No public contract cites this. The kinds of entries, and their words.
 use Rattle.std.specs.Prelude.{ℕ, List, codes, if◌then◌else◌, bytes_eq, Option, Some, None}
 use Rattle.history_model.specs.declared.entries.Entry.{Entry}
 use Rattle.history_model.specs.declared.entries.Entry.TheVariants as entry

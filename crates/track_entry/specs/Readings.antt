@@ -1,4 +1,4 @@
--- Private: no public contract cites this. What a reader of words gives.
+-- No public contract cites this. What a reader of words gives.
 use Rattle.std.specs.Prelude.{◌≡◌, ℕ, ℤ, List, drop, Result, Ok, Err}
 use Rattle.history_model.specs.declared.entries.Entry.{Entry}
 use Rattle.history_model.specs.declared.entries.Entry.TheVariants as entry

@@ -1,4 +1,4 @@
--- Private: no public contract cites this. The change that a finished segmentation shows.
+-- No public contract cites this. The change that a finished segmentation shows.
 use Rattle.std.specs.Prelude.{ℕ, ◌-◌, slice_index}
 use Rattle.segment_model.specs.Limits.{commits_of}
 use Rattle.segment_cost.specs.declared.done.Done.{Done}

@@ -1,4 +1,4 @@
--- Private: no public contract cites this. A runner in memory as its verdicts and asks.
+-- No public contract cites this. A runner in memory as its verdicts and asks.
 use Rattle.std.specs.Prelude.{List, map, string_bytes}
 use Rattle.track_outside.specs.Asked.{Ask, Verdict}
 use Rattle.track_outside.specs.declared.mem_runner.KeptVerdict.{KeptVerdict}

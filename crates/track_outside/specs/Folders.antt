@@ -1,4 +1,4 @@
--- Private: no public contract cites this. Files in memory as their names and calls.
+-- No public contract cites this. Files in memory as their names and calls.
 use Rattle.std.specs.Prelude.{◌≡◌, ℕ, ◌<◌, List, [], ◌∷◌, ◌++◌, map, length, slice_set, slice_index_or, Some, None}
 use Rattle.track_outside.specs.declared.mem_files.MemFile.{MemFile}
 use Rattle.track_outside.specs.declared.mem_files.NotedCall.{NotedCall}

@@ -1,4 +1,4 @@
--- Private: no public contract cites this. A change as `changes` lists it.
+-- No public contract cites this. A change as `changes` lists it.
 use Rattle.std.specs.Prelude.{List, [], unwrap_or, IsSome}
 use Rattle.change_list.specs.declared.change.Change.{Change}
 use Rattle.request_model.specs.declared.changes.NamedChange.{NamedChange}

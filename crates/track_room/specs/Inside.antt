@@ -1,4 +1,4 @@
--- Private: no public contract cites this. A pass of a lock as what it knows of a machine.
+-- No public contract cites this. A pass of a lock as what it knows of a machine.
 use Rattle.std.specs.Prelude.{◌≡◌, ℕ, Bool, false, List, [], Option, Some, None}
 use Rattle.history_model.specs.declared.entries.Placed.{Placed}
 use Rattle.history_lock.specs.Passes as passes

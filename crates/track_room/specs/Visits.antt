@@ -1,4 +1,4 @@
--- Private: no public contract cites this. What is done to a machine between entering its lock and leaving it.
+-- No public contract cites this. What is done to a machine between entering its lock and leaving it.
 use Rattle.std.specs.FinSet as set
 use Rattle.std.specs.Prelude.{◌≡◌, ◌⊎◌, ◌++◌, ◌∷◌, [], IfOk, OnErr, Result}
 use Rattle.history_model.specs.declared.entries.Author.{Author}

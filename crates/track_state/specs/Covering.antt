@@ -1,4 +1,4 @@
--- Private: no public contract cites this. What the marks of series tell of a history, of which so many first entries were
+-- No public contract cites this. What the marks of series tell of a history, of which so many first entries were
 -- looked at.
 use Rattle.std.specs.Prelude.{◌≡◌, ◌≤◌, ◌⊎◌, ℕ, Bool, true, false, nat_lt, ◌&&◌, if◌then◌else◌, List, length, take, Option, Some, None}
 use Rattle.history_model.specs.declared.entries.Entry.{Entry}

@@ -1,4 +1,4 @@
--- Private: no public contract cites this. Which known series an entry touches, as it is looked at.
+-- No public contract cites this. Which known series an entry touches, as it is looked at.
 use Rattle.std.specs.Prelude.{ℕ, Bool, false, ◌&&◌, List, bytes_eq}
 use Rattle.std.specs.List.{list_any}
 use Rattle.sample_model.specs.Samples.{Measurement}

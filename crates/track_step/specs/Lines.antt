@@ -1,4 +1,4 @@
--- Private: no public contract cites this. A stored run as `runs` lists it.
+-- No public contract cites this. A stored run as `runs` lists it.
 use Rattle.std.specs.Prelude.{List, [], length, is_none, unwrap_or}
 use Rattle.history_model.specs.declared.entries.Declaration.{Declaration}
 use Rattle.request_model.specs.declared.runs.RunLine.{RunLine}

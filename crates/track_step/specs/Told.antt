@@ -1,4 +1,4 @@
--- Private: no public contract cites this. What is told of a run by what its store says of it.
+-- No public contract cites this. What is told of a run by what its store says of it.
 use Rattle.std.specs.Prelude.{Option, Some, None}
 use Rattle.request_model.specs.declared.replies.Answer.{Answer}
 use Rattle.request_model.specs.declared.replies.Answer.TheVariants as answer

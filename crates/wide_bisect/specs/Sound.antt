@@ -1,4 +1,4 @@
--- Private: no public contract cites this. What every search by rounds keeps.
+-- No public contract cites this. What every search by rounds keeps.
 use Rattle.std.specs.Prelude.{◌≡◌, ℕ, ◌+◌, ◌<◌, ◌≤◌, List, length, All, Option, None}
 use Rattle.std.specs.List.Sorted.{IsStrictlyIncreasing}
 use Rattle.wide_bisect.specs.declared.said.Said.{Said}
