@@ -1,7 +1,7 @@
 //! The cost by distances.
-ghost use Rattle.std.specs.Prelude.{◌≡◌, ℕ, ℤ, ◌+◌, ◌<◌, ◌≤◌, ◌++◌, List, length, take, All};
+ghost use Rattle.std.specs.Prelude.{◌≡◌, ◌+◌, ◌<◌, ◌≤◌, length, All};
 ghost use Rattle.segment_model.specs.Limits.{IsSmall};
-ghost use Rattle.segment_model.specs.Values.{AreWithinLimits, joined, values_between};
+ghost use Rattle.segment_model.specs.Values.{joined, values_between};
 
 use crate::NoMemory;
 use crate::blocks::{BLOCK, add_blocks, append};

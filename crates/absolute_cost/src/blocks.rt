@@ -1,5 +1,5 @@
 //! Values of which each whole block stands in order.
-ghost use Rattle.std.specs.Prelude.{◌≡◌, ℤ, ◌+◌, ◌<◌, ◌≤◌, ◌++◌, length, All, vec_len, vec_capacity};
+ghost use Rattle.std.specs.Prelude.{◌≡◌, ◌+◌, ◌<◌, ◌≤◌, ◌++◌, length, All, vec_len, vec_capacity};
 ghost use Rattle.segment_model.specs.Limits.{IsSmall};
 ghost use Rattle.distance_model.specs.Middles.{at_most};
 ghost use Rattle.absolute_cost.specs.Between.{AreSmall, HaveTaken};

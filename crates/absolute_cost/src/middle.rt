@@ -1,5 +1,5 @@
 //! The value in the middle of some values, and the sum of their distances from a number.
-ghost use Rattle.std.specs.Prelude.{◌≡◌, ℕ, ◌*◌, ◌^◌, ◌<◌, ◌≤◌, All, length, pos, ◌+ℤ◌, ◌-ℤ◌};
+ghost use Rattle.std.specs.Prelude.{◌≡◌, ◌*◌, ◌^◌, ◌<◌, ◌≤◌, All, length, pos, ◌+ℤ◌, ◌-ℤ◌};
 ghost use Rattle.segment_model.specs.Limits.{IsSmall};
 ghost use Rattle.distance_model.specs.Distances.{distances_about, middle_of};
 ghost use Rattle.distance_model.specs.Middles.{at_most};

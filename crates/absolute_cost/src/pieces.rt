@@ -1,5 +1,5 @@
 //! The values of a segment, of which the whole blocks stand in order.
-ghost use Rattle.std.specs.Prelude.{◌≡◌, ◌<◌, ◌≤◌, ◌+◌, length, slice_range};
+ghost use Rattle.std.specs.Prelude.{◌<◌, ◌≤◌, ◌+◌, length, slice_range};
 ghost use Rattle.absolute_cost.specs.Blocks.{AreBlocks, AreBlocksOf, HaveSameSums, all_of};
 
 use crate::blocks::BLOCK;

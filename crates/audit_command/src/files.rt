@@ -1,6 +1,5 @@
 //! Opening and closing the files of an audit.
-ghost use Rattle.std.specs.Prelude.{◌≡◌, ◌<◌, ◌≤◌, ◌++◌, [], ◌∷◌, vec_len, vec_capacity, IfOk, IfErr, OnOk, Ok, Err};
-ghost use Rattle.std.specs.Vec.Iter.{into_iter_items};
+ghost use Rattle.std.specs.Prelude.{◌≡◌, ◌<◌, ◌++◌, [], ◌∷◌, vec_len, vec_capacity, IfOk, IfErr, OnOk, Ok, Err};
 ghost use Rattle.command_words.specs.Texts.{shown, texts};
 ghost use Rattle.audit_command.specs.Opening.{Asks, IsKept, IsOpen, OpensMore, files_of, names_of};
 

@@ -1,5 +1,5 @@
 //! How an answer moves a bisection on.
-ghost use Rattle.std.specs.Prelude.{◌≡◌, ◌+◌, ◌<◌, ◌≤◌, ◌^◌};
+ghost use Rattle.std.specs.Prelude.{◌≡◌, ◌+◌, ◌<◌, ◌^◌};
 ghost use Rattle.bisect_core.specs.Bisections.{between};
 ghost use Rattle.bisect_core.specs.Verdicts.{verdict_of, after_status, after_giving_up};
 

@@ -11,7 +11,7 @@ use Rattle.history_model.specs.Entries.{entries_of}
 use Rattle.track_model.specs.Tracks.{Track}
 use Rattle.bisect_workers.specs.Bisecting.{IsBisected, IsDue, IsSaidBy}
 use Rattle.worker_model.specs.Findings.{AsksCommit, Finding, finding_of, findings_behind, gives_up}
-use Rattle.bisect_workers.specs.Findings.{Use, asks_of, found_by, give_ups}
+use Rattle.bisect_workers.specs.Findings.{Use, asks_of, found_by}
 
 -- ---- nothing was added
 pub nothing : (author : Author) (word : List ℕ) (t : Track) (asked : Option (List Ask)) (before after : ℕ) → before ≤ after → IsBisected author word t t asked asked before after

@@ -1,5 +1,5 @@
 -- One turn of a worker that bisects.
-use Rattle.std.proofs.Common.{◌≡◌, ℕ, ◌≤◌, ◌<◌, Bool, true, false, cond, List, [], ◌∷◌, ◌++◌, length, refl, sym, ap, subst, ◌∙◌, Option, Some, None, arith, eq-eqb}
+use Rattle.std.proofs.Common.{◌≡◌, ℕ, ◌≤◌, ◌<◌, Bool, true, false, List, [], ◌∷◌, ◌++◌, length, refl, sym, ap, subst, ◌∙◌, Option, Some, None, arith}
 use Rattle.std.specs.Prelude.{All, option_map, option_to_list}
 use Rattle.std.proofs.lemmas.List.{append-nil, length-append, take-append-le, take_all}
 use Rattle.std.proofs.lemmas.List.Elements.{All-nil, All-cons}
@@ -7,11 +7,10 @@ use Rattle.metric_table.specs.Limits.{most}
 use Rattle.metric_table.specs.declared.limits.Limit.{Limit}
 use Rattle.metric_table.specs.declared.limits.Limit.TheVariants as limit
 use Rattle.track_outside.specs.Asked.{Ask, with_ask}
-use Rattle.bisect_core.specs.Bisections.{Bisection, answer_to, asked_by}
+use Rattle.bisect_core.specs.Bisections.{Bisection, answer_to}
 use Rattle.bisect_core.specs.declared.outcome.Answered.{Answered}
 use Rattle.bisect_core.specs.declared.outcome.Answered.TheVariants as answered
-use Rattle.bisect_core.specs.declared.outcome.Outcome.{Outcome}
-use Rattle.bisect_core.specs.declared.outcome.Outcome.TheVariants.{Asks, Found, Undecided, Faulted}
+use Rattle.bisect_core.specs.declared.outcome.Outcome.TheVariants.{Asks}
 use Rattle.history_model.specs.declared.entries.Author.{Author}
 use Rattle.history_model.specs.declared.entries.Entry.{Entry}
 use Rattle.history_model.specs.declared.entries.Placed.{Placed}

@@ -1,5 +1,4 @@
 //! A worker that bisects beside running scripts.
-ghost use Rattle.std.specs.Prelude.{◌≡◌};
 ghost use Rattle.history_model.specs.declared.entries.Author.TheVariants as author;
 ghost use Rattle.track_room.specs.Rooms.{IsPassOf};
 ghost use Rattle.track_room.specs.Taking.{IsQuestion, OfSeen};

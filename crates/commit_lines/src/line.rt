@@ -1,6 +1,5 @@
 //! What one line says.
-ghost use Rattle.std.specs.Prelude.{◌≡◌, ◌≢◌, ◌<◌, ◌≤◌, ◌↔◌, [], ◌∷◌, length, drop, slice_index, slice_range, IfOk, IsTrue};
-ghost use Rattle.line_text.specs.Lines.{words_of};
+ghost use Rattle.std.specs.Prelude.{◌≡◌, ◌<◌, ◌≤◌, ◌↔◌, length, slice_index, IfOk, IsTrue};
 ghost use Rattle.commit_lines.specs.Lines.{IsSkipped, IsGood, EndsWithSpace, MayBecomeName, MayGo};
 ghost use Rattle.commit_lines.specs.HasRead.{IsKind};
 

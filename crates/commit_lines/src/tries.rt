@@ -1,5 +1,5 @@
 //! What may come behind a line that has begun.
-ghost use Rattle.std.specs.Prelude.{◌≡◌, ℕ, ◌++◌, ◌<◌, ◌≤◌, ◌↔◌, length, OnOk, IfOk, IsTrue};
+ghost use Rattle.std.specs.Prelude.{◌≡◌, ◌++◌, ◌<◌, ◌↔◌, OnOk, IfOk, IsTrue};
 ghost use Rattle.std.specs.Char.{digit_char};
 ghost use Rattle.commit_lines.specs.Ends.{end_at};
 ghost use Rattle.commit_lines.specs.HasRead.{SaysName, IsTried};

@@ -1,5 +1,5 @@
 //! Places whose totals lie within the penalty of each other, and that stay open: their pairs hold without a look at each.
-ghost use Rattle.std.specs.Prelude.{◌≡◌, ◌≢◌, ℕ, ◌+◌, ◌*◌, ◌^◌, ◌<◌, ◌≤◌, length, pos, neg_ℤ, ◌+ℤ◌, ◌≤ℤ◌, ◌↔◌, ◌⊎◌, IsTrue};
+ghost use Rattle.std.specs.Prelude.{◌≡◌, ◌+◌, ◌*◌, ◌^◌, ◌<◌, ◌≤◌, pos, neg_ℤ, ◌+ℤ◌, ◌≤ℤ◌, ◌⊎◌, IsTrue};
 ghost use Rattle.cost_certificate.specs.Checks.{IsLevel, last_place};
 
 use crate::tables::Tables;

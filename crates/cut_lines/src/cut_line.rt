@@ -1,6 +1,5 @@
 //! What one line says.
-ghost use Rattle.std.specs.Prelude.{◌≡◌, ◌≢◌, ℕ, ℤ, ◌^◌, ◌<◌, ◌≤◌, ◌⊎◌, List, [], ◌∷◌, length, drop, slice_range, decimal, unsigned_abs, IfSome, IfNone, IfOk, IsTrue, ◌++◌};
-ghost use Rattle.std.specs.Fmt.{signed_decimal};
+ghost use Rattle.std.specs.Prelude.{◌≡◌, ℕ, ℤ, ◌^◌, ◌<◌, ◌≤◌, ◌∷◌, length, drop, slice_range, unsigned_abs, IfSome, IfNone, IfOk, IsTrue, ◌++◌};
 ghost use Rattle.segment_model.specs.Limits.{IsSmall};
 ghost use Rattle.line_text.specs.Lines.{words_of};
 ghost use Rattle.cut_lines.specs.Lines.{IsGood, MayBecomeGood};

@@ -1,5 +1,5 @@
 //! What a whole line adds to the points.
-ghost use Rattle.std.specs.Prelude.{◌≡◌, ◌≤◌, ℕ, List, OnOk, IfErr};
+ghost use Rattle.std.specs.Prelude.{◌≤◌, ℕ, List, OnOk, IfErr};
 ghost use Rattle.segment_model.specs.Limits.{IsSmall};
 ghost use Rattle.point_list.specs.Steps.{CameUpTo};
 ghost use Rattle.cut_lines.specs.Lines.{IsCutLine};

@@ -1,5 +1,5 @@
 //! The parts of a numeral: its sign, its digits, and what marks a fraction or an exponent.
-ghost use Rattle.std.specs.Prelude.{◌≡◌, ◌≢◌, ◌↔◌, ◌⊎◌, ℕ, Bool, List, ◌∷◌, ◌++◌, ◌+◌, ◌*◌, ◌^◌, ◌<◌, ◌≤◌, length, take, slice_index, IsTrue, IfSome, IfNone, OnSome};
+ghost use Rattle.std.specs.Prelude.{◌≡◌, ◌≢◌, ◌↔◌, ℕ, Bool, List, ◌∷◌, ◌++◌, ◌+◌, ◌*◌, ◌^◌, ◌<◌, ◌≤◌, length, take, slice_index, IsTrue, IfSome, IfNone, OnSome};
 ghost use Rattle.std.specs.Str.Parse.{AllDigits, digits_value_after};
 ghost use Rattle.std.specs.Char.{digit_value};
 ghost use Rattle.fixed_value.specs.Bytes.{point};

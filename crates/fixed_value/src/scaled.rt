@@ -1,5 +1,5 @@
 //! The scaled value of a numeral: its value in units of a decimal place.
-ghost use Rattle.std.specs.Prelude.{◌≡◌, ℕ, ℤ, pos, ◌+ℤ◌, ◌+◌, ◌*◌, ◌^◌, ◌<◌, ◌≤◌, IfOk, OnErr, unsigned_abs};
+ghost use Rattle.std.specs.Prelude.{◌≡◌, ℤ, pos, ◌+ℤ◌, ◌+◌, ◌*◌, ◌^◌, ◌<◌, ◌≤◌, IfOk, OnErr, unsigned_abs};
 ghost use Rattle.fixed_value.specs.Scaled.{IsNearest, IsMagnitude, IsMagnitudeTooLarge, IsScaled, IsTooLarge, ScaledIsOne};
 
 use crate::numeral::Numeral;

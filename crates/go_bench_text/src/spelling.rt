@@ -1,5 +1,5 @@
 //! What a test is written by: a value of `pkg` and a name.
-ghost use Rattle.std.specs.Prelude.{◌≡◌, ◌≢◌, ◌==◌, ◌++◌, ◌∷◌, [], ◌↔◌, ◌<◌, length, true, ℕ, List, codes, IfSome, IfNone, IsTrue};
+ghost use Rattle.std.specs.Prelude.{◌≡◌, ◌==◌, ◌↔◌, ◌<◌, length, true, ℕ, List, IfSome, IfNone, IsTrue};
 ghost use Rattle.std.specs.List.{list_all, list_any};
 ghost use Rattle.std.specs.Str.{chars};
 ghost use Rattle.go_bench_text.specs.Bytes.{line_feed};

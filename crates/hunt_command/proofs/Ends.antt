@@ -1,5 +1,5 @@
 -- How a hunt ends, from what its parts promise.
-use Rattle.std.proofs.Common.{◌≡◌, ◌<◌, ◌≤◌, ℕ, inl, inr, List, length, Option, refl, arith}
+use Rattle.std.proofs.Common.{ℕ, inl, List, Option, refl, arith}
 use Rattle.track_outside.specs.declared.sink.Sink as sink
 use Rattle.track_outside.specs.declared.runner.Runner as runner
 use Rattle.track_outside.specs.Calls.{IsUntouched}

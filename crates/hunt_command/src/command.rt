@@ -1,5 +1,5 @@
 //! The command, from its input to its output.
-ghost use Rattle.std.specs.Prelude.{◌≡◌, ◌++◌, ◌≤◌, [], length, IfOk};
+ghost use Rattle.std.specs.Prelude.{◌≡◌, ◌≤◌, length, IfOk};
 ghost use Rattle.hunt_command.specs.Endings.{EndsInput, EndsHunt};
 ghost use Rattle.hunt_command.specs.Text.{hunt_text};
 

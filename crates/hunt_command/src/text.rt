@@ -1,5 +1,5 @@
 //! The line that a hunt prints.
-ghost use Rattle.std.specs.Prelude.{◌≡◌, ◌++◌, OnOk, IfOk};
+ghost use Rattle.std.specs.Prelude.{◌≡◌, ◌++◌, OnOk};
 ghost use Rattle.hunt_command.specs.Text.{spelt, outcome_text, hunt_text};
 
 use line_text::{Name, NoMemory, put_name, put_u64};

@@ -1,5 +1,5 @@
 //! An ask, made by a thread of its own.
-ghost use Rattle.std.specs.Prelude.{◌≡◌, ⊤};
+ghost use Rattle.std.specs.Prelude.{⊤};
 ghost use Rattle.hunt_rounds.specs.Asked.{WasAsked};
 ghost use Rattle.hunt_rounds.specs.Rounds.{asks_of};
 

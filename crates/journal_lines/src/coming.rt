@@ -1,5 +1,5 @@
 //! Which entries may come behind one another in a journal.
-ghost use Rattle.std.specs.Prelude.{◌≡◌, ◌↔◌, List, IsTrue};
+ghost use Rattle.std.specs.Prelude.{◌↔◌, List, IsTrue};
 ghost use Rattle.std.specs.List.{AllByRecursion};
 ghost use Rattle.history_model.specs.declared.entries.Placed.{Placed as APlaced};
 ghost use Rattle.journal_lines.specs.Authors.{IsOneOf, IsPublication, IsSettled};

@@ -1,5 +1,5 @@
 //! The line of a machine, read.
-ghost use Rattle.std.specs.Prelude.{◌≡◌, ◌≢◌, ◌<◌, ◌^◌, ◌↔◌, ℕ, List, ◌∷◌, ◌++◌, IfOk, IsTrue, true, false};
+ghost use Rattle.std.specs.Prelude.{◌≡◌, ◌≢◌, ◌<◌, ◌↔◌, ℕ, List, IfOk, IsTrue, true, false};
 ghost use Rattle.line_text.specs.Names.{spelling, IsName};
 ghost use Rattle.journal_lines.specs.Lines.{IsHead};
 ghost use Rattle.journal_lines.specs.declared.fault.LineFault.TheVariants as fault;

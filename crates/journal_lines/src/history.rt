@@ -1,5 +1,5 @@
 //! The lines of a journal's entries, read.
-ghost use Rattle.std.specs.Prelude.{◌≡◌, ◌≢◌, ◌↔◌, ◌+◌, ◌++◌, IfOk, IfSome, IfNone, IsTrue, length};
+ghost use Rattle.std.specs.Prelude.{◌≡◌, ◌↔◌, ◌+◌, ◌++◌, IfOk, IfSome, IfNone, IsTrue, length};
 ghost use Rattle.std.specs.List.{AllByRecursion};
 ghost use Rattle.history_model.specs.declared.entries.Author.TheVariants as made_by;
 ghost use Rattle.journal_lines.specs.Coming.{AreRead, HasNoNext, MayCome, WasKept};

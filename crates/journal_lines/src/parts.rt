@@ -1,5 +1,5 @@
 //! The first word of bytes, and what stands behind its space.
-ghost use Rattle.std.specs.Prelude.{◌≡◌, ◌≢◌, ◌<◌, ℕ, ◌∷◌, ◌++◌, All, IfSome, IfNone, length, slice_index};
+ghost use Rattle.std.specs.Prelude.{◌≡◌, ◌≢◌, ◌<◌, ◌∷◌, ◌++◌, All, IfSome, IfNone};
 
 /// Bytes parted at their first space.
 #[derive(Drop)]

@@ -6,7 +6,7 @@ use Rattle.std.proofs.lemmas.Str.{IsCharBoundary-after_ascii}
 use Rattle.std.proofs.lemmas.Bool.Decides.{nat_tests}
 use Rattle.std.specs.Char.{encode_utf8}
 use Rattle.json_text.specs.Classes.{is_blank, is_plain, is_leading_digit}
-use Rattle.json_text.specs.Tree.{Tree, number, nesting, no_items, Members, no_members}
+use Rattle.json_text.specs.Tree.{Tree, number, no_items, Members, no_members}
 use Rattle.json_text.specs.Tree as trees
 use Rattle.json_text.specs.Machine.{Frame, in_list, Role, as_value, as_key, Mode, value, first_item, first_key, next_key, colon, letters, digits, content, ended, State, step, start, own_level, begin, begin_key, close, first_digit, digits_after, next_digit, may_end, after_value, moves, moved, text_ended, with_frames}
 use Rattle.json_text.specs.Depth.{inner_depth, around}

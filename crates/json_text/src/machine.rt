@@ -1,5 +1,5 @@
 //! Reading token by token: what is open lies on a stack, and the state says what has to come.
-ghost use Rattle.std.specs.Prelude.{◌≡◌, ℕ, ◌+◌, ◌^◌, ◌<◌, ◌≤◌, length, slice_index, false, IfOk, IfErr, option_map};
+ghost use Rattle.std.specs.Prelude.{◌≡◌, ◌+◌, ◌^◌, ◌<◌, ◌≤◌, length, slice_index, false, IfOk, IfErr, option_map};
 ghost use Rattle.json_text.specs.Classes.{is_blank};
 ghost use Rattle.json_text.specs.Machine as machine;
 ghost use Rattle.json_text.specs.Places.{most_levels};

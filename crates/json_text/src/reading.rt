@@ -1,6 +1,5 @@
 //! The public reader.
-ghost use Rattle.std.specs.Prelude.{◌≡◌, ℕ, List, ◌⊎◌, Result, IfOk, IfErr, MatchResult};
-ghost use Rattle.std.specs.Str.{IsUtf8};
+ghost use Rattle.std.specs.Prelude.{◌≡◌, ◌⊎◌, Result, IfOk, IfErr, MatchResult};
 ghost use Rattle.json_text.specs.Grammar.{IsText};
 ghost use Rattle.json_text.specs.Outcome.{Outcome, fault_at};
 ghost use Rattle.json_text.specs.Answers.{IsFault, IsDue};

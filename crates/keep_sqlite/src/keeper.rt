@@ -1,6 +1,6 @@
 //! A keeper over the statements on a store.
-ghost use Rattle.std.specs.Prelude.{◌≡◌, ℕ, ◌≤◌, OnErr, Option, None};
-ghost use Rattle.track_outside.specs.Counts.{Rose, one_more};
+ghost use Rattle.std.specs.Prelude.{◌≡◌, ℕ, ◌≤◌, Option, None};
+ghost use Rattle.track_outside.specs.Counts.{Rose};
 ghost use Rattle.track_outside.specs.declared.out_error.OutError.TheVariants as error;
 
 use sqlite::{Error, ErrorCode};

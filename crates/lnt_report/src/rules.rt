@@ -1,5 +1,5 @@
 //! The rules of an LNT run, checked in their order.
-ghost use Rattle.std.specs.Prelude.{◌≡◌, ◌⊎◌, map, Some, decimal, codes, Err};
+ghost use Rattle.std.specs.Prelude.{◌≡◌, map, Some, decimal, codes, Err};
 ghost use Rattle.std.specs.List.{list_all};
 ghost use Rattle.std.specs.Option.{option_map};
 ghost use Rattle.json_text.specs.View.{tree_of, entry_of};

@@ -39,7 +39,7 @@ impl Model for LntRun {
 }
 
 impl LntRun {
-    ghost use Rattle.std.specs.Prelude.{◌≡◌, All, IfOk};
+    ghost use Rattle.std.specs.Prelude.{All};
     ghost use Rattle.lnt_report.specs.Runs.{IsGiven};
 
     /// Says what the type keeps. Does nothing: its contract is what it is for.

@@ -1,5 +1,5 @@
 -- What the next segmentation of a series begins with, by what is kept and by what is home.
-use Rattle.std.proofs.Common.{◌≡◌, ℕ, zero, suc, ℤ, ◌<◌, Bool, true, false, cond, List, take, refl, sym, ap, ap₂, subst, ◌∙◌, Option, Some, None, inl, inr, true≢false, arith}
+use Rattle.std.proofs.Common.{◌≡◌, ℕ, zero, suc, ◌<◌, Bool, true, false, cond, List, take, refl, sym, ap, ap₂, subst, ◌∙◌, Option, Some, None, inl, inr, true≢false, arith}
 use Rattle.std.specs.Prelude.{is_some, nat_eq}
 use Rattle.std.specs.FinSet as set
 use Rattle.std.proofs.lemmas.Bool.{cases_Bool, ne_eqb}

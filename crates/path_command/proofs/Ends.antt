@@ -1,5 +1,5 @@
 -- How a path ends, from what its parts promise.
-use Rattle.std.proofs.Common.{◌≡◌, ◌≤◌, ◌<◌, ◌^◌, ℕ, ℤ, pos, ◌≤ℤ◌, FitsSigned, unsigned_abs, List, length, Option, Some, None, IfSome, refl, subst, arith}
+use Rattle.std.proofs.Common.{◌≡◌, ◌≤◌, ◌<◌, ◌^◌, ℤ, pos, ◌≤ℤ◌, FitsSigned, unsigned_abs, List, refl, subst, arith}
 use Rattle.std.specs.Int.{w128}
 use Rattle.std.proofs.lemmas.Int.{ints, fits_signed_from_abs}
 use Rattle.track_outside.specs.declared.sink.Sink as sink

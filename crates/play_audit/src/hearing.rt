@@ -1,5 +1,5 @@
 //! A script, heard with its transcript.
-ghost use Rattle.std.specs.Prelude.{◌≡◌, ◌≢◌, ℕ, true, false, [], List, filter, length, slice_get, IfOk, IfSome, IfNone, Ok, Some, if◌then◌else◌};
+ghost use Rattle.std.specs.Prelude.{◌≡◌, ◌≢◌, ℕ, true, false, [], filter, length, slice_get, IfOk, IfSome, IfNone, Ok, Some, if◌then◌else◌};
 ghost use Rattle.std.specs.List.{AllByRecursion};
 ghost use Rattle.journal_reader.specs.Journals.{IsOther, Journal as Read};
 ghost use Rattle.play_model.specs.Replies.{stands_alone};

@@ -1,6 +1,5 @@
 //! Replies to requests for segmentations, compared with a transcript.
-ghost use Rattle.std.specs.Prelude.{◌≡◌, ◌≢◌, ℕ, ◌≤◌, ◌<◌, ◌+◌, ◌-◌, ◌^◌, ◌↔◌, true, false, List, ◌++◌, Some, length, IfOk, IfSome, IfNone, IsTrue, OnOk};
-ghost use Rattle.history_model.specs.Entries.{entries_of};
+ghost use Rattle.std.specs.Prelude.{◌≡◌, ◌≢◌, ℕ, ◌≤◌, ◌<◌, ◌+◌, ◌-◌, ◌↔◌, true, false, List, ◌++◌, Some, length, IfOk, IfSome, IfNone, IsTrue};
 ghost use Rattle.history_model.specs.Publications.{cut_count, last_publication};
 ghost use Rattle.history_model.specs.Runs.{is_known as known_in};
 ghost use Rattle.journal_walk.specs.Walks.{GoesOn, IsAlong, added, coming};

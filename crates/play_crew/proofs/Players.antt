@@ -1,23 +1,18 @@
 -- Private: no public contract cites this. What was answered at a seat was answered at the same seat.
-use Rattle.std.proofs.Common.{◌≡◌, ◌≤◌, ℕ, inl, inr, true, List, [], ◌∷◌, ◌++◌, length, map, Option, Ok, Err, refl, sym, ap, subst, ◌∙◌}
+use Rattle.std.proofs.Common.{◌≡◌, ◌≤◌, ℕ, inl, inr, true, List, [], ◌∷◌, ◌++◌, Option, Ok, Err, refl, sym, subst, ◌∙◌}
 use Rattle.std.specs.Prelude.{Result}
-use Rattle.std.specs.List.{AllByRecursion, AllZip}
 use Rattle.track_outside.specs.declared.source.Source as source
 use Rattle.track_outside.specs.declared.sink.Sink as sink
-use Rattle.request_model.specs.declared.requests.Request.{Request}
 use Rattle.request_model.specs.declared.replies.Reply.{Reply}
 use Rattle.request_words.specs.Bodies.{Item}
-use Rattle.script_files.specs.declared.open.OpenScript.{OpenScript}
 use Rattle.script_loop.specs.Folds.{AnswersItem, AreAnswers}
 use Rattle.script_loop.specs.Paced.{IsLeft, Paced}
 use Rattle.script_loop.specs.declared.stop.Stop.{Stop}
 use Rattle.script_loop.specs.declared.stop.Stop.TheVariants as stop
 use Rattle.play_seats.specs.Played.{IsPlayed}
-use Rattle.play_seats.specs.Rooms.{AreSame, IsPassOf, badge}
 use Rattle.play_seats.specs.Sights.{Home, Sight}
 use Rattle.play_seats.specs.Seats.{AnswersAt, FailsAt, Seat, Stays, post_of}
-use Rattle.play_seats.specs.Shared.{SplitsAll}
-use Rattle.play_crew.specs.Players.{IsSameSeat, Playing, Plays, SplitsMore}
+use Rattle.play_crew.specs.Players.{IsSameSeat, Plays, SplitsMore}
 
 same-self : (s : Seat) → IsSameSeat s s
 same-self s = record { author = refl; room = refl; same = refl }

@@ -29,7 +29,7 @@ use Rattle.play_fits.specs.Whole.{AreAll, AreByCrew, Joined, journals_of}
 use Rattle.play_fits.specs.Workers.{Asked, AreAsksOf, Crew, IsBisector, IsOneOf, MayAdd, findings_behind, give_ups, all_give_ups, is_bisector}
 use Rattle.play_fits.proofs.Lists.{all-append, stays-before}
 use Rattle.play_seats.specs.Gathered.{OwnsMade, joined_of}
-use Rattle.play_seats.specs.Seats.{Seat, post_of, seen_in, sight_of}
+use Rattle.play_seats.specs.Seats.{Seat, seen_in, sight_of}
 use Rattle.play_seats.specs.Seats as seats
 use Rattle.play_seats.specs.Shared.{AreKeptAs, EndsShared, HasSeenKept, onto}
 use Rattle.play_seats.specs.Fitting.{ArePlayedFrom, IsPlayedAt, IsUnasked, RunsScripts}

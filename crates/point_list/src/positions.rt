@@ -3,7 +3,7 @@ ghost use Rattle.std.specs.Prelude.{◌≡◌, ◌+◌, ◌<◌, ◌≤◌, [], 
 ghost use Rattle.segment_model.specs.Segments.{Position};
 ghost use Rattle.segment_model.specs.Limits.{HasStepsInOrder};
 ghost use Rattle.segment_model.specs.Edits.{with_value, by_another};
-ghost use Rattle.point_list.specs.Slots.{AreBelow, AreOnce, renamed};
+ghost use Rattle.point_list.specs.Slots.{renamed};
 
 use crate::NoMemory;
 use crate::stored::StoredPosition;

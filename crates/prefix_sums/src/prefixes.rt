@@ -1,5 +1,5 @@
 //! Sums of the first positions, and of a segment by two of them.
-ghost use Rattle.std.specs.Prelude.{◌≡◌, ℕ, ◌+◌, ◌<◌, ◌≤◌, ◌↔◌, IsTrue, pos, slice_index_or, [], ◌∷◌, ◌++◌, length, take, OnOk, OnErr};
+ghost use Rattle.std.specs.Prelude.{◌≡◌, ℕ, ◌+◌, ◌<◌, ◌≤◌, ◌↔◌, IsTrue, pos, slice_index_or, [], ◌∷◌, ◌++◌, length, take, OnOk};
 ghost use Rattle.segment_model.specs.Values.{values_between, AreWithinLimits};
 ghost use Rattle.prefix_sums.specs.Sums.{AreSums};
 

@@ -1,5 +1,5 @@
 -- What is quiet stays so where a publication is added.
-use Rattle.std.proofs.Common.{◌≡◌, ℕ, ℤ, ◌+◌, ◌≤◌, ◌<◌, Bool, true, false, ◌&&◌, ◌||◌, List, [], ◌∷◌, ◌++◌, length, refl, sym, ap, ap₂, subst, ◌∙◌, ◌⊎◌, inl, inr, arith}
+use Rattle.std.proofs.Common.{◌≡◌, ℕ, ◌+◌, ◌≤◌, Bool, true, false, ◌&&◌, ◌||◌, List, [], ◌∷◌, ◌++◌, length, refl, sym, ap, ap₂, subst, ◌∙◌, inl, inr, arith}
 use Rattle.std.proofs.lemmas.Bool.{cases_Bool}
 use Rattle.std.proofs.lemmas.List.{append-nil, length-append}
 use Rattle.metric_table.specs.declared.limits.Limit.TheVariants as limit
@@ -13,7 +13,7 @@ use Rattle.history_model.specs.Laws.{AcceptancesGrow, CutsGrow, RetractionsGrow}
 use Rattle.history_model.specs.Penalties.{SettingStays, penalty_of, length_of}
 use Rattle.history_model.specs.declared.setting.Setting.{Setting}
 use Rattle.history_model.specs.Positions.{brought, positions, positions_of}
-use Rattle.history_model.specs.Publications.{AreBest, cut_count, last_publication}
+use Rattle.history_model.specs.Publications.{AreBest, last_publication}
 use Rattle.history_model.specs.Runs.{Retraction, Series, acceptances, is_known, live_of, retractions}
 use Rattle.touch_model.specs.Laws.{KnownGrows, LatestStays, TouchesGrow}
 use Rattle.touch_model.specs.Stale.{is_behind, is_stale}

@@ -1,5 +1,5 @@
 -- What a worker's pass has seen, call after call.
-use Rattle.std.proofs.Common.{◌≡◌, ◌⊎◌, inl, inr, ℕ, zero, suc, ◌+◌, ◌<◌, ◌≤◌, List, [], ◌∷◌, ◌++◌, length, take, refl, sym, ap, ap₂, subst, ◌∙◌, Option, Some, None, arith}
+use Rattle.std.proofs.Common.{◌≡◌, ◌⊎◌, inl, inr, ℕ, zero, suc, ◌+◌, List, [], ◌∷◌, ◌++◌, length, take, refl, sym, ap, subst, ◌∙◌, Option, Some, None, arith}
 use Rattle.std.specs.Prelude.{slice_get, slice_set}
 use Rattle.std.specs.List.{AllByRecursion, AllZip}
 use Rattle.std.proofs.lemmas.List.{append-nil, append_assoc, length-append, map-append}
@@ -8,7 +8,6 @@ use Rattle.segment_cost.specs.declared.done.Done.{Done}
 use Rattle.history_lock.specs.declared.view.Marked.{Marked}
 use Rattle.history_lock.specs.Marks.{AreByOthers, entries, marked}
 use Rattle.history_model.specs.declared.entries.Author.{Author}
-use Rattle.history_model.specs.declared.entries.Entry.{Entry}
 use Rattle.history_model.specs.declared.entries.Placed.{Placed}
 use Rattle.history_model.specs.Entries.{entries_of}
 use Rattle.history_model.specs.Publications.{last_publication}

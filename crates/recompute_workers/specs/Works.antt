@@ -1,5 +1,5 @@
 -- What the pass of a worker that recomputes has seen more of a machine: entries of others, and its own publications.
-use Rattle.std.specs.Prelude.{◌≡◌, ◌⊎◌, ℕ, List, ◌++◌, Some}
+use Rattle.std.specs.Prelude.{◌≡◌, ◌⊎◌, List, ◌++◌, Some}
 use Rattle.std.specs.List.{AllByRecursion}
 use Rattle.history_lock.specs.declared.view.Marked.{Marked}
 use Rattle.history_lock.specs.Marks.{IsOtherMark}

@@ -1,7 +1,6 @@
 //! What is left to recompute once nobody else works.
-ghost use Rattle.std.specs.Prelude.{◌≡◌, OnOk, true};
+ghost use Rattle.std.specs.Prelude.{OnOk};
 ghost use Rattle.history_model.specs.declared.entries.Author.TheVariants as author;
-ghost use Rattle.history_model.specs.Runs.{is_known};
 ghost use Rattle.worker_model.specs.Quiet.{SeriesAreQuiet};
 ghost use Rattle.recompute_workers.specs.Quiet.{IsQuiet};
 ghost use Rattle.recompute_workers.specs.Recomputing.{AddsOne, AddsPublications};

@@ -1,5 +1,4 @@
 //! A worker that recomputes beside running scripts.
-ghost use Rattle.std.specs.Prelude.{◌≡◌};
 ghost use Rattle.std.specs.List.{AllZip};
 ghost use Rattle.history_model.specs.declared.entries.Author.TheVariants as author;
 ghost use Rattle.track_room.specs.Rooms.{IsPassOf};

@@ -1,10 +1,10 @@
 -- Private: no public contract cites this. What each form comes to adds an entry exactly where its form and answer say so.
-use Rattle.std.proofs.Common.{◌≡◌, inl, inr, ℕ, ℤ, pos, ◌*◌, ◌+◌, ◌<◌, Bool, true, false, not, List, [], ◌∷◌, ◌++◌, length, Option, Some, None, refl, sym, subst}
-use Rattle.std.specs.Prelude.{codes, is_none, is_some, nat_lt, max, find, option_map, bytes_eq, unwrap_or, if◌then◌else◌, ◌==◌}
+use Rattle.std.proofs.Common.{◌≡◌, inl, inr, ℕ, ℤ, pos, ◌*◌, ◌+◌, Bool, true, false, not, List, [], ◌∷◌, length, Option, Some, None, refl, sym, subst}
+use Rattle.std.specs.Prelude.{codes, is_none, nat_lt, max, find, option_map, bytes_eq, unwrap_or, ◌==◌}
 use Rattle.std.proofs.lemmas.Bool.{cases_Bool}
 use Rattle.metric_table.specs.declared.limits.Limit.TheVariants.{Commits, Cuts, Jobs, Steps}
 use Rattle.sample_model.specs.Samples.{Measurement}
-use Rattle.bisect_core.specs.Bisections.{Bisection, is_open, asked_by}
+use Rattle.bisect_core.specs.Bisections.{is_open, asked_by}
 use Rattle.regression_state.specs.declared.states.State.{State}
 use Rattle.regression_state.specs.Moves.{is_move}
 use Rattle.history_model.specs.declared.entries.Acceptance.{Acceptance}
@@ -32,10 +32,9 @@ use Rattle.track_model.specs.Following as following
 use Rattle.track_model.specs.Forms as forms
 use Rattle.track_model.specs.Outcomes.{Outcome, tells, refuses, refusal_if, first, unless}
 use Rattle.track_model.specs.Publishing.{OfKnown, OfPublished, OfLatest, OfFactor, OfMany, IsPublishedFrom, IsCalibrated, TellsChanges, TellsCertificate, later, publication, publish, redone_since, segmented, is_factor}
-use Rattle.play_model.specs.Replies.{ComesToBeside}
 use Rattle.reply_laws.specs.Kinds.{adds_none, tells_none}
 use Rattle.reply_laws.specs.Laws.{KindsAreTold}
-use Rattle.reply_laws.proofs.Plain.{Plain, IsTold, AreTold, told-first, told-if, told-map, plain-unless, plain-within, told-begun, told-said, plain-job}
+use Rattle.reply_laws.proofs.Plain.{Plain, AreTold, told-first, told-if, told-map, plain-unless, plain-within, told-begun, told-said, plain-job}
 
 -- ---- relations between an outcome and what it comes from
 

@@ -1,5 +1,5 @@
 -- Private: no public contract cites this. One reply at most names a step of a journal.
-use Rattle.std.proofs.Common.{◌≡◌, ℕ, zero, suc, ◌+◌, ◌≤◌, Bool, true, false, List, [], ◌∷◌, length, take, Option, Some, None, refl, sym, ap, subst, ◌∙◌, arith}
+use Rattle.std.proofs.Common.{◌≡◌, ℕ, ◌+◌, ◌≤◌, Bool, true, false, List, [], ◌∷◌, length, take, Option, Some, None, refl, sym, ap, subst, ◌∙◌, arith}
 use Rattle.std.specs.Prelude.{slice_get}
 use Rattle.std.proofs.lemmas.List.{length-take-le, length-map}
 use Rattle.segment_cost.specs.Certificate.{OneCertificate, StandsFor}
@@ -20,7 +20,6 @@ use Rattle.request_model.specs.declared.requests.Request.{Request}
 use Rattle.request_model.specs.declared.requests.Request.TheVariants as request
 use Rattle.request_model.specs.declared.replies.Answer.{Answer}
 use Rattle.request_model.specs.declared.replies.Refusal.TheVariants as refusal
-use Rattle.request_model.specs.declared.replies.Reply.{Reply}
 use Rattle.track_model.specs.Counts.{is_segment}
 use Rattle.track_model.specs.Laws.{OneOutcome}
 use Rattle.track_model.specs.Outcomes.{Outcome, refuses, added_unless}

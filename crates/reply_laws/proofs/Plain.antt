@@ -1,6 +1,6 @@
 -- Private: no public contract cites this. Outcomes that add an entry exactly where their answer says so.
 use Rattle.std.proofs.Common.{◌≡◌, ℕ, zero, suc, ◌+◌, ◌<◌, ◌⊎◌, inl, inr, Bool, true, false, List, [], ◌∷◌, ◌++◌, length, Option, Some, None, refl, sym, ap, subst, ◌∙◌, arith, length-append}
-use Rattle.std.specs.Prelude.{is_none, slice_get, option_map, IsSome}
+use Rattle.std.specs.Prelude.{is_none, slice_get, option_map}
 use Rattle.std.proofs.lemmas.Option.{slice_get_within}
 use Rattle.metric_table.specs.declared.limits.Limit.{Limit}
 use Rattle.bisect_core.specs.Bisections.{Bisection}

@@ -1,6 +1,6 @@
 //! The JSON form of a report.
 ghost use Rattle.std.specs.Prelude.{◌≡◌, ◌++◌, IfOk, OnOk, OnErr};
-ghost use Rattle.serde_json.specs.Data.{Data, string};
+ghost use Rattle.serde_json.specs.Data.{string};
 ghost use Rattle.serde_json.specs.View.{view};
 ghost use Rattle.report_model.specs.Outcomes.{outcome_text};
 ghost use Rattle.report_pages.specs.Json.{count_or_null, centre_or_null, series_of, series_data, regression_data, job_data, pages_json};

@@ -1,6 +1,6 @@
 -- Scripts that are opened one after another.
-use Rattle.std.proofs.Common.{◌≡◌, ◌∙◌, ℕ, zero, suc, ◌+◌, ◌<◌, ◌≤◌, length, Bool, true, List, [], ◌∷◌, ◌++◌, take, Option, Some, None, Ok, Err, refl, sym, ap, subst, arith, append-nil}
-use Rattle.std.specs.Prelude.{option_map, Result, IfErr, IfSome, IsSome, slice_get}
+use Rattle.std.proofs.Common.{◌≡◌, ◌∙◌, ℕ, zero, suc, ◌+◌, ◌<◌, ◌≤◌, length, Bool, true, List, [], ◌∷◌, ◌++◌, take, Option, Some, None, Ok, Err, refl, sym, ap, subst, arith}
+use Rattle.std.specs.Prelude.{option_map, Result, IfErr, IsSome, slice_get}
 use Rattle.std.specs.List.{AllByRecursion}
 use Rattle.track_outside.specs.Named.{NamedBytes, Call, bytes_at, with_bytes}
 use Rattle.track_outside.specs.declared.files.Files as files

@@ -1,5 +1,5 @@
 -- The calls that files tell.
-use Rattle.std.proofs.Common.{◌≡◌, ℕ, Bool, true, false, List, [], ◌∷◌, ◌++◌, Option, Some, None, Err, refl, sym, ap, subst, append-nil, append_assoc}
+use Rattle.std.proofs.Common.{◌≡◌, ℕ, Bool, true, List, [], ◌∷◌, ◌++◌, Option, Some, None, Err, refl, sym, ap, append-nil, append_assoc}
 use Rattle.std.specs.Prelude.{option_map}
 use Rattle.track_outside.specs.Named.{Call, with_call}
 use Rattle.track_outside.specs.declared.out_error.OutError.{OutError}

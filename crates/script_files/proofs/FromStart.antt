@@ -1,6 +1,6 @@
 -- Scripts that were opened one after another have the bytes that their names had before the first.
-use Rattle.std.proofs.Common.{◌≡◌, ◌∙◌, ℕ, ◌<◌, Bool, true, false, inl, inr, List, [], ◌∷◌, length, Option, Some, None, Ok, Err, refl, sym, subst, ap}
-use Rattle.std.specs.Prelude.{All, Contains, bytes_eq, if◌then◌else◌, IfOk, IsSome, Result}
+use Rattle.std.proofs.Common.{◌≡◌, ◌∙◌, ℕ, Bool, false, inl, inr, List, [], ◌∷◌, Option, Some, None, refl, sym, subst, ap}
+use Rattle.std.specs.Prelude.{All, Contains, bytes_eq, if◌then◌else◌, IsSome}
 use Rattle.std.specs.List.{AllZip, AllByRecursion}
 use Rattle.std.proofs.lemmas.Bool.{cases_Bool}
 use Rattle.std.proofs.lemmas.Slice.Eq.{bytes_eq-Decides}

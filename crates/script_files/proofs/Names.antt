@@ -1,5 +1,5 @@
 -- Names and their bytes, while transcripts are closed.
-use Rattle.std.proofs.Common.{◌≡◌, ℕ, Bool, true, false, inl, inr, List, [], ◌∷◌, Option, Some, None, refl, sym, subst, ap, ◌∙◌}
+use Rattle.std.proofs.Common.{◌≡◌, ℕ, Bool, true, false, inl, inr, List, [], ◌∷◌, Option, Some, None, refl, subst, ap}
 use Rattle.std.specs.Prelude.{bytes_eq, if◌then◌else◌, option_map, unwrap_or, IfSome, IfNone, IsSome, IsNone}
 use Rattle.std.specs.List.{AllByRecursion}
 use Rattle.std.proofs.lemmas.Bool.{cases_Bool}

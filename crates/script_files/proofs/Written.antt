@@ -1,6 +1,6 @@
 -- What the names of transcripts have when all are closed.
 use Rattle.std.proofs.Common.{◌≡◌, ◌≢◌, ◌∙◌, ℕ, List, [], ◌∷◌, Option, Some, None, refl, sym, subst}
-use Rattle.std.specs.Prelude.{IfSome, IsSome, option_map, unwrap_or}
+use Rattle.std.specs.Prelude.{IsSome, option_map, unwrap_or}
 use Rattle.std.specs.List.{AllByRecursion}
 use Rattle.track_outside.specs.Named.{NamedBytes, bytes_at, with_bytes}
 use Rattle.track_outside.specs.declared.sink.Sink as sink

@@ -1,5 +1,5 @@
 -- The scripts of a shared run and their transcripts, closed: what their names have then, and which counts rise.
-use Rattle.std.specs.Prelude.{◌≡◌, ◌≢◌, ℕ, ◌+◌, ◌-◌, ◌^◌, ◌<◌, ◌≤◌, Bool, List, [], ◌∷◌, min, Option, Some, None, option_map, IfSome, IsSome, unwrap_or, if◌then◌else◌, nat_lt}
+use Rattle.std.specs.Prelude.{◌≡◌, ◌≢◌, ℕ, ◌+◌, ◌-◌, ◌^◌, ◌≤◌, List, [], ◌∷◌, min, Option, Some, option_map, IfSome, IsSome, unwrap_or, if◌then◌else◌, nat_lt}
 use Rattle.std.specs.List.{AllByRecursion}
 use Rattle.track_outside.specs.Named.{NamedBytes, bytes_at, with_bytes}
 use Rattle.track_outside.specs.declared.files.Files as files

@@ -1,6 +1,5 @@
 -- The scripts of a shared run and their transcripts, opened: the calls that are made, and what is open then.
-use Rattle.std.specs.Prelude.{◌≡◌, ℕ, ◌<◌, ◌≤◌, length, Bool, true, false, List, [], ◌∷◌, ◌++◌, take, slice_get, Option, Some, None, option_map, IfSome, IsSome, Result, Ok, Err}
-use Rattle.std.specs.List.{flat_map}
+use Rattle.std.specs.Prelude.{◌≡◌, ℕ, ◌<◌, ◌≤◌, length, Bool, true, false, List, [], ◌∷◌, ◌++◌, take, slice_get, Option, Some, option_map, IfSome, IsSome, Result, Ok, Err}
 use Rattle.track_outside.specs.Counts.{Rose}
 use Rattle.track_outside.specs.Named.{NamedBytes, Call, bytes_at, with_bytes}
 use Rattle.track_outside.specs.declared.files.Files as files

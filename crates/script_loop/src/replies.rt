@@ -1,5 +1,5 @@
 //! Replies that are gathered, so that a sink takes them together.
-ghost use Rattle.std.specs.Prelude.{◌≡◌, ◌↔◌, true, ◌++◌, ◌≤◌, [], length, nat_le, OnOk, OnErr, IfErr};
+ghost use Rattle.std.specs.Prelude.{◌≡◌, ◌↔◌, true, ◌++◌, [], length, nat_le, OnOk, OnErr, IfErr};
 ghost use Rattle.track_outside.specs.Calls.{Took};
 ghost use Rattle.reply_text.specs.Replies.{text_of};
 ghost use Rattle.script_loop.specs.Turns.{FailsOn};

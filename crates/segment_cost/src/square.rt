@@ -1,7 +1,7 @@
 //! The cost about a whole number.
 ghost use Rattle.std.specs.Prelude.{◌≡◌, ℤ, ◌^◌, ◌<◌, ◌≤◌, List, length, IfOk, unsigned_abs, pos, ◌<ℤ◌, ◌-ℤ◌, ◌*ℤ◌};
 ghost use Rattle.std.specs.Int.{int_div_euclid};
-ghost use Rattle.segment_model.specs.Segments.{IsCentre, IsLeastSum};
+ghost use Rattle.segment_model.specs.Segments.{IsLeastSum};
 ghost use Rattle.segment_model.specs.Computed.{sum_of, centre_by_division, least_sum_of};
 ghost use Rattle.segment_model.specs.Values.{AreWithinLimits, values_by_position};
 ghost use Rattle.prefix_sums.specs.Sums.{IsInRange, AreSums};

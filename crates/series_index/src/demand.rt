@@ -4,9 +4,7 @@ ghost use Rattle.segment_model.specs.Segments.{values_of};
 ghost use Rattle.segment_model.specs.Edits.{has_commit};
 ghost use Rattle.segment_model.specs.Limits.{IsSmall};
 ghost use Rattle.sample_model.specs.Samples.{Measurement};
-ghost use Rattle.history_model.specs.Runs.{Series};
-ghost use Rattle.series_index.specs.Seen.{seen, unseen};
-ghost use Rattle.series_index.specs.Taken.{of_series, with_samples};
+ghost use Rattle.series_index.specs.Seen.{seen};
 ghost use Rattle.series_index.specs.Demands.{new_ones, HaveRoomForSamples, HaveRoomForPosition, Tallies};
 ghost use Rattle.series_index.specs.Plenty.{HasPlenty};
 

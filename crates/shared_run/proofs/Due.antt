@@ -21,7 +21,7 @@ use Rattle.shared_run.specs.declared.stop.RunStop.{RunStop}
 use Rattle.shared_run.specs.declared.stop.RunStop.TheVariants as run
 use Rattle.shared_run.specs.Beginnings.{AreStored, NoneCause}
 use Rattle.shared_run.specs.Endings as endings
-use Rattle.shared_run.specs.Endings.{EndsAsDue, EndsEarly, EndsLate, EndsRun, HasFailed, IsBadStore, IsDue, Objects, StoreGives, Told}
+use Rattle.shared_run.specs.Endings.{EndsAsDue, EndsLate, EndsRun, HasFailed, IsBadStore, IsDue, Objects, StoreGives, Told}
 use Rattle.shared_run.specs.Lists.{IsFull, IsFullAt, listed_track, with_listed, with_machine}
 use Rattle.shared_run.specs.Ran.{NotBegun}
 

@@ -20,7 +20,6 @@ use Rattle.script_loop.specs.declared.stop.Stop.TheVariants as stop
 use Rattle.worker_crew.specs.Played.{in_full}
 use Rattle.worker_crew.specs.Sights.{Home, Sight}
 use Rattle.worker_crew.specs.Players.{Playing, Plays, end_of, open_of, players_from}
-use Rattle.worker_crew.proofs.Gathered.{mapped-at, mapped-from}
 
 -- ---- lists
 pub some-same : {A : Type 0} (x y : A) → Some x ≡ Some y → x ≡ y

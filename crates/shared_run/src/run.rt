@@ -1,5 +1,5 @@
 //! The scripts and the workers of a run, at once on its machines.
-ghost use Rattle.std.specs.Prelude.{◌≡◌, ◌≤◌, length, IfOk, IfErr, OnErr, Err};
+ghost use Rattle.std.specs.Prelude.{◌≡◌, ◌≤◌, length, IfOk, IfErr, OnErr};
 ghost use Rattle.command_words.specs.Plans.{AreScripts};
 ghost use Rattle.worker_crew.specs.Rooms.{IsFirst, IsPassOf};
 ghost use Rattle.worker_crew.specs.Seats.{AreDifferent};

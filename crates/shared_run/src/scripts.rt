@@ -1,6 +1,5 @@
 //! A shared run, from the machines of its store and its list to its journals.
-ghost use Rattle.std.specs.Prelude.{◌≡◌, ◌≤◌, List, length, IfOk, IfErr, OnErr};
-ghost use Rattle.std.specs.List.{AllByRecursion};
+ghost use Rattle.std.specs.Prelude.{◌≡◌, ◌≤◌, length, IfOk, IfErr, OnErr};
 ghost use Rattle.metric_table.specs.Limits.{most};
 ghost use Rattle.metric_table.specs.declared.limits.Limit.TheVariants.{Machines};
 ghost use Rattle.command_words.specs.Plans.{AreScripts};

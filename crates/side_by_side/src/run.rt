@@ -1,5 +1,4 @@
 //! Running jobs at once.
-ghost use Rattle.std.specs.Prelude.{◌≡◌};
 ghost use Rattle.std.specs.List.{AllZip};
 ghost use Rattle.std.specs.Thread.{IsSync};
 ghost use Rattle.side_by_side.specs.Runs.{AllCanRun, AllCanWork, AllWorked};

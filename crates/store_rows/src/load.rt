@@ -1,5 +1,5 @@
 //! Rows that are read from a keeper, one after another.
-ghost use Rattle.std.specs.Prelude.{◌≡◌, ◌≢◌, ℕ, ◌≤◌, [], ◌∷◌, length, IfSome, OnOk, Some};
+ghost use Rattle.std.specs.Prelude.{◌≡◌, ◌≢◌, ℕ, ◌≤◌, [], ◌∷◌, length, IfSome, OnOk};
 ghost use Rattle.track_outside.specs.Counts.{Rose};
 ghost use Rattle.track_outside.specs.Kept.{with_more};
 ghost use Rattle.store_rows.specs.Faults.{MayHaveName, load_fault};

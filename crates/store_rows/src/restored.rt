@@ -1,5 +1,5 @@
 //! What rows make, as reading them sees it.
-ghost use Rattle.std.specs.Prelude.{◌≡◌, List, ℕ, IfOk, OnErr, true, false};
+ghost use Rattle.std.specs.Prelude.{◌≡◌, List, ℕ, IfOk, true, false};
 
 use crate::NoMemory;
 use std::alloc::Global;

@@ -1,5 +1,5 @@
 -- The first free series of a list of marks.
-use Rattle.std.specs.Prelude.{ℕ, List, [], ◌∷◌, Option, Some, None}
+use Rattle.std.specs.Prelude.{ℕ, [], ◌∷◌, Option, Some, None}
 use Rattle.touch_index.specs.Marks.{Entries}
 use Rattle.touch_index.specs.declared.key.SeriesKey.{SeriesKey}
 use Rattle.touch_index.specs.declared.mark.Claim.{Claim}

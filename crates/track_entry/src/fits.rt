@@ -1,5 +1,5 @@
 //! What the types keep of an entry.
-ghost use Rattle.std.specs.Prelude.{ℕ, ◌^◌, ◌<◌, ◌≤◌, All, length};
+ghost use Rattle.std.specs.Prelude.{◌^◌, ◌<◌, ◌≤◌, All, length};
 ghost use Rattle.history_model.specs.declared.entries.Entry.TheVariants as entry;
 ghost use Rattle.track_entry.specs.Texts.{HasShortMetric, IsEntry, IsPublication};
 ghost use Rattle.track_entry.specs.Laws.{LegalIsShort};

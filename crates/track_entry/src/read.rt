@@ -1,5 +1,5 @@
 //! Entries, read from their texts.
-ghost use Rattle.std.specs.Prelude.{◌≡◌, ◌≢◌, ℕ, ◌≤◌, List, [], ◌∷◌, ◌^◌, ◌<◌, All, length, map, drop, codes, decimal, flat_map, IfOk, IsTrue, IsFalse};
+ghost use Rattle.std.specs.Prelude.{◌≡◌, ℕ, ◌≤◌, List, ◌^◌, ◌<◌, All, length, map, drop, decimal, flat_map, IfOk, IsTrue, IsFalse};
 ghost use Rattle.line_text.specs.Lines.{words_of};
 ghost use Rattle.sample_model.specs.Samples.{Measurement, AreSamples};
 ghost use Rattle.history_model.specs.declared.entries.Entry.{Entry as AnEntry};

@@ -1,5 +1,5 @@
 -- A setting of which nothing is refused is in range, and its metric is short enough.
-use Rattle.std.proofs.Common.{◌≡◌, ℕ, ℤ, pos, negsuc, ◌<◌, ◌≤◌, ◌^◌, true, false, not, ◌&&◌, List, length, refl, ap₂, arith, nat_lt}
+use Rattle.std.proofs.Common.{◌≡◌, ℕ, ℤ, pos, negsuc, ◌≤◌, ◌^◌, true, false, not, ◌&&◌, List, length, refl, ap₂, arith, nat_lt}
 use Rattle.std.specs.Prelude.{None, nat_le}
 use Rattle.std.proofs.lemmas.Bool.{and_parts, not-false, leb-true, le-leb, le-ltb, ltb-false}
 use Rattle.std.proofs.lemmas.Int.{ints}

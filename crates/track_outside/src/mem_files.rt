@@ -1,5 +1,5 @@
 //! Files in memory.
-ghost use Rattle.std.specs.Prelude.{◌≡◌, ◌↔◌, ◌<◌, ◌≤◌, [], ◌∷◌, ◌++◌, Some, None, vec_len, vec_capacity, option_map, IsTrue, IsSome, IfOk, IfSome, IfNone, OnOk, OnErr, MatchOption};
+ghost use Rattle.std.specs.Prelude.{◌≡◌, ◌↔◌, ◌<◌, ◌≤◌, [], ◌∷◌, ◌++◌, Some, None, vec_len, vec_capacity, option_map, IsTrue, IsSome, IfOk, IfSome, IfNone, OnOk, OnErr};
 ghost use Rattle.track_outside.specs.Memory.{new_input};
 ghost use Rattle.track_outside.specs.Named.{bytes_at, with_bytes, Opens, Creates, raised_by};
 ghost use Rattle.track_outside.specs.Folders.{files_of, calls_of, IsPlace, IsAbsent};

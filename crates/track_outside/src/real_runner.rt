@@ -1,5 +1,5 @@
 //! Tests that are programs of the system.
-ghost use Rattle.std.specs.Prelude.{◌≡◌, ℕ, Option, None};
+ghost use Rattle.std.specs.Prelude.{◌≡◌, ℕ, None};
 
 use crate::fault_count::count_fault;
 use crate::out_error::OutError;

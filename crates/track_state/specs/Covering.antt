@@ -5,7 +5,6 @@ use Rattle.history_model.specs.declared.entries.Entry.{Entry}
 use Rattle.history_model.specs.Publications.{last_publication}
 use Rattle.history_model.specs.Runs.{Series, is_known, same_series}
 use Rattle.touch_index.specs.Marks.{Entries, mark_of, touched_mark}
-use Rattle.touch_index.specs.declared.mark.Claim.{Claim}
 use Rattle.touch_index.specs.declared.mark.Claim.TheVariants.{Free, Refused}
 use Rattle.touch_index.specs.declared.key.SeriesKey.{SeriesKey}
 use Rattle.touch_index.specs.declared.mark.Mark.{Mark}

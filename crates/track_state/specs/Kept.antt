@@ -1,5 +1,5 @@
 -- What becomes of claims where the history grows.
-use Rattle.std.specs.Prelude.{◌≡◌, ℕ, nat_lt, if◌then◌else◌, List}
+use Rattle.std.specs.Prelude.{◌≡◌, nat_lt, if◌then◌else◌}
 use Rattle.history_model.specs.Runs.{Series}
 use Rattle.touch_index.specs.Marks.{touched_claim}
 use Rattle.touch_model.specs.Touches.{last_touch}

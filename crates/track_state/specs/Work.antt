@@ -1,5 +1,5 @@
 -- A machine's state with what workers have taken of it: which series and jobs are claimed.
-use Rattle.std.specs.Prelude.{◌≡◌, ℕ, Bool, true, false, nat_lt, if◌then◌else◌, List, [], Option, Some, None}
+use Rattle.std.specs.Prelude.{◌≡◌, ℕ, true, false, nat_lt, if◌then◌else◌, List, [], Option, Some, None}
 use Rattle.std.specs.FinSet as set
 use Rattle.std.specs.Ordering.{is_lt}
 use Rattle.history_model.specs.declared.entries.Entry.{Entry}
@@ -9,7 +9,7 @@ use Rattle.history_model.specs.SeriesOrder.{series_cmp}
 use Rattle.touch_index.specs.Marks.{Entries, mark_of, touched_claim}
 use Rattle.touch_index.specs.declared.key.SeriesKey.{SeriesKey}
 use Rattle.touch_index.specs.declared.mark.Claim.{Claim}
-use Rattle.touch_index.specs.declared.mark.Claim.TheVariants.{Free, Taken, Refused}
+use Rattle.touch_index.specs.declared.mark.Claim.TheVariants.{Free, Taken}
 use Rattle.touch_index.specs.declared.mark.Mark.{Mark}
 use Rattle.touch_model.specs.Stale.{is_stale}
 use Rattle.touch_model.specs.Touches.{last_touch}

@@ -1,5 +1,5 @@
 //! How the index of touched series follows the history.
-ghost use Rattle.std.specs.Prelude.{◌≡◌, ◌<◌, ◌+◌, OnOk, OnErr, length, slice_get, Some};
+ghost use Rattle.std.specs.Prelude.{◌≡◌, ◌<◌, ◌+◌, OnOk, OnErr, length, Some};
 ghost use Rattle.history_model.specs.Entries.{entries_of};
 ghost use Rattle.track_state.specs.Covering.{AreTouched, Covers, MakeSame, SomeAreTouched};
 ghost use Rattle.track_state.specs.Touching.{named, sampled, touched_by};

@@ -1,5 +1,5 @@
 //! The lines that tell statuses.
-ghost use Rattle.std.specs.Prelude.{◌≡◌, [], ◌∷◌, ◌++◌, decimal, OnOk, OnErr};
+ghost use Rattle.std.specs.Prelude.{[], ◌∷◌, ◌++◌, decimal, OnOk, OnErr};
 ghost use Rattle.track_outside.specs.Calls.{Took, FailedIn};
 ghost use Rattle.tracker_top.specs.Text.{line_of};
 

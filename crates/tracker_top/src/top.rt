@@ -1,5 +1,5 @@
 //! The commands that run no threads and open no file.
-ghost use Rattle.std.specs.Prelude.{◌≡◌, ◌≢◌, ℕ, ◌^◌, ◌≤◌, ◌⊎◌, List, [], IfOk, IfSome, Result, Some};
+ghost use Rattle.std.specs.Prelude.{◌≡◌, ◌≢◌, ℕ, ◌⊎◌, List, [], IfOk, IfSome, Result, Some};
 ghost use Rattle.track_outside.specs.Counts.{Rose};
 ghost use Rattle.trial_script.specs.Sessions.{State};
 ghost use Rattle.script_loop.specs.declared.stop.Stop.{Stop};

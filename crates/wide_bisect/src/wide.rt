@@ -1,7 +1,7 @@
 //! A search by rounds under way: the rounds that it asks, and the answers that it takes.
-ghost use Rattle.std.specs.Prelude.{◌≡◌, ◌≢◌, ◌<◌, ◌≤◌, ◌⊎◌, ◌↔◌, ◌-◌, ◌+◌, length, IfOk, IfErr, IsTrue, filter, fold, min, nat_lt, map, find, vec_len};
+ghost use Rattle.std.specs.Prelude.{◌≡◌, ◌≢◌, ◌<◌, ◌≤◌, ◌⊎◌, ◌↔◌, ◌-◌, ◌+◌, length, IfOk, IfErr, filter, fold, min, nat_lt, map, find};
 ghost use Rattle.wide_bisect.specs.Answers.{bad_places, good_places, skipped_places, ending, greatest, least, is_among};
-ghost use Rattle.wide_bisect.specs.Searches.{Search, begun, asks, asked, place_in_round, said_of, moved, ended, settled, after, answer_to, stays, is_running};
+ghost use Rattle.wide_bisect.specs.Searches.{Search, begun, asks, asked, place_in_round, said_of, moved, ended, settled, after, answer_to, stays};
 ghost use Rattle.wide_bisect.specs.Sound.{IsSound, GoesOn};
 ghost use Rattle.wide_bisect.specs.declared.outcome.WideAnswered.TheVariants as answered;
 ghost use Rattle.wide_bisect.specs.declared.outcome.WideFault.TheVariants as fault;

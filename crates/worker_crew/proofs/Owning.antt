@@ -16,7 +16,7 @@ use Rattle.play_crew.specs.Sights.{Sight, own_marks, seeing}
 use Rattle.recompute_workers.specs.Works as recomputing
 use Rattle.recompute_workers.specs.Works.{Works}
 use Rattle.bisect_workers.specs.Beside as bisecting
-use Rattle.bisect_workers.specs.Beside.{BisectsAt, EachBisects, Use}
+use Rattle.bisect_workers.specs.Beside.{EachBisects, Use}
 use Rattle.bisect_workers.specs.Bisecting.{IsSaidBy}
 use Rattle.play_fits.specs.Journals.{history_in}
 use Rattle.play_fits.specs.Workers.{Crew, IsOneOf, IsSettled, MayAdd}

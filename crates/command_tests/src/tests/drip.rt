@@ -1,5 +1,5 @@
 //! Scripts that end, come and fail at each byte.
-ghost use Rattle.std.specs.Prelude.{◌≡◌, None};
+ghost use Rattle.std.specs.Prelude.{None};
 
 use crate::tests::run::comes_to;
 use std::alloc::Global;

@@ -1,6 +1,4 @@
 //! The centre and the cost of some values by distances.
-ghost use Rattle.std.specs.Prelude.{◌≡◌, ◌≤◌, [], ◌∷◌};
-ghost use Rattle.segment_model.specs.Values.{AreWithinLimits};
 
 use absolute_cost::Absolute;
 use segment_cost::Cost;

@@ -1,6 +1,6 @@
 //! What enters, leaves and closes, and with which numbers.
-ghost use Rattle.std.specs.Prelude.{◌≡◌, ◌+◌, ◌⊎◌, [], ◌∷◌, ◌++◌, IfOk, IfErr, OnErr, OnOk};
-ghost use Rattle.history_lock.specs.Passes.{seen, mark, given, joined, label, own_marks, IsFirst, IsWhole, IsPassOf, IsOutside, IsInside, IsSame};
+ghost use Rattle.std.specs.Prelude.{◌≡◌, ◌+◌, []};
+ghost use Rattle.history_lock.specs.Passes.{mark, joined, label, IsPassOf, IsOutside};
 
 use history_lock::{Historied, HistoryLock, Pass};
 use std::alloc::{AllocError, Global};

@@ -1,4 +1,4 @@
-use Rattle.std.proofs.Common.{◌≡◌, length, slice_index, ap, subst, ◌∙◌}
+use Rattle.std.proofs.Common.{◌≡◌, length, slice_index, ap, ◌∙◌}
 use Rattle.segment_model.specs.Cuts.{place_before, place_behind}
 use Rattle.metric_table.specs.Table.{row_of}
 use Rattle.change_list.specs.Changes.{IsChange}

@@ -1,4 +1,4 @@
-use Rattle.std.proofs.Common.{◌≡◌, ◌<◌, ◌≤◌, ℕ, inr, List, length, refl, sym, ap, subst, ◌∙◌, arith}
+use Rattle.std.proofs.Common.{◌≡◌, ◌≤◌, ℕ, inr, List, length, refl, sym, ap, subst, ◌∙◌, arith}
 use Rattle.commit_lines.specs.Reading.{AreNamesOfInput}
 use Rattle.track_outside.specs.Calls.{Took, FailedIn}
 use Rattle.hunt_command.specs.Endings.{CameTo}

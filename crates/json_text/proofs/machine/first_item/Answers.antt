@@ -1,6 +1,6 @@
 use Rattle.std.proofs.Common.{◌≡◌, ◌∙◌, ◌∷◌, ℕ, List, get_or, ap, sym, subst}
 use Rattle.json_text.specs.Machine.{Frame, in_list, value, first_item}
-use Rattle.json_text.specs.Tree.{Tree, no_items}
+use Rattle.json_text.specs.Tree.{no_items}
 use Rattle.json_text.specs.Tree as trees
 use Rattle.json_text.specs.Reached.{Stands}
 use Rattle.json_text.specs.States.{frames_of}

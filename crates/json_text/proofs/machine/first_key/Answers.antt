@@ -1,6 +1,6 @@
 use Rattle.std.proofs.Common.{◌≡◌, ◌∙◌, ℕ, List, arith, get_or, ap, sym, subst}
 use Rattle.json_text.specs.Machine.{first_key, next_key, colon}
-use Rattle.json_text.specs.Tree.{Tree, Members, no_members}
+use Rattle.json_text.specs.Tree.{Members, no_members}
 use Rattle.json_text.specs.Tree as trees
 use Rattle.json_text.specs.Reached.{Stands}
 use Rattle.json_text.specs.States.{frames_of}

@@ -23,7 +23,7 @@ use Rattle.play_audit.proofs.Named.{named_none, named_some}
 use Rattle.play_audit.specs.Marks.{rows_of}
 use Rattle.play_audit.proofs.Apart.{alone_apart, made_none, made_some, unknown_apart}
 use Rattle.play_audit.proofs.hearing.hear_request.Goals as goal
-use Rattle.play_audit.proofs.hearing.hear_request.Goals.{After-deref, In-Some}
+use Rattle.play_audit.proofs.hearing.hear_request.Goals.{After-deref}
 
 pub returns-then-is_alone : goal.returns-then-is_alone
 returns-then-is_alone c =

@@ -1,8 +1,6 @@
 use Rattle.std.proofs.Common.{take}
 use Rattle.std.specs.Prelude.{All}
 use Rattle.history_model.specs.declared.entries.Author.TheVariants.{Recompute}
-use Rattle.history_model.specs.Allowed.{Legal}
-use Rattle.history_model.specs.Entries.{entries_of}
 use Rattle.history_model.specs.Runs.{Series}
 use Rattle.track_room.specs.Work.{IsUntaken, history_of}
 use Rattle.recompute_workers.specs.Quiet.{IsQuiet}

@@ -1,17 +1,14 @@
 use Rattle.history_model.proofs.Chosen.{entries-push}
-use Rattle.std.proofs.Common.{◌≡◌, ◌⊎◌, inl, inr, ℕ, List, [], ◌∷◌, ◌++◌, length, sym, ap, ap₂, subst, ◌∙◌, Option, Some}
+use Rattle.std.proofs.Common.{◌≡◌, inl, inr, ℕ, List, length, sym, ap, ap₂, subst, ◌∙◌, Option, Some}
 use Rattle.metric_table.specs.declared.limits.Limit.{Limit}
 use Rattle.segment_cost.specs.declared.done.Done.{Done}
-use Rattle.history_model.specs.declared.entries.Author.{Author}
 use Rattle.history_model.specs.declared.entries.Author.TheVariants.{Recompute}
 use Rattle.history_model.specs.declared.entries.Entry.{Entry}
 use Rattle.history_model.specs.Allowed.{KeepsLimits, Legal}
 use Rattle.history_model.specs.Entries.{entries_of}
 use Rattle.history_model.specs.Runs.{Series}
 use Rattle.publication_index.specs.Kept.{series_of}
-use Rattle.track_model.specs.Tracks.{Track, with_entry}
-use Rattle.track_room.specs.Publications.{passed}
-use Rattle.track_room.specs.Snapshots.{IsTakenAt}
+use Rattle.track_model.specs.Tracks.{Track}
 use Rattle.track_room.specs.Snapshot.{Snapshot}
 use Rattle.track_room.proofs.Segmenting.{made-from, series-is}
 use Rattle.machine_state.specs.Made.{IsMadeFrom, entry_of}
@@ -21,7 +18,6 @@ use Rattle.track_room.proofs.Snapped.{bare-taken, entries-taken}
 use Rattle.track_room.proofs.Untaken.{published-untaken, stale-untaken, untaken-stays}
 use Rattle.touch_model.specs.Stale.{is_stale}
 use Rattle.recompute_workers.specs.Quiet.{IsQuiet}
-use Rattle.recompute_workers.specs.Recomputing.{AddsOne}
 use Rattle.recompute_workers.proofs.Growing.{adds-from}
 use Rattle.recompute_workers.proofs.Handing.{adds-one, full-quiet, ok-quiet, outcome}
 use Rattle.recompute_workers.proofs.last.recompute_series.Goals as goal

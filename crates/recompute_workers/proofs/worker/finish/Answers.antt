@@ -1,14 +1,7 @@
-use Rattle.std.proofs.Common.{List, subst, sym, ◌∙◌}
-use Rattle.std.specs.List.{AllZip}
+use Rattle.std.proofs.Common.{◌∙◌}
 use Rattle.std.proofs.lemmas.Option.{slice_get_within}
 use Rattle.history_model.specs.declared.entries.Author.{Author}
 use Rattle.history_model.specs.declared.entries.Author.TheVariants.{Recompute}
-use Rattle.history_model.specs.declared.entries.Entry.{Entry}
-use Rattle.history_model.specs.Allowed.{Legal}
-use Rattle.history_model.specs.Entries.{entries_of}
-use Rattle.machine_state.specs.Made.{IsMadeFrom}
-use Rattle.track_room.proofs.Segmenting.{made-from}
-use Rattle.track_room.specs.Work.{series_of}
 use Rattle.track_room.specs.Sights.{SeesMore, Visits}
 use Rattle.track_room.specs.Taking.{Publishes}
 use Rattle.track_room.proofs.Segments.{made-of-taken}

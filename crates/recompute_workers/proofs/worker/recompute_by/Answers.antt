@@ -1,4 +1,3 @@
-use Rattle.std.specs.List.{AllZip}
 use Rattle.history_model.specs.declared.entries.Author.{Author}
 use Rattle.history_model.specs.declared.entries.Author.TheVariants.{Recompute}
 use Rattle.recompute_workers.specs.Works.{Works}

@@ -1,6 +1,5 @@
-use Rattle.std.proofs.Common.{◌≡◌, ℕ, List, subst, Option, Some}
+use Rattle.std.proofs.Common.{◌≡◌, List, subst, Option, Some}
 use Rattle.std.specs.Prelude.{IfSome}
-use Rattle.std.specs.List.{AllZip}
 use Rattle.history_model.specs.declared.entries.Author.{Author}
 use Rattle.history_model.specs.declared.entries.Author.TheVariants.{Recompute}
 use Rattle.track_room.specs.Claims.{Claimed, taken_with}

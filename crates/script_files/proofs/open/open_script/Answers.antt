@@ -1,4 +1,4 @@
-use Rattle.std.proofs.Common.{◌≡◌, ◌∙◌, ℕ, List, [], ◌∷◌, ◌++◌, true, false, Err, refl, sym, ap, arith}
+use Rattle.std.proofs.Common.{◌≡◌, ◌∙◌, ℕ, List, [], ◌∷◌, ◌++◌, true, false, Err, refl, ap, arith}
 use Rattle.std.specs.Prelude.{option_map}
 use Rattle.track_outside.specs.Named.{Call}
 use Rattle.command_words.specs.Plans.{transcript_of}

@@ -1,5 +1,5 @@
 use Rattle.std.proofs.Common.{◌≡◌, ℕ, suc, ◌+◌, ◌%◌, ◌++◌, [], ◌==◌, if◌then◌else◌, ap, ◌∙◌, arith}
-use Rattle.series_gen.specs.Script.{in_turn, submit_line, body_line, segment_line, value, place, turn, state_after}
+use Rattle.series_gen.specs.Script.{submit_line, body_line, segment_line, value, place, turn, state_after}
 use Rattle.series_gen.proofs.Turns.{none-yet, next-turn, behind, first-state, next-state}
 use Rattle.series_gen.proofs.script.put_turns.Goals as goal
 

@@ -1,4 +1,4 @@
-use Rattle.std.proofs.Common.{rules, ◌≡◌, ◌∙◌, List, [], ℕ, ap}
+use Rattle.std.proofs.Common.{rules, ◌≡◌, ◌∙◌, [], ap}
 use Rattle.track_outside.specs.Memory.{Output}
 use Rattle.track_outside.specs.Named.{Folder, with_bytes}
 use Rattle.track_outside.proofs.Places.{bytes_at-with_bytes}

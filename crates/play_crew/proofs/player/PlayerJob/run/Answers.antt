@@ -1,5 +1,4 @@
-use Rattle.std.proofs.Common.{◌≡◌, sym, subst}
-use Rattle.play_crew.specs.Players.{Playing, Plays}
+use Rattle.std.proofs.Common.{sym}
 use Rattle.play_crew.proofs.Players.{was-played}
 use Rattle.play_crew.proofs.player.PlayerJob.run.Goals as goal
 

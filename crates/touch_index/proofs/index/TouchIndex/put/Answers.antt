@@ -1,4 +1,4 @@
-use Rattle.std.proofs.Common.{◌≡◌, cond, ap, ◌∙◌, Some}
+use Rattle.std.proofs.Common.{cond, ap, ◌∙◌, Some}
 use Rattle.std.specs.Ordering.{is_eq}
 use Rattle.touch_index.specs.Marks.{Entries, key_cmp, mark_of}
 use Rattle.touch_index.specs.declared.key.SeriesKey.{SeriesKey}

@@ -1,12 +1,11 @@
 use Rattle.history_model.proofs.Cases.{any-err}
 use Rattle.std.specs.Prelude.{Result, Ok, Err}
 use Rattle.std.specs.declared.alloc.AllocError.{AllocError}
-use Rattle.std.proofs.Common.{◌≡◌, ℕ, List, ap, subst}
+use Rattle.std.proofs.Common.{◌≡◌, ap, subst}
 use Rattle.history_model.specs.Runs.{Series}
 use Rattle.request_model.specs.declared.replies.Reply.{Reply}
 use Rattle.request_model.specs.declared.requests.Request.TheVariants as request
 use Rattle.track_state.specs.Redone.{Redone}
-use Rattle.track_state.specs.Snapshot.{Snapshot}
 use Rattle.track_state.specs.Begun.{Begun}
 use Rattle.track_state.specs.Begun.TheVariants.{Known, Unknown}
 use Rattle.track_room.specs.Asked.{IsReplied}
