@@ -1,26 +1,16 @@
 -- Counts and ends of values in order, and what two lists with the same sums share.
 use Rattle.std.proofs.Common.{◌≡◌, ℕ, ℤ, zero, suc, pos, ◌+◌, ◌-◌, ◌*◌, ◌^◌, ◌<◌, ◌≤◌, Bool, true, false, cond, List, [], ◌∷◌, ◌++◌, length, take, drop, get_or, sum_by, count_by, nat_abs, ◌-ℤ◌, ◌≤ℤ◌, refl, sym, ap, ◌∙◌, subst, arith, inl, inr, leb}
-use Rattle.std.specs.Prelude.{int_le, int_lt}
-use Rattle.std.specs.Ordering.{int_cmp, is_lt}
-use Rattle.std.specs.List.{All}
-use Rattle.std.specs.List.Sorted.{IsSorted, IsPartitionedBy, IsPartitionPoint, IsPermutation}
+use Rattle.std.specs.{Prelude.{int_le, int_lt}, Ordering.{int_cmp, is_lt}, List.All, List.Sorted.{IsSorted, IsPartitionedBy, IsPartitionPoint, IsPermutation}}
 use borrow.Rule.Slice.PartMut.{put_mid}
-use Rattle.std.proofs.lemmas.Bool.{cases_Bool, le-leb, leb-true}
-use Rattle.std.proofs.lemmas.Int.{ints}
-use Rattle.std.proofs.lemmas.Cmp.{int_cmp_total}
+use Rattle.std.proofs.lemmas.{Bool.{cases_Bool, le-leb, leb-true}, Int.ints, Cmp.int_cmp_total}
 use Rattle.std.proofs.lemmas.List.{get_or-take, get_or-drop, take_rest, drop_all, length-drop, length-take-le, length-append, append-nil, drop_at, take_at}
 use Rattle.std.proofs.lemmas.List.Elements.{All-append, All-from_get_or, All-nil, All-cons, All-head, All-tail, All-take, All-drop}
-use Rattle.std.proofs.lemmas.List.Sums.{sum_by-append, sum_by-cons}
-use Rattle.std.proofs.lemmas.List.Sorted.{sorted_far, ranks_by, sum_by-IsPermutation}
+use Rattle.std.proofs.lemmas.List.{Sums.{sum_by-append, sum_by-cons}, Sorted.{sorted_far, ranks_by, sum_by-IsPermutation}}
 use Rattle.segment_model.specs.Limits.{IsSmall}
-use Rattle.distance_model.specs.Middles.{at_most, IsMiddle}
-use Rattle.distance_model.specs.Distances.{distance, distances_about, middle_of, least_distances_of}
+use Rattle.distance_model.specs.{Middles.{at_most, IsMiddle}, Distances.{distance, distances_about, middle_of, least_distances_of}}
 use Rattle.distance_model.proofs.Middles.{le_yes, le_told, is_middle, middle_is}
-use Rattle.absolute_cost.specs.Blocks.{AreInOrder, block, AreBlocks, HaveSameSums, IsSortedFrom, all_of}
-use Rattle.absolute_cost.specs.Between.{AreWider, IsBetween}
-use Rattle.absolute_cost.specs.declared.ends.Ends.{Ends}
-use Rattle.absolute_cost.proofs.Numbers.{not_above, still, wider}
-use Rattle.absolute_cost.proofs.Sorted.{one_more, block_length, same_by}
+use Rattle.absolute_cost.specs.{Blocks.{AreInOrder, block, AreBlocks, HaveSameSums, IsSortedFrom, all_of}, Between.{AreWider, IsBetween}}
+use Rattle.absolute_cost.{specs.declared.ends.Ends.Ends, proofs.Numbers.{not_above, still, wider}, proofs.Sorted.{one_more, block_length, same_by}}
 
 -- ---- values in order
 

@@ -1,16 +1,11 @@
 -- The halving of the numbers that the middle may be.
 use Rattle.std.proofs.lemmas.List.Elements.{All-head, All-tail, All-get_or, All-weaker, All-more}
 use Rattle.std.proofs.Common.{[], ◌∷◌, get_or, take, nat_abs, ◌≤ℤ◌, ◌+ℤ◌, suc, ◌≡◌, ℕ, ℤ, pos, ◌+◌, ◌*◌, ◌<◌, ◌≤◌, List, length, ◌-ℤ◌, refl, sym, ap, ◌∙◌, subst, FitsSigned, w64, arith}
-use Rattle.std.specs.List.{All}
-use Rattle.std.proofs.lemmas.List.{take_all}
-use Rattle.std.proofs.lemmas.Int.{ints}
+use Rattle.std.{specs.List.All, proofs.lemmas.List.take_all, proofs.lemmas.Int.ints}
 use Rattle.segment_model.specs.Limits.{IsSmall}
-use Rattle.distance_model.specs.Middles.{at_most}
-use Rattle.distance_model.specs.Distances.{distances_about, middle_of, least_distances_of}
+use Rattle.distance_model.specs.{Middles.at_most, Distances.{distances_about, middle_of, least_distances_of}}
 use Rattle.distance_model.proofs.Middles.{is_middle, le_told, le_not_told, most_yes, most_no}
-use Rattle.absolute_cost.specs.Between.{AreWider, IsBetween}
-use Rattle.absolute_cost.specs.Numbers.{number_of}
-use Rattle.absolute_cost.specs.declared.ends.Ends.{Ends}
+use Rattle.absolute_cost.specs.{Between.{AreWider, IsBetween}, Numbers.number_of, declared.ends.Ends.Ends}
 
 -- the middle is none below low, and none above high
 pub record Halves (values : List ℤ) (least : ℤ) (span low high : ℕ) : Type 0 where

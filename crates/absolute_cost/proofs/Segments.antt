@@ -1,7 +1,6 @@
 -- The values of a segment as a part of all values.
 use Rattle.std.proofs.Common.{◌≡◌, ℕ, ℤ, ◌+◌, ◌-◌, ◌≤◌, List, [], ◌∷◌, ◌++◌, length, take, drop, refl, sym, ap, ◌∙◌, arith}
-use Rattle.std.proofs.lemmas.List.{length-append, append-nil, take_all}
-use Rattle.std.proofs.lemmas.List.Concat.{flat_map-append}
+use Rattle.std.proofs.lemmas.List.{length-append, append-nil, take_all, Concat.flat_map-append}
 use Rattle.segment_model.specs.Values.{joined, values_between, ValuesHaveParts}
 
 take_front : (xs ys : List ℤ) → take (length xs) (xs ++ ys) ≡ xs

@@ -1,7 +1,6 @@
 //! The cost by distances.
 ghost use Rattle.std.specs.Prelude.{◌≡◌, ◌+◌, ◌<◌, ◌≤◌, length, All};
-ghost use Rattle.segment_model.specs.Limits.{IsSmall};
-ghost use Rattle.segment_model.specs.Values.{joined, values_between};
+ghost use Rattle.segment_model.specs.{Limits.IsSmall, Values.{joined, values_between}};
 
 use crate::NoMemory;
 use crate::blocks::{BLOCK, add_blocks, append};
@@ -67,8 +66,7 @@ impl Absolute {
 }
 
 impl Cost for Absolute {
-    ghost use Rattle.distance_model.specs.Distances.{middle_of, least_distances_of};
-    ghost use Rattle.distance_model.proofs.Middles.{distances-merge, distances-range};
+    ghost use Rattle.distance_model.{specs.Distances.{middle_of, least_distances_of}, proofs.Middles.{distances-merge, distances-range}};
 
     ghost positions = { λ a. a.positions };
 

@@ -2,8 +2,7 @@
 ghost use Rattle.std.specs.Prelude.{◌≡◌, ◌+◌, ◌<◌, ◌≤◌, ◌++◌, length, All, vec_len, vec_capacity};
 ghost use Rattle.segment_model.specs.Limits.{IsSmall};
 ghost use Rattle.distance_model.specs.Middles.{at_most};
-ghost use Rattle.absolute_cost.specs.Between.{AreSmall, HaveTaken};
-ghost use Rattle.absolute_cost.specs.Blocks.{AreInOrder, AreBlocks, AreBlocksOf, IsAdded, IsSortedFrom};
+ghost use Rattle.absolute_cost.specs.{Between.{AreSmall, HaveTaken}, Blocks.{AreInOrder, AreBlocks, AreBlocksOf, IsAdded, IsSortedFrom}};
 
 use crate::ends::Ends;
 

@@ -1,10 +1,8 @@
 //! The value in the middle of some values, and the sum of their distances from a number.
 ghost use Rattle.std.specs.Prelude.{◌≡◌, ◌*◌, ◌^◌, ◌<◌, ◌≤◌, All, length, pos, ◌+ℤ◌, ◌-ℤ◌};
 ghost use Rattle.segment_model.specs.Limits.{IsSmall};
-ghost use Rattle.distance_model.specs.Distances.{distances_about, middle_of};
-ghost use Rattle.distance_model.specs.Middles.{at_most};
-ghost use Rattle.absolute_cost.specs.Between.{AreSmall, IsBetween};
-ghost use Rattle.absolute_cost.specs.Blocks.{AreBlocks, all_of};
+ghost use Rattle.distance_model.specs.{Distances.{distances_about, middle_of}, Middles.at_most};
+ghost use Rattle.absolute_cost.specs.{Between.{AreSmall, IsBetween}, Blocks.{AreBlocks, all_of}};
 
 use crate::blocks::{count_in_blocks, with_blocks};
 use crate::ends::Ends;

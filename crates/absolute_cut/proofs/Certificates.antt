@@ -1,9 +1,6 @@
 -- Costs by distances agree, so that a certificate that stands for points is one for the costs as they are computed.
-use Rattle.std.proofs.Common.{◌≡◌, ℤ, List, length, sym, ◌≤ℤ◌, subst, arith}
-use Rattle.std.proofs.lemmas.Int.{ints}
-use Rattle.segment_model.specs.Segments.{Position, segment}
-use Rattle.segment_model.specs.Laws.{AgreeingCostsHaveOneBest, AgreeingCostsHaveOneTable}
-use Rattle.segment_model.specs.Values.{ValuesOfPoints}
+use Rattle.std.proofs.{Common.{◌≡◌, ℤ, List, length, sym, ◌≤ℤ◌, subst, arith}, lemmas.Int.ints}
+use Rattle.segment_model.specs.{Segments.{Position, segment}, Laws.{AgreeingCostsHaveOneBest, AgreeingCostsHaveOneTable}, Values.ValuesOfPoints}
 use Rattle.distance_model.specs.Distances.{IsAbsoluteCost, IsLeastDistances, LeastIsComputed, least_distances_of}
 use Rattle.segment_cost.proofs.Certified.{agreed}
 use Rattle.absolute_cut.specs.Certificate.{CostIsUnique, StandingIsCertificate, distances_between}

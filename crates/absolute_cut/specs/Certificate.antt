@@ -1,10 +1,7 @@
 -- When a certificate stands for points, a penalty and a least length of segments by distances.
 use Rattle.std.specs.Prelude.{◌≡◌, ℕ, ℤ, List, ◌++◌, length}
-use Rattle.segment_model.specs.Segments.{Position}
-use Rattle.segment_model.specs.Cuts.{Agree}
-use Rattle.segment_model.specs.Values.{values_by_position, cost_between}
-use Rattle.segment_cost.specs.declared.cert.Cert.{Cert}
-use Rattle.segment_cost.specs.Certificate.{IsCertificate, HaveOne, StandIfCertified, AreCertified}
+use Rattle.segment_model.specs.{Segments.Position, Cuts.Agree, Values.{values_by_position, cost_between}}
+use Rattle.segment_cost.specs.{declared.cert.Cert.Cert, Certificate.{IsCertificate, HaveOne, StandIfCertified, AreCertified}}
 use Rattle.distance_model.specs.Distances.{IsAbsoluteCost, least_distances_of}
 use Rattle.cost_certificate.specs.Text.{text_of}
 

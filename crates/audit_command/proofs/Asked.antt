@@ -5,8 +5,7 @@ use Rattle.track_outside.specs.Named.{NamedBytes, Call}
 use Rattle.track_outside.specs.declared.files.Files as files
 use Rattle.track_outside.specs.declared.source.Source as source
 use Rattle.script_files.proofs.Calls.{then_more, none_more}
-use Rattle.audit_command.specs.declared.end.FileStop.{FileStop}
-use Rattle.audit_command.specs.declared.end.FileStop.TheVariants.{ReadFault, TooLong, NoMemory}
+use Rattle.audit_command.specs.declared.end.FileStop.{FileStop, TheVariants.{ReadFault, TooLong, NoMemory}}
 use Rattle.audit_command.specs.Opening.{Asks, AreMade, FailsAt, IsKept, IsOpen, OpensMore, RoseAt, calls_for, opening}
 
 -- ---- calls

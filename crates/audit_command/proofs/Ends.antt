@@ -1,23 +1,15 @@
 -- How an audit ends, from what its parts promise.
-use Rattle.std.proofs.Common.{◌≡◌, ◌∙◌, ℕ, ◌^◌, inl, inr, length, List, ◌++◌, Ok, Err, refl, sym, arith}
-use Rattle.std.specs.Prelude.{option_map}
-use Rattle.std.specs.List.{AllZip}
+use Rattle.std.{proofs.Common.{◌≡◌, ◌∙◌, ℕ, ◌^◌, inl, inr, length, List, ◌++◌, Ok, Err, refl, sym, arith}, specs.Prelude.option_map, specs.List.AllZip}
 use Rattle.std.proofs.lemmas.List.{take_all}
-use Rattle.track_outside.specs.Calls.{IsUntouched}
-use Rattle.track_outside.specs.Named.{Call}
+use Rattle.track_outside.specs.{Calls.IsUntouched, Named.Call}
 use Rattle.track_outside.specs.declared.files.Files as files
 use Rattle.track_outside.specs.declared.sink.Sink as sink
 use Rattle.track_outside.specs.declared.source.Source as source
 use Rattle.audit_model.specs.declared.heard.Heard.{Heard}
-use Rattle.audit_command.specs.declared.end.FileStop.{FileStop}
+use Rattle.audit_command.specs.declared.end.{FileStop.FileStop, AuditEnd.AuditEnd, AuditEnd.TheVariants.{Done, Differs, Unread, NoVerdict, WriteFault}}
 use Rattle.audit_command.specs.declared.end.FileStop.TheVariants as stop
-use Rattle.audit_command.specs.declared.end.AuditEnd.{AuditEnd}
-use Rattle.audit_command.specs.declared.end.AuditEnd.TheVariants.{Done, Differs, Unread, NoVerdict, WriteFault}
-use Rattle.audit_command.specs.Endings.{EndsFiles, EndsVerdict, HasCause}
-use Rattle.audit_command.specs.Opening.{Asks, IsKept, IsOpen, WereMade, calls_for}
-use Rattle.audit_command.specs.Reading.{StopsAll}
-use Rattle.audit_command.proofs.Asked.{kept_then}
-use Rattle.audit_command.proofs.Gathered.{past_at}
+use Rattle.audit_command.specs.{Endings.{EndsFiles, EndsVerdict, HasCause}, Opening.{Asks, IsKept, IsOpen, WereMade, calls_for}, Reading.StopsAll}
+use Rattle.audit_command.proofs.{Asked.kept_then, Gathered.past_at}
 
 -- a sink that nothing was done to
 pub untouched : {O : Type 0} (h : sink.Ghosts O) (out : O) → IsUntouched h out out

@@ -1,19 +1,13 @@
 -- Files that are read one after another.
 use Rattle.std.proofs.Common.{◌≡◌, ◌∙◌, ℕ, zero, suc, ◌+◌, ◌-◌, ◌^◌, ◌<◌, ◌≤◌, length, List, [], ◌∷◌, ◌++◌, take, Option, Some, None, Ok, Err, refl, sym, ap, subst, arith, append_assoc, append-nil, length-append}
-use Rattle.std.specs.Prelude.{All, Result, IfErr, IfSome, IsSome, OnOk, sum_by, unwrap_or}
-use Rattle.std.specs.List.{AllZip}
-use Rattle.std.specs.Io.KnownBytes.{prepend_known, IsAtEnd}
+use Rattle.std.specs.{Prelude.{All, Result, IfErr, IfSome, IsSome, OnOk, sum_by, unwrap_or}, List.AllZip, Io.KnownBytes.{prepend_known, IsAtEnd}}
 use Rattle.std.proofs.lemmas.List.Sums.{sum_by-cons}
-use Rattle.track_outside.specs.Calls.{GaveAtMost}
-use Rattle.track_outside.specs.Counts.{Rose}
-use Rattle.track_outside.specs.Named.{NamedBytes, bytes_at}
+use Rattle.track_outside.specs.{Calls.GaveAtMost, Counts.Rose, Named.{NamedBytes, bytes_at}}
 use Rattle.track_outside.specs.declared.files.Files as files
 use Rattle.track_outside.specs.declared.source.Source as source
 use Rattle.audit_model.specs.declared.heard.Heard.{Heard}
-use Rattle.audit_command.specs.declared.end.FileStop.{FileStop}
-use Rattle.audit_command.specs.declared.end.FileStop.TheVariants.{ReadFault, TooLong, NoMemory}
-use Rattle.audit_command.specs.Endings.{AreTexts, HasText, HaveAll, IsPastAt, size_of, texts_of}
-use Rattle.audit_command.specs.Opening.{IsOpen, files_of, names_of}
+use Rattle.audit_command.specs.declared.end.FileStop.{FileStop, TheVariants.{ReadFault, TooLong, NoMemory}}
+use Rattle.audit_command.specs.{Endings.{AreTexts, HasText, HaveAll, IsPastAt, size_of, texts_of}, Opening.{IsOpen, files_of, names_of}}
 use Rattle.audit_command.specs.Reading.{HasRead, IsPast, IsTextOf, ReadsAll, ReadsMore, StopsAll, StopsBehind}
 
 -- ---- one file

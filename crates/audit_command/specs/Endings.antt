@@ -1,21 +1,14 @@
 -- How an audit ends, on its objects.
-use Rattle.std.specs.Prelude.{◌≡◌, ℕ, ◌+◌, ◌^◌, ◌<◌, ◌≤◌, List, [], ◌∷◌, ◌++◌, length, sum_by, take, Option, Some, option_map, unwrap_or, IfSome}
-use Rattle.std.specs.List.{AllZip}
-use Rattle.track_outside.specs.Calls.{Took, FailedIn, IsUntouched}
-use Rattle.track_outside.specs.Counts.{Rose}
-use Rattle.track_outside.specs.Named.{NamedBytes, Call, bytes_at}
+use Rattle.std.specs.{Prelude.{◌≡◌, ℕ, ◌+◌, ◌^◌, ◌<◌, ◌≤◌, List, [], ◌∷◌, ◌++◌, length, sum_by, take, Option, Some, option_map, unwrap_or, IfSome}, List.AllZip}
+use Rattle.track_outside.specs.{Calls.{Took, FailedIn, IsUntouched}, Counts.Rose, Named.{NamedBytes, Call, bytes_at}}
 use Rattle.track_outside.specs.declared.files.Files as files
 use Rattle.track_outside.specs.declared.sink.Sink as sink
-use Rattle.audit_model.specs.Verdicts.{IsCutOff, IsVerdict, NoneCutOff}
-use Rattle.audit_model.specs.declared.heard.Heard.{Heard}
+use Rattle.audit_model.specs.{Verdicts.{IsCutOff, IsVerdict, NoneCutOff}, declared.heard.Heard.Heard, declared.verdict.Verdict.Verdict}
 use Rattle.audit_model.specs.declared.verdict.AuditStop.TheVariants as audit
-use Rattle.audit_model.specs.declared.verdict.Verdict.{Verdict}
 use Rattle.audit_model.specs.declared.verdict.Verdict.TheVariants as verdict
-use Rattle.audit_command.specs.declared.end.AuditEnd.{AuditEnd}
-use Rattle.audit_command.specs.declared.end.AuditEnd.TheVariants.{Done, Differs, Unread, NoVerdict, WriteFault}
+use Rattle.audit_command.specs.declared.end.AuditEnd.{AuditEnd, TheVariants.{Done, Differs, Unread, NoVerdict, WriteFault}}
 use Rattle.audit_command.specs.declared.end.FileStop.TheVariants as stop
-use Rattle.audit_command.specs.Opening.{IsKept, WereMade, calls_for, names_of}
-use Rattle.audit_command.specs.Text.{shown_text}
+use Rattle.audit_command.specs.{Opening.{IsKept, WereMade, calls_for, names_of}, Text.shown_text}
 
 -- ---- what the files have
 

@@ -1,15 +1,12 @@
 -- The files of an audit, and the calls that open them.
 use Rattle.std.specs.Prelude.{◌≡◌, ◌⊎◌, ℕ, ◌≤◌, length, true, false, List, [], ◌∷◌, ◌++◌, take, slice_get, Option, Some, option_map, IfSome, IsSome, Result, Ok, Err}
 use Rattle.std.specs.List.{AllZip}
-use Rattle.track_outside.specs.Counts.{Rose}
-use Rattle.track_outside.specs.Named.{NamedBytes, Call, bytes_at}
+use Rattle.track_outside.specs.{Counts.Rose, Named.{NamedBytes, Call, bytes_at}}
 use Rattle.track_outside.specs.declared.files.Files as files
 use Rattle.track_outside.specs.declared.source.Source as source
 use Rattle.command_words.specs.Plans.{transcript_of}
-use Rattle.audit_command.specs.declared.end.FileStop.{FileStop}
+use Rattle.audit_command.specs.declared.end.{FileStop.FileStop, AuditEnd.AuditEnd, AuditEnd.TheVariants.Unread}
 use Rattle.audit_command.specs.declared.end.FileStop.TheVariants as stop
-use Rattle.audit_command.specs.declared.end.AuditEnd.{AuditEnd}
-use Rattle.audit_command.specs.declared.end.AuditEnd.TheVariants.{Unread}
 
 -- ---- the files, in the order in which they are opened
 

@@ -1,12 +1,10 @@
 -- No public contract cites this. What was read of files that are open.
-use Rattle.std.specs.Prelude.{◌≡◌, ℕ, ◌+◌, ◌-◌, ◌<◌, ◌≤◌, zero, suc, List, [], ◌∷◌, ◌++◌, length, sum_by, IfSome}
-use Rattle.std.specs.List.{AllZip}
+use Rattle.std.specs.{Prelude.{◌≡◌, ℕ, ◌+◌, ◌-◌, ◌<◌, ◌≤◌, zero, suc, List, [], ◌∷◌, ◌++◌, length, sum_by, IfSome}, List.AllZip}
 use Rattle.std.specs.Io.KnownBytes.{prepend_known, IsAtEnd}
 use Rattle.track_outside.specs.Counts.{Rose}
 use Rattle.track_outside.specs.declared.files.Files as files
 use Rattle.track_outside.specs.declared.source.Source as source
-use Rattle.audit_command.specs.declared.end.FileStop.{FileStop}
-use Rattle.audit_command.specs.declared.end.FileStop.TheVariants.{ReadFault, TooLong, NoMemory}
+use Rattle.audit_command.specs.declared.end.FileStop.{FileStop, TheVariants.{ReadFault, TooLong, NoMemory}}
 
 -- ---- one file
 

@@ -2,9 +2,7 @@
 ghost use Rattle.std.specs.Prelude.{◌≡◌, ◌<◌, ◌≤◌, ◌^◌, ◌∷◌, ℕ, List, All, length, IfOk, IfErr, OnOk};
 ghost use Rattle.audit_model.specs.declared.heard.Heard.{Heard as AHeard};
 ghost use Rattle.command_words.specs.Texts.{shown, texts};
-ghost use Rattle.audit_command.specs.Endings.{AreTexts, EndsAudit, EndsFiles, EndsVerdict, HaveAll, texts_of};
-ghost use Rattle.audit_command.specs.Opening.{names_of};
-ghost use Rattle.audit_command.specs.Text.{shown_text};
+ghost use Rattle.audit_command.specs.{Endings.{AreTexts, EndsAudit, EndsFiles, EndsVerdict, HaveAll, texts_of}, Opening.names_of, Text.shown_text};
 ghost use Rattle.audit_command.specs.declared.end.AuditEnd.TheVariants as end;
 
 use crate::end::{AuditEnd, FileStop};

@@ -1,11 +1,8 @@
 //! Reading the files of an audit.
-ghost use Rattle.std.specs.Prelude.{◌≡◌, ◌+◌, ◌-◌, ◌++◌, ◌<◌, ◌≤◌, List, length, IfOk, IfErr, OnOk};
-ghost use Rattle.std.specs.Vec.Iter.{into_iter_items};
+ghost use Rattle.std.specs.{Prelude.{◌≡◌, ◌+◌, ◌-◌, ◌++◌, ◌<◌, ◌≤◌, List, length, IfOk, IfErr, OnOk}, Vec.Iter.into_iter_items};
 ghost use Rattle.track_outside.specs.Calls.{GaveAtMost};
 ghost use Rattle.audit_model.specs.declared.heard.Heard.{Heard as AHeard};
-ghost use Rattle.audit_command.specs.Opening.{IsKept};
-ghost use Rattle.audit_command.specs.Endings.{texts_of};
-ghost use Rattle.audit_command.specs.Reading.{IsTextOf, ReadsAll, ReadsMore, StopsAll, StopsBehind};
+ghost use Rattle.audit_command.specs.{Opening.IsKept, Endings.texts_of, Reading.{IsTextOf, ReadsAll, ReadsMore, StopsAll, StopsBehind}};
 
 use crate::end::FileStop;
 use crate::files::close_all;

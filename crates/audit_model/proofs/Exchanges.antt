@@ -1,12 +1,8 @@
 -- Private: no public contract cites this. Exchanges of a script, one more at the end.
 use Rattle.std.proofs.Common.{◌≡◌, ◌⊎◌, inl, inr, ℕ, zero, suc, ◌<◌, Bool, true, false, List, [], ◌∷◌, ◌++◌, length, map, filter, take, Some, refl, sym, ap, subst, ◌∙◌, arith, append-nil}
-use Rattle.std.specs.Prelude.{slice_get}
-use Rattle.std.proofs.lemmas.Bool.{cases_Bool}
-use Rattle.std.proofs.lemmas.Grind.{flat_map-append}
-use Rattle.std.proofs.lemmas.List.{map-append, take-append-le, take_all}
-use Rattle.std.proofs.lemmas.Option.{slice_get_within}
-use Rattle.history_model.specs.declared.entries.Author.{Author}
-use Rattle.history_model.specs.declared.entries.Placed.{Placed}
+use Rattle.std.{specs.Prelude.slice_get, proofs.lemmas.Bool.cases_Bool, proofs.lemmas.Grind.flat_map-append}
+use Rattle.std.proofs.lemmas.{List.{map-append, take-append-le, take_all}, Option.slice_get_within}
+use Rattle.history_model.specs.declared.entries.{Author.Author, Placed.Placed}
 use Rattle.request_words.specs.Bodies.{Item}
 use Rattle.reply_text.specs.Replies.{text_of}
 use Rattle.play_fits.specs.Scripts.{Exchange, items_of, is_about, known_after, last_from, replies_text, AreAnswered, IsAnswer}

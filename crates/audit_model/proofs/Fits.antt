@@ -1,18 +1,13 @@
 -- Private: no public contract cites this. What is shown where files fit together.
-use Rattle.std.proofs.Common.{◌≡◌, ℕ, List, [], ◌∷◌, ◌++◌, length, map, filter, true, false, refl, sym, ap, ◌∙◌, subst}
-use Rattle.std.specs.List.{AllByRecursion}
-use Rattle.history_model.specs.declared.entries.Author.{Author}
+use Rattle.std.{proofs.Common.{◌≡◌, ℕ, List, [], ◌∷◌, ◌++◌, length, map, filter, true, false, refl, sym, ap, ◌∙◌, subst}, specs.List.AllByRecursion}
+use Rattle.history_model.specs.declared.entries.{Author.Author, Entry.Entry, Placed.Placed}
 use Rattle.history_model.specs.declared.entries.Author.TheVariants as author
-use Rattle.history_model.specs.declared.entries.Entry.{Entry}
-use Rattle.history_model.specs.declared.entries.Placed.{Placed}
 use Rattle.track_model.specs.Tracks.{Track}
 use Rattle.request_reader.specs.Scripts.{end}
 use Rattle.journal_lines.specs.Authors.{Crew, MayAdd}
 use Rattle.play_fits.specs.Journals.{AreJournalsOf}
 use Rattle.journal_reader.specs.Journals.{Journal, IsJournal, WasKept, crew_with}
-use Rattle.audit_model.specs.Heard.{found, is_of_store}
-use Rattle.audit_model.specs.Fitting.{ShownFits}
-use Rattle.audit_model.specs.Verdicts.{track_of}
+use Rattle.audit_model.specs.{Heard.{found, is_of_store}, Fitting.ShownFits, Verdicts.track_of}
 
 -- whoever may add an entry is no store
 no_store : (crew : Crew) (a : Author) (e : Entry) → MayAdd crew (record { author = a; entry = e }) → is_of_store (record { author = a; entry = e }) ≡ false

@@ -1,8 +1,6 @@
 -- Private: no public contract cites this. A transcript, heard reply by reply.
 use Rattle.std.proofs.Common.{◌≡◌, inl, inr, ℕ, suc, ◌+◌, ◌<◌, List, [], ◌∷◌, ◌++◌, length, take, Some, refl, sym, ap, subst, ◌∙◌, arith, append_assoc, append-nil}
-use Rattle.std.specs.Prelude.{slice_get}
-use Rattle.std.proofs.lemmas.List.{take_all}
-use Rattle.std.proofs.lemmas.Option.{slice_get_within}
+use Rattle.std.{specs.Prelude.slice_get, proofs.lemmas.List.take_all, proofs.lemmas.Option.slice_get_within}
 use Rattle.history_model.specs.declared.entries.Author.TheVariants as author
 use Rattle.track_model.specs.Tracks.{Track}
 use Rattle.request_model.specs.declared.replies.Reply.{Reply}
@@ -10,10 +8,8 @@ use Rattle.request_words.specs.Bodies.{Item}
 use Rattle.request_reader.specs.Scripts.{IsScript, end}
 use Rattle.reply_text.specs.Replies.{text_of}
 use Rattle.journal_lines.proofs.Lacking.{behind_same}
-use Rattle.play_fits.specs.Journals.{machines_of, history_in}
-use Rattle.play_fits.specs.Scripts.{Exchange, items_of, replies_text}
-use Rattle.audit_model.specs.Heard.{AreGiven, IsRefusedAt, IsTold, kept_count}
-use Rattle.audit_model.specs.Hearing.{Gives, HasHeard, HearsNext, HearsNone}
+use Rattle.play_fits.specs.{Journals.{machines_of, history_in}, Scripts.{Exchange, items_of, replies_text}}
+use Rattle.audit_model.specs.{Heard.{AreGiven, IsRefusedAt, IsTold, kept_count}, Hearing.{Gives, HasHeard, HearsNext, HearsNone}}
 use Rattle.audit_model.proofs.Exchanges.{take_next, text_more, items_more, Splits, split_last, given_none, given_more, given_front, given_last}
 
 module _ (journals : List Track) (i : ℕ) (items : List Item) (transcript : List ℕ) where

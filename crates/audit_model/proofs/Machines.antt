@@ -1,11 +1,8 @@
 -- Private: no public contract cites this. The journal of a machine among those of different ones, and a request about it.
 use Rattle.std.proofs.Common.{◌≡◌, inl, inr, ℕ, zero, suc, Bool, true, false, not, List, [], ◌∷◌, length, map, filter, Some, refl, sym, ap, subst, ◌∙◌}
-use Rattle.std.specs.Prelude.{slice_get, bytes_eq, if◌then◌else◌, ◌&&◌, ◌||◌}
-use Rattle.std.specs.List.{AllByRecursion, list_any}
-use Rattle.std.proofs.lemmas.Bool.{cases_Bool}
+use Rattle.std.{specs.Prelude.{slice_get, bytes_eq, if◌then◌else◌, ◌&&◌, ◌||◌}, specs.List.{AllByRecursion, list_any}, proofs.lemmas.Bool.cases_Bool}
 use Rattle.std.proofs.lemmas.Slice.Eq.{bytes_eq-Decides}
-use Rattle.request_model.specs.declared.requests.Request.{Request}
-use Rattle.request_model.specs.Requests.{machine_of}
+use Rattle.request_model.specs.{declared.requests.Request.Request, Requests.machine_of}
 use Rattle.track_model.specs.Tracks.{Track}
 use Rattle.play_fits.specs.Journals.{history_in, machines_of}
 use Rattle.play_model.specs.Replies.{is_of_history, stands_alone}

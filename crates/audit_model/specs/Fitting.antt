@@ -3,12 +3,8 @@ use Rattle.std.specs.Prelude.{◌≡◌, ℕ, ◌+◌, true, List, length, map, 
 use Rattle.history_model.specs.declared.entries.Author.TheVariants.{Script}
 use Rattle.track_model.specs.Tracks.{Track}
 use Rattle.journal_reader.specs.Journals.{crew_with}
-use Rattle.play_fits.specs.Journals.{machines_of, history_in, AreJournalsOf}
-use Rattle.play_fits.specs.Scripts.{IsPart}
-use Rattle.play_fits.specs.Fits.{kept_in}
-use Rattle.audit_model.specs.Heard.{found, AreHeard}
-use Rattle.audit_model.specs.Verdicts.{AreOf}
-use Rattle.audit_model.specs.declared.heard.Heard.{Heard}
+use Rattle.play_fits.specs.{Journals.{machines_of, history_in, AreJournalsOf}, Scripts.IsPart, Fits.kept_in}
+use Rattle.audit_model.specs.{Heard.{found, AreHeard}, Verdicts.AreOf, declared.heard.Heard.Heard}
 
 -- All that files show of a shared run that fits its journals: each journal is legal and goes on from what was kept by entries
 -- of the scripts and workers alone, of the kinds that these may add; and each script has its part, answered in full. What

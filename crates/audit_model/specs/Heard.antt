@@ -1,15 +1,12 @@
 -- What a script was told, by the journals: its transcript has the replies to its requests, and its entries are theirs.
 use Rattle.std.specs.Prelude.{◌≡◌, ◌⊎◌, ℕ, ◌+◌, ◌<◌, List, ◌++◌, filter, length, map, slice_get, sum_by, take, Bool, true, false, Some}
 use Rattle.std.specs.FinSet as set
-use Rattle.history_model.specs.declared.entries.Author.{Author}
+use Rattle.history_model.specs.declared.entries.{Author.Author, Placed.Placed}
 use Rattle.history_model.specs.declared.entries.Author.TheVariants as author
-use Rattle.history_model.specs.declared.entries.Placed.{Placed}
 use Rattle.track_model.specs.Tracks.{Track}
 use Rattle.request_words.specs.Bodies.{Item}
 use Rattle.request_reader.specs.Scripts.{IsScript, end}
-use Rattle.play_fits.specs.Fits.{kept_in}
-use Rattle.play_fits.specs.Journals.{machines_of, history_in}
-use Rattle.play_fits.specs.Scripts.{Exchange, items_of, replies_text, AreAnswered, AreItsOwn, IsAdded}
+use Rattle.play_fits.specs.{Fits.kept_in, Journals.{machines_of, history_in}, Scripts.{Exchange, items_of, replies_text, AreAnswered, AreItsOwn, IsAdded}}
 use Rattle.audit_model.specs.declared.heard.Heard.{Heard}
 
 -- a store kept it

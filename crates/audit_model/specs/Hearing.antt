@@ -5,8 +5,7 @@ use Rattle.request_model.specs.declared.replies.Reply.{Reply}
 use Rattle.request_words.specs.Bodies.{Item}
 use Rattle.reply_text.specs.Replies.{text_of}
 use Rattle.history_model.specs.declared.entries.Author.TheVariants as author
-use Rattle.play_fits.specs.Journals.{machines_of, history_in}
-use Rattle.play_fits.specs.Scripts.{Exchange, IsAnswer, items_of, known_after, replies_text}
+use Rattle.play_fits.specs.{Journals.{machines_of, history_in}, Scripts.{Exchange, IsAnswer, items_of, known_after, replies_text}}
 use Rattle.audit_model.specs.Heard.{AreGiven, kept_count}
 
 -- the reply is one that the journals give to an item of the script behind these exchanges

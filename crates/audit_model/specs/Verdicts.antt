@@ -5,11 +5,8 @@ use Rattle.track_model.specs.Tracks.{Track}
 use Rattle.request_words.specs.Bodies.{Item}
 use Rattle.request_reader.specs.Scripts.{IsScript, Ending, cut_off}
 use Rattle.play_fits.specs.Scripts.{Exchange}
-use Rattle.journal_reader.specs.Journals.{Journal, IsTextOf}
-use Rattle.journal_reader.specs.Reading.{IsRefusedAt as IsRefusedLine}
-use Rattle.audit_model.specs.Heard.{IsTold, IsRefusedAt, IsUnaskedAt, AreHeard}
-use Rattle.audit_model.specs.declared.heard.Heard.{Heard}
-use Rattle.audit_model.specs.declared.verdict.Verdict.{Verdict}
+use Rattle.journal_reader.specs.{Journals.{Journal, IsTextOf}, Reading.IsRefusedAt as IsRefusedLine}
+use Rattle.audit_model.specs.{Heard.{IsTold, IsRefusedAt, IsUnaskedAt, AreHeard}, declared.heard.Heard.Heard, declared.verdict.Verdict.Verdict}
 use Rattle.audit_model.specs.declared.verdict.Verdict.TheVariants as verdict
 
 -- a machine with its journal, as a store would have it

@@ -1,7 +1,5 @@
 -- The distance left halves at each question.
-use Rattle.std.proofs.Common.{◌≡◌, ℕ, ◌+◌, ◌-◌, ◌*◌, ◌/◌, ◌^◌, ◌<◌, ◌≤◌, arith}
-use Rattle.std.proofs.lemmas.Grind.{pow_more}
-use Rattle.std.proofs.Math.Nat.{mul-le-mul_right, mul_assoc, mul_comm}
+use Rattle.std.proofs.{Common.{◌≡◌, ℕ, ◌+◌, ◌-◌, ◌*◌, ◌/◌, ◌^◌, ◌<◌, ◌≤◌, arith}, lemmas.Grind.pow_more, Math.Nat.{mul-le-mul_right, mul_assoc, mul_comm}}
 use Rattle.bisect_core.specs.Bounds.{IsWithinBound}
 
 -- v is at most half of w

@@ -1,21 +1,13 @@
 -- What an answer makes of the record of a bisection, and that it stays sound.
 use Rattle.std.proofs.Common.{◌≡◌, inl, inr, ℕ, ◌+◌, ◌-◌, ◌*◌, ◌^◌, ◌<◌, ◌≤◌, true, false, List, [], ◌∷◌, ◌++◌, length, refl, sym, ap, ◌∙◌, subst, arith, Option, Some, None}
-use Rattle.std.specs.Prelude.{slice_index}
-use Rattle.std.specs.List.Sorted.{IsStrictlyIncreasing}
-use Rattle.bisect_core.specs.declared.outcome.Outcome.{Outcome}
-use Rattle.bisect_core.specs.declared.outcome.Outcome.TheVariants.{Asks, Undecided, Faulted}
-use Rattle.bisect_core.specs.declared.progress.Progress.{Progress}
-use Rattle.bisect_core.specs.declared.progress.Verdict.TheVariants.{Good, Bad, Untestable}
-use Rattle.bisect_core.specs.Turns.{Turn, tested, given_up, good_places, bad_places, ending}
+use Rattle.std.{specs.Prelude.slice_index, specs.List.Sorted.IsStrictlyIncreasing, proofs.Common.{mul-le-mul_right, suc, zero}, proofs.Math.Nat.pow-suc}
+use Rattle.bisect_core.specs.declared.{outcome.Outcome.Outcome, outcome.Outcome.TheVariants.{Asks, Undecided, Faulted}, progress.Progress.Progress}
+use Rattle.bisect_core.specs.{declared.progress.Verdict.TheVariants.{Good, Bad, Untestable}, Turns.{Turn, tested, given_up, good_places, bad_places, ending}}
 use Rattle.bisect_core.specs.Bisections.{Bisection, standing, bisection, between, outcome_by, is_open, low_after, high_after, questions_after}
-use Rattle.bisect_core.specs.Bounds.{IsWithinBound}
-use Rattle.bisect_core.specs.Sound.{IsSound, IsListed}
+use Rattle.bisect_core.specs.{Bounds.IsWithinBound, Sound.{IsSound, IsListed}}
 use Rattle.bisect_core.specs.Verdicts.{verdict_of, after_verdict, after_status, after_good, after_bad, after_untestable, after_giving_up, seen, kept_by}
-use Rattle.std.proofs.Common.{mul-le-mul_right, suc, zero}
-use Rattle.std.proofs.Math.Nat.{pow-suc}
 use Rattle.std.proofs.lemmas.List.{append-nil}
-use Rattle.bisect_core.proofs.Lists.{rises_to}
-use Rattle.bisect_core.proofs.Halving.{up, down}
+use Rattle.bisect_core.proofs.{Lists.rises_to, Halving.{up, down}}
 use Rattle.bisect_core.proofs.Turned.{Says, says, IsHalfWay, half_way, asks_on, low_good, low_same, high_bad, high_same, questions_good, questions_bad, questions_same, good_push, bad_push, ending_push}
 
 -- ---- sound

@@ -1,14 +1,10 @@
 -- What one turn more makes of the places, the ends and the outcome.
 use Rattle.std.proofs.Common.{append_assoc, cond, eqb, ◌-◌, ◌/◌, ◌≡◌, ◌⊎◌, inl, inr, ℕ, ◌+◌, ◌<◌, ◌≤◌, Bool, true, false, List, [], ◌∷◌, ◌++◌, refl, sym, ap, arith, Option, Some, None}
-use Rattle.std.proofs.lemmas.List.{length-append, append-nil}
-use Rattle.std.proofs.lemmas.List.Folds.{find-append}
-use Rattle.std.proofs.lemmas.Bool.{cases_Bool, eqb-true, eqb-false}
+use Rattle.std.proofs.lemmas.{List.{length-append, append-nil}, List.Folds.find-append, Bool.{cases_Bool, eqb-true, eqb-false}}
 use Rattle.bisect_core.specs.declared.outcome.Outcome.TheVariants.{Asks, Found}
-use Rattle.bisect_core.specs.Bisections.{between, outcome_by, outcome_after, low_after, high_after, questions_after}
-use Rattle.bisect_core.specs.Bounds.{IsWithinBound}
+use Rattle.bisect_core.specs.{Bisections.{between, outcome_by, outcome_after, low_after, high_after, questions_after}, Bounds.IsWithinBound}
 use Rattle.bisect_core.specs.Laws.{AreAsked, Agrees, EachIsWithinBound, EndsWereAnswered, FoundIsFirstBad}
-use Rattle.bisect_core.proofs.Lists.{greatest_push, least_push, greatest_stands, least_stands, least-le}
-use Rattle.bisect_core.proofs.Halving.{up, down}
+use Rattle.bisect_core.proofs.{Lists.{greatest_push, least_push, greatest_stands, least_stands, least-le}, Halving.{up, down}}
 use Rattle.bisect_core.specs.Turns.{Turn, tested, given_up, is_good, is_bad, is_untestable, place_of, places_by, good_places, bad_places, ending}
 
 places_push : (is : ℕ → Bool) (turns : List Turn) (t : Turn) → places_by is (turns ++ t ∷ []) ≡ places_by is turns ++ places_by is (t ∷ [])

@@ -1,8 +1,6 @@
 -- A bisection of a list of commits: what is known of it after what was said of its places. Places count from 0.
 use Rattle.std.specs.Prelude.{◌≡◌, ℕ, ◌+◌, ◌-◌, ◌/◌, Bool, true, false, ◌==◌, if◌then◌else◌, List, [], ◌∷◌, ◌++◌, length, slice_index, Option, Some, None, option_map}
-use Rattle.bisect_core.specs.declared.outcome.Outcome.{Outcome}
-use Rattle.bisect_core.specs.declared.outcome.Outcome.TheVariants.{Asks, Found, Undecided, Faulted}
-use Rattle.bisect_core.specs.declared.outcome.Answered.{Answered}
+use Rattle.bisect_core.specs.declared.outcome.{Outcome.Outcome, Outcome.TheVariants.{Asks, Found, Undecided, Faulted}, Answered.Answered}
 use Rattle.bisect_core.specs.declared.outcome.Answered.TheVariants as answered
 use Rattle.bisect_core.specs.Turns.{Turn, tested, given_up, place_of, good_places, bad_places, ending, greatest, least}
 

@@ -1,8 +1,6 @@
 -- What holds of every bisection whose places were said of as they were asked.
 use Rattle.std.specs.Prelude.{◌≡◌, ◌⊎◌, ℕ, ◌+◌, ◌<◌, ◌≤◌, Bool, true, false, List, ◌∷◌, ◌++◌, Contains}
-use Rattle.bisect_core.specs.declared.outcome.Outcome.TheVariants.{Asks, Found}
-use Rattle.bisect_core.specs.Turns.{Turn, place_of, good_places, bad_places}
-use Rattle.bisect_core.specs.Bounds.{IsWithinBound}
+use Rattle.bisect_core.specs.{declared.outcome.Outcome.TheVariants.{Asks, Found}, Turns.{Turn, place_of, good_places, bad_places}, Bounds.IsWithinBound}
 use Rattle.bisect_core.specs.Bisections.{low_after, high_after, questions_after, outcome_after}
 
 -- each turn is of the place that is asked after the turns before it

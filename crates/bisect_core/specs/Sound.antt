@@ -1,8 +1,6 @@
 -- Private: the invariant of the type alone cites this. What every bisection keeps.
-use Rattle.std.specs.Prelude.{◌≡◌, ℕ, ◌+◌, ◌^◌, ◌<◌, true, List, length, slice_index, Some}
-use Rattle.std.specs.List.Sorted.{IsStrictlyIncreasing}
-use Rattle.bisect_core.specs.Bisections.{Bisection, between, is_open}
-use Rattle.bisect_core.specs.Bounds.{IsWithinBound}
+use Rattle.std.specs.{Prelude.{◌≡◌, ℕ, ◌+◌, ◌^◌, ◌<◌, true, List, length, slice_index, Some}, List.Sorted.IsStrictlyIncreasing}
+use Rattle.bisect_core.specs.{Bisections.{Bisection, between, is_open}, Bounds.IsWithinBound}
 
 -- the commits of an open one rise, and those of its ends stand there
 pub record IsListed (b : Bisection) (commits : List ℕ) : Type 0 where

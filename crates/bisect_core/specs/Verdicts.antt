@@ -1,11 +1,7 @@
 -- No public contract cites this. What a status says of its place, as a case, and where an answer leads.
 use Rattle.std.specs.Prelude.{ℕ, ◌+◌, if◌then◌else◌, List, Option, Some, None}
-use Rattle.bisect_core.specs.declared.progress.Verdict.{Verdict}
-use Rattle.bisect_core.specs.declared.progress.Verdict.TheVariants.{Good, Bad, Untestable}
-use Rattle.bisect_core.specs.declared.progress.Progress.{Progress}
-use Rattle.bisect_core.specs.declared.outcome.Outcome.{Outcome}
-use Rattle.bisect_core.specs.declared.outcome.Outcome.TheVariants.{Undecided, Faulted}
-use Rattle.bisect_core.specs.Turns.{is_good, is_untestable}
+use Rattle.bisect_core.specs.declared.progress.{Verdict.Verdict, Verdict.TheVariants.{Good, Bad, Untestable}, Progress.Progress}
+use Rattle.bisect_core.specs.{declared.outcome.Outcome.Outcome, declared.outcome.Outcome.TheVariants.{Undecided, Faulted}, Turns.{is_good, is_untestable}}
 use Rattle.bisect_core.specs.Bisections.{Bisection, between, is_open}
 
 abbrev pub verdict_of : ℕ → Verdict

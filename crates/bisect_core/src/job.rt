@@ -1,11 +1,6 @@
 //! A bisection under way: the questions that it asks, and the answers that it takes.
-ghost use Rattle.std.specs.Prelude.{◌≡◌, ◌≢◌, ◌<◌, ◌≤◌, ◌↔◌, [], length, slice_index, IsErr, IfOk, IfSome, IsTrue};
-ghost use Rattle.std.specs.List.Sorted.{IsStrictlyIncreasing};
-ghost use Rattle.bisect_core.specs.Turns.{tested, given_up};
-ghost use Rattle.bisect_core.specs.Bisections.{Bisection, bisection, answer_to, asked_by, is_open, IsRecorded, IsCommitAt};
-ghost use Rattle.bisect_core.specs.Bounds.{IsWithinBound};
-ghost use Rattle.bisect_core.specs.Sound.{IsSound};
-ghost use Rattle.bisect_core.specs.Verdicts.{seen, kept_by};
+ghost use Rattle.std.specs.{Prelude.{◌≡◌, ◌≢◌, ◌<◌, ◌≤◌, ◌↔◌, [], length, slice_index, IsErr, IfOk, IfSome, IsTrue}, List.Sorted.IsStrictlyIncreasing};
+ghost use Rattle.bisect_core.specs.{Turns.{tested, given_up}, Bisections.{Bisection, bisection, answer_to, asked_by, is_open, IsRecorded, IsCommitAt}, Bounds.IsWithinBound, Sound.IsSound, Verdicts.{seen, kept_by}};
 ghost use Rattle.bisect_core.specs.declared.outcome.Answered.TheVariants as answered;
 
 use crate::outcome::{Answered, BadRange, Outcome};
@@ -25,9 +20,7 @@ pub struct Job {
 }
 
 impl Model for Job {
-    ghost use Rattle.bisect_core.specs.Bisections.{Bisection};
-    ghost use Rattle.bisect_core.specs.Sound.{IsSound};
-    ghost use Rattle.bisect_core.specs.Verdicts.{seen};
+    ghost use Rattle.bisect_core.specs.{Bisections.Bisection, Sound.IsSound, Verdicts.seen};
 
     ghost Value = { Bisection };
 

@@ -1,7 +1,6 @@
 //! How an answer moves a bisection on.
 ghost use Rattle.std.specs.Prelude.{◌≡◌, ◌+◌, ◌<◌, ◌^◌};
-ghost use Rattle.bisect_core.specs.Bisections.{between};
-ghost use Rattle.bisect_core.specs.Verdicts.{verdict_of, after_status, after_giving_up};
+ghost use Rattle.bisect_core.specs.{Bisections.between, Verdicts.{verdict_of, after_status, after_giving_up}};
 
 use crate::outcome::Outcome;
 

@@ -1,42 +1,25 @@
 -- What a worker's pass has made of the machines of a room, call after call.
 use Rattle.std.proofs.Common.{◌≡◌, ◌⊎◌, inl, inr, ℕ, zero, suc, ◌+◌, ◌≤◌, true, false, cond, List, [], ◌∷◌, ◌++◌, length, refl, sym, ap, ap₂, subst, ◌∙◌, Option, Some, None, arith, eq-eqb, ne_eqb}
-use Rattle.std.specs.Prelude.{All, ◌==◌, filter, map, option_map, option_to_list, slice_get, slice_set, unwrap_or}
-use Rattle.std.specs.List.{AllByRecursion, AllZip}
-use Rattle.std.proofs.lemmas.Bool.Decides.{eqb_tells}
-use Rattle.std.proofs.lemmas.List.{append-nil, append_assoc, length-append, map-append, take_all}
+use Rattle.std.specs.{Prelude.{All, ◌==◌, filter, map, option_map, option_to_list, slice_get, slice_set, unwrap_or}, List.{AllByRecursion, AllZip}}
+use Rattle.std.proofs.lemmas.{Bool.Decides.eqb_tells, List.{append-nil, append_assoc, length-append, map-append, take_all}}
 use Rattle.std.proofs.lemmas.List.Elements.{All-append, All-cons, All-nil, All-weaker, filter-append}
 use Rattle.track_outside.specs.Asked.{Ask, with_ask}
-use Rattle.bisect_core.specs.Bisections.{Bisection, answer_to, asked_by}
-use Rattle.bisect_core.specs.declared.outcome.Answered.{Answered}
+use Rattle.bisect_core.specs.{Bisections.{Bisection, answer_to, asked_by}, declared.outcome.Answered.Answered, declared.outcome.Outcome.Outcome}
 use Rattle.bisect_core.specs.declared.outcome.Answered.TheVariants as answered
-use Rattle.bisect_core.specs.declared.outcome.Outcome.{Outcome}
 use Rattle.bisect_core.specs.declared.outcome.Outcome.TheVariants.{Asks, Found, Undecided, Faulted}
 use Rattle.metric_table.specs.declared.limits.Limit.{Limit}
 use Rattle.metric_table.specs.declared.limits.Limit.TheVariants as limit
-use Rattle.history_lock.specs.declared.view.Marked.{Marked}
-use Rattle.history_lock.specs.Marks.{AreByOthers, IsOtherMark, entries, marked}
-use Rattle.history_model.specs.declared.entries.Author.{Author}
-use Rattle.history_model.specs.declared.entries.Entry.{Entry}
-use Rattle.history_model.specs.declared.entries.Placed.{Placed}
-use Rattle.history_model.specs.Allowed.{first_passed}
-use Rattle.history_model.specs.Entries.{entries_of}
-use Rattle.history_model.specs.Followed.{JobsAreNamed}
-use Rattle.history_model.specs.Jobs.{job_in, jobs}
-use Rattle.track_room.specs.Settling.{IsPut, IsTaken, entry_said}
-use Rattle.track_room.specs.Settled.{Settled}
+use Rattle.history_lock.specs.{declared.view.Marked.Marked, Marks.{AreByOthers, IsOtherMark, entries, marked}}
+use Rattle.history_model.specs.{declared.entries.Author.Author, declared.entries.Entry.Entry, declared.entries.Placed.Placed, Allowed.first_passed}
+use Rattle.history_model.specs.{Entries.entries_of, Followed.JobsAreNamed, Jobs.{job_in, jobs}}
+use Rattle.track_room.specs.{Settling.{IsPut, IsTaken, entry_said}, Settled.Settled, Work.bare, Question.Question, Asked.ChangesAt}
 use Rattle.track_model.specs.Tracks.{Track, with_entry}
-use Rattle.track_room.specs.Work.{bare}
-use Rattle.track_room.specs.Question.{Question}
-use Rattle.track_room.specs.Asked.{ChangesAt}
-use Rattle.track_room.specs.Sights.{SeesMore, Sight, Visits, own_marks, seeing, track_of}
-use Rattle.track_room.specs.Taking.{IsQuestion, OfSeen, Settles, seen_of}
+use Rattle.track_room.specs.{Sights.{SeesMore, Sight, Visits, own_marks, seeing, track_of}, Taking.{IsQuestion, OfSeen, Settles, seen_of}}
 use Rattle.track_room.proofs.Visiting.{stays-sees}
-use Rattle.bisect_workers.specs.Bisecting.{IsDue, RoseBy}
-use Rattle.bisect_workers.specs.Failures.{failures}
+use Rattle.bisect_workers.specs.{Bisecting.{IsDue, RoseBy}, Failures.failures}
 use Rattle.worker_model.specs.Findings.{AsksCommit, Finding, asked_name, finding_of, named_asked}
 use Rattle.bisect_workers.specs.Beside.{BisectsAt, EachBisects, IsBisectedIn, IsByWorker, IsDueIn, Use, asks_of, findings_by, found_at, found_by, given_up, is_given_up, is_number}
-use Rattle.bisect_workers.proofs.Joined.{chosen-append, later-due, told-twice}
-use Rattle.bisect_workers.proofs.Staying.{question-stays}
+use Rattle.bisect_workers.proofs.{Joined.{chosen-append, later-due, told-twice}, Staying.question-stays}
 
 -- ---- findings of a pass
 findings-append : (mark : ℕ) (h : List Entry) (xs ys : List (Marked Placed)) → findings_by mark h (xs ++ ys) ≡ findings_by mark h xs ++ findings_by mark (h ++ entries_of (entries xs)) ys

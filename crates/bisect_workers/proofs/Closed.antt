@@ -1,11 +1,8 @@
 -- Private: no public contract cites this. Where no job asks, none is open.
-use Rattle.std.proofs.Common.{◌≡◌, ℕ, suc, inl, false, List, [], ◌∷◌, refl, sym, ap, ◌∙◌, Option, Some, None}
-use Rattle.std.specs.Prelude.{slice_get}
-use Rattle.bisect_core.specs.Bisections.{Bisection, asked_by, is_open}
-use Rattle.bisect_core.specs.declared.outcome.Outcome.{Outcome}
+use Rattle.std.{proofs.Common.{◌≡◌, ℕ, suc, inl, false, List, [], ◌∷◌, refl, sym, ap, ◌∙◌, Option, Some, None}, specs.Prelude.slice_get}
+use Rattle.bisect_core.specs.{Bisections.{Bisection, asked_by, is_open}, declared.outcome.Outcome.Outcome}
 use Rattle.bisect_core.specs.declared.outcome.Outcome.TheVariants.{Asks, Found, Undecided, Faulted}
-use Rattle.history_model.specs.declared.entries.Entry.{Entry}
-use Rattle.history_model.specs.Jobs.{asked, is_under_way, jobs, open_count, place_asked}
+use Rattle.history_model.specs.{declared.entries.Entry.Entry, Jobs.{asked, is_under_way, jobs, open_count, place_asked}}
 use Rattle.worker_model.specs.Quiet.{JobsAreQuiet}
 use Rattle.bisect_workers.specs.Quiet.{NoneAsks}
 

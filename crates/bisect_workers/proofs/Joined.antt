@@ -4,14 +4,10 @@ use Rattle.std.specs.Prelude.{All, filter, map, option_map, option_to_list}
 use Rattle.std.proofs.lemmas.List.{append-nil, append_assoc, length-append, map-append, take-append-le}
 use Rattle.std.proofs.lemmas.List.Elements.{All-append, All-nil, All-weaker, filter-append}
 use Rattle.track_outside.specs.Asked.{Ask}
-use Rattle.history_model.specs.declared.entries.Author.{Author}
-use Rattle.history_model.specs.declared.entries.Entry.{Entry}
-use Rattle.history_model.specs.declared.entries.Placed.{Placed}
-use Rattle.history_model.specs.Entries.{entries_of}
+use Rattle.history_model.specs.{declared.entries.Author.Author, declared.entries.Entry.Entry, declared.entries.Placed.Placed, Entries.entries_of}
 use Rattle.track_model.specs.Tracks.{Track}
-use Rattle.bisect_workers.specs.Bisecting.{IsBisected, IsDue, IsSaidBy}
+use Rattle.bisect_workers.specs.{Bisecting.{IsBisected, IsDue, IsSaidBy}, Findings.{Use, asks_of, found_by}}
 use Rattle.worker_model.specs.Findings.{AsksCommit, Finding, finding_of, findings_behind, gives_up}
-use Rattle.bisect_workers.specs.Findings.{Use, asks_of, found_by}
 
 -- ---- nothing was added
 pub nothing : (author : Author) (word : List ℕ) (t : Track) (asked : Option (List Ask)) (before after : ℕ) → before ≤ after → IsBisected author word t t asked asked before after

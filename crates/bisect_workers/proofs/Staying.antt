@@ -1,22 +1,13 @@
 -- A question stays: while a job asks a place, it asks the commit that it asked there, of the same name.
 use Rattle.std.proofs.Common.{◌≡◌, ℕ, zero, suc, ◌+◌, ◌-◌, ◌≤◌, Bool, true, false, cond, List, [], ◌∷◌, ◌++◌, length, refl, sym, ap, subst, ◌∙◌, inl, inr, Option, Some, None, arith}
-use Rattle.std.specs.Prelude.{IsSome, find, option_map, slice_get, slice_index, unwrap_or}
-use Rattle.std.specs.List.{cons_option}
-use Rattle.std.proofs.lemmas.Bool.{cases_Bool}
+use Rattle.std.{specs.Prelude.{IsSome, find, option_map, slice_get, slice_index, unwrap_or}, specs.List.cons_option, proofs.lemmas.Bool.cases_Bool}
 use Rattle.std.proofs.lemmas.List.{take-append-le}
-use Rattle.bisect_core.specs.Bisections.{Bisection, asked_by, bisection, is_open}
-use Rattle.bisect_core.specs.Turns.{Turn}
-use Rattle.bisect_core.specs.declared.outcome.Outcome.{Outcome}
+use Rattle.bisect_core.specs.{Bisections.{Bisection, asked_by, bisection, is_open}, Turns.Turn, declared.outcome.Outcome.Outcome}
 use Rattle.bisect_core.specs.declared.outcome.Outcome.TheVariants.{Asks, Found, Undecided, Faulted}
-use Rattle.history_model.specs.declared.entries.Declaration.{Declaration}
-use Rattle.history_model.specs.declared.entries.Entry.{Entry}
-use Rattle.history_model.specs.declared.entries.Entry.TheVariants.{Job}
+use Rattle.history_model.specs.{declared.entries.Declaration.Declaration, declared.entries.Entry.Entry, declared.entries.Entry.TheVariants.Job, Allowed.Legal}
 use Rattle.history_model.specs.declared.events.JobEvent.TheVariants as event
-use Rattle.history_model.specs.Allowed.{Legal}
-use Rattle.history_model.specs.Commits.{declaration, declarations, has_number, name_of, numbers_between}
-use Rattle.history_model.specs.Entries.{chosen_from}
-use Rattle.history_model.specs.Followed.{IsNamed, JobsAreNamed}
-use Rattle.history_model.specs.Jobs.{Begun, begins, begun, commits_of, job_in, jobs, standing_from, turns}
+use Rattle.history_model.specs.{Commits.{declaration, declarations, has_number, name_of, numbers_between}, Entries.chosen_from}
+use Rattle.history_model.specs.{Followed.{IsNamed, JobsAreNamed}, Jobs.{Begun, begins, begun, commits_of, job_in, jobs, standing_from, turns}}
 use Rattle.track_model.specs.Following.{asked_commit, named_by}
 
 some-same : {A : Type 0} (x y : A) → Some x ≡ Some y → x ≡ y

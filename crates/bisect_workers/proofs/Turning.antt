@@ -1,34 +1,19 @@
 -- One turn of a worker that bisects.
 use Rattle.std.proofs.Common.{◌≡◌, ℕ, ◌≤◌, ◌<◌, Bool, true, false, List, [], ◌∷◌, ◌++◌, length, refl, sym, ap, subst, ◌∙◌, Option, Some, None, arith}
-use Rattle.std.specs.Prelude.{All, option_map, option_to_list}
-use Rattle.std.proofs.lemmas.List.{append-nil, length-append, take-append-le, take_all}
+use Rattle.std.{specs.Prelude.{All, option_map, option_to_list}, proofs.lemmas.List.{append-nil, length-append, take-append-le, take_all}}
 use Rattle.std.proofs.lemmas.List.Elements.{All-nil, All-cons}
-use Rattle.metric_table.specs.Limits.{most}
-use Rattle.metric_table.specs.declared.limits.Limit.{Limit}
+use Rattle.metric_table.specs.{Limits.most, declared.limits.Limit.Limit}
 use Rattle.metric_table.specs.declared.limits.Limit.TheVariants as limit
 use Rattle.track_outside.specs.Asked.{Ask, with_ask}
-use Rattle.bisect_core.specs.Bisections.{Bisection, answer_to}
-use Rattle.bisect_core.specs.declared.outcome.Answered.{Answered}
+use Rattle.bisect_core.specs.{Bisections.{Bisection, answer_to}, declared.outcome.Answered.Answered, declared.outcome.Outcome.TheVariants.Asks}
 use Rattle.bisect_core.specs.declared.outcome.Answered.TheVariants as answered
-use Rattle.bisect_core.specs.declared.outcome.Outcome.TheVariants.{Asks}
-use Rattle.history_model.specs.declared.entries.Author.{Author}
-use Rattle.history_model.specs.declared.entries.Entry.{Entry}
-use Rattle.history_model.specs.declared.entries.Placed.{Placed}
-use Rattle.history_model.specs.Allowed.{first_passed}
-use Rattle.history_model.specs.Entries.{entries_of}
-use Rattle.history_model.specs.Jobs.{asked}
-use Rattle.history_model.specs.Laws.{FirstKept}
-use Rattle.track_room.specs.Settling.{IsPut, IsSettled, IsTaken, entry_said}
-use Rattle.track_room.specs.Settled.{Settled}
+use Rattle.history_model.specs.{declared.entries.Author.Author, declared.entries.Entry.Entry, declared.entries.Placed.Placed, Allowed.first_passed}
+use Rattle.history_model.specs.{Entries.entries_of, Jobs.asked, Laws.FirstKept}
+use Rattle.track_room.specs.{Settling.{IsPut, IsSettled, IsTaken, entry_said}, Settled.Settled, Questions.{IsQuestion, NoneIsAsked}, Question.Question}
 use Rattle.track_model.specs.Tracks.{Track, with_entry}
-use Rattle.track_room.specs.Questions.{IsQuestion, NoneIsAsked}
-use Rattle.track_room.specs.Question.{Question}
-use Rattle.bisect_workers.specs.Bisecting.{IsBisected, IsDue, IsSaidBy, RoseBy}
-use Rattle.bisect_workers.specs.Failures.{failures}
+use Rattle.bisect_workers.specs.{Bisecting.{IsBisected, IsDue, IsSaidBy, RoseBy}, Failures.failures, Findings.{asks_of, give_ups}, Quiet.NoneAsks}
 use Rattle.worker_model.specs.Findings.{AsksCommit, Finding, asked_name, finding_of, named_asked}
 use Rattle.track_room.proofs.Bisecting.{takes}
-use Rattle.bisect_workers.specs.Findings.{asks_of, give_ups}
-use Rattle.bisect_workers.specs.Quiet.{NoneAsks}
 
 -- where no job is claimed and none is given, none asks
 pub none-asks : (h : List Entry) → NoneIsAsked h [] → NoneAsks h

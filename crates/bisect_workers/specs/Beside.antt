@@ -2,12 +2,8 @@
 use Rattle.std.specs.Prelude.{◌≡◌, ◌⊎◌, ℕ, suc, Bool, false, ◌==◌, ◌&&◌, if◌then◌else◌, is_none, is_some, List, [], ◌∷◌, ◌++◌, All, filter, length, map, option_map, option_to_list, slice_get, Option, Some, None}
 use Rattle.std.specs.List.{AllByRecursion}
 use Rattle.track_outside.specs.Asked.{Ask}
-use Rattle.history_lock.specs.declared.view.Marked.{Marked}
-use Rattle.history_lock.specs.Marks.{IsOtherMark, entries}
-use Rattle.history_model.specs.declared.entries.Author.{Author}
-use Rattle.history_model.specs.declared.entries.Entry.{Entry}
-use Rattle.history_model.specs.declared.entries.Placed.{Placed}
-use Rattle.history_model.specs.Entries.{entries_of}
+use Rattle.history_lock.specs.{declared.view.Marked.Marked, Marks.{IsOtherMark, entries}}
+use Rattle.history_model.specs.{declared.entries.Author.Author, declared.entries.Entry.Entry, declared.entries.Placed.Placed, Entries.entries_of}
 use Rattle.track_room.specs.Sights.{Sight, own_marks, seeing}
 use Rattle.bisect_workers.specs.Bisecting.{IsDue, IsSaidBy, RoseBy}
 use Rattle.worker_model.specs.Findings.{Finding, finding_of}

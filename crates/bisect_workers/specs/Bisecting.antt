@@ -1,9 +1,7 @@
 -- What a worker that bisects adds to a machine, and what its runner was asked for it.
 use Rattle.std.specs.Prelude.{◌≡◌, ◌≤◌, ℕ, ◌+◌, ◌-◌, ◌^◌, min, List, ◌++◌, length, take, All, option_map, Option}
 use Rattle.track_outside.specs.Asked.{Ask}
-use Rattle.history_model.specs.declared.entries.Author.{Author}
-use Rattle.history_model.specs.declared.entries.Placed.{Placed}
-use Rattle.history_model.specs.Entries.{entries_of}
+use Rattle.history_model.specs.{declared.entries.Author.Author, declared.entries.Placed.Placed, Entries.entries_of}
 use Rattle.track_room.specs.Settling.{entry_said}
 use Rattle.track_model.specs.Tracks.{Track}
 use Rattle.worker_model.specs.Findings.{AsksCommit, findings_behind}

@@ -1,8 +1,7 @@
 //! Questions, asked of a runner.
 ghost use Rattle.std.specs.Prelude.{◌≡◌, ◌≤◌, IfOk, OnErr};
 ghost use Rattle.track_outside.specs.Asked.{with_ask};
-ghost use Rattle.bisect_workers.specs.Bisecting.{RoseBy};
-ghost use Rattle.bisect_workers.specs.Failures.{failures};
+ghost use Rattle.bisect_workers.specs.{Bisecting.RoseBy, Failures.failures};
 
 use crate::NoMemory;
 use std::alloc::Global;

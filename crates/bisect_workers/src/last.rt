@@ -3,9 +3,8 @@ ghost use Rattle.std.specs.Prelude.{◌≡◌, ◌<◌, ◌+◌, IfOk, OnOk, fal
 ghost use Rattle.metric_table.specs.Limits.{most};
 ghost use Rattle.metric_table.specs.declared.limits.Limit.TheVariants as limit;
 ghost use Rattle.history_model.specs.declared.entries.Author.TheVariants as author;
-ghost use Rattle.bisect_workers.specs.Bisecting.{IsBisected};
+ghost use Rattle.bisect_workers.specs.{Bisecting.IsBisected, Quiet.NoneAsks};
 ghost use Rattle.worker_model.specs.Quiet.{JobsAreQuiet};
-ghost use Rattle.bisect_workers.specs.Quiet.{NoneAsks};
 ghost use Rattle.track_room.specs.Work.{IsUntaken, history_of};
 
 use crate::NoMemory;

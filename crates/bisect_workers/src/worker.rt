@@ -1,7 +1,6 @@
 //! A worker that bisects beside running scripts.
 ghost use Rattle.history_model.specs.declared.entries.Author.TheVariants as author;
-ghost use Rattle.track_room.specs.Rooms.{IsPassOf};
-ghost use Rattle.track_room.specs.Taking.{IsQuestion, OfSeen};
+ghost use Rattle.track_room.specs.{Rooms.IsPassOf, Taking.{IsQuestion, OfSeen}};
 ghost use Rattle.bisect_workers.specs.Beside.{IsBisectedIn};
 
 use crate::NoMemory;

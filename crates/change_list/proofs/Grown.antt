@@ -1,10 +1,8 @@
 -- What holds of each change, with one more.
-use Rattle.std.proofs.Common.{◌≡◌, ℕ, Bool, ◌+◌, ◌<◌, List, [], ◌∷◌, ◌++◌, length, get_or, inl, inr, arith}
-use Rattle.std.proofs.lemmas.Bool.{cases_lt}
+use Rattle.std.proofs.{Common.{◌≡◌, ℕ, Bool, ◌+◌, ◌<◌, List, [], ◌∷◌, ◌++◌, length, get_or, inl, inr, arith}, lemmas.Bool.cases_lt}
 use Rattle.std.proofs.lemmas.List.{length-append, get_or_append_left, get_or_push}
 use Rattle.segment_model.specs.Segments.{Position}
-use Rattle.change_list.specs.declared.change.Change.{Change}
-use Rattle.change_list.specs.Changes.{IsChange}
+use Rattle.change_list.specs.{declared.change.Change.Change, Changes.IsChange}
 
 pub one-more : (P : ℕ → Change → Type 0) (xs : List Change) (x : Change) (i : ℕ) → length xs ≡ i
     → ((k : ℕ) → k < i → (d : Change) → P k (get_or xs k d)) → P i x

@@ -1,9 +1,7 @@
 -- The commits beside a cut.
 use Rattle.std.specs.Prelude.{◌≡◌, ℕ, ◌-◌, List, slice_index}
-use Rattle.segment_model.specs.Segments.{Position}
-use Rattle.segment_model.specs.Limits.{commits_of}
-use Rattle.change_list.specs.declared.beside.Beside.{Beside}
-use Rattle.change_list.specs.declared.change.Change.{Change}
+use Rattle.segment_model.specs.{Segments.Position, Limits.commits_of}
+use Rattle.change_list.specs.declared.{beside.Beside.Beside, change.Change.Change}
 
 -- those of the positions before and behind cut i
 abbrev pub AreBeside : List Position → List ℕ → ℕ → Beside → Type 0

@@ -1,8 +1,6 @@
 -- The changes of a finished segmentation: what stands beside each of its cuts.
 use Rattle.std.specs.Prelude.{◌≡◌, ◌≢◌, ℕ, ℤ, ◌-◌, ◌<◌, ◌≤◌, Bool, true, false, List, length, get_or, slice_index, IsTrue, ◌↔◌, ◌<ℤ◌}
-use Rattle.segment_model.specs.Segments.{Position, segment, IsCentre}
-use Rattle.segment_model.specs.Limits.{commits_of}
-use Rattle.segment_model.specs.Cuts.{place_before, place_behind}
+use Rattle.segment_model.specs.{Segments.{Position, segment, IsCentre}, Limits.commits_of, Cuts.{place_before, place_behind}}
 use Rattle.metric_table.specs.Table.{row_of}
 use Rattle.change_list.specs.declared.change.Change.{Change}
 

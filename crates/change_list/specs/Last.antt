@@ -1,7 +1,6 @@
 -- The last segment of a segmentation.
 use Rattle.std.specs.Prelude.{◌≡◌, ◌≢◌, ℕ, ℤ, List, [], length, Option, Some, None}
-use Rattle.segment_model.specs.Segments.{Position, segment, IsCentre}
-use Rattle.segment_model.specs.Cuts.{place_before}
+use Rattle.segment_model.specs.{Segments.{Position, segment, IsCentre}, Cuts.place_before}
 
 -- its centre; none where there are no points
 abbrev pub IsLastCentre : List Position → List ℕ → Option ℤ → Type 0

@@ -1,8 +1,6 @@
 //! The commits beside a cut of a finished segmentation.
 ghost use Rattle.std.specs.Prelude.{◌<◌, List, length, get_or};
-ghost use Rattle.change_list.specs.Changes.{AreChanges};
-ghost use Rattle.change_list.specs.Beside.{AreBeside, IsOf};
-ghost use Rattle.change_list.specs.declared.change.Change.{Change};
+ghost use Rattle.change_list.specs.{Changes.AreChanges, Beside.{AreBeside, IsOf}, declared.change.Change.Change};
 
 use crate::made::cuts_law;
 use segment_cost::Done;

@@ -1,8 +1,6 @@
 //! The changes of a finished segmentation.
 ghost use Rattle.std.specs.Prelude.{◌≡◌, ℕ, ◌+◌, ◌<◌, ◌≤◌, length, slice_index, IfOk, IsTrue, ◌↔◌};
-ghost use Rattle.segment_model.specs.Segments.{IsCentre, segment};
-ghost use Rattle.segment_model.specs.Cuts.{place_before, place_behind};
-ghost use Rattle.segment_model.specs.Values.{values_by_position};
+ghost use Rattle.segment_model.specs.{Segments.{IsCentre, segment}, Cuts.{place_before, place_behind}, Values.values_by_position};
 ghost use Rattle.change_list.specs.Changes.{IsWorse, IsChange, IsBetween, AreChanges};
 
 use crate::ChangeItems;

@@ -1,15 +1,10 @@
 -- The values of the positions that two lists have in common at their front.
 use Rattle.std.proofs.Common.{◌≡◌, Result, Ok, Err, OnErr, ℕ, ℤ, suc, ◌+◌, ◌≤◌, Bool, true, false, ◌&&◌, List, [], ◌∷◌, ◌++◌, length, take, refl, sym, ap, ap₂, ◌∙◌, true≢false, inl, inr, ◌==◌, arith}
-use Rattle.std.specs.Cmp.Rules.{signed_items}
-use Rattle.std.proofs.lemmas.Bool.{cases_Bool}
+use Rattle.std.{specs.Cmp.Rules.signed_items, proofs.lemmas.Bool.cases_Bool, proofs.lemmas.List.{length-map, length-take-le}}
 use lib.Pointwise.{pointwise}
-use Rattle.std.proofs.lemmas.List.{length-map, length-take-le}
-use Rattle.segment_model.specs.Segments.{Position, position_values}
-use Rattle.segment_model.specs.Edits.{same_position, same_value}
-use Rattle.segment_model.specs.Values.{values_by_position}
+use Rattle.segment_model.specs.{Segments.{Position, position_values}, Edits.{same_position, same_value}, Values.values_by_position}
 use Rattle.pelt_core.specs.Seen.{Tabled, table_of}
-use Rattle.point_list.specs.Places.{common}
-use Rattle.point_list.proofs.CommonFirst.{same-values}
+use Rattle.point_list.{specs.Places.common, proofs.CommonFirst.same-values}
 
 second : (s t : Bool) → (s && t) ≡ true → t ≡ true
 second true t h = h

@@ -1,22 +1,13 @@
 -- What commands of each kind have, and that no words are two commands.
 use Rattle.std.proofs.Common.{◌≡◌, ◌↔◌, ℕ, ◌^◌, ◌<◌, List, [], ◌∷◌, Bool, true, false, Option, Some, None, codes, decimal, length, refl, sym, ap, subst, arith, ◌∙◌, unwrap_or, if◌then◌else◌}
-use Rattle.std.specs.Prelude.{IsTrue, Result, Ok, Err, IfOk, IfSome, IfNone, String, string_bytes}
-use Rattle.std.specs.Str.{bytes_eq}
+use Rattle.std.specs.{Prelude.{IsTrue, Result, Ok, Err, IfOk, IfSome, IfNone, String, string_bytes}, Str.bytes_eq}
 use Rattle.line_text.proofs.SignedWords.{one_number}
 use Rattle.clap.specs.Words.{Row, is_simple_and_free}
-use Rattle.command_words.specs.Kinds.{name_of, app_for}
-use Rattle.command_words.specs.Simple.{Gives, HasFlag, value_in}
-use Rattle.command_words.specs.Plans.{Plan, Files}
-use Rattle.command_words.specs.Texts.{Finds, texts}
-use Rattle.command_words.specs.Commands.{kind_of, IsSaid, IsSpelled, AreNoCommand, AreOneCommand}
-use Rattle.command_words.specs.declared.kind.Kind.{Kind}
+use Rattle.command_words.specs.{Kinds.{name_of, app_for}, Simple.{Gives, HasFlag, value_in}, Plans.{Plan, Files}, Texts.{Finds, texts}}
+use Rattle.command_words.specs.{Commands.{kind_of, IsSaid, IsSpelled, AreNoCommand, AreOneCommand}, declared.kind.Kind.Kind, declared.command.CutPlan.CutPlan}
 use Rattle.command_words.specs.declared.kind.Kind.TheVariants as kind
-use Rattle.command_words.specs.declared.command.CutPlan.{CutPlan}
-use Rattle.command_words.specs.declared.command.PathPlan.{PathPlan}
-use Rattle.command_words.specs.declared.command.HuntPlan.{HuntPlan}
-use Rattle.command_words.specs.declared.command.Command.{Command}
-use Rattle.command_words.specs.declared.command.Command.TheVariants.{Cut, Apply, Gen, Trial, Play, Path, Hunt, Audit}
-use Rattle.command_words.proofs.Plans.{plan_once, number_once}
+use Rattle.command_words.specs.declared.command.{PathPlan.PathPlan, HuntPlan.HuntPlan, Command.Command}
+use Rattle.command_words.{specs.declared.command.Command.TheVariants.{Cut, Apply, Gen, Trial, Play, Path, Hunt, Audit}, proofs.Plans.{plan_once, number_once}}
 
 -- ---- the kinds
 

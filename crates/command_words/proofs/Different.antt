@@ -1,8 +1,6 @@
 -- Texts that are, or aren't, among others.
 use Rattle.std.proofs.Common.{◌≡◌, ◌≢◌, ◌==◌, ◌↔◌, ℕ, zero, suc, ◌<◌, List, ◌∷◌, length, get_or, false, sym, ◌∙◌, arith}
-use Rattle.std.specs.Prelude.{AllPairs, Contains, IsTrue, Bool, All}
-use Rattle.std.proofs.lemmas.List.{get_or_default}
-use Rattle.std.proofs.lemmas.List.Elements.{All-tail, All-cons}
+use Rattle.std.{specs.Prelude.{AllPairs, Contains, IsTrue, Bool, All}, proofs.lemmas.List.get_or_default, proofs.lemmas.List.Elements.{All-tail, All-cons}}
 
 pub found_first : (x y : List ℕ) (xs : List (List ℕ)) → x ≡ y → Contains (x ∷ xs) y
 found_first x y xs same = (0, omega arith, same)

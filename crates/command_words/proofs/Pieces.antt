@@ -1,11 +1,8 @@
 -- The pieces of a list between its commas.
-use Rattle.std.proofs.Common.{◌≡◌, ℕ, ◌<◌, List, [], ◌∷◌, ◌++◌, length, sym, subst, ap, ◌∙◌}
-use Rattle.std.specs.Borrow.{Bor}
-use Rattle.std.specs.List.{slice_split, position_or_len, before_first, after_first}
-use Rattle.std.proofs.lemmas.List.Splits.{slice_split_first, slice_split_none}
+use Rattle.std.{proofs.Common.{◌≡◌, ℕ, ◌<◌, List, [], ◌∷◌, ◌++◌, length, sym, subst, ap, ◌∙◌}, specs.Borrow.Bor}
+use Rattle.std.{specs.List.{slice_split, position_or_len, before_first, after_first}, proofs.lemmas.List.Splits.{slice_split_first, slice_split_none}}
 use Rattle.std.proofs.lemmas.List.Sums.{fails_before_first}
-use Rattle.command_words.specs.Plans.{is_comma}
-use Rattle.command_words.specs.Texts.{shown}
+use Rattle.command_words.specs.{Plans.is_comma, Texts.shown}
 
 -- one piece more
 pub more : (done : List (Bor (List ℕ))) (piece : Bor (List ℕ)) (rest behind : List ℕ) → position_or_len is_comma rest < length rest

@@ -1,19 +1,11 @@
 -- The plain words of a command are it.
 use Rattle.std.proofs.Common.{◌≡◌, ◌==◌, ◌↔◌, ℕ, ◌<◌, ◌≤◌, ◌^◌, length, List, [], ◌∷◌, ◌++◌, Bool, true, false, Option, Some, None, codes, decimal, refl, sym, subst, arith, ne_eqb, if◌then◌else◌, nat_lt, inl, inr}
-use Rattle.std.proofs.lemmas.Bool.{cases_Bool, ltb-false}
-use Rattle.std.specs.Prelude.{IsTrue}
-use Rattle.std.specs.Char.{digit_value}
-use Rattle.std.specs.Str.Parse.{IsNumeral}
-use Rattle.std.proofs.lemmas.Fmt.{decimal_is_IsNumeral_wide}
-use Rattle.std.proofs.lemmas.Str.Parse.{digit_from_value}
-use Rattle.clap.specs.Words.{Row, fault_of, matches_of}
-use Rattle.clap.proofs.OnLiterals.{clap_on_literals}
-use Rattle.command_words.specs.declared.kind.Kind.{Kind}
+use Rattle.std.{proofs.lemmas.Bool.{cases_Bool, ltb-false}, specs.Prelude.IsTrue, specs.Char.digit_value, specs.Str.Parse.IsNumeral}
+use Rattle.std.proofs.lemmas.{Fmt.decimal_is_IsNumeral_wide, Str.Parse.digit_from_value}
+use Rattle.clap.{specs.Words.{Row, fault_of, matches_of}, proofs.OnLiterals.clap_on_literals}
+use Rattle.command_words.specs.declared.{kind.Kind.Kind, command.CutPlan.CutPlan, command.Command.Command}
 use Rattle.command_words.specs.declared.kind.Kind.TheVariants as kind
-use Rattle.command_words.specs.declared.command.CutPlan.{CutPlan}
-use Rattle.command_words.specs.declared.command.Command.{Command}
-use Rattle.command_words.specs.declared.command.Command.TheVariants.{Cut, Apply, Gen, Trial, Play, Path, Hunt, Audit}
-use Rattle.command_words.specs.Kinds.{app_for, name_of}
+use Rattle.command_words.specs.{declared.command.Command.TheVariants.{Cut, Apply, Gen, Trial, Play, Path, Hunt, Audit}, Kinds.{app_for, name_of}}
 use Rattle.command_words.specs.Simple.{HasFlag, IsNumberOr, value_in, values_in}
 use Rattle.command_words.specs.Commands.{kind_of, Says, IsInRange, IsSpelled, PlainWordsAreCommands, plain_flag}
 

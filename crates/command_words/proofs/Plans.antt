@@ -1,14 +1,10 @@
 -- What is asked for is one thing.
 use Rattle.std.proofs.Common.{◌≡◌, ◌≢◌, ◌↔◌, ℕ, zero, suc, ◌<◌, ◌≤◌, List, [], ◌∷◌, length, get_or, Bool, codes, Option, Some, None, refl, sym, subst, ap, ◌∙◌, arith}
-use Rattle.std.specs.Prelude.{All, AllPairs, Contains, IsTrue, IsSome, Result, Ok, Err, IfOk}
-use Rattle.std.specs.List.{AllZip, slice_split}
-use Rattle.std.specs.Borrow.{Bor}
-use Rattle.line_text.specs.Names.{Spells}
-use Rattle.line_text.proofs.SignedWords.{one_number}
+use Rattle.std.specs.{Prelude.{All, AllPairs, Contains, IsTrue, IsSome, Result, Ok, Err, IfOk}, List.{AllZip, slice_split}, Borrow.Bor}
+use Rattle.line_text.{specs.Names.Spells, proofs.SignedWords.one_number}
 use Rattle.clap.specs.Words.{Row}
 use Rattle.command_words.specs.Simple.{IsNumberOr, value_in}
-use Rattle.command_words.specs.Plans.{Plan, AsksFor, AreMachines, AreScripts, IsListOf, IsWithinLimits, is_comma, transcript_of}
-use Rattle.command_words.specs.Texts.{shown, shown_if}
+use Rattle.command_words.specs.{Plans.{Plan, AsksFor, AreMachines, AreScripts, IsListOf, IsWithinLimits, is_comma, transcript_of}, Texts.{shown, shown_if}}
 
 -- pieces spell one list of names
 pub spelt_once : (pieces one other : List (List ℕ)) → AllZip Spells pieces one → AllZip Spells pieces other → one ≡ other

@@ -1,12 +1,9 @@
 -- Which words are a command.
 use Rattle.std.specs.Prelude.{◌≡◌, ℕ, ◌^◌, ◌<◌, ◌≤◌, ◌↔◌, List, [], ◌∷◌, ◌++◌, length, codes, decimal, IsTrue, Bool, nat_lt, if◌then◌else◌, Option, Some, None, IfSome}
 use Rattle.clap.specs.Words.{Row}
-use Rattle.command_words.specs.Simple.{Gives, HasFlag, IsNumberOr, value_in, values_in}
-use Rattle.command_words.specs.Kinds.{name_of, app_for}
-use Rattle.command_words.specs.Plans.{AsksFor, IsWithinLimits, AreScripts, AreApart}
-use Rattle.command_words.specs.declared.kind.Kind.{Kind}
+use Rattle.command_words.specs.{Simple.{Gives, HasFlag, IsNumberOr, value_in, values_in}, Kinds.{name_of, app_for}}
+use Rattle.command_words.specs.{Plans.{AsksFor, IsWithinLimits, AreScripts, AreApart}, declared.kind.Kind.Kind, declared.command.Command.Command}
 use Rattle.command_words.specs.declared.kind.Kind.TheVariants as kind
-use Rattle.command_words.specs.declared.command.Command.{Command}
 use Rattle.command_words.specs.declared.command.Command.TheVariants.{Cut, Apply, Gen, Trial, Play, Path, Hunt, Audit}
 
 -- which command it is

@@ -1,9 +1,7 @@
 -- The commands: their names and their arguments.
 use Rattle.std.specs.Prelude.{ℕ, List, [], ◌∷◌, codes}
-use Rattle.clap.specs.Walk.{Rule}
-use Rattle.clap.specs.Words.{App}
-use Rattle.command_words.specs.Simple.{simple_app, value_rule, values_rule, option_rule, flag_rule}
-use Rattle.command_words.specs.declared.kind.Kind.{Kind}
+use Rattle.clap.specs.{Walk.Rule, Words.App}
+use Rattle.command_words.specs.{Simple.{simple_app, value_rule, values_rule, option_rule, flag_rule}, declared.kind.Kind.Kind}
 use Rattle.command_words.specs.declared.kind.Kind.TheVariants as kind
 
 -- the name of a command, which is the first word

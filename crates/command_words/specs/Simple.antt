@@ -1,9 +1,6 @@
 -- Simple commands: their arguments, and what words give these.
 use Rattle.std.specs.Prelude.{◌≡◌, ℕ, List, [], codes, decimal, true, Option, Some, None, unwrap_or}
-use Rattle.clap.specs.Simple.{on_top}
-use Rattle.clap.specs.Lexer.{usize_max}
-use Rattle.clap.specs.Walk.{Rule}
-use Rattle.clap.specs.Words.{App, Row, first_of, all_of, fault_of, matches_of, new_app, new_rule}
+use Rattle.clap.specs.{Simple.on_top, Lexer.usize_max, Walk.Rule, Words.{App, Row, first_of, all_of, fault_of, matches_of, new_app, new_rule}}
 use Rattle.clap.specs.declared.builder.action.ArgAction.TheVariants.{SetTrue}
 
 -- the command of this name, with no argument yet: its words are those behind the name, and no flag

@@ -1,7 +1,5 @@
 -- Texts that are lent, as their bytes, what may be there, and what is found.
-use Rattle.std.specs.Prelude.{ℕ, List, map, Option, Some, None, option_map, String, string_bytes, Vec}
-use Rattle.std.specs.Borrow.{Bor}
-use Rattle.std.specs.declared.alloc.Global.{Global}
+use Rattle.std.specs.{Prelude.{ℕ, List, map, Option, Some, None, option_map, String, string_bytes, Vec}, Borrow.Bor, declared.alloc.Global.Global}
 
 -- the bytes of the words
 abbrev pub texts : {A : Type 0} → List (String A) → List (List ℕ)

@@ -1,9 +1,6 @@
 //! What `audit` is asked for.
 ghost use Rattle.std.specs.Prelude.{◌≡◌, ◌≢◌, ◌↔◌, All, IsTrue, IfOk};
-ghost use Rattle.command_words.specs.Commands.{IsSaid};
-ghost use Rattle.command_words.specs.Plans.{transcript_of};
-ghost use Rattle.command_words.specs.Texts.{Finds, shown};
-ghost use Rattle.command_words.specs.declared.command.Command.TheVariants.{Audit};
+ghost use Rattle.command_words.specs.{Commands.IsSaid, Plans.transcript_of, Texts.{Finds, shown}, declared.command.Command.TheVariants.Audit};
 
 use crate::NoMemory;
 use crate::given::Given;
@@ -20,8 +17,7 @@ pub struct AuditPlan<'a> {
 }
 
 impl<'a> Model for AuditPlan<'a> {
-    ghost use Rattle.command_words.specs.Plans.{Files};
-    ghost use Rattle.command_words.specs.Texts.{shown};
+    ghost use Rattle.command_words.specs.{Plans.Files, Texts.shown};
 
     ghost Value = { Files };
 

@@ -1,8 +1,6 @@
 //! The commands, and the words that spell them.
 ghost use Rattle.std.specs.Prelude.{◌≡◌, ◌<◌, ◌^◌, codes, IfOk, IfSome, IfNone};
-ghost use Rattle.command_words.specs.Commands.{kind_of, IsNumber, IsSaid, IsSpelled, AreNoCommand, AreOneCommand, PlainWordsAreCommands};
-ghost use Rattle.command_words.specs.Texts.{Finds, texts};
-ghost use Rattle.command_words.specs.declared.command.Command.TheVariants.{Cut, Apply, Path, Hunt};
+ghost use Rattle.command_words.specs.{Commands.{kind_of, IsNumber, IsSaid, IsSpelled, AreNoCommand, AreOneCommand, PlainWordsAreCommands}, Texts.{Finds, texts}, declared.command.Command.TheVariants.{Cut, Apply, Path, Hunt}};
 
 use crate::NoMemory;
 use crate::audit::{AuditPlan, audit_said};

@@ -1,8 +1,6 @@
 //! What words give the arguments of a simple command.
 ghost use Rattle.std.specs.Prelude.{◌≡◌, ◌↔◌, IsTrue, IfOk};
-ghost use Rattle.command_words.specs.Kinds.{app_for};
-ghost use Rattle.command_words.specs.Simple.{Gives, HasFlag, value_in, values_in};
-ghost use Rattle.command_words.specs.Texts.{Finds, shown, shown_if, texts};
+ghost use Rattle.command_words.specs.{Kinds.app_for, Simple.{Gives, HasFlag, value_in, values_in}, Texts.{Finds, shown, shown_if, texts}};
 
 use crate::NoMemory;
 use crate::kind::Kind;

@@ -1,7 +1,6 @@
 //! Which commands there are, by their names.
 ghost use Rattle.std.specs.Prelude.{◌≡◌};
-ghost use Rattle.command_words.specs.Kinds.{name_of};
-ghost use Rattle.command_words.specs.Texts.{Finds};
+ghost use Rattle.command_words.specs.{Kinds.name_of, Texts.Finds};
 
 /// Which command it is.
 #[derive(Clone, Copy, Drop)]

@@ -1,7 +1,6 @@
 //! Numbers that arguments have.
 ghost use Rattle.std.specs.Prelude.{◌≡◌, ◌≤◌, Some, decimal};
-ghost use Rattle.command_words.specs.Simple.{IsNumberOr};
-ghost use Rattle.command_words.specs.Texts.{Finds, shown_if};
+ghost use Rattle.command_words.specs.{Simple.IsNumberOr, Texts.{Finds, shown_if}};
 
 use line_text::{read_u64, read_u128};
 

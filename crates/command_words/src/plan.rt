@@ -1,11 +1,7 @@
 //! What `play` is asked for.
-ghost use Rattle.std.specs.Prelude.{◌≡◌, ◌<◌, ◌↔◌, string_bytes, All, Contains, IsTrue, IsSome, IfOk};
-ghost use Rattle.std.specs.List.{AllZip};
+ghost use Rattle.std.specs.{Prelude.{◌≡◌, ◌<◌, ◌↔◌, string_bytes, All, Contains, IsTrue, IsSome, IfOk}, List.AllZip};
 ghost use Rattle.line_text.specs.Names.{Spells};
-ghost use Rattle.command_words.specs.Commands.{IsSaid};
-ghost use Rattle.command_words.specs.Plans.{AreMachines, AreScripts, IsListOf, transcript_of};
-ghost use Rattle.command_words.specs.Texts.{Finds, shown, shown_if, items_if};
-ghost use Rattle.command_words.specs.declared.command.Command.TheVariants.{Play};
+ghost use Rattle.command_words.specs.{Commands.IsSaid, Plans.{AreMachines, AreScripts, IsListOf, transcript_of}, Texts.{Finds, shown, shown_if, items_if}, declared.command.Command.TheVariants.Play};
 
 use crate::NoMemory;
 use crate::given::Given;
@@ -35,8 +31,7 @@ pub struct PlayPlan<'a> {
 }
 
 impl<'a> Model for PlayPlan<'a> {
-    ghost use Rattle.command_words.specs.Plans.{Plan};
-    ghost use Rattle.command_words.specs.Texts.{shown, shown_if};
+    ghost use Rattle.command_words.specs.{Plans.Plan, Texts.{shown, shown_if}};
 
     ghost Value = { Plan };
 

@@ -1,8 +1,7 @@
 //! The simple commands that read the words behind a command's name.
 ghost use Rattle.std.specs.Prelude.{◌≡◌, IfOk};
 ghost use Rattle.clap.specs.Words.{app_of, with_rule};
-ghost use Rattle.command_words.specs.Simple.{named_app, value_rule, values_rule, option_rule};
-ghost use Rattle.command_words.specs.Kinds.{app_for};
+ghost use Rattle.command_words.specs.{Simple.{named_app, value_rule, values_rule, option_rule}, Kinds.app_for};
 ghost use Rattle.command_words.specs.declared.kind.Kind.TheVariants as kinds;
 
 use crate::NoMemory;

@@ -1,8 +1,6 @@
 //! Lists of texts: their pieces, and whether they are all different.
-ghost use Rattle.std.specs.Prelude.{◌≡◌, ◌≢◌, ◌<◌, ◌↔◌, length, All, AllPairs, Contains, IsTrue, IfOk, IfSome};
-ghost use Rattle.std.specs.List.{slice_split};
-ghost use Rattle.command_words.specs.Plans.{is_comma};
-ghost use Rattle.command_words.specs.Texts.{shown};
+ghost use Rattle.std.specs.{Prelude.{◌≡◌, ◌≢◌, ◌<◌, ◌↔◌, length, All, AllPairs, Contains, IsTrue, IfOk, IfSome}, List.slice_split};
+ghost use Rattle.command_words.specs.{Plans.is_comma, Texts.shown};
 
 use crate::NoMemory;
 use std::alloc::Global;

@@ -1,7 +1,6 @@
 -- What ends a text whose first bytes are there: a character that has begun is ended by the least bytes that it may have.
 use Rattle.std.proofs.Common.{◌≡◌, ℕ, ◌+◌, ◌*◌, ◌/◌, ◌%◌, ◌<◌, ◌≤◌, ◌⊎◌, true, List, [], ◌∷◌, ◌++◌, length, IsUtf8, inl, inr, refl, sym, ap, ap₂, ◌∙◌, subst, arith, append_assoc}
-use Rattle.std.proofs.lemmas.Bool.{and_parts, cases_lt, lt-ltb, le-ltb, le-leb}
-use Rattle.std.proofs.lemmas.Str.{IsUtf8-append, IsUtf8-nil, IsUtf8-encode, encode_ascii}
+use Rattle.std.proofs.lemmas.{Bool.{and_parts, cases_lt, lt-ltb, le-ltb, le-leb}, Str.{IsUtf8-append, IsUtf8-nil, IsUtf8-encode, encode_ascii}}
 use Rattle.commit_lines.specs.Ends.{char_end}
 use lib.Utf8.{scalar, scalars, encode, encodes, scalar_cases, low_scalar}
 

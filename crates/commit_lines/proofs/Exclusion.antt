@@ -1,23 +1,12 @@
 -- No bytes have two stops, nor names and a stop, nor two lists of names.
 use Rattle.std.proofs.Common.{◌≡◌, ◌≢◌, ℕ, ◌+◌, ◌^◌, ◌<◌, ◌≤◌, ◌⊎◌, inl, inr, List, [], ◌∷◌, ◌++◌, length, refl, sym, ap, ap₂, subst, ◌∙◌, arith, length-append}
-use Rattle.std.specs.Prelude.{Contains}
-use Rattle.std.specs.List.{AllPairs}
-use Rattle.std.proofs.lemmas.Bool.{cases_order}
-use Rattle.std.proofs.lemmas.List.{take_all, get_or_append_left}
+use Rattle.std.{specs.Prelude.Contains, specs.List.AllPairs, proofs.lemmas.Bool.cases_order, proofs.lemmas.List.{take_all, get_or_append_left}}
 use Rattle.std.proofs.Math.Seq.{get_or-append_seam}
-use Rattle.line_text.specs.Lines.{lines_of}
-use Rattle.line_text.proofs.Parts.{one_front}
-use Rattle.line_pieces.specs.Stops.{within_limit}
-use Rattle.line_pieces.proofs.Fronts.{goes_past, one_split}
-use Rattle.line_pieces.specs.declared.stop.Refusal.{Refusal}
-use Rattle.line_pieces.specs.declared.stop.Refusal.TheVariants.{Bad, Full}
-use Rattle.line_pieces.specs.declared.stop.Stop.{Stop}
-use Rattle.line_pieces.specs.declared.stop.Stop.TheVariants.{Fault, TooLong, Refused, NoMemory}
-use Rattle.commit_lines.specs.Lines.{AreNames, MayGo}
-use Rattle.commit_lines.specs.Reading.{AreAccepted, Breaks, IsFirstRefused, FrontRefuses, MayGoOn, Refuses, IsTooLong, AreNamesOf}
-use Rattle.commit_lines.specs.Stops.{BytesShow}
-use Rattle.commit_lines.proofs.Words.{skipped_not_name, one_name, good_may}
-use Rattle.commit_lines.proofs.Fronts.{first_later}
+use Rattle.line_text.{specs.Lines.lines_of, proofs.Parts.one_front}
+use Rattle.line_pieces.{specs.Stops.within_limit, proofs.Fronts.{goes_past, one_split}, specs.declared.stop.Refusal.Refusal}
+use Rattle.line_pieces.specs.declared.stop.{Refusal.TheVariants.{Bad, Full}, Stop.Stop, Stop.TheVariants.{Fault, TooLong, Refused, NoMemory}}
+use Rattle.commit_lines.specs.{Lines.{AreNames, MayGo}, Reading.{AreAccepted, Breaks, IsFirstRefused, FrontRefuses, MayGoOn, Refuses, IsTooLong, AreNamesOf}}
+use Rattle.commit_lines.{specs.Stops.BytesShow, proofs.Words.{skipped_not_name, one_name, good_may}, proofs.Fronts.first_later}
 
 -- ---- the same lines have one list of names
 

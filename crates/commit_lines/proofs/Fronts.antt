@@ -1,14 +1,9 @@
 -- A refusal that some bytes show stands, whatever comes behind them.
-use Rattle.std.proofs.Common.{◌≡◌, ℕ, ◌+◌, inl, inr, List, [], ◌∷◌, ◌++◌, length, refl, sym, ap, subst, ◌∙◌, append_assoc}
-use Rattle.std.specs.List.{slice_split}
+use Rattle.std.{proofs.Common.{◌≡◌, ℕ, ◌+◌, inl, inr, List, [], ◌∷◌, ◌++◌, length, refl, sym, ap, subst, ◌∙◌, append_assoc}, specs.List.slice_split}
 use Rattle.line_text.proofs.Parts.{first_part, goes_on}
-use Rattle.line_pieces.proofs.Lines.{is_feed, on_refused-weaker}
-use Rattle.line_pieces.specs.declared.stop.Refusal.{Refusal}
-use Rattle.line_pieces.specs.declared.stop.Refusal.TheVariants.{Bad}
+use Rattle.line_pieces.{proofs.Lines.{is_feed, on_refused-weaker}, specs.declared.stop.Refusal.Refusal, specs.declared.stop.Refusal.TheVariants.Bad}
 use Rattle.line_pieces.specs.declared.stop.Stop.{Stop}
-use Rattle.commit_lines.specs.Lines.{MayGo}
-use Rattle.commit_lines.specs.Reading.{HasBegun, IsFirstRefused, FrontRefuses}
-use Rattle.commit_lines.specs.HasRead.{ShowsRefused}
+use Rattle.commit_lines.specs.{Lines.MayGo, Reading.{HasBegun, IsFirstRefused, FrontRefuses}, HasRead.ShowsRefused}
 use Rattle.commit_lines.proofs.Words.{may_front, good_may}
 
 -- a list with an item, from its last one

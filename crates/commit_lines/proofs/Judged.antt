@@ -2,11 +2,8 @@
 use Rattle.std.proofs.Common.{◌≡◌, ◌≢◌, ℕ, inl, inr, List, [], ◌∷◌, get_or, Bool, true, false, not, Option, None, Some, IfSome, IfNone, is_some, refl, sym, subst, ◌∙◌}
 use Rattle.std.specs.Prelude.{Contains}
 use Rattle.line_text.specs.Lines.{words_of}
-use Rattle.line_pieces.specs.declared.stop.Refusal.{Refusal}
-use Rattle.line_pieces.specs.declared.stop.Refusal.TheVariants.{Bad, Full}
-use Rattle.commit_lines.specs.Lines.{IsSkipped, IsNameLine, IsGood}
-use Rattle.commit_lines.specs.Reading.{Breaks}
-use Rattle.commit_lines.specs.HasRead.{RefusesName}
+use Rattle.line_pieces.specs.declared.stop.Refusal.{Refusal, TheVariants.{Bad, Full}}
+use Rattle.commit_lines.specs.{Lines.{IsSkipped, IsNameLine, IsGood}, Reading.Breaks, HasRead.RefusesName}
 use Rattle.commit_lines.proofs.Words.{skipped_not_name, one_name}
 
 -- what holds where there is none

@@ -1,22 +1,12 @@
 -- A line that has begun and may become a name becomes one by an end that is tried.
 use Rattle.std.proofs.Common.{◌≡◌, ℕ, zero, suc, ◌+◌, ◌*◌, ◌/◌, ◌%◌, ◌<◌, ◌≤◌, ◌⊎◌, inl, inr, List, [], ◌∷◌, ◌++◌, length, take, filter, true, false, eq-eqb, ne_eqb, refl, sym, ap, subst, ◌∙◌, arith, length-append}
-use Rattle.std.specs.List.{slice_split, onto_first}
-use Rattle.std.specs.Char.{digit_char}
-use Rattle.std.proofs.lemmas.Bool.{cases_eq}
-use Rattle.std.proofs.lemmas.Bool.Decides.{nat_tests}
-use Rattle.std.proofs.lemmas.List.Elements.{filter-append}
-use Rattle.percent_encoding.specs.Percent.{percent_decode}
-use Rattle.percent_encoding.proofs.PercentLemmas.{length-percent_decode}
-use Rattle.std.specs.Str.{IsUtf8}
-use Rattle.line_text.specs.Lines.{words_of, is_word}
-use Rattle.line_text.specs.Names.{HasWholeEscapes}
-use Rattle.line_text.proofs.Parts.{FirstPart, first_part, goes_on}
+use Rattle.std.{specs.List.{slice_split, onto_first}, specs.Char.digit_char, proofs.lemmas.Bool.cases_eq, proofs.lemmas.Bool.Decides.nat_tests}
+use Rattle.std.{proofs.lemmas.List.Elements.filter-append, specs.Str.IsUtf8}
+use Rattle.percent_encoding.{specs.Percent.percent_decode, proofs.PercentLemmas.length-percent_decode}
+use Rattle.line_text.{specs.Lines.{words_of, is_word}, specs.Names.HasWholeEscapes, proofs.Parts.{FirstPart, first_part, goes_on}}
 use Rattle.line_text.proofs.Blank.{is_space, word_first}
-use Rattle.commit_lines.specs.Lines.{IsSkipped, IsNameLine, EndsWithSpace, MayBecomeName}
-use Rattle.commit_lines.specs.Ends.{char_end, digits_of, end_of, end_at}
-use Rattle.commit_lines.specs.HasRead.{SaysName, IsTried}
-use Rattle.commit_lines.proofs.Words.{same_first}
-use Rattle.commit_lines.proofs.WordEnds.{TriedEnd, WordEnds, bytes_of, word_ends}
+use Rattle.commit_lines.specs.{Lines.{IsSkipped, IsNameLine, EndsWithSpace, MayBecomeName}, Ends.{char_end, digits_of, end_of, end_at}}
+use Rattle.commit_lines.{specs.HasRead.{SaysName, IsTried}, proofs.Words.same_first, proofs.WordEnds.{TriedEnd, WordEnds, bytes_of, word_ends}}
 
 -- ---- the last word of a line
 

@@ -2,17 +2,10 @@
 use Rattle.std.proofs.Common.{ℕ, ◌-◌, ◌^◌, ◌≤◌, inl, inr, List, ◌++◌, length, take, IfSome, sym, subst, arith}
 use Rattle.track_outside.specs.declared.source.Source.{Ghosts}
 use Rattle.line_text.specs.Lines.{lines_of}
-use Rattle.commit_lines.specs.declared.reader.Reader.{Reader}
-use Rattle.line_pieces.specs.declared.stop.Stop.{Stop}
-use Rattle.line_pieces.specs.declared.stop.Stop.TheVariants.{Fault, TooLong, Refused, NoMemory}
-use Rattle.commit_lines.specs.Reading.{AreAccepted, AreNamesOf, FrontRefuses}
-use Rattle.commit_lines.specs.Stops.{rules}
-use Rattle.commit_lines.specs.HasRead.{HasRead, ShowsRefused, EndsRefused}
-use Rattle.line_pieces.specs.Pieces.{HasCause, ReadsWhole}
-use Rattle.line_pieces.proofs.Fronts.{within-append}
-use Rattle.line_pieces.proofs.Given.{whole_shows}
-use Rattle.commit_lines.specs.Pieces.{reading}
-use Rattle.commit_lines.proofs.Fronts.{shows_more}
+use Rattle.commit_lines.specs.{declared.reader.Reader.Reader, Reading.{AreAccepted, AreNamesOf, FrontRefuses}, Stops.rules}
+use Rattle.line_pieces.specs.{declared.stop.Stop.Stop, declared.stop.Stop.TheVariants.{Fault, TooLong, Refused, NoMemory}, Pieces.{HasCause, ReadsWhole}}
+use Rattle.commit_lines.{specs.HasRead.{HasRead, ShowsRefused, EndsRefused}, specs.Pieces.reading, proofs.Fronts.shows_more}
+use Rattle.line_pieces.proofs.{Fronts.within-append, Given.whole_shows}
 
 -- a line that the first bytes refuse, they all refuse
 pub cause : (given rest : List ℕ) (stop : Stop) → length given ≤ 2 ^ 30 → ShowsRefused given stop → HasCause rules (given ++ rest) stop

@@ -1,23 +1,14 @@
 -- What is kept of bytes as they are read.
 use Rattle.std.proofs.Common.{◌≡◌, ◌≢◌, ℕ, ◌+◌, ◌<◌, ◌≤◌, ◌⊎◌, inl, inr, List, [], ◌∷◌, ◌++◌, length, get_or, take, refl, sym, ap, subst, ◌∙◌, arith, length-append}
-use Rattle.std.specs.Prelude.{Contains}
-use Rattle.std.specs.List.{AllPairs}
-use Rattle.std.proofs.lemmas.Bool.{cases_lt}
-use Rattle.std.proofs.lemmas.List.{length-take, get_or_append_left}
-use Rattle.std.proofs.lemmas.List.Elements.{Contains-get_or}
-use Rattle.std.proofs.Math.Seq.{get_or-append_seam}
-use Rattle.line_text.specs.Lines.{lines_of}
-use Rattle.line_pieces.specs.declared.stop.Refusal.{Refusal}
-use Rattle.line_pieces.specs.declared.stop.Refusal.TheVariants.{Bad}
-use Rattle.line_pieces.specs.declared.stop.Stop.{Stop}
-use Rattle.line_pieces.specs.declared.stop.Stop.TheVariants.{Refused}
+use Rattle.std.{specs.Prelude.Contains, specs.List.AllPairs, proofs.lemmas.Bool.cases_lt, proofs.lemmas.List.{length-take, get_or_append_left}}
+use Rattle.std.proofs.{lemmas.List.Elements.Contains-get_or, Math.Seq.get_or-append_seam}
+use Rattle.line_text.{specs.Lines.lines_of, proofs.Parts.{goes_on, last_part, one_front}}
+use Rattle.line_pieces.specs.declared.stop.{Refusal.Refusal, Refusal.TheVariants.Bad, Stop.Stop, Stop.TheVariants.Refused}
 use Rattle.commit_lines.specs.Lines.{IsSkipped, IsNameLine, AreNames, MayBecomeName, MayGo}
 use Rattle.commit_lines.specs.Reading.{AreAccepted, Breaks, IsFirstRefused, FrontRefuses, MayGoOn}
 use Rattle.commit_lines.specs.HasRead.{AreSkipped, IsLong, Keeps, Kept, HasKept, ShowsRefused, EndsRefused, TakesLine}
-use Rattle.line_text.proofs.Parts.{goes_on, last_part, one_front}
 use Rattle.commit_lines.proofs.Words.{both_skipped, turned, skipped_more, same_skipped, front_skipped, good_may}
-use Rattle.line_pieces.specs.Pieces.{HasNoLineFeed, OnRefused}
-use Rattle.line_pieces.proofs.Lines.{is_feed, one_part, ended, on_refused-weaker}
+use Rattle.line_pieces.{specs.Pieces.{HasNoLineFeed, OnRefused}, proofs.Lines.{is_feed, one_part, ended, on_refused-weaker}}
 
 -- ---- no bytes
 

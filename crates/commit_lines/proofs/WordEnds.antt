@@ -1,13 +1,10 @@
 -- What ends a word whose first bytes are there: if any bytes make it spell a name, so do some that are tried.
 use Rattle.std.proofs.Common.{◌≡◌, ◌≢◌, ℕ, zero, suc, ◌+◌, ◌*◌, ◌/◌, ◌%◌, ◌<◌, ◌≤◌, List, [], ◌∷◌, ◌++◌, length, get_or, take, IsUtf8, inl, inr, refl, sym, ap, ap₂, ◌∙◌, subst, arith, append_assoc}
-use Rattle.std.specs.Char.{digit_value, digit_char}
-use Rattle.std.proofs.lemmas.Bool.{cases_eq}
-use Rattle.std.proofs.lemmas.Str.{digit_value-digit_char}
+use Rattle.std.{specs.Char.{digit_value, digit_char}, proofs.lemmas.Bool.cases_eq, proofs.lemmas.Str.digit_value-digit_char}
 use Rattle.percent_encoding.specs.Percent.{percent_decode}
 use Rattle.percent_encoding.proofs.PercentLemmas.{percent_decode_escape, percent_decode_not_percent, length-percent_decode, percent_decode-nil}
 use Rattle.line_text.specs.Names.{IsHexDigit, HasWholeEscapes}
-use Rattle.commit_lines.specs.Ends.{char_end, end_of}
-use Rattle.commit_lines.proofs.CharEnds.{Completes, completes}
+use Rattle.commit_lines.{specs.Ends.{char_end, end_of}, proofs.CharEnds.{Completes, completes}}
 
 -- ---- a byte, or an escape, in front
 

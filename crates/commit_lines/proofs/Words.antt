@@ -1,16 +1,11 @@
 -- Lines that are skipped, and the words of a line that goes on.
 use Rattle.std.proofs.Common.{◌≡◌, ◌≢◌, ℕ, ◌+◌, ◌<◌, ◌≤◌, ◌⊎◌, inl, inr, false, ne_eqb, append-nil, append_assoc, List, [], ◌∷◌, ◌++◌, length, get_or, take, drop, filter, refl, sym, ap, subst, ◌∙◌, arith, length-append}
-use Rattle.std.specs.List.{slice_split, onto_first}
-use Rattle.std.proofs.lemmas.List.{take-append-drop, get_or-take}
+use Rattle.std.{specs.List.{slice_split, onto_first}, proofs.lemmas.List.{take-append-drop, get_or-take}, proofs.lemmas.List.Elements.filter-append}
 use Rattle.percent_encoding.specs.Percent.{percent_decode}
-use Rattle.line_text.specs.Names.{Spells}
-use Rattle.std.proofs.lemmas.List.Elements.{filter-append}
+use Rattle.line_text.{specs.Names.Spells, specs.Lines.{words_of, is_word}, proofs.Parts.{first_part, last_part, goes_on}}
 use Rattle.std.proofs.lemmas.Bool.{cases_eq}
-use Rattle.line_text.specs.Lines.{words_of, is_word}
-use Rattle.line_text.proofs.Parts.{first_part, last_part, goes_on}
 use Rattle.line_text.proofs.Blank.{is_space, word_first, blank-append, blank_parts}
-use Rattle.commit_lines.specs.Lines.{IsSkipped, IsNameLine, IsGood, EndsWithSpace, MayBecomeName, MayGo}
-use Rattle.commit_lines.specs.HasRead.{AreSkipped}
+use Rattle.commit_lines.specs.{Lines.{IsSkipped, IsNameLine, IsGood, EndsWithSpace, MayBecomeName, MayGo}, HasRead.AreSkipped}
 
 -- ---- words
 

@@ -1,6 +1,5 @@
 -- The ends that are tried behind a line that has begun. No public contract cites this.
-use Rattle.std.specs.Prelude.{ℕ, ◌+◌, ◌*◌, ◌/◌, ◌%◌, nat_lt, if◌then◌else◌, List, [], ◌∷◌, ◌++◌, take}
-use Rattle.std.specs.Char.{digit_char}
+use Rattle.std.specs.{Prelude.{ℕ, ◌+◌, ◌*◌, ◌/◌, ◌%◌, nat_lt, if◌then◌else◌, List, [], ◌∷◌, ◌++◌, take}, Char.digit_char}
 
 -- the last digits of an escape of this byte, none, one or two
 abbrev pub digits_of : ℕ → ℕ → List ℕ

@@ -1,16 +1,9 @@
 -- What a reader keeps of the bytes that it has read. No public contract cites this.
 use Rattle.std.specs.Prelude.{◌≡◌, ◌⊎◌, ℕ, ◌<◌, ◌≤◌, List, [], ◌∷◌, ◌++◌, length, slice_index, Contains}
 use Rattle.line_text.specs.Lines.{lines_of, words_of}
-use Rattle.commit_lines.specs.declared.line.LineKind.{LineKind}
-use Rattle.commit_lines.specs.declared.line.LineKind.TheVariants.{Skipped, Named, Bad as BadKind}
-use Rattle.commit_lines.specs.declared.reader.Reader.{Reader}
-use Rattle.line_pieces.specs.declared.stop.Refusal.{Refusal}
-use Rattle.line_pieces.specs.declared.stop.Refusal.TheVariants.{Bad, Full}
-use Rattle.line_pieces.specs.declared.stop.Stop.{Stop}
-use Rattle.line_pieces.specs.Pieces.{OnRefused}
-use Rattle.commit_lines.specs.Lines.{IsSkipped, IsNameLine}
-use Rattle.commit_lines.specs.Ends.{end_at}
-use Rattle.commit_lines.specs.Reading.{AreAccepted, HasBegun, IsFirstRefused, FrontRefuses}
+use Rattle.commit_lines.specs.declared.{line.LineKind.LineKind, line.LineKind.TheVariants.{Skipped, Named, Bad as BadKind}, reader.Reader.Reader}
+use Rattle.line_pieces.specs.{declared.stop.Refusal.Refusal, declared.stop.Refusal.TheVariants.{Bad, Full}, declared.stop.Stop.Stop, Pieces.OnRefused}
+use Rattle.commit_lines.specs.{Lines.{IsSkipped, IsNameLine}, Ends.end_at, Reading.{AreAccepted, HasBegun, IsFirstRefused, FrontRefuses}}
 
 -- what a line of this kind says
 abbrev pub IsKind : List ℕ → LineKind → Type 0

@@ -1,7 +1,6 @@
 -- What a line says to the command `hunt`.
 use Rattle.std.specs.Prelude.{◌≡◌, ◌≢◌, ◌≤◌, ◌⊎◌, ℕ, List, [], ◌∷◌, ◌++◌, length, slice_index, Contains}
-use Rattle.line_text.specs.Lines.{words_of}
-use Rattle.line_text.specs.Names.{Spells}
+use Rattle.line_text.specs.{Lines.words_of, Names.Spells}
 
 -- the first byte is #, or there is no word
 abbrev pub IsSkipped : List ℕ → Type 0

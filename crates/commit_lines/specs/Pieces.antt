@@ -1,8 +1,6 @@
 -- Readers of names, which have no limit of their own. No public contract cites this.
 use Rattle.line_pieces.specs.Pieces.{Reading}
-use Rattle.commit_lines.specs.declared.reader.Reader.{Reader}
-use Rattle.commit_lines.specs.HasRead.{HasRead}
-use Rattle.commit_lines.specs.Stops.{rules}
+use Rattle.commit_lines.specs.{declared.reader.Reader.Reader, HasRead.HasRead, Stops.rules}
 
 abbrev pub reading : Reading Reader
 reading = record {

@@ -1,10 +1,7 @@
 -- How the lines of an input read: they are accepted as a whole, or a line is the first that is refused.
-use Rattle.std.specs.Prelude.{◌≡◌, ◌≢◌, ℕ, ◌+◌, ◌^◌, ◌<◌, ◌≤◌, ◌⊎◌, List, [], ◌∷◌, ◌++◌, Option, IfSome, length, Contains}
-use Rattle.std.specs.List.{AllPairs}
+use Rattle.std.specs.{Prelude.{◌≡◌, ◌≢◌, ℕ, ◌+◌, ◌^◌, ◌<◌, ◌≤◌, ◌⊎◌, List, [], ◌∷◌, ◌++◌, Option, IfSome, length, Contains}, List.AllPairs}
 use Rattle.line_text.specs.Lines.{lines_of}
-use Rattle.line_pieces.specs.Stops.{within_limit}
-use Rattle.line_pieces.specs.declared.stop.Refusal.{Refusal}
-use Rattle.line_pieces.specs.declared.stop.Refusal.TheVariants.{Bad, Full}
+use Rattle.line_pieces.specs.{Stops.within_limit, declared.stop.Refusal.Refusal, declared.stop.Refusal.TheVariants.{Bad, Full}}
 use Rattle.commit_lines.specs.Lines.{IsNameLine, IsGood, AreNames, MayGo}
 
 -- the lines are read, and these are their names, of which no two are equal

@@ -1,9 +1,7 @@
 //! The names of an input.
-ghost use Rattle.std.specs.Io.KnownBytes.{IsAtEnd};
-ghost use Rattle.std.specs.Prelude.{◌+◌, ◌^◌, ◌≤◌, length, OnOk, IfOk, IfErr};
+ghost use Rattle.std.specs.{Io.KnownBytes.IsAtEnd, Prelude.{◌+◌, ◌^◌, ◌≤◌, length, OnOk, IfOk, IfErr}};
 ghost use Rattle.track_outside.specs.Calls.{GaveAtMost};
-ghost use Rattle.commit_lines.specs.Reading.{AreNamesOfInput};
-ghost use Rattle.commit_lines.specs.Stops.{OneStop, NoStopOfNames, OneListOfNames, StopsFor};
+ghost use Rattle.commit_lines.specs.{Reading.AreNamesOfInput, Stops.{OneStop, NoStopOfNames, OneListOfNames, StopsFor}};
 
 use crate::reader::{Commits, Reader};
 use line_pieces::{Stop, read_lines};

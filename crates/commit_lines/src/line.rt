@@ -1,7 +1,6 @@
 //! What one line says.
 ghost use Rattle.std.specs.Prelude.{◌≡◌, ◌<◌, ◌≤◌, ◌↔◌, length, slice_index, IfOk, IsTrue};
-ghost use Rattle.commit_lines.specs.Lines.{IsSkipped, IsGood, EndsWithSpace, MayBecomeName, MayGo};
-ghost use Rattle.commit_lines.specs.HasRead.{IsKind};
+ghost use Rattle.commit_lines.specs.{Lines.{IsSkipped, IsGood, EndsWithSpace, MayBecomeName, MayGo}, HasRead.IsKind};
 
 use crate::tries::is_tried;
 use indexmap::IndexSet;

@@ -1,8 +1,7 @@
 //! What is kept of the bytes that were read: the names of the whole lines, and the line that has begun.
 ghost use Rattle.std.specs.Prelude.{◌≡◌, ◌+◌, ◌^◌, ◌<◌, ◌≤◌, [], ◌∷◌, length, OnOk, IfOk, IfErr};
 ghost use Rattle.line_pieces.specs.Pieces.{OnRefused};
-ghost use Rattle.commit_lines.specs.HasRead.{AddsName, RefusesName, TakesLine};
-ghost use Rattle.commit_lines.specs.Reading.{Breaks};
+ghost use Rattle.commit_lines.specs.{HasRead.{AddsName, RefusesName, TakesLine}, Reading.Breaks};
 
 use crate::line::{LINE_LIMIT, LineKind, is_skipped, line_kind, may_go};
 use indexmap::IndexSet;
@@ -48,8 +47,7 @@ pub struct Reader {
 
 impl Reader {
     ghost use Rattle.line_pieces.specs.Pieces.{ReadsMore, LastRefused, EndRefused};
-    ghost use Rattle.commit_lines.specs.HasRead.{HasRead, HasNames};
-    ghost use Rattle.commit_lines.specs.Pieces.{reading};
+    ghost use Rattle.commit_lines.specs.{HasRead.{HasRead, HasNames}, Pieces.reading};
 
     /// A reader of no bytes.
     pub fn new(alloc: Global) -> Reader

@@ -1,8 +1,6 @@
 //! What may come behind a line that has begun.
-ghost use Rattle.std.specs.Prelude.{◌≡◌, ◌++◌, ◌<◌, ◌↔◌, OnOk, IfOk, IsTrue};
-ghost use Rattle.std.specs.Char.{digit_char};
-ghost use Rattle.commit_lines.specs.Ends.{end_at};
-ghost use Rattle.commit_lines.specs.HasRead.{SaysName, IsTried};
+ghost use Rattle.std.specs.{Prelude.{◌≡◌, ◌++◌, ◌<◌, ◌↔◌, OnOk, IfOk, IsTrue}, Char.digit_char};
+ghost use Rattle.commit_lines.specs.{Ends.end_at, HasRead.{SaysName, IsTried}};
 
 use crate::line::{LINE_LIMIT, LineKind, line_kind};
 use std::alloc::{AllocError, Global};

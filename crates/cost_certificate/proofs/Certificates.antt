@@ -1,13 +1,8 @@
 -- A certificate whose tables, cuts and total were looked at.
-use Rattle.std.proofs.Common.{◌≡◌, ℕ, ℤ, ◌<◌, List, [], length, reverse, IsTrue, Bool, ◌↔◌, inl, inr, sym, ◌∙◌, pos, arith}
-use Rattle.std.proofs.lemmas.Bool.{cases_eq}
+use Rattle.std.proofs.{Common.{◌≡◌, ℕ, ℤ, ◌<◌, List, [], length, reverse, IsTrue, Bool, ◌↔◌, inl, inr, sym, ◌∙◌, pos, arith}, lemmas.Bool.cases_eq}
 use Rattle.std.proofs.lemmas.List.{length-map, reverse-reverse}
-use Rattle.segment_model.specs.Segments.{Position, position_values}
-use Rattle.segment_model.specs.Computed.{least_sum_of}
-use Rattle.segment_model.specs.Cuts.{IsBest, total}
-use Rattle.segment_model.specs.Tables.{int_at, IsTable, IsWalk}
-use Rattle.segment_model.specs.Laws.{WalkIsBest, BestOfNoneIsEmpty, EmptyCostsNothing}
-use Rattle.segment_model.specs.Values.{values_by_position, cost_between, LeastSumIsComputed}
+use Rattle.segment_model.specs.{Segments.{Position, position_values}, Computed.least_sum_of, Cuts.{IsBest, total}, Tables.{int_at, IsTable, IsWalk}}
+use Rattle.segment_model.specs.{Laws.{WalkIsBest, BestOfNoneIsEmpty, EmptyCostsNothing}, Values.{values_by_position, cost_between, LeastSumIsComputed}}
 use Rattle.segment_cost.specs.Certificate.{squares_between}
 
 pub tables-of : (points : List Position) (ps : List (List ℤ)) (b : ℤ) (len : ℕ) (least least' : List ℤ) (back back' pruned pruned' : List ℕ) (answer : Bool) → ps ≡ values_by_position points

@@ -1,9 +1,7 @@
 -- What a last segment makes never falls as it grows, so that a pair needs no look where an earlier one made enough.
-use Rattle.std.proofs.Common.{◌≡◌, ◌≢◌, ℕ, ℤ, ◌+◌, ◌*◌, ◌^◌, ◌<◌, ◌≤◌, inl, inr, pos, neg_ℤ, ◌+ℤ◌, ◌≤ℤ◌, arith}
-use Rattle.std.proofs.lemmas.Int.{ints}
+use Rattle.std.proofs.{Common.{◌≡◌, ◌≢◌, ℕ, ℤ, ◌+◌, ◌*◌, ◌^◌, ◌<◌, ◌≤◌, inl, inr, pos, neg_ℤ, ◌+ℤ◌, ◌≤ℤ◌, arith}, lemmas.Int.ints}
 use Rattle.segment_model.specs.Tables.{IsSettled}
-use Rattle.cost_certificate.specs.declared.tables.Tables.{Tables}
-use Rattle.cost_certificate.specs.Checks.{IsFloor, PairHolds, cost_in, last_cut_at, last_place, mark_at, total_at}
+use Rattle.cost_certificate.specs.{declared.tables.Tables.Tables, Checks.{IsFloor, PairHolds, cost_in, last_cut_at, last_place, mark_at, total_at}}
 
 module _ (tables : Tables) where
   -- a pair whose place is settled, where its total is no less and its place is no mark

@@ -1,9 +1,7 @@
 -- The pairs of places, block by block.
-use Rattle.std.proofs.Common.{◌≡◌, ◌≢◌, ℕ, ℤ, ◌+◌, ◌-◌, ◌*◌, ◌^◌, ◌<◌, ◌≤◌, ◌⊎◌, inl, inr, pos, neg_ℤ, ◌+ℤ◌, ◌≤ℤ◌, arith}
-use Rattle.std.proofs.lemmas.Int.{ints}
+use Rattle.std.proofs.{Common.{◌≡◌, ◌≢◌, ℕ, ℤ, ◌+◌, ◌-◌, ◌*◌, ◌^◌, ◌<◌, ◌≤◌, ◌⊎◌, inl, inr, pos, neg_ℤ, ◌+ℤ◌, ◌≤ℤ◌, arith}, lemmas.Int.ints}
 use Rattle.std.proofs.lemmas.Bool.{cases_eq}
-use Rattle.cost_certificate.specs.declared.blocks.Need.{Need}
-use Rattle.cost_certificate.specs.declared.tables.Tables.{Tables}
+use Rattle.cost_certificate.specs.declared.{blocks.Need.Need, tables.Tables.Tables}
 use Rattle.cost_certificate.specs.Checks.{IsLevel, IsNeed, IsReach, MarksHold, PairHolds, PlaceHolds, PlaceHoldsInBlock, cost_in, last_place, mark_at, total_at}
 use Rattle.cost_certificate.proofs.Floors.{settled-holds}
 

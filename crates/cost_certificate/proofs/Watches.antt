@@ -1,15 +1,9 @@
 -- What is known of blocks of places.
 use Rattle.std.proofs.Common.{◌≡◌, ℕ, ℤ, ◌+◌, ◌*◌, ◌^◌, ◌<◌, ◌≤◌, List, length, set, replicate, true, false, ◌⊎◌, inl, inr, refl, ◌∙◌, pos, neg_ℤ, ◌+ℤ◌, ◌≤ℤ◌, get_or-set_same, get_or-set_other, arith}
-use Rattle.std.proofs.Math.ListN.{length-set}
-use Rattle.std.proofs.lemmas.List.{length-replicate, get_or-replicate}
-use Rattle.std.proofs.lemmas.Int.{ints}
-use Rattle.std.proofs.lemmas.Bool.{cases_eq}
-use Rattle.cost_certificate.specs.declared.blocks.Need.{Need}
-use Rattle.cost_certificate.specs.declared.blocks.Watch.{Watch}
-use Rattle.cost_certificate.specs.declared.tables.Tables.{Tables}
+use Rattle.std.proofs.{Math.ListN.length-set, lemmas.List.{length-replicate, get_or-replicate}, lemmas.Int.ints, lemmas.Bool.cases_eq}
+use Rattle.cost_certificate.specs.declared.{blocks.Need.Need, blocks.Watch.Watch, tables.Tables.Tables}
 use Rattle.cost_certificate.specs.Checks.{AreWatches, IsClosed, IsNeed, IsWatch, PlacesHoldInBlock, cost_in, last_place, mark_at, total_at, watch_at}
-use Rattle.cost_certificate.proofs.Needs.{told, closed}
-use Rattle.cost_certificate.proofs.Bools.{not_both}
+use Rattle.cost_certificate.proofs.{Needs.{told, closed}, Bools.not_both}
 
 module _ (tables : Tables) where
   -- with a closed place more

@@ -1,10 +1,7 @@
 -- Rows and places that hold are the whole tables.
-use Rattle.std.proofs.Common.{◌≡◌, ℕ, ℤ, ◌^◌, ◌<◌, ◌≤◌, List, inl, inr, pos, neg_ℤ, ◌≤ℤ◌, arith}
-use Rattle.std.proofs.lemmas.Int.{ints}
-use Rattle.segment_model.specs.Tables.{IsTable, IsOpenAt, IsUnmarkedBefore, IsVerified}
-use Rattle.segment_model.specs.Laws.{TotalsAreInRange}
-use Rattle.cost_certificate.specs.declared.tables.Tables.{Tables}
-use Rattle.cost_certificate.specs.Checks.{PlaceHolds, RowHolds, cost_in, last_cut_at, last_place, total_at}
+use Rattle.std.proofs.{Common.{◌≡◌, ℕ, ℤ, ◌^◌, ◌<◌, ◌≤◌, List, inl, inr, pos, neg_ℤ, ◌≤ℤ◌, arith}, lemmas.Int.ints}
+use Rattle.segment_model.specs.{Tables.{IsTable, IsOpenAt, IsUnmarkedBefore, IsVerified}, Laws.TotalsAreInRange}
+use Rattle.cost_certificate.specs.{declared.tables.Tables.Tables, Checks.{PlaceHolds, RowHolds, cost_in, last_cut_at, last_place, total_at}}
 use Rattle.cost_certificate.specs.Totals.{AreCosts, AreTotals}
 
 module _ (tables : Tables) where

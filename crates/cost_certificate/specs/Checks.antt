@@ -1,11 +1,8 @@
 -- No public contract cites this. What is looked at of a certificate, entry by entry.
 use Rattle.std.specs.Prelude.{◌≡◌, ◌≢◌, ℕ, ℤ, ◌+◌, ◌*◌, ◌^◌, ◌<◌, ◌≤◌, List, length, slice_index, slice_index_or, false, ◌⊎◌, ◌↔◌, pos, neg_ℤ, ◌+ℤ◌, ◌≤ℤ◌, ◌<ℤ◌}
-use Rattle.segment_model.specs.Computed.{least_sum_of}
-use Rattle.segment_model.specs.Tables.{int_at, IsCandidate, IsDear, IsMark, IsOpenAt, IsUnmarkedBefore, IsSettled, IsTable}
+use Rattle.segment_model.specs.{Computed.least_sum_of, Tables.{int_at, IsCandidate, IsDear, IsMark, IsOpenAt, IsUnmarkedBefore, IsSettled, IsTable}}
 use Rattle.segment_model.specs.Values.{cost_between}
-use Rattle.cost_certificate.specs.declared.blocks.Need.{Need}
-use Rattle.cost_certificate.specs.declared.blocks.Watch.{Watch}
-use Rattle.cost_certificate.specs.declared.tables.Tables.{Tables}
+use Rattle.cost_certificate.specs.declared.{blocks.Need.Need, blocks.Watch.Watch, tables.Tables.Tables}
 
 -- how many positions there are, which is the last place
 abbrev pub last_place : Tables → ℕ

@@ -1,9 +1,6 @@
 //! Whether a certificate stands for points.
 ghost use Rattle.std.specs.Prelude.{◌≡◌, ◌<◌, ◌+◌, ◌^◌, ◌≤◌, length, pos, neg_ℤ, ◌≤ℤ◌, ◌↔◌, IsTrue};
-ghost use Rattle.segment_model.specs.Values.{values_by_position, cost_between};
-ghost use Rattle.segment_model.specs.Computed.{least_sum_of};
-ghost use Rattle.segment_model.specs.Limits.{IsLength};
-ghost use Rattle.segment_model.specs.Tables.{int_at, IsTable};
+ghost use Rattle.segment_model.specs.{Values.{values_by_position, cost_between}, Computed.least_sum_of, Limits.IsLength, Tables.{int_at, IsTable}};
 ghost use Rattle.segment_cost.specs.Certificate.{StandsFor};
 ghost use Rattle.cost_certificate.specs.Checks.{AreRight};
 

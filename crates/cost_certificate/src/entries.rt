@@ -1,9 +1,7 @@
 //! Single entries of the tables, and pairs of places.
 ghost use Rattle.std.specs.Prelude.{◌≡◌, ◌≢◌, ℕ, ◌+◌, ◌^◌, ◌<◌, ◌≤◌, pos, ◌≤ℤ◌, ◌<ℤ◌, ◌↔◌, IfSome, IfNone, IsTrue, ◌*◌, ◌⊎◌, neg_ℤ, ◌+ℤ◌};
-ghost use Rattle.segment_model.specs.Limits.{IsLength};
-ghost use Rattle.segment_model.specs.Tables.{MayBegin, IsMark, IsSettled};
-ghost use Rattle.cost_certificate.specs.Totals.{AreTotals};
-ghost use Rattle.cost_certificate.specs.Checks.{IsFloor, MarkHolds, OrderHolds, PairHolds, RowHolds, cost_in, last_place, total_at};
+ghost use Rattle.segment_model.specs.{Limits.IsLength, Tables.{MayBegin, IsMark, IsSettled}};
+ghost use Rattle.cost_certificate.specs.{Totals.AreTotals, Checks.{IsFloor, MarkHolds, OrderHolds, PairHolds, RowHolds, cost_in, last_place, total_at}};
 
 use crate::tables::Tables;
 use segment_cost::{Cost, is_candidate};

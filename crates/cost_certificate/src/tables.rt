@@ -1,9 +1,6 @@
 //! The tables of a certificate, and what holds of them before their entries are looked at.
 ghost use Rattle.std.specs.Prelude.{◌≡◌, ◌+◌, ◌^◌, ◌≤◌, length, pos, ◌≤ℤ◌};
-ghost use Rattle.segment_model.specs.Limits.{IsLength};
-ghost use Rattle.segment_model.specs.Cuts.{Merges};
-ghost use Rattle.segment_model.specs.Values.{cost_between};
-ghost use Rattle.segment_model.specs.Computed.{least_sum_of};
+ghost use Rattle.segment_model.specs.{Limits.IsLength, Cuts.Merges, Values.cost_between, Computed.least_sum_of};
 ghost use Rattle.cost_certificate.specs.Totals.{AreCosts, AreTotals};
 
 use segment_cost::Square;

@@ -1,6 +1,5 @@
 //! A certificate's text.
-ghost use Rattle.std.specs.Prelude.{◌≡◌, ℕ, List, [], ◌∷◌, ◌++◌, map, codes, decimal, length, take, OnOk, OnErr};
-ghost use Rattle.std.specs.Fmt.{signed_decimal};
+ghost use Rattle.std.specs.{Prelude.{◌≡◌, ℕ, List, [], ◌∷◌, ◌++◌, map, codes, decimal, length, take, OnOk, OnErr}, Fmt.signed_decimal};
 ghost use Rattle.cost_certificate.specs.Text.{row, length_row, text_of};
 
 use line_text::{put_i128, put_u64};

@@ -1,13 +1,10 @@
 -- One line more that is accepted, or is the first that is refused.
 use Rattle.std.proofs.Common.{◌≡◌, ℕ, ℤ, ◌+◌, inl, inr, List, [], ◌∷◌, ◌++◌, length, refl, sym, ap, subst, ◌∙◌, arith, append-nil, add-zero}
 use Rattle.std.proofs.lemmas.List.{append_assoc}
-use Rattle.line_text.specs.Lines.{lines_of}
-use Rattle.cut_lines.specs.Lines.{CutLine, IsSkipped, IsCutLine, AreCutLines}
-use Rattle.cut_lines.specs.Points.{FitsWithin}
-use Rattle.line_pieces.specs.declared.stop.Refusal.{Refusal}
+use Rattle.line_text.{specs.Lines.lines_of, proofs.Parts.{first_part, goes_on}}
+use Rattle.cut_lines.specs.{Lines.{CutLine, IsSkipped, IsCutLine, AreCutLines}, Points.FitsWithin}
+use Rattle.line_pieces.{specs.declared.stop.Refusal.Refusal, proofs.Lines.is_feed}
 use Rattle.cut_lines.specs.Reading.{AreAcceptedWithin, IsFirstRefusedWithin, BreaksWithin, with_line}
-use Rattle.line_text.proofs.Parts.{first_part, goes_on}
-use Rattle.line_pieces.proofs.Lines.{is_feed}
 
 -- ---- the cut lines of one line more
 

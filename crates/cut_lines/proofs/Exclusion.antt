@@ -1,30 +1,16 @@
 -- No bytes have two stops, nor points and a stop.
 use Rattle.std.proofs.Common.{◌≡◌, ℕ, ℤ, pos, negsuc, suc, ◌+◌, ◌^◌, ◌<◌, ◌≤◌, ◌⊎◌, inl, inr, zero, List, [], ◌∷◌, ◌++◌, length, filter, decimal, unsigned_abs, refl, sym, ap, ap₂, subst, ◌∙◌, arith, append-nil, length-append, add-zero}
-use Rattle.std.specs.Fmt.{signed_decimal}
-use Rattle.std.specs.List.{slice_split, onto_first}
-use Rattle.std.specs.Str.Parse.{AllDigits}
-use Rattle.std.proofs.lemmas.Fmt.{decimal_is_IsNumeral}
-use Rattle.std.proofs.lemmas.Str.Parse.{digit_from_value}
-use Rattle.std.proofs.lemmas.List.{append_assoc, take_all}
-use Rattle.std.proofs.lemmas.Bool.{cases_order}
-use Rattle.line_text.specs.Lines.{lines_of, words_of, is_word}
-use Rattle.line_pieces.proofs.Fronts.{goes_past, one_split}
-use Rattle.line_pieces.specs.declared.stop.Refusal.{Refusal}
-use Rattle.line_pieces.specs.declared.stop.Refusal.TheVariants.{Bad, Full}
-use Rattle.line_pieces.specs.declared.stop.Stop.{Stop}
-use Rattle.line_pieces.specs.declared.stop.Stop.TheVariants.{Fault, TooLong, Refused, NoMemory}
+use Rattle.std.{specs.Fmt.signed_decimal, specs.List.{slice_split, onto_first}, specs.Str.Parse.AllDigits, proofs.lemmas.Fmt.decimal_is_IsNumeral}
+use Rattle.std.proofs.lemmas.{Str.Parse.digit_from_value, List.{append_assoc, take_all}, Bool.cases_order}
+use Rattle.line_text.{specs.Lines.{lines_of, words_of, is_word}, proofs.SignedWords.{one_number, no_minus, behind_minus}, proofs.Parts.{first_part, goes_on}}
+use Rattle.line_pieces.{proofs.Fronts.{goes_past, one_split}, specs.declared.stop.Refusal.Refusal, specs.declared.stop.Refusal.TheVariants.{Bad, Full}}
+use Rattle.line_pieces.specs.{declared.stop.Stop.Stop, declared.stop.Stop.TheVariants.{Fault, TooLong, Refused, NoMemory}, Stops.within_limit}
 use Rattle.segment_model.specs.Segments.{Position}
-use Rattle.cut_lines.specs.Lines.{CutLine, IsSkipped, IsCutLine, IsGood, AreCutLines}
-use Rattle.cut_lines.specs.Points.{FitsWithin}
+use Rattle.cut_lines.specs.{Lines.{CutLine, IsSkipped, IsCutLine, IsGood, AreCutLines}, Points.FitsWithin}
 use Rattle.cut_lines.specs.Reading.{AreAcceptedWithin, with_line, BreaksWithin, IsFirstRefusedWithin, RefusesWithin, MayGoOnWithin, IsTooLongWithin, AreCutLinesWithin, ArePointsWithin}
-use Rattle.cut_lines.specs.Stops.{BytesShowWithin}
-use Rattle.line_text.proofs.SignedWords.{one_number, no_minus, behind_minus}
-use Rattle.line_text.proofs.Parts.{first_part, goes_on}
+use Rattle.cut_lines.{specs.Stops.BytesShowWithin, proofs.OpenLines.{HasNumbers, EndsWell, ends_well}, proofs.LinePoints.fits_front}
 use Rattle.line_text.proofs.Blank.{is_space, word_first}
-use Rattle.cut_lines.proofs.OpenLines.{HasNumbers, EndsWell, ends_well}
-use Rattle.line_pieces.specs.Stops.{within_limit}
 use Rattle.line_pieces.proofs.Lines.{is_feed}
-use Rattle.cut_lines.proofs.LinePoints.{fits_front}
 
 -- ---- a line says one thing
 

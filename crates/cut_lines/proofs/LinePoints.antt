@@ -1,14 +1,9 @@
 -- The points of one line more, and of fewer lines.
 use Rattle.std.proofs.Common.{◌≡◌, ℕ, ◌+◌, ◌≤◌, inl, List, [], ◌∷◌, ◌++◌, length, map, sym, ap, subst, ◌∙◌, arith}
 use Rattle.std.proofs.lemmas.List.{map-append, length-map, length-append}
-use Rattle.segment_model.specs.Segments.{values_of}
-use Rattle.segment_model.specs.Brought.{Brought, rising, position_at, positions_of}
-use Rattle.segment_model.proofs.Rising.{IsIn, append-in, rising-fewer}
-use Rattle.segment_model.proofs.Insertions.{positions-push}
-use Rattle.segment_model.proofs.Inserted.{values-brought}
-use Rattle.cut_lines.specs.Lines.{CutLine}
-use Rattle.cut_lines.specs.Points.{brought_by, points_of, FitsWithin}
-use Rattle.cut_lines.specs.Adding.{with_value_of}
+use Rattle.segment_model.{specs.Segments.values_of, specs.Brought.{Brought, rising, position_at, positions_of}, proofs.Rising.{IsIn, append-in, rising-fewer}}
+use Rattle.segment_model.proofs.{Insertions.positions-push, Inserted.values-brought}
+use Rattle.cut_lines.specs.{Lines.CutLine, Points.{brought_by, points_of, FitsWithin}, Adding.with_value_of}
 
 -- a line more puts its value into the points
 pub points-push : (cuts : List CutLine) (cut : CutLine) → points_of (cuts ++ cut ∷ []) ≡ with_value_of (points_of cuts) cut.number cut.order cut.value

@@ -4,17 +4,10 @@ use Rattle.std.proofs.lemmas.List.{take_all}
 use Rattle.segment_model.specs.Segments.{Position}
 use Rattle.track_outside.specs.declared.source.Source.{Ghosts}
 use Rattle.line_text.specs.Lines.{lines_of}
-use Rattle.cut_lines.specs.declared.reader.Reader.{Reader}
-use Rattle.line_pieces.specs.declared.stop.Stop.{Stop}
-use Rattle.line_pieces.specs.declared.stop.Stop.TheVariants.{Fault, TooLong, Refused, NoMemory}
-use Rattle.cut_lines.specs.Reading.{ArePointsWithin, IsFirstRefusedWithin}
-use Rattle.cut_lines.specs.Stops.{rules}
-use Rattle.cut_lines.specs.HasRead.{HasRead, AreLinesPoints, ShowsRefused, EndsRefused}
-use Rattle.line_pieces.specs.Stops.{within_limit}
-use Rattle.line_pieces.specs.Pieces.{HasCause, ReadsWhole}
-use Rattle.line_pieces.proofs.Fronts.{within-append}
-use Rattle.line_pieces.proofs.Given.{whole_shows}
-use Rattle.cut_lines.specs.Pieces.{reading}
+use Rattle.cut_lines.specs.{declared.reader.Reader.Reader, Reading.{ArePointsWithin, IsFirstRefusedWithin}, Stops.rules}
+use Rattle.line_pieces.specs.{declared.stop.Stop.Stop, declared.stop.Stop.TheVariants.{Fault, TooLong, Refused, NoMemory}, Stops.within_limit}
+use Rattle.cut_lines.specs.{HasRead.{HasRead, AreLinesPoints, ShowsRefused, EndsRefused}, Pieces.reading}
+use Rattle.line_pieces.{specs.Pieces.{HasCause, ReadsWhole}, proofs.Fronts.within-append, proofs.Given.whole_shows}
 
 -- a line that the first bytes refuse, they all refuse
 pub cause : (most : ℕ) (given rest : List ℕ) (stop : Stop) → length given ≤ 2 ^ 30 → ShowsRefused most given stop → HasCause (rules most) (given ++ rest) stop

@@ -1,25 +1,16 @@
 -- What is kept of bytes as they are read.
 use Rattle.std.proofs.Common.{◌≡◌, ◌≢◌, ℕ, ℤ, ◌+◌, ◌-◌, ◌<◌, ◌≤◌, ◌⊎◌, inl, inr, List, [], ◌∷◌, ◌++◌, length, take, drop, refl, sym, ap, subst, ◌∙◌, arith, append-nil, append_assoc, length-append, suc, min}
-use Rattle.std.proofs.lemmas.List.{take_all, length-take}
-use Rattle.std.proofs.lemmas.Bool.{cases_lt}
+use Rattle.std.proofs.lemmas.{List.{take_all, length-take}, Bool.cases_lt}
 use Rattle.segment_model.specs.Segments.{Position, values_of}
-use Rattle.line_text.specs.Lines.{lines_of, words_of}
-use Rattle.line_pieces.specs.declared.stop.Refusal.{Refusal}
-use Rattle.line_pieces.specs.declared.stop.Refusal.TheVariants.{Bad, Full}
-use Rattle.line_pieces.specs.declared.stop.Stop.{Stop}
-use Rattle.line_pieces.specs.declared.stop.Stop.TheVariants.{Refused}
-use Rattle.cut_lines.specs.Lines.{CutLine, IsSkipped, IsCutLine, IsGood, MayBecomeGood}
-use Rattle.cut_lines.specs.Points.{points_of, FitsWithin}
-use Rattle.cut_lines.specs.Reading.{AreAcceptedWithin, IsFirstRefusedWithin, BreaksWithin, MayGoOnWithin, with_line}
-use Rattle.cut_lines.specs.LineKinds.{StaysSkipped, HasWord}
+use Rattle.line_text.{specs.Lines.{lines_of, words_of}, proofs.Parts.{goes_on, last_part, one_front}}
+use Rattle.line_pieces.specs.declared.stop.{Refusal.Refusal, Refusal.TheVariants.{Bad, Full}, Stop.Stop, Stop.TheVariants.Refused}
+use Rattle.cut_lines.specs.{Lines.{CutLine, IsSkipped, IsCutLine, IsGood, MayBecomeGood}, Points.{points_of, FitsWithin}}
+use Rattle.cut_lines.specs.{Reading.{AreAcceptedWithin, IsFirstRefusedWithin, BreaksWithin, MayGoOnWithin, with_line}, LineKinds.{StaysSkipped, HasWord}}
 use Rattle.cut_lines.specs.Adding.{with_value_of, PassesLimit, BreaksPoints, AddsValue, TakesLine, RefusesLine}
 use Rattle.cut_lines.specs.HasRead.{Kept, HasKept, AreLinesPoints, ShowsRefused, EndsRefused}
-use Rattle.line_text.proofs.Parts.{goes_on, last_part, one_front}
 use Rattle.cut_lines.proofs.Kept.{short_kept, Long, kept_long, comment_kept, blank_kept, not_blank, long_length}
-use Rattle.line_pieces.specs.Pieces.{HasNoLineFeed}
-use Rattle.line_pieces.proofs.Lines.{is_feed, one_part, ended, on_refused-weaker}
-use Rattle.cut_lines.proofs.Accepting.{accepts_skipped, accepts_cut, first_refused, ended_refused}
-use Rattle.cut_lines.proofs.LinePoints.{points-push, values-counted}
+use Rattle.line_pieces.{specs.Pieces.HasNoLineFeed, proofs.Lines.{is_feed, one_part, ended, on_refused-weaker}}
+use Rattle.cut_lines.proofs.{Accepting.{accepts_skipped, accepts_cut, first_refused, ended_refused}, LinePoints.{points-push, values-counted}}
 
 -- ---- no bytes
 

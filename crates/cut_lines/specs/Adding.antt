@@ -1,13 +1,8 @@
 -- What the end of a line does to the points, and why it is refused. No public contract
 -- cites this.
 use Rattle.std.specs.Prelude.{◌≡◌, ℕ, ℤ, ◌<◌, ◌≤◌, ◌⊎◌, List, length}
-use Rattle.segment_model.specs.Segments.{Position, values_of}
-use Rattle.segment_model.specs.Limits.{WithinLimits}
-use Rattle.segment_model.specs.Edits.{inserted}
-use Rattle.line_pieces.specs.declared.stop.Refusal.{Refusal}
-use Rattle.line_pieces.specs.declared.stop.Refusal.TheVariants.{Bad, Full}
-use Rattle.line_pieces.specs.declared.stop.Stop.{Stop}
-use Rattle.line_pieces.specs.Pieces.{OnRefused}
+use Rattle.segment_model.specs.{Segments.{Position, values_of}, Limits.WithinLimits, Edits.inserted}
+use Rattle.line_pieces.specs.{declared.stop.Refusal.Refusal, declared.stop.Refusal.TheVariants.{Bad, Full}, declared.stop.Stop.Stop, Pieces.OnRefused}
 use Rattle.cut_lines.specs.Lines.{IsSkipped, IsCutLine, IsGood}
 
 -- the points with the value of a line more

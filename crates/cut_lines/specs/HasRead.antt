@@ -2,12 +2,8 @@
 use Rattle.std.specs.Prelude.{◌≡◌, ℕ, ◌<◌, List, [], ◌∷◌, ◌++◌, length, take}
 use Rattle.segment_model.specs.Segments.{Position}
 use Rattle.line_text.specs.Lines.{lines_of}
-use Rattle.cut_lines.specs.declared.reader.Reader.{Reader}
-use Rattle.line_pieces.specs.declared.stop.Stop.{Stop}
-use Rattle.cut_lines.specs.Lines.{CutLine, IsSkipped}
-use Rattle.cut_lines.specs.Points.{points_of}
-use Rattle.cut_lines.specs.Reading.{AreAcceptedWithin, IsFirstRefusedWithin}
-use Rattle.line_pieces.specs.Pieces.{OnRefused}
+use Rattle.cut_lines.specs.{declared.reader.Reader.Reader, Lines.{CutLine, IsSkipped}, Points.points_of, Reading.{AreAcceptedWithin, IsFirstRefusedWithin}}
+use Rattle.line_pieces.specs.{declared.stop.Stop.Stop, Pieces.OnRefused}
 
 -- what is kept of bytes: how many positions there may be, the points of their whole lines, how many
 -- those are, and the first bytes of the line that has begun

@@ -1,10 +1,8 @@
 -- What a line's kind says of it, and how a line that is longer than a line may be is skipped.
 -- No public contract cites this.
-use Rattle.std.specs.Prelude.{◌≡◌, ◌≢◌, ℕ, ℤ, ◌<◌, ◌⊎◌, List, [], ◌∷◌, ◌++◌, decimal, slice_index}
-use Rattle.std.specs.Fmt.{signed_decimal}
+use Rattle.std.specs.{Prelude.{◌≡◌, ◌≢◌, ℕ, ℤ, ◌<◌, ◌⊎◌, List, [], ◌∷◌, ◌++◌, decimal, slice_index}, Fmt.signed_decimal}
 use Rattle.line_text.specs.Lines.{words_of}
-use Rattle.cut_lines.specs.declared.cut_line.LineKind.{LineKind}
-use Rattle.cut_lines.specs.declared.cut_line.LineKind.TheVariants.{Skipped, Cut, Bad}
+use Rattle.cut_lines.specs.declared.cut_line.LineKind.{LineKind, TheVariants.{Skipped, Cut, Bad}}
 use Rattle.cut_lines.specs.Lines.{IsSkipped, IsCutLine, IsGood}
 
 -- what a line of this kind says

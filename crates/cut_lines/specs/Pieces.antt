@@ -1,8 +1,6 @@
 -- Readers of cut lines. No public contract cites this.
 use Rattle.line_pieces.specs.Pieces.{Reading}
-use Rattle.cut_lines.specs.declared.reader.Reader.{Reader}
-use Rattle.cut_lines.specs.HasRead.{HasRead}
-use Rattle.cut_lines.specs.Stops.{rules}
+use Rattle.cut_lines.specs.{declared.reader.Reader.Reader, HasRead.HasRead, Stops.rules}
 
 abbrev pub reading : Reading Reader
 reading = record {

@@ -1,7 +1,6 @@
 -- The points that cut lines give, and the limits of a series.
 use Rattle.std.specs.Prelude.{◌≤◌, ℕ, List, length, map}
-use Rattle.segment_model.specs.Segments.{Position}
-use Rattle.segment_model.specs.Brought.{Brought, positions_of}
+use Rattle.segment_model.specs.{Segments.Position, Brought.{Brought, positions_of}}
 use Rattle.cut_lines.specs.Lines.{CutLine}
 
 -- what a line brings: its value, at its order, which is the commit, and by its number, which is the

@@ -3,11 +3,8 @@
 use Rattle.std.specs.Prelude.{◌≡◌, ℕ, ℤ, ◌+◌, ◌^◌, ◌<◌, ◌≤◌, List, [], ◌∷◌, ◌++◌, Option, IfSome, length}
 use Rattle.segment_model.specs.Segments.{Position}
 use Rattle.line_text.specs.Lines.{lines_of}
-use Rattle.line_pieces.specs.Stops.{within_limit}
-use Rattle.line_pieces.specs.declared.stop.Refusal.{Refusal}
-use Rattle.line_pieces.specs.declared.stop.Refusal.TheVariants.{Bad, Full}
-use Rattle.cut_lines.specs.Lines.{CutLine, IsCutLine, IsGood, MayBecomeGood, AreCutLines}
-use Rattle.cut_lines.specs.Points.{points_of, FitsWithin}
+use Rattle.line_pieces.specs.{Stops.within_limit, declared.stop.Refusal.Refusal, declared.stop.Refusal.TheVariants.{Bad, Full}}
+use Rattle.cut_lines.specs.{Lines.{CutLine, IsCutLine, IsGood, MayBecomeGood, AreCutLines}, Points.{points_of, FitsWithin}}
 
 -- the lines are read, and these are their cut lines
 pub record AreAcceptedWithin (most : ℕ) (lines : List (List ℕ)) (cuts : List CutLine) : Type 0 where

@@ -2,8 +2,7 @@
 ghost use Rattle.std.specs.Prelude.{◌≡◌, ℕ, ℤ, ◌^◌, ◌<◌, ◌≤◌, ◌∷◌, length, drop, slice_range, unsigned_abs, IfSome, IfNone, IfOk, IsTrue, ◌++◌};
 ghost use Rattle.segment_model.specs.Limits.{IsSmall};
 ghost use Rattle.line_text.specs.Lines.{words_of};
-ghost use Rattle.cut_lines.specs.Lines.{IsGood, MayBecomeGood};
-ghost use Rattle.cut_lines.specs.LineKinds.{IsKind, AreNumbers, NeverGood};
+ghost use Rattle.cut_lines.specs.{Lines.{IsGood, MayBecomeGood}, LineKinds.{IsKind, AreNumbers, NeverGood}};
 
 use line_text::{next_word, read_i64, read_u64};
 use std::alloc::AllocError;

@@ -1,9 +1,7 @@
 //! The points of an input.
-ghost use Rattle.std.specs.Io.KnownBytes.{IsAtEnd};
-ghost use Rattle.std.specs.Prelude.{ℕ, ◌+◌, ◌^◌, ◌≤◌, length, OnOk, IfOk, IfErr};
+ghost use Rattle.std.specs.{Io.KnownBytes.IsAtEnd, Prelude.{ℕ, ◌+◌, ◌^◌, ◌≤◌, length, OnOk, IfOk, IfErr}};
 ghost use Rattle.track_outside.specs.Calls.{GaveAtMost};
-ghost use Rattle.cut_lines.specs.Reading.{ArePointsOfInput, AreInputPointsWithin};
-ghost use Rattle.cut_lines.specs.Stops.{OneStop, OneStopWithin, NoStopOfPoints, NoStopOfPointsWithin, StopsFor, StopsWithin};
+ghost use Rattle.cut_lines.specs.{Reading.{ArePointsOfInput, AreInputPointsWithin}, Stops.{OneStop, OneStopWithin, NoStopOfPoints, NoStopOfPointsWithin, StopsFor, StopsWithin}};
 
 use crate::reader::Reader;
 use line_pieces::{Stop, read_lines};

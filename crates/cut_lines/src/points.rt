@@ -2,8 +2,7 @@
 ghost use Rattle.std.specs.Prelude.{◌≤◌, ℕ, List, OnOk, IfErr};
 ghost use Rattle.segment_model.specs.Limits.{IsSmall};
 ghost use Rattle.point_list.specs.Steps.{CameUpTo};
-ghost use Rattle.cut_lines.specs.Lines.{IsCutLine};
-ghost use Rattle.cut_lines.specs.Adding.{AddsValue, TakesLine, RefusesLine};
+ghost use Rattle.cut_lines.specs.{Lines.IsCutLine, Adding.{AddsValue, TakesLine, RefusesLine}};
 
 use crate::cut_line::{LINE_LIMIT, LineKind, line_kind};
 use line_pieces::{Refusal, Stop};

@@ -28,8 +28,7 @@ pub struct Reader {
 
 impl Reader {
     ghost use Rattle.line_pieces.specs.Pieces.{ReadsMore, LastRefused, EndRefused};
-    ghost use Rattle.cut_lines.specs.HasRead.{HasRead, HasPoints};
-    ghost use Rattle.cut_lines.specs.Pieces.{reading};
+    ghost use Rattle.cut_lines.specs.{HasRead.{HasRead, HasPoints}, Pieces.reading};
 
     /// A reader of no bytes, for so many positions at most.
     pub fn new(alloc: Global, most: u64) -> Reader

@@ -1,14 +1,9 @@
 -- Exported: the middle of some values is the least whole number about which the sum of distances is least.
 use Rattle.std.proofs.Common.{◌≡◌, ℕ, ℤ, zero, suc, pos, ◌+◌, ◌-◌, ◌*◌, ◌/◌, ◌^◌, ◌<◌, ◌≤◌, Bool, true, false, cond, List, [], ◌∷◌, ◌++◌, length, get_or, sum_by, count_by, nat_abs, ◌+ℤ◌, ◌-ℤ◌, neg_ℤ, ◌≤ℤ◌, ◌<ℤ◌, refl, sym, ap, ◌∙◌, arith, inl, inr}
-use Rattle.std.specs.Prelude.{int_le}
-use Rattle.std.specs.List.{All}
-use Rattle.std.proofs.lemmas.Bool.{cases_Bool}
-use Rattle.std.proofs.lemmas.Int.{ints, by_lt_z}
-use Rattle.std.proofs.lemmas.List.Sums.{count_by-le-length, sum_by-append, sum_by-le}
-use Rattle.std.proofs.lemmas.List.Elements.{All-weaker, All-head, All-tail}
+use Rattle.std.{specs.Prelude.int_le, specs.List.All, proofs.lemmas.Bool.cases_Bool, proofs.lemmas.Int.{ints, by_lt_z}}
+use Rattle.std.proofs.lemmas.List.{Sums.{count_by-le-length, sum_by-append, sum_by-le}, Elements.{All-weaker, All-head, All-tail}}
 use Rattle.std.proofs.Math.Nat.{mul-add, mul-le-mul_left}
-use Rattle.segment_model.specs.Limits.{IsSmall}
-use Rattle.segment_model.specs.Values.{MergesValues, CostsInRange}
+use Rattle.segment_model.specs.{Limits.IsSmall, Values.{MergesValues, CostsInRange}}
 use Rattle.distance_model.specs.Middles.{at_most, IsMiddle}
 use Rattle.distance_model.specs.Distances.{distance, distances_about, IsAbsoluteCentre, in_place, in_order, middle_of, least_distances_of, MiddleIsCentre, CentreIsUnique, LeastIsComputed}
 

@@ -1,16 +1,10 @@
 -- The text of a value is a numeral, and its scaled value is the value.
 use Rattle.std.proofs.Common.{◌≡◌, ℕ, zero, suc, ◌+◌, ◌*◌, ◌/◌, ◌%◌, ◌^◌, ◌<◌, ◌≤◌, Bool, true, false, List, [], ◌∷◌, ◌++◌, length, decimal, refl, sym, ap, ◌∙◌, subst, arith, append-nil, length-append, ℤ, pos, negsuc, ◌-ℤ◌, ◌+ℤ◌}
-use Rattle.std.specs.Prelude.{All, unsigned_abs}
-use Rattle.std.proofs.Math.Nat.{div-div-eq-div-mul, pow-suc}
-use Rattle.std.specs.Char.{digit_value}
-use Rattle.std.specs.Str.Parse.{AllDigits, digits_value_after}
-use Rattle.std.proofs.lemmas.Bool.Decides.{nat_tests}
-use Rattle.std.proofs.lemmas.Fmt.{decimal_is_IsNumeral_wide, length-decimal-le_wide}
-use Rattle.std.proofs.lemmas.Int.{ints}
-use Rattle.std.proofs.lemmas.List.Elements.{All-nil, All-cons, All-append}
+use Rattle.std.{specs.Prelude.{All, unsigned_abs}, proofs.Math.Nat.{div-div-eq-div-mul, pow-suc}, specs.Char.digit_value}
+use Rattle.std.{specs.Str.Parse.{AllDigits, digits_value_after}, proofs.lemmas.Bool.Decides.nat_tests}
+use Rattle.std.proofs.lemmas.{Fmt.{decimal_is_IsNumeral_wide, length-decimal-le_wide}, Int.ints, List.Elements.{All-nil, All-cons, All-append}}
 use Rattle.fixed_value.specs.Fixed.{low_digits, fraction_text, magnitude_text, fixed_text, IsFixedByte, IsReadBack, FixedIsReadBack}
-use Rattle.fixed_value.specs.Numerals.{IsSign, no_sign, minus, no_point, point, no_mark, IsTail}
-use Rattle.fixed_value.specs.Scaled.{signed, IsMagnitude}
+use Rattle.fixed_value.specs.{Numerals.{IsSign, no_sign, minus, no_point, point, no_mark, IsTail}, Scaled.{signed, IsMagnitude}}
 use Rattle.fixed_value.proofs.Reading.{value_after_append, digit_is}
 
 -- ---- the digits behind the point

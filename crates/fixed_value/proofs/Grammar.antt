@@ -1,15 +1,10 @@
 -- The grammar of numerals: a text is split in one way.
 use Rattle.std.proofs.Common.{◌≡◌, ◌≢◌, ℕ, zero, suc, ◌+◌, ◌-◌, ◌^◌, ◌<◌, ◌≤◌, Bool, ◌⊎◌, ⊎_elim, List, [], ◌∷◌, ◌++◌, length, get_or, take, drop, refl, sym, ap, ap₂, ◌∙◌, subst, arith, ℤ, pos, ◌-ℤ◌, lit≤}
-use Rattle.std.proofs.Math.Seq.{take-length}
-use Rattle.std.proofs.lemmas.List.{take-append-drop, length-take-le, length-drop}
-use Rattle.std.specs.Char.{digit_value}
-use Rattle.std.specs.Prelude.{unsigned_abs, Option, None, Some, IfSome, IfNone}
-use Rattle.std.specs.Str.Parse.{AllDigits, digits_value, digits_value_after}
-use Rattle.fixed_value.specs.declared.numeral.Numeral.{Numeral}
-use Rattle.fixed_value.specs.Scaled.{signed}
+use Rattle.std.{proofs.Math.Seq.take-length, proofs.lemmas.List.{take-append-drop, length-take-le, length-drop}, specs.Char.digit_value}
+use Rattle.std.specs.{Prelude.{unsigned_abs, Option, None, Some, IfSome, IfNone}, Str.Parse.{AllDigits, digits_value, digits_value_after}}
+use Rattle.fixed_value.specs.{declared.numeral.Numeral.Numeral, Scaled.signed}
 use Rattle.fixed_value.specs.Numerals.{AreDigits, IsSign, IsPower, IsExponent, no_mark, mark, IsFraction, no_point, point, IsTail, IsNumeralText}
-use Rattle.fixed_value.proofs.Reading.{value_below, value_after_append}
-use Rattle.fixed_value.proofs.Powers.{abs-signed, ten_grows}
+use Rattle.fixed_value.proofs.{Reading.{value_below, value_after_append}, Powers.{abs-signed, ten_grows}}
 
 -- ---- the sign
 

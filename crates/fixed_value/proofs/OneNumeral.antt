@@ -1,10 +1,8 @@
 -- A text is one numeral's at most.
 use Rattle.std.proofs.Common.{◌≡◌, ℕ, ◌<◌, Bool, false, cond, ⊎_elim, List, [], ◌∷◌, ◌++◌, length, get_or, drop, refl, sym, ap, ap₂, ◌∙◌, subst, arith, ℤ, ◌-ℤ◌, pos, eqb, ne_eqb}
-use Rattle.std.specs.Char.{digit_value}
-use Rattle.std.specs.Str.Parse.{digits_value, starts_with_minus, without_leading_sign, without_leading_plus}
+use Rattle.std.specs.{Char.digit_value, Str.Parse.{digits_value, starts_with_minus, without_leading_sign, without_leading_plus}}
 use Rattle.std.proofs.lemmas.Bool.{cases_eq}
-use Rattle.fixed_value.specs.Scaled.{signed}
-use Rattle.fixed_value.specs.Numerals.{AreDigits, IsSign, no_sign, plus, minus, IsPower, IsExponent, no_mark, mark, IsTail, NumeralIsOne}
+use Rattle.fixed_value.specs.{Scaled.signed, Numerals.{AreDigits, IsSign, no_sign, plus, minus, IsPower, IsExponent, no_mark, mark, IsTail, NumeralIsOne}}
 use Rattle.fixed_value.proofs.Grammar.{one_run, first_of_digits, exponent_ends, tail_without_point, tail_behind_point, tail_ends, same_numeral}
 
 -- a sign is split off in one way

@@ -1,9 +1,7 @@
 -- The digits of a number at its places.
 use Rattle.std.proofs.Common.{◌≡◌, ℕ, zero, suc, ◌+◌, ◌-◌, ◌/◌, ◌%◌, ◌^◌, ◌<◌, ◌≤◌, List, [], ◌∷◌, ◌++◌, length, take, refl, sym, ap, ◌∙◌, arith, append_assoc, append-nil}
-use Rattle.std.proofs.Math.Nat.{div-eq_of_lt}
-use Rattle.std.proofs.Math.Seq.{take-append_seam}
-use Rattle.fixed_value.specs.Fixed.{low_digits}
-use Rattle.fixed_value.proofs.Powers.{ten_grows}
+use Rattle.std.proofs.Math.{Nat.div-eq_of_lt, Seq.take-append_seam}
+use Rattle.fixed_value.{specs.Fixed.low_digits, proofs.Powers.ten_grows}
 
 -- above the places of 64 bits there is nothing
 pub past_places : (n places : ℕ) → n < 2 ^ 64 → 19 < places → 0 ≡ n / 10 ^ places

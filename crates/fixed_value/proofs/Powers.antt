@@ -1,12 +1,8 @@
 -- Powers of ten, and values that are nearest to a numeral's.
 use Rattle.std.proofs.Common.{◌≡◌, ℕ, zero, suc, ◌+◌, ◌*◌, ◌/◌, ◌%◌, ◌^◌, ◌<◌, ◌≤◌, Bool, true, false, ℤ, pos, negsuc, ◌+ℤ◌, ◌<ℤ◌, ◌≤ℤ◌, refl, sym, ap, ◌∙◌, subst, arith, Result, Ok, Err}
-use Rattle.std.specs.Prelude.{unsigned_abs, OnErr}
-use Rattle.std.proofs.Math.Nat.{pow-le-pow_right, one-le-pow, le-mul_of_pos_right, mul-le-mul_right}
-use Rattle.std.specs.Prelude.{int_lt}
-use Rattle.std.proofs.lemmas.Int.{ints}
-use Rattle.std.proofs.lemmas.Nat.{div-add-mod', mod_below}
-use Rattle.fixed_value.specs.declared.numeral.Numeral.{Numeral}
-use Rattle.fixed_value.specs.Scaled.{signed, IsNearest, IsMagnitude, IsScaled, ScaledIsOne}
+use Rattle.std.{specs.Prelude.{unsigned_abs, OnErr}, proofs.Math.Nat.{pow-le-pow_right, one-le-pow, le-mul_of_pos_right, mul-le-mul_right}}
+use Rattle.std.{specs.Prelude.int_lt, proofs.lemmas.Int.ints, proofs.lemmas.Nat.{div-add-mod', mod_below}}
+use Rattle.fixed_value.specs.{declared.numeral.Numeral.Numeral, Scaled.{signed, IsNearest, IsMagnitude, IsScaled, ScaledIsOne}}
 
 pub ten_some : (k : ℕ) → 0 < 10 ^ k
 ten_some k = one-le-pow k 10 (omega arith)

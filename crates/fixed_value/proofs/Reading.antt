@@ -1,11 +1,7 @@
 -- The number that digits spell.
 use Rattle.std.proofs.Common.{◌≡◌, ℕ, suc, ◌+◌, ◌-◌, ◌*◌, ◌^◌, ◌<◌, ◌≤◌, List, [], ◌∷◌, ◌++◌, length, get_or, drop, refl, sym, ap, ◌∙◌, subst, arith}
-use Rattle.std.proofs.Math.Nat.{pow-suc, mul-le-mul_left, mul-le-mul_right}
-use Rattle.std.proofs.lemmas.List.{drop_more}
-use Rattle.std.proofs.lemmas.Nat.{pow-add}
-use Rattle.std.specs.Char.{digit_value}
-use Rattle.std.specs.Str.Parse.{AllDigits, digits_value, digits_value_after}
-use Rattle.std.proofs.lemmas.Bool.Decides.{nat_tests}
+use Rattle.std.{proofs.Math.Nat.{pow-suc, mul-le-mul_left, mul-le-mul_right}, proofs.lemmas.List.drop_more, proofs.lemmas.Nat.pow-add, specs.Char.digit_value}
+use Rattle.std.{specs.Str.Parse.{AllDigits, digits_value, digits_value_after}, proofs.lemmas.Bool.Decides.nat_tests}
 use Rattle.fixed_value.proofs.Powers.{ten_some, ten_grows}
 
 pub digit_is : (c : ℕ) → digit_value c < 10 → 48 + digit_value c ≡ c

@@ -1,8 +1,6 @@
 -- The text of a scaled value, and the numeral that it is.
 use Rattle.std.specs.Prelude.{ℕ, zero, suc, ◌+◌, ◌/◌, ◌%◌, ◌^◌, ◌≤◌, List, [], ◌∷◌, ◌++◌, All, ℤ, pos, negsuc, decimal, unsigned_abs}
-use Rattle.fixed_value.specs.declared.numeral.Numeral.{Numeral}
-use Rattle.fixed_value.specs.Numerals.{IsNumeralText}
-use Rattle.fixed_value.specs.Scaled.{IsScaled}
+use Rattle.fixed_value.specs.{declared.numeral.Numeral.Numeral, Numerals.IsNumeralText, Scaled.IsScaled}
 use Rattle.fixed_value.specs.Bytes as byte
 
 -- the digits of n at the places below d, the highest first

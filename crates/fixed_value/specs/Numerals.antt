@@ -1,8 +1,6 @@
 -- Which texts are numerals, and what numeral a text is.
-use Rattle.std.specs.Prelude.{◌≡◌, ℕ, ◌+◌, ◌≤◌, Bool, true, false, ◌⊎◌, List, [], ◌∷◌, ◌++◌, length, ℤ, pos, ◌-ℤ◌}
-use Rattle.std.specs.Str.Parse.{IsNumeral, digits_value}
-use Rattle.fixed_value.specs.declared.numeral.Numeral.{Numeral}
-use Rattle.fixed_value.specs.Scaled.{signed}
+use Rattle.std.specs.{Prelude.{◌≡◌, ℕ, ◌+◌, ◌≤◌, Bool, true, false, ◌⊎◌, List, [], ◌∷◌, ◌++◌, length, ℤ, pos, ◌-ℤ◌}, Str.Parse.{IsNumeral, digits_value}}
+use Rattle.fixed_value.specs.{declared.numeral.Numeral.Numeral, Scaled.signed}
 use Rattle.fixed_value.specs.Bytes as byte
 
 -- decimal digits, one or more

@@ -1,9 +1,6 @@
 //! The parts of a numeral: its sign, its digits, and what marks a fraction or an exponent.
-ghost use Rattle.std.specs.Prelude.{◌≡◌, ◌≢◌, ◌↔◌, ℕ, Bool, List, ◌∷◌, ◌++◌, ◌+◌, ◌*◌, ◌^◌, ◌<◌, ◌≤◌, length, take, slice_index, IsTrue, IfSome, IfNone, OnSome};
-ghost use Rattle.std.specs.Str.Parse.{AllDigits, digits_value_after};
-ghost use Rattle.std.specs.Char.{digit_value};
-ghost use Rattle.fixed_value.specs.Bytes.{point};
-ghost use Rattle.fixed_value.specs.Numerals.{AreDigits, IsExponentLetter, IsSign};
+ghost use Rattle.std.specs.{Prelude.{◌≡◌, ◌≢◌, ◌↔◌, ℕ, Bool, List, ◌∷◌, ◌++◌, ◌+◌, ◌*◌, ◌^◌, ◌<◌, ◌≤◌, length, take, slice_index, IsTrue, IfSome, IfNone, OnSome}, Str.Parse.{AllDigits, digits_value_after}, Char.digit_value};
+ghost use Rattle.fixed_value.specs.{Bytes.point, Numerals.{AreDigits, IsExponentLetter, IsSign}};
 
 // Whether a sign `-` comes first, and what follows the sign.
 pub(crate) fn split_sign(text: &[u8]) -> (bool, &[u8])

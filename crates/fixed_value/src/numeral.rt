@@ -1,7 +1,6 @@
 //! Numerals, and which text is one.
 ghost use Rattle.std.specs.Prelude.{◌≡◌, ℕ, ℤ, List, ◌^◌, ◌<◌, ◌≤◌, length, Some, IfSome, IfNone, IsSomeAnd, unsigned_abs};
-ghost use Rattle.fixed_value.specs.declared.numeral.Numeral.{Numeral};
-ghost use Rattle.fixed_value.specs.Numerals.{IsPower, IsExponent, IsTail, IsNumeralText, NumeralIsOne};
+ghost use Rattle.fixed_value.specs.{declared.numeral.Numeral.Numeral, Numerals.{IsPower, IsExponent, IsTail, IsNumeralText, NumeralIsOne}};
 
 use crate::digits::{
     after_letter, after_point, are_digits, leading_digits, number_after, split_sign,

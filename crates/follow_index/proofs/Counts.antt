@@ -1,14 +1,9 @@
 -- How the count of open bisections changes with one of them, and which one asks a place.
 use Rattle.std.proofs.Common.{◌≡◌, ℕ, zero, suc, ◌+◌, ◌-◌, ◌≤◌, Bool, true, false, cond, not, List, [], ◌∷◌, ◌++◌, length, set, get_or, Option, Some, None, refl, sym, subst, ap, ◌∙◌, arith, eq-eqb, ne_eqb}
-use Rattle.std.specs.Prelude.{◌==◌, filter}
+use Rattle.std.{specs.Prelude.{◌==◌, filter}, proofs.lemmas.Option.get_or_from_slice_get, specs.List.slice_get}
 use Rattle.follow_index.specs.Numbered.{open_from, open_numbers, GoesOn}
-use Rattle.std.proofs.lemmas.Option.{get_or_from_slice_get}
-use Rattle.std.specs.List.{slice_get}
-use Rattle.bisect_core.specs.Bisections.{Bisection, IsRecorded, is_open, asked_by, answer_to}
-use Rattle.bisect_core.specs.Turns.{Turn}
-use Rattle.bisect_core.specs.declared.outcome.Outcome.{Outcome}
-use Rattle.bisect_core.specs.declared.outcome.Outcome.TheVariants.{Asks, Found, Undecided, Faulted}
-use Rattle.bisect_core.specs.declared.outcome.Answered.{Answered}
+use Rattle.bisect_core.specs.{Bisections.{Bisection, IsRecorded, is_open, asked_by, answer_to}, Turns.Turn, declared.outcome.Outcome.Outcome}
+use Rattle.bisect_core.specs.declared.outcome.{Outcome.TheVariants.{Asks, Found, Undecided, Faulted}, Answered.Answered}
 use Rattle.bisect_core.specs.declared.outcome.Answered.TheVariants as answered
 use Rattle.history_model.specs.Jobs.{job_in, place_asked, is_under_way, open_count}
 

@@ -1,8 +1,6 @@
 -- The regressions of a history, with their states.
 use Rattle.std.specs.Prelude.{ℕ, ◌+◌, List, [], ◌∷◌}
-use Rattle.history_model.specs.declared.entries.Entry.{Entry}
-use Rattle.history_model.specs.declared.events.Raised.{Raised}
-use Rattle.history_model.specs.Regressions.{regressions, state_of}
+use Rattle.history_model.specs.{declared.entries.Entry.Entry, declared.events.Raised.Raised, Regressions.{regressions, state_of}}
 use Rattle.follow_index.specs.declared.regressions.Followed.{Followed}
 
 -- these changes with their states, from this number on

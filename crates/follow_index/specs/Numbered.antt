@@ -1,8 +1,7 @@
 -- Regressions and bisections by number, and what becomes of one of them.
 use Rattle.std.specs.Prelude.{◌≡◌, ℕ, zero, suc, ◌+◌, ◌-◌, if◌then◌else◌, List, [], ◌∷◌, set, slice_get, Option, Some, None}
 use Rattle.regression_state.specs.declared.states.State.{State}
-use Rattle.bisect_core.specs.Bisections.{Bisection, IsRecorded}
-use Rattle.bisect_core.specs.Turns.{Turn}
+use Rattle.bisect_core.specs.{Bisections.{Bisection, IsRecorded}, Turns.Turn}
 use Rattle.history_model.specs.Jobs.{job_in, is_under_way}
 use Rattle.follow_index.specs.declared.regressions.Followed.{Followed}
 

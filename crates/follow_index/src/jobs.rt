@@ -1,8 +1,6 @@
 //! The bisections of a machine.
-ghost use Rattle.std.specs.Prelude.{◌≡◌, ◌<◌, ◌^◌, ◌≤◌, ◌++◌, ◌==◌, [], ◌∷◌, Some, length, filter, not, OnOk, OnErr, option_copied, if◌then◌else◌};
-ghost use Rattle.std.specs.List.Sorted.{IsStrictlyIncreasing};
-ghost use Rattle.bisect_core.specs.Bisections.{bisection};
-ghost use Rattle.bisect_core.specs.Turns.{tested, given_up};
+ghost use Rattle.std.specs.{Prelude.{◌≡◌, ◌<◌, ◌^◌, ◌≤◌, ◌++◌, ◌==◌, [], ◌∷◌, Some, length, filter, not, OnOk, OnErr, option_copied, if◌then◌else◌}, List.Sorted.IsStrictlyIncreasing};
+ghost use Rattle.bisect_core.specs.{Bisections.bisection, Turns.{tested, given_up}};
 ghost use Rattle.history_model.specs.Jobs.{job_in, is_under_way, open_count, place_asked};
 ghost use Rattle.follow_index.specs.Numbered.{GoesOn, open_numbers};
 

@@ -1,16 +1,10 @@
 -- How the characters of a text are cut into fields.
 use Rattle.std.proofs.Common.{◌≡◌, ◌≢◌, ℕ, zero, suc, ◌<◌, Bool, true, false, cond, List, [], ◌∷◌, ◌++◌, length, map, filter, refl, sym, ◌∙◌, ap, subst, arith}
-use Rattle.std.specs.Char.{is_whitespace}
-use Rattle.std.specs.List.{slice_split, list_all, All}
-use Rattle.std.specs.Str.{chars, encode_utf8_all, all_scalars, IsUtf8, trim_start, skip_leading_whitespace}
-use Rattle.std.proofs.lemmas.Bool.{not-true, and_parts}
-use Rattle.std.proofs.lemmas.Str.{chars-encodes, chars-append, encodes-chars, encodes_same, scalars-chars, chars-nil}
-use Rattle.std.proofs.lemmas.List.{append-nil, nil_from_length}
-use Rattle.std.proofs.lemmas.List.Splits.{slice_split-cons_yes, slice_split_none, slice_split_at}
-use Rattle.std.proofs.lemmas.Bool.Decides.{nat_tests}
-use Rattle.go_bench_text.specs.Characters.{is_black}
-use Rattle.go_bench_text.specs.Fields.{is_field, fields_of_chars, fields_of}
-use Rattle.go_bench_text.specs.Parts.{is_stopped}
+use Rattle.std.specs.{Char.is_whitespace, List.{slice_split, list_all, All}}
+use Rattle.std.{specs.Str.{chars, encode_utf8_all, all_scalars, IsUtf8, trim_start, skip_leading_whitespace}, proofs.lemmas.Bool.{not-true, and_parts}}
+use Rattle.std.proofs.lemmas.{Str.{chars-encodes, chars-append, encodes-chars, encodes_same, scalars-chars, chars-nil}, List.{append-nil, nil_from_length}}
+use Rattle.std.proofs.lemmas.{List.Splits.{slice_split-cons_yes, slice_split_none, slice_split_at}, Bool.Decides.nat_tests}
+use Rattle.go_bench_text.specs.{Characters.is_black, Fields.{is_field, fields_of_chars, fields_of}, Parts.is_stopped}
 
 -- white space in front parts nothing
 pub fields-white : (c : ℕ) (cs : List ℕ) → is_whitespace c ≡ true → fields_of_chars (c ∷ cs) ≡ fields_of_chars cs

@@ -1,8 +1,6 @@
 -- Decimal digits, byte by byte.
 use Rattle.std.proofs.Common.{◌≡◌, ℕ, ◌+◌, ◌<◌, ◌≤◌, true, false, List, ◌∷◌, length, drop, get_or, sym, subst, arith}
-use Rattle.std.specs.Char.{digit_value, is_ascii_digit}
-use Rattle.std.specs.Str.Parse.{AllDigits}
-use Rattle.std.proofs.lemmas.List.{drop_more, drop_all}
+use Rattle.std.{specs.Char.{digit_value, is_ascii_digit}, specs.Str.Parse.AllDigits, proofs.lemmas.List.{drop_more, drop_all}}
 use Rattle.std.proofs.lemmas.Bool.Decides.{nat_tests}
 
 pub digit_of : (b : ℕ) → is_ascii_digit b ≡ true → digit_value b < 10

@@ -1,10 +1,7 @@
 -- The first line of a text, by the place of its first line feed.
 use Rattle.std.proofs.Common.{◌≡◌, ℕ, ◌+◌, ◌-◌, ◌<◌, ◌≤◌, List, ◌∷◌, [], ◌++◌, All, length, take, drop, get_or, slice_index, eqb, false, eqb-true, refl, sym, ap, ◌∙◌, arith, eq-eqb, Some, None, Option, Bor, IfSome, IfNone, length-drop, subst}
-use Rattle.std.specs.List.{slice_range}
-use Rattle.std.specs.Str.{IsUtf8, IsCharBoundary}
-use Rattle.std.proofs.lemmas.Bool.{ne_eqb}
-use Rattle.std.proofs.lemmas.List.{drop_more, take-append-drop, get_or_default, get_or-take, length-take}
-use Rattle.std.proofs.lemmas.List.Splits.{slice_split_at, slice_split_none}
+use Rattle.std.{specs.List.slice_range, specs.Str.{IsUtf8, IsCharBoundary}, proofs.lemmas.Bool.ne_eqb}
+use Rattle.std.proofs.lemmas.List.{drop_more, take-append-drop, get_or_default, get_or-take, length-take, Splits.{slice_split_at, slice_split_none}}
 use Rattle.std.proofs.lemmas.Str.{IsCharBoundary-after_ascii}
 use Rattle.line_text.specs.Lines.{lines_of}
 use Rattle.memchr.specs.Find.{IsFirstByte, Nowhere, Passes, is_byte}

@@ -1,15 +1,9 @@
 -- What a line adds, and when it is out of range.
 use Rattle.std.proofs.Common.{◌≡◌, ℕ, ◌≤◌, ◌<◌, ◌⊎◌, inl, inr, true, false, List, [], ◌∷◌, ◌++◌, length, refl, sym, ◌∙◌, ap, subst, arith}
-use Rattle.std.specs.Prelude.{codes}
-use Rattle.std.proofs.lemmas.List.{append-nil}
-use Rattle.go_bench_text.specs.Gathering.{Keeps, Gains, AddsLine}
-use Rattle.go_bench_text.specs.Lines.{begins, ArePairs, IsHead, IsResult, IsResultLine}
-use Rattle.go_bench_text.specs.Pairs.{ReadsPairs, samples_of}
-use Rattle.go_bench_text.specs.Readings.{HasLarge, PairsGive, IsOver, pkg_of, test_of}
-use Rattle.go_bench_text.specs.Readings.LineGives.{measured, broken}
-use Rattle.go_bench_text.specs.declared.gather.Gathered.{Gathered}
-use Rattle.go_bench_text.specs.declared.pairs.Pair.{Pair}
-use Rattle.go_bench_text.proofs.OneReading.{same_parts, not_both}
+use Rattle.std.{specs.Prelude.codes, proofs.lemmas.List.append-nil}
+use Rattle.go_bench_text.specs.{Gathering.{Keeps, Gains, AddsLine}, Lines.{begins, ArePairs, IsHead, IsResult, IsResultLine}, Pairs.{ReadsPairs, samples_of}}
+use Rattle.go_bench_text.specs.Readings.{HasLarge, PairsGive, IsOver, pkg_of, test_of, LineGives.{measured, broken}}
+use Rattle.go_bench_text.{specs.declared.gather.Gathered.Gathered, specs.declared.pairs.Pair.Pair, proofs.OneReading.{same_parts, not_both}}
 
 pub gains_none : (before : Gathered) → Gains before before []
 gains_none before given keeps = subst (Keeps before) (sym (append-nil given)) keeps

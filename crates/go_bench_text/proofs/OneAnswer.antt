@@ -1,17 +1,11 @@
 -- A text that has samples within the limit has no other answer than these.
-use Rattle.std.proofs.Common.{◌≡◌, ℕ, ◌-◌, ◌≤◌, List, [], length, Result, Ok, Err, IfOk, IfErr, refl, sym, ap, subst, arith}
-use Rattle.std.specs.Prelude.{MatchResult}
-use Rattle.std.specs.Str.{IsUtf8, IsValidUpTo}
-use Rattle.std.proofs.lemmas.List.{take_all}
+use Rattle.std.{proofs.Common.{◌≡◌, ℕ, ◌-◌, ◌≤◌, List, [], length, Result, Ok, Err, IfOk, IfErr, refl, sym, ap, subst, arith}, specs.Prelude.MatchResult}
+use Rattle.std.{specs.Str.{IsUtf8, IsValidUpTo}, proofs.lemmas.List.take_all}
 use Rattle.line_text.specs.Lines.{lines_of}
-use Rattle.metric_table.specs.Limits.{most}
-use Rattle.metric_table.specs.declared.limits.Limit.TheVariants.{RunSamples}
+use Rattle.metric_table.specs.{Limits.most, declared.limits.Limit.TheVariants.RunSamples}
 use Rattle.sample_model.specs.Samples.{Measurement}
-use Rattle.go_bench_text.specs.declared.read.GoRun.{GoRun}
-use Rattle.go_bench_text.specs.declared.read.GoFault.{GoFault}
-use Rattle.go_bench_text.specs.declared.read.GoFault.TheVariants.{NotText, OutOfRange, Full, NoMemory}
-use Rattle.go_bench_text.specs.Readings.{IsRead, OneReading}
-use Rattle.go_bench_text.specs.Answers.{IsFault}
+use Rattle.go_bench_text.specs.declared.read.{GoRun.GoRun, GoFault.GoFault, GoFault.TheVariants.{NotText, OutOfRange, Full, NoMemory}}
+use Rattle.go_bench_text.specs.{Readings.{IsRead, OneReading}, Answers.IsFault}
 
 not_cut : (bytes : List ℕ) (offset : ℕ) → IsValidUpTo bytes offset → IsUtf8 bytes → ⊥
 not_cut bytes offset cut text = cut.longest (length bytes) cut.short (subst IsUtf8 (sym (take_all (length bytes) bytes (omega arith))) text)

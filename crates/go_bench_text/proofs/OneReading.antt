@@ -1,11 +1,9 @@
 -- A text has one reading.
-use Rattle.std.proofs.Common.{◌≡◌, ℕ, Bool, true, false, ℤ, List, [], ◌∷◌, ◌++◌, refl, sym, ◌∙◌, ap, subst, arith}
-use Rattle.std.specs.Prelude.{codes}
+use Rattle.std.{proofs.Common.{◌≡◌, ℕ, Bool, true, false, ℤ, List, [], ◌∷◌, ◌++◌, refl, sym, ◌∙◌, ap, subst, arith}, specs.Prelude.codes}
 use Rattle.std.proofs.lemmas.List.{append_cancel_left}
 use Rattle.metric_value.specs.Values.{ValueIsOne}
 use Rattle.sample_model.specs.Samples.{Measurement}
-use Rattle.go_bench_text.specs.Lines.{begins, IsResult}
-use Rattle.go_bench_text.specs.Readings.{IsSampleOf, PairsGive, LineGives, LinesGive, pkg_of, test_of}
+use Rattle.go_bench_text.specs.{Lines.{begins, IsResult}, Readings.{IsSampleOf, PairsGive, LineGives, LinesGive, pkg_of, test_of}}
 use Rattle.go_bench_text.specs.Readings.LineGives.{measured, broken, silent}
 
 same_sample : (one other : Measurement) → one.test ≡ other.test → one.metric ≡ other.metric → one.value ≡ other.value → one ≡ other

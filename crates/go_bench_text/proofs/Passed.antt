@@ -1,15 +1,10 @@
 -- What was passed on the way through the characters of a text.
 use Rattle.std.proofs.Common.{◌≡◌, ℕ, zero, suc, ◌+◌, ◌<◌, ◌≤◌, get_or, Bool, true, false, ◌&&◌, not, List, [], ◌∷◌, ◌++◌, length, take, drop, ◌-◌, refl, sym, ◌∙◌, ap, subst, append_assoc, arith, length-append}
-use Rattle.std.specs.Char.{is_whitespace, encode_utf8, IsScalar}
-use Rattle.std.specs.List.{list_all}
-use Rattle.std.specs.Str.{chars, IsUtf8, IsCharBoundary}
-use Rattle.std.proofs.lemmas.Bool.{and_from}
+use Rattle.std.{specs.Char.{is_whitespace, encode_utf8, IsScalar}, specs.List.list_all, specs.Str.{chars, IsUtf8, IsCharBoundary}, proofs.lemmas.Bool.and_from}
 use Rattle.std.proofs.lemmas.Bool.Decides.{nat_tests}
 use Rattle.std.proofs.lemmas.Str.{IsUtf8-nil, IsUtf8-append, IsUtf8-drop, IsCharBoundary-after_ascii, encode_ascii, IsUtf8-encode, chars-append, chars_past_char, chars-nil, IsCharBoundary-at_seam}
-use Rattle.std.proofs.lemmas.List.{append-nil, take_at, drop_at, drop_more, length-drop}
-use Rattle.std.proofs.lemmas.List.Folds.{list_all-append}
-use Rattle.go_bench_text.specs.Characters.{is_black}
-use Rattle.go_bench_text.specs.Parts.{IsBlackByte, IsWhiteByte, is_stopped}
+use Rattle.std.proofs.lemmas.List.{append-nil, take_at, drop_at, drop_more, length-drop, Folds.list_all-append}
+use Rattle.go_bench_text.specs.{Characters.is_black, Parts.{IsBlackByte, IsWhiteByte, is_stopped}}
 
 -- the rest of the text behind characters other than white space
 pub record Passed (text rest : List ℕ) : Type 0 where

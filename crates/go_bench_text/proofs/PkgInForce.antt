@@ -1,13 +1,8 @@
 -- The value of `pkg` behind one line more.
 use Rattle.std.proofs.Common.{◌≡◌, ℕ, zero, suc, Bool, true, false, cond, ◌&&◌, List, [], ◌∷◌, ◌++◌, length, ◌-◌, take, reverse, get_or, refl, sym, ◌∙◌, ap, arith, Some}
-use Rattle.std.specs.Prelude.{◌==◌, codes, find, bytes_eq}
-use Rattle.std.specs.Option.{option_map_or}
-use Rattle.std.specs.Cmp.Lexicographic.{bytes_decides}
-use Rattle.std.specs.List.{position_or_len, suffix_len}
-use Rattle.std.proofs.lemmas.List.{reverse-append, get_or-take}
-use Rattle.std.proofs.lemmas.Bool.Decides.{nat_tests}
-use Rattle.go_bench_text.specs.Lines.{begins, is_config, is_colon, key_of, value_of, without_returns}
-use Rattle.go_bench_text.specs.Readings.{sets_pkg, pkg_of}
+use Rattle.std.specs.{Prelude.{◌==◌, codes, find, bytes_eq}, Option.option_map_or, Cmp.Lexicographic.bytes_decides, List.{position_or_len, suffix_len}}
+use Rattle.std.proofs.lemmas.{List.{reverse-append, get_or-take}, Bool.Decides.nat_tests}
+use Rattle.go_bench_text.specs.{Lines.{begins, is_config, is_colon, key_of, value_of, without_returns}, Readings.{sets_pkg, pkg_of}}
 
 chosen : (line : List ℕ) (back : List (List ℕ)) (t : Bool) → sets_pkg line ≡ t
     → option_map_or value_of (find sets_pkg (line ∷ back)) [] ≡ option_map_or value_of (cond t (Some line) (find sets_pkg back)) []

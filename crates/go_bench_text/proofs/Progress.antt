@@ -1,11 +1,9 @@
 -- How far a text was read.
 use Rattle.std.proofs.Common.{◌≡◌, ℕ, ◌+◌, ◌≤◌, ◌<◌, List, [], ◌∷◌, ◌++◌, length, take, drop, get_or, refl, sym, ◌∙◌, ap, subst, arith, append_assoc, zero-add, add-zero, add_assoc, ◌-◌, below_more}
-use Rattle.std.specs.Str.{IsUtf8}
-use Rattle.std.proofs.lemmas.List.{append-nil, drop_more, take_more, drop_all}
+use Rattle.std.{specs.Str.IsUtf8, proofs.lemmas.List.{append-nil, drop_more, take_more, drop_all}}
 use Rattle.line_text.specs.Lines.{lines_of}
 use Rattle.sample_model.specs.Samples.{Measurement}
-use Rattle.go_bench_text.specs.Gathering.{Keeps, AddsLine}
-use Rattle.go_bench_text.specs.Readings.{LinesGive, IsOver, IsOverAt, NoneOverBelow, IsFirstOver, IsRead, pkg_of}
+use Rattle.go_bench_text.specs.{Gathering.{Keeps, AddsLine}, Readings.{LinesGive, IsOver, IsOverAt, NoneOverBelow, IsFirstOver, IsRead, pkg_of}}
 use Rattle.go_bench_text.specs.declared.gather.Gathered.{Gathered}
 
 -- what the lines behind the first n give is all that is missing

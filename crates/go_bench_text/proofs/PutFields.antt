@@ -1,18 +1,11 @@
 -- The fields of a line that is put.
 use Rattle.std.proofs.Common.{◌≡◌, ℕ, zero, suc, ◌<◌, ◌≤◌, true, List, [], ◌∷◌, ◌++◌, length, get_or, refl, sym, ◌∙◌, ap, arith, lit<}
-use Rattle.std.specs.Prelude.{codes, nat_lt}
-use Rattle.std.specs.List.{list_all, All}
-use Rattle.std.specs.Str.{chars, encode_utf8_all, IsUtf8, IsAscii}
-use Rattle.std.proofs.lemmas.Bool.{and_from}
+use Rattle.std.{specs.Prelude.{codes, nat_lt}, specs.List.{list_all, All}, specs.Str.{chars, encode_utf8_all, IsUtf8, IsAscii}, proofs.lemmas.Bool.and_from}
 use Rattle.std.proofs.lemmas.Str.{chars-append, encodes-chars, chars-nil, chars-IsAscii, IsUtf8-from_ascii, IsUtf8-append, encode_ascii}
-use Rattle.std.proofs.lemmas.List.{append-nil, get_or_past}
-use Rattle.std.proofs.lemmas.List.Folds.{list_all-append}
-use Rattle.std.proofs.lemmas.List.Sums.{list_all-from_AllPass, AllPass-from_list_all}
+use Rattle.std.proofs.lemmas.List.{append-nil, get_or_past, Folds.list_all-append, Sums.{list_all-from_AllPass, AllPass-from_list_all}}
 use Rattle.std.proofs.lemmas.Bool.Decides.{nat_tests}
 use Rattle.fixed_value.specs.Fixed.{IsFixedByte}
-use Rattle.go_bench_text.specs.Characters.{is_black}
-use Rattle.go_bench_text.specs.Fields.{fields_of, fields_of_chars}
-use Rattle.go_bench_text.specs.Parts.{is_stopped}
+use Rattle.go_bench_text.specs.{Characters.is_black, Fields.{fields_of, fields_of_chars}, Parts.is_stopped}
 use Rattle.go_bench_text.proofs.Cutting.{fields-white, fields-first}
 
 at_chars : (xs ys cs : List ℕ) → chars xs ≡ cs → IsUtf8 xs → 0 < length xs → list_all is_black cs ≡ true → is_stopped (chars ys) ≡ true → fields_of (xs ++ ys) ≡ xs ∷ fields_of ys

@@ -1,19 +1,11 @@
 -- The line that sets `pkg`, as it is read.
 use Rattle.std.proofs.Common.{◌≡◌, ◌≢◌, ℕ, ◌+◌, ◌-◌, ◌<◌, Bool, true, false, ◌&&◌, cond, List, [], ◌∷◌, ◌++◌, length, drop, get_or, refl, sym, ◌∙◌, ap, arith, eqb, length-append}
-use Rattle.std.specs.Prelude.{codes, bytes_eq}
-use Rattle.std.specs.List.{list_any, prefix_len, before_first, after_first}
-use Rattle.std.specs.Str.{chars}
-use Rattle.std.proofs.lemmas.Str.{chars-IsAscii}
+use Rattle.std.{specs.Prelude.{codes, bytes_eq}, specs.List.{list_any, prefix_len, before_first, after_first}, specs.Str.chars, proofs.lemmas.Str.chars-IsAscii}
 use Rattle.std.proofs.lemmas.List.{get_or_at, get_or-append_right, length_push}
-use Rattle.unicode.specs.GeneralCategory.{general_category}
+use Rattle.unicode.specs.{GeneralCategory.general_category, Rows.value_in}
 use Rattle.ucd_category.specs.GeneralCategoryRows.{general_category_rows}
-use Rattle.unicode.specs.Rows.{value_in}
-use Rattle.go_bench_text.specs.Characters.{is_key, is_blank}
-use Rattle.go_bench_text.specs.Lines.{is_colon, value_of, without_returns, without_blanks, is_set_off, begins}
-use Rattle.go_bench_text.specs.Readings.{sets_pkg}
-use Rattle.go_bench_text.specs.Spellings.{pkg_line}
-use Rattle.go_bench_text.proofs.Settings.{returns_none}
-use Rattle.go_bench_text.proofs.PutFields.{ascii_word}
+use Rattle.go_bench_text.specs.{Characters.{is_key, is_blank}, Lines.{is_colon, value_of, without_returns, without_blanks, is_set_off, begins}}
+use Rattle.go_bench_text.{specs.Readings.sets_pkg, specs.Spellings.pkg_line, proofs.Settings.returns_none, proofs.PutFields.ascii_word}
 
 -- `pkg` is a key
 key_chars : is_key (codes "pkg") ≡ true

@@ -1,33 +1,18 @@
 -- Reading what was put gives the samples.
 use Rattle.std.proofs.Common.{◌≡◌, ℕ, ℤ, zero, suc, ◌+◌, ◌-◌, ◌^◌, ◌<◌, ◌≤◌, inl, inr, unsigned_abs, Bool, true, false, not, ◌&&◌, ◌||◌, List, [], ◌∷◌, ◌++◌, length, take, get_or, refl, sym, ◌∙◌, ap, subst, arith, eqb, lit<, length-append, append_assoc}
-use Rattle.std.specs.Prelude.{codes, nat_lt}
-use Rattle.std.specs.Char.{is_whitespace}
-use Rattle.std.specs.List.{list_all, list_any, All}
-use Rattle.std.specs.Str.{chars, IsUtf8, NonePass, NoCharPasses}
+use Rattle.std.specs.{Prelude.{codes, nat_lt}, Char.is_whitespace, List.{list_all, list_any, All}, Str.{chars, IsUtf8, NonePass, NoCharPasses}}
 use Rattle.std.proofs.lemmas.Str.{encodes-chars, chars-nil, IsUtf8-nil, IsUtf8-append, IsUtf8-take, IsUtf8-drop, IsUtf8-from_ascii, NoCharPasses-byte, IsCharBoundary-before_ascii, IsCharBoundary-after_ascii}
-use Rattle.std.proofs.lemmas.List.{get_or_default, get_or_past}
-use Rattle.std.proofs.lemmas.List.Elements.{All-append}
-use Rattle.std.proofs.lemmas.List.Splits.{slice_split_at}
-use Rattle.std.proofs.lemmas.List.Sums.{AllPass-from_list_all}
-use Rattle.std.proofs.lemmas.Bool.{not-true, and_parts}
-use Rattle.std.proofs.lemmas.Bool.Decides.{nat_tests}
+use Rattle.std.proofs.lemmas.List.{get_or_default, get_or_past, Elements.All-append, Splits.slice_split_at, Sums.AllPass-from_list_all}
+use Rattle.std.proofs.lemmas.Bool.{not-true, and_parts, Decides.nat_tests}
 use Rattle.line_text.specs.Lines.{lines_of}
-use Rattle.fixed_value.specs.Numerals.{IsNumeralText}
-use Rattle.fixed_value.specs.declared.numeral.Numeral.{Numeral}
-use Rattle.fixed_value.specs.Fixed.{IsFixedByte}
+use Rattle.fixed_value.specs.{Numerals.IsNumeralText, declared.numeral.Numeral.Numeral, Fixed.IsFixedByte}
 use Rattle.metric_value.specs.Values.{value_text, IsValueOf, IsReadBackBy, ValueIsReadBack}
 use Rattle.sample_model.specs.Samples.{Measurement, IsSample}
-use Rattle.go_bench_text.specs.Characters.{is_black, is_name, is_blank}
-use Rattle.go_bench_text.specs.Lines.{begins, IsResult}
-use Rattle.go_bench_text.specs.Readings.{pkg_of, test_of, HasLarge, IsOver, IsRead, LineGives, LinesGive}
-use Rattle.go_bench_text.specs.Readings.LineGives.{measured, silent}
-use Rattle.go_bench_text.specs.Spellings.{is_bare_name, IsPartedAt, IsWrittenBy, IsSpelling, AreSpelled, pkg_line, result_line}
-use Rattle.go_bench_text.specs.Spellings.IsWrittenBy.{lone, own, parted}
-use Rattle.go_bench_text.proofs.Partings.{parted_there}
-use Rattle.go_bench_text.proofs.PkgInForce.{pkg_set}
-use Rattle.go_bench_text.proofs.PutFields.{MayPut, put_fields, ascii_of, ascii_word, bench_utf8}
-use Rattle.go_bench_text.proofs.PutPkg.{Sets, sets_none, sets_some}
-use Rattle.go_bench_text.proofs.LineParts.{over_parts, none_over, silent_in_range}
+use Rattle.go_bench_text.specs.{Characters.{is_black, is_name, is_blank}, Lines.{begins, IsResult}}
+use Rattle.go_bench_text.specs.Readings.{pkg_of, test_of, HasLarge, IsOver, IsRead, LineGives, LinesGive, LineGives.{measured, silent}}
+use Rattle.go_bench_text.specs.Spellings.{is_bare_name, IsPartedAt, IsWrittenBy, IsSpelling, AreSpelled, pkg_line, result_line, IsWrittenBy.{lone, own, parted}}
+use Rattle.go_bench_text.proofs.{Partings.parted_there, PkgInForce.pkg_set, PutFields.{MayPut, put_fields, ascii_of, ascii_word, bench_utf8}}
+use Rattle.go_bench_text.proofs.{PutPkg.{Sets, sets_none, sets_some}, LineParts.{over_parts, none_over, silent_in_range}}
 
 -- ---- no line feed
 

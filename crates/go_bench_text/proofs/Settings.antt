@@ -1,11 +1,8 @@
 -- The parts of a configuration line.
 use Rattle.std.proofs.Common.{◌≡◌, ◌≢◌, ℕ, suc, ◌+◌, ◌-◌, Bool, true, false, cond, not, ◌||◌, List, [], ◌∷◌, ◌++◌, length, take, drop, reverse, refl, sym, ◌∙◌, ap, arith, eqb, Option, Some, None, IfNone, lit<, Bor}
-use Rattle.std.specs.List.{list_any, prefix_len, suffix_len, position_or_len}
-use Rattle.std.proofs.lemmas.List.{take_all, reverse-append, reverse-reverse}
-use Rattle.std.proofs.lemmas.Str.Pattern.{IsSplitOnceResult, split_once_first}
-use Rattle.std.proofs.lemmas.Bool.Decides.{nat_tests}
-use Rattle.go_bench_text.specs.Characters.{is_blank}
-use Rattle.go_bench_text.specs.Lines.{is_colon, without_returns, without_blanks}
+use Rattle.std.{specs.List.{list_any, prefix_len, suffix_len, position_or_len}, proofs.lemmas.List.{take_all, reverse-append, reverse-reverse}}
+use Rattle.std.proofs.lemmas.{Str.Pattern.{IsSplitOnceResult, split_once_first}, Bool.Decides.nat_tests}
+use Rattle.go_bench_text.specs.{Characters.is_blank, Lines.{is_colon, without_returns, without_blanks}}
 
 -- no carriage return at the end: nothing is taken away
 last_stays : (bs back : List ℕ) → reverse bs ≡ back → ((front : List ℕ) → bs ≢ front ++ 13 ∷ []) → prefix_len (λ b. eqb b 13) back ≡ 0

@@ -1,11 +1,8 @@
 -- The texts of samples, one behind the other.
-use Rattle.std.proofs.Common.{◌≡◌, ℕ, List, [], ◌∷◌, ◌++◌, ◌≤◌, length, take, true, refl, sym, subst, ◌∙◌, ap, append_assoc}
-use Rattle.std.specs.List.{list_all}
-use Rattle.std.specs.Str.{chars}
-use Rattle.std.proofs.lemmas.List.{append-nil, take_all}
+use Rattle.std.{proofs.Common.{◌≡◌, ℕ, List, [], ◌∷◌, ◌++◌, ◌≤◌, length, take, true, refl, sym, subst, ◌∙◌, ap, append_assoc}, specs.List.list_all}
+use Rattle.std.{specs.Str.chars, proofs.lemmas.List.{append-nil, take_all}}
 use Rattle.sample_model.specs.Samples.{Measurement}
-use Rattle.go_bench_text.specs.Characters.{is_black}
-use Rattle.go_bench_text.specs.Spellings.{IsWrittenBy, IsSpelling, AreSpelled, pkg_line, result_line}
+use Rattle.go_bench_text.specs.{Characters.is_black, Spellings.{IsWrittenBy, IsSpelling, AreSpelled, pkg_line, result_line}}
 
 -- what was appended is the sample's text
 pub appended_is : (sample : Measurement) (pkg name old between new : List ℕ) → IsWrittenBy sample.test pkg name → list_all is_black (chars sample.metric) ≡ true

@@ -1,13 +1,9 @@
 -- The pairs of a line as far as they were read.
 use Rattle.std.proofs.Common.{◌≡◌, ℕ, zero, suc, ◌<◌, ◌≤◌, inl, inr, List, [], ◌∷◌, ◌++◌, length, refl, sym, ◌∙◌, ap, subst, arith, append_assoc}
-use Rattle.std.specs.List.{All}
-use Rattle.std.proofs.lemmas.List.{append-nil, map-append, length-map}
-use Rattle.std.proofs.lemmas.List.Elements.{All-append}
+use Rattle.std.{specs.List.All, proofs.lemmas.List.{append-nil, map-append, length-map}, proofs.lemmas.List.Elements.All-append}
 use Rattle.sample_model.specs.Samples.{Measurement}
 use Rattle.metric_value.specs.Values.{HasNoneInRange}
-use Rattle.go_bench_text.specs.Lines.{ArePairs}
-use Rattle.go_bench_text.specs.Pairs.{IsPair, IsPairOf, sample_of, samples_of, ReadsPairs}
-use Rattle.go_bench_text.specs.Readings.{HasLarge, PairsGive}
+use Rattle.go_bench_text.specs.{Lines.ArePairs, Pairs.{IsPair, IsPairOf, sample_of, samples_of, ReadsPairs}, Readings.{HasLarge, PairsGive}}
 use Rattle.go_bench_text.specs.declared.pairs.Pair.{Pair}
 
 -- these pairs stand in front of the rest

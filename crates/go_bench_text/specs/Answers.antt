@@ -1,13 +1,9 @@
 -- What each answer of the reader says of the bytes.
-use Rattle.std.specs.Prelude.{◌≡◌, ℕ, ◌≤◌, List, length, Result, MatchResult}
-use Rattle.std.specs.Str.{IsUtf8, IsValidUpTo}
+use Rattle.std.specs.{Prelude.{◌≡◌, ℕ, ◌≤◌, List, length, Result, MatchResult}, Str.{IsUtf8, IsValidUpTo}}
 use Rattle.line_text.specs.Lines.{lines_of}
-use Rattle.metric_table.specs.Limits.{most}
-use Rattle.metric_table.specs.declared.limits.Limit.TheVariants.{RunSamples}
+use Rattle.metric_table.specs.{Limits.most, declared.limits.Limit.TheVariants.RunSamples}
 use Rattle.sample_model.specs.Samples.{Measurement}
-use Rattle.go_bench_text.specs.Readings.{IsFirstOver, IsRead, HasTooMany}
-use Rattle.go_bench_text.specs.declared.read.GoRun.{GoRun}
-use Rattle.go_bench_text.specs.declared.read.GoFault.{GoFault}
+use Rattle.go_bench_text.specs.{Readings.{IsFirstOver, IsRead, HasTooMany}, declared.read.GoRun.GoRun, declared.read.GoFault.GoFault}
 use Rattle.go_bench_text.specs.declared.read.GoFault.TheVariants.{NotText, OutOfRange, Full, NoMemory}
 
 -- what a fault says of the bytes

@@ -1,7 +1,5 @@
 -- The classes of characters that tell lines apart. Upper and lower case are the general categories Lu and Ll of Unicode.
-use Rattle.std.specs.Prelude.{ℕ, Bool, true, false, not, ◌&&◌, ◌||◌, ◌==◌, List, [], ◌∷◌}
-use Rattle.std.specs.Char.{is_whitespace}
-use Rattle.std.specs.List.{list_all}
+use Rattle.std.specs.{Prelude.{ℕ, Bool, true, false, not, ◌&&◌, ◌||◌, ◌==◌, List, [], ◌∷◌}, Char.is_whitespace, List.list_all}
 use Rattle.go_bench_text.specs.Bytes as byte
 use Rattle.unicode.specs.GeneralCategory.{general_category, general_category_eq}
 use Rattle.ucd_category.specs.declared.GeneralCategory.TheVariants.{UppercaseLetter, LowercaseLetter}

@@ -1,8 +1,5 @@
 -- The fields of a line.
-use Rattle.std.specs.Prelude.{ℕ, Bool, not, ◌==◌, List, map, filter, length}
-use Rattle.std.specs.Char.{is_whitespace}
-use Rattle.std.specs.List.{slice_split}
-use Rattle.std.specs.Str.{chars, encode_utf8_all}
+use Rattle.std.specs.{Prelude.{ℕ, Bool, not, ◌==◌, List, map, filter, length}, Char.is_whitespace, List.slice_split, Str.{chars, encode_utf8_all}}
 
 -- not empty
 abbrev pub is_field : List ℕ → Bool

@@ -1,10 +1,8 @@
 -- No public contract cites this. What has become of the samples while a text is read.
 use Rattle.std.specs.Prelude.{◌≡◌, ℕ, ◌<◌, ◌≤◌, ◌⊎◌, true, false, List, ◌++◌, length}
-use Rattle.metric_table.specs.Limits.{most}
-use Rattle.metric_table.specs.declared.limits.Limit.TheVariants.{RunSamples}
+use Rattle.metric_table.specs.{Limits.most, declared.limits.Limit.TheVariants.RunSamples}
 use Rattle.sample_model.specs.Samples.{Measurement}
-use Rattle.go_bench_text.specs.Readings.{LineGives, IsOver}
-use Rattle.go_bench_text.specs.declared.gather.Gathered.{Gathered}
+use Rattle.go_bench_text.specs.{Readings.{LineGives, IsOver}, declared.gather.Gathered.Gathered}
 
 -- all of the samples that were given, or the note that they are more than a run may have
 pub record Keeps (gathered : Gathered) (given : List Measurement) : Type 0 where

@@ -1,12 +1,9 @@
 -- What kind of line a line of benchmark output is, by its own characters alone.
 use Rattle.std.specs.Prelude.{◌≡◌, ℕ, ◌-◌, ◌<◌, ◌≤◌, Bool, true, false, ◌&&◌, ◌==◌, List, [], ◌∷◌, ◌++◌, length, take, drop, codes, nat_eq, IsTrue}
-use Rattle.std.specs.List.{list_any, starts_with, before_first, after_first, prefix_len, suffix_len}
-use Rattle.std.specs.Str.{chars}
+use Rattle.std.specs.{List.{list_any, starts_with, before_first, after_first, prefix_len, suffix_len}, Str.chars}
 use Rattle.fixed_value.specs.Numerals.{AreDigits, HasNumeral}
 use Rattle.go_bench_text.specs.Bytes as byte
-use Rattle.go_bench_text.specs.Characters.{is_key, is_name, is_blank}
-use Rattle.go_bench_text.specs.Fields.{fields_of}
-use Rattle.go_bench_text.specs.declared.line.LineKind.{LineKind}
+use Rattle.go_bench_text.specs.{Characters.{is_key, is_name, is_blank}, Fields.fields_of, declared.line.LineKind.LineKind}
 use Rattle.go_bench_text.specs.declared.line.LineKind.TheVariants.{Config, Result, Broken, Other}
 
 -- the line without the carriage returns at its end

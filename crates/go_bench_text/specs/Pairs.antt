@@ -3,10 +3,7 @@ use Rattle.std.specs.Prelude.{◌≡◌, ℕ, ◌<◌, ◌≤◌, ◌^◌, List,
 use Rattle.fixed_value.specs.Numerals.{HasNumeral}
 use Rattle.metric_value.specs.Values.{IsValueOf, HasNoneInRange}
 use Rattle.sample_model.specs.Samples.{Measurement}
-use Rattle.go_bench_text.specs.Lines.{ArePairs}
-use Rattle.go_bench_text.specs.Readings.{PairsGive, HasLarge}
-use Rattle.go_bench_text.specs.declared.pairs.Pair.{Pair}
-use Rattle.go_bench_text.specs.declared.pairs.PairRead.{PairRead}
+use Rattle.go_bench_text.specs.{Lines.ArePairs, Readings.{PairsGive, HasLarge}, declared.pairs.Pair.Pair, declared.pairs.PairRead.PairRead}
 use Rattle.go_bench_text.specs.declared.pairs.PairRead.TheVariants.{InRange, OutOfRange, NoPair}
 
 -- what a sample keeps of its unit and its value

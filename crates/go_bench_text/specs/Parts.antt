@@ -1,6 +1,5 @@
 -- No public contract cites this. Where a field ends.
-use Rattle.std.specs.Prelude.{◌≡◌, ℕ, ◌<◌, Bool, true, false, List, [], ◌∷◌}
-use Rattle.std.specs.Char.{is_whitespace}
+use Rattle.std.specs.{Prelude.{◌≡◌, ℕ, ◌<◌, Bool, true, false, List, [], ◌∷◌}, Char.is_whitespace}
 
 -- nothing, or white space first
 abbrev pub is_stopped : List ℕ → Bool

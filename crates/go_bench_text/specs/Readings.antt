@@ -1,10 +1,8 @@
 -- The samples of a text, by a look back from each result line to the last line before it that sets `pkg`.
 use Rattle.std.specs.Prelude.{◌≡◌, ℕ, ◌+◌, ◌-◌, ◌<◌, ◌≤◌, Bool, false, ◌&&◌, ◌⊎◌, List, [], ◌∷◌, ◌++◌, length, take, slice_index_or, reverse, find, codes, bytes_eq}
-use Rattle.std.specs.Option.{option_map_or}
-use Rattle.std.specs.Str.{IsUtf8}
+use Rattle.std.specs.{Option.option_map_or, Str.IsUtf8}
 use Rattle.line_text.specs.Lines.{lines_of}
-use Rattle.metric_table.specs.Limits.{most}
-use Rattle.metric_table.specs.declared.limits.Limit.TheVariants.{RunSamples}
+use Rattle.metric_table.specs.{Limits.most, declared.limits.Limit.TheVariants.RunSamples}
 use Rattle.metric_value.specs.Values.{IsValueOf, HasNoneInRange}
 use Rattle.sample_model.specs.Samples.{Measurement}
 use Rattle.go_bench_text.specs.Bytes as byte

@@ -1,7 +1,6 @@
 -- How samples are written, so that reading the text gives them back.
 use Rattle.std.specs.Prelude.{◌≡◌, ◌≢◌, ℕ, ◌-◌, ◌<◌, Bool, true, ◌&&◌, not, List, [], ◌∷◌, ◌++◌, length, codes, ◌==◌, slice_index, slice_index_or, pos}
-use Rattle.std.specs.List.{list_all, list_any}
-use Rattle.std.specs.Str.{chars}
+use Rattle.std.specs.{List.{list_all, list_any}, Str.chars}
 use Rattle.metric_value.specs.Values.{value_text}
 use Rattle.sample_model.specs.Samples.{Measurement}
 use Rattle.go_bench_text.specs.Bytes as byte

@@ -1,8 +1,5 @@
 //! The classes of characters that tell lines apart.
-ghost use Rattle.std.specs.Prelude.{◌≡◌, ◌++◌, ◌∷◌, [], IfSome, IfNone};
-ghost use Rattle.std.specs.Char.{encode_utf8};
-ghost use Rattle.std.specs.Str.{chars, IsUtf8};
-ghost use Rattle.std.specs.List.{list_all};
+ghost use Rattle.std.specs.{Prelude.{◌≡◌, ◌++◌, ◌∷◌, [], IfSome, IfNone}, Char.encode_utf8, Str.{chars, IsUtf8}, List.list_all};
 ghost use Rattle.go_bench_text.specs.Characters.{is_upper, is_lower, is_of_key, is_key, is_name};
 
 use unicode::properties::GeneralCategory;

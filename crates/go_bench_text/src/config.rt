@@ -1,7 +1,5 @@
 //! Configuration lines: a key, a colon and a value.
-ghost use Rattle.std.specs.Prelude.{◌≡◌, ◌<◌, true, false, length, IfSome, IfNone};
-ghost use Rattle.std.specs.List.{list_any, before_first, after_first};
-ghost use Rattle.std.specs.Str.{IsUtf8};
+ghost use Rattle.std.specs.{Prelude.{◌≡◌, ◌<◌, true, false, length, IfSome, IfNone}, List.{list_any, before_first, after_first}, Str.IsUtf8};
 ghost use Rattle.go_bench_text.specs.Lines.{is_colon, without_returns, without_blanks, is_set_off, is_config, key_of, value_of};
 
 use crate::characters::is_key;

@@ -1,12 +1,7 @@
 //! The fields of a line.
-ghost use Rattle.std.specs.Prelude.{◌≡◌, ◌<◌, ◌≤◌, ◌++◌, ◌∷◌, [], ◌↔◌, ℕ, true, length, slice_index, IfSome, IfNone, IsTrue};
-ghost use Rattle.std.specs.List.{list_all};
-ghost use Rattle.std.specs.Str.{chars, IsUtf8, trim_start};
+ghost use Rattle.std.specs.{Prelude.{◌≡◌, ◌<◌, ◌≤◌, ◌++◌, ◌∷◌, [], ◌↔◌, ℕ, true, length, slice_index, IfSome, IfNone, IsTrue}, List.list_all, Str.{chars, IsUtf8, trim_start}};
 ghost use Rattle.fixed_value.specs.Numerals.{AreDigits, HasNumeral};
-ghost use Rattle.go_bench_text.specs.Characters.{is_black};
-ghost use Rattle.go_bench_text.specs.Fields.{fields_of};
-ghost use Rattle.go_bench_text.specs.Lines.{ArePairs};
-ghost use Rattle.go_bench_text.specs.Parts.{is_stopped, IsBlackByte, IsWhiteByte};
+ghost use Rattle.go_bench_text.specs.{Characters.is_black, Fields.fields_of, Lines.ArePairs, Parts.{is_stopped, IsBlackByte, IsWhiteByte}};
 
 use crate::characters::split_first;
 use fixed_value::Numeral;

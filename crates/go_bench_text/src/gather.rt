@@ -1,8 +1,6 @@
 //! The samples of a text as far as it has been read, and what a line adds to them.
 ghost use Rattle.std.specs.Prelude.{◌≡◌, ◌≤◌, true, ℕ, List, IfOk};
-ghost use Rattle.go_bench_text.specs.Gathering.{AddsLine};
-ghost use Rattle.go_bench_text.specs.Lines.{begins};
-ghost use Rattle.go_bench_text.specs.Readings.{IsOver, pkg_of};
+ghost use Rattle.go_bench_text.specs.{Gathering.AddsLine, Lines.begins, Readings.{IsOver, pkg_of}};
 
 use crate::fault::LineFault;
 use crate::line::head_of;
@@ -26,9 +24,7 @@ pub(crate) struct Gathered {
 
 impl Gathered {
     ghost use Rattle.std.specs.Prelude.{◌≡◌, ◌<◌, ◌≤◌, ◌↔◌, ◌∷◌, [], All, length, IsTrue, IfOk, OnOk};
-    ghost use Rattle.go_bench_text.specs.Gathering.{Keeps, Gains, IsFull};
-    ghost use Rattle.go_bench_text.specs.Pairs.{IsPair, sample_of, samples_of};
-    ghost use Rattle.go_bench_text.specs.Readings.{test_of};
+    ghost use Rattle.go_bench_text.specs.{Gathering.{Keeps, Gains, IsFull}, Pairs.{IsPair, sample_of, samples_of}, Readings.test_of};
 
     // No samples of a text of so many bytes. Where it is short there is room for one: a vector that grows takes room for four.
     pub(crate) fn new(alloc: Global, length: usize) -> Gathered

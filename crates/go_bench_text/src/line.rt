@@ -1,9 +1,7 @@
 //! The first line of a text, and what kind of line a line of benchmark output is.
-ghost use Rattle.std.specs.Prelude.{◌≡◌, ◌∷◌, ◌++◌, ◌↔◌, ◌<◌, [], true, length, codes, IfSome, IfNone, IsTrue, List, ℕ};
-ghost use Rattle.std.specs.Str.{IsUtf8};
+ghost use Rattle.std.specs.{Prelude.{◌≡◌, ◌∷◌, ◌++◌, ◌↔◌, ◌<◌, [], true, length, codes, IfSome, IfNone, IsTrue, List, ℕ}, Str.IsUtf8};
 ghost use Rattle.line_text.specs.Lines.{lines_of};
-ghost use Rattle.go_bench_text.specs.Fields.{fields_of};
-ghost use Rattle.go_bench_text.specs.Lines.{IsHead, begins, ArePairs, IsResultLine, IsKind};
+ghost use Rattle.go_bench_text.specs.{Fields.fields_of, Lines.{IsHead, begins, ArePairs, IsResultLine, IsKind}};
 
 use crate::characters::is_name;
 use crate::config::setting_of;

@@ -1,8 +1,6 @@
 //! The pairs of a result line, each read once.
 ghost use Rattle.std.specs.Prelude.{◌≡◌, ◌<◌, false, length, IfOk, IsTrue};
-ghost use Rattle.go_bench_text.specs.Fields.{fields_of};
-ghost use Rattle.go_bench_text.specs.Lines.{ArePairs};
-ghost use Rattle.go_bench_text.specs.Pairs.{IsReadAs, ReadsPairs, HasLargePair};
+ghost use Rattle.go_bench_text.specs.{Fields.fields_of, Lines.ArePairs, Pairs.{IsReadAs, ReadsPairs, HasLargePair}};
 
 use crate::fault::LineFault;
 use crate::fields::{are_pairs, next_field};

@@ -1,11 +1,6 @@
 //! The writer: samples as benchmark output.
-ghost use Rattle.std.specs.Prelude.{◌≡◌, ◌++◌, ◌∷◌, [], true, ℕ, List, IfOk, OnOk, IfSome, IfNone};
-ghost use Rattle.std.specs.List.{list_all};
-ghost use Rattle.std.specs.Str.{chars};
-ghost use Rattle.go_bench_text.specs.Bytes.{line_feed};
-ghost use Rattle.go_bench_text.specs.Characters.{is_black};
-ghost use Rattle.go_bench_text.specs.Readings.{IsRead};
-ghost use Rattle.go_bench_text.specs.Spellings.{IsWrittenBy, HasSpelling, IsSpelling, AreSpelled, IsFirstUnspelled, pkg_line, result_line};
+ghost use Rattle.std.specs.{Prelude.{◌≡◌, ◌++◌, ◌∷◌, [], true, ℕ, List, IfOk, OnOk, IfSome, IfNone}, List.list_all, Str.chars};
+ghost use Rattle.go_bench_text.specs.{Bytes.line_feed, Characters.is_black, Readings.IsRead, Spellings.{IsWrittenBy, HasSpelling, IsSpelling, AreSpelled, IsFirstUnspelled, pkg_line, result_line}};
 
 use crate::spelling::{are_black, written_by};
 use metric_value::{put_value, value_law};

@@ -1,13 +1,8 @@
 //! The reader of benchmark output: from the bytes over the lines to the samples.
-ghost use Rattle.std.specs.Prelude.{◌≡◌, ◌≤◌, ◌∷◌, ◌++◌, [], true, false, ℕ, List, length, IfOk, IfErr, IfSome, IfNone};
-ghost use Rattle.std.specs.Str.{IsUtf8};
+ghost use Rattle.std.specs.{Prelude.{◌≡◌, ◌≤◌, ◌∷◌, ◌++◌, [], true, false, ℕ, List, length, IfOk, IfErr, IfSome, IfNone}, Str.IsUtf8};
 ghost use Rattle.sample_model.specs.Samples.{Measurement};
-ghost use Rattle.metric_table.specs.Limits.{most};
-ghost use Rattle.metric_table.specs.declared.limits.Limit.TheVariants.{RunSamples};
-ghost use Rattle.go_bench_text.specs.Answers.{IsFault, GivesEach};
-ghost use Rattle.go_bench_text.specs.Gathering.{AddsLine, Keeps};
-ghost use Rattle.go_bench_text.specs.Lines.{value_of};
-ghost use Rattle.go_bench_text.specs.Readings.{sets_pkg, pkg_of, IsOver, IsRead, OneReading};
+ghost use Rattle.metric_table.specs.{Limits.most, declared.limits.Limit.TheVariants.RunSamples};
+ghost use Rattle.go_bench_text.specs.{Answers.{IsFault, GivesEach}, Gathering.{AddsLine, Keeps}, Lines.value_of, Readings.{sets_pkg, pkg_of, IsOver, IsRead, OneReading}};
 
 use crate::config::setting_of;
 use crate::fault::LineFault;

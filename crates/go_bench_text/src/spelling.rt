@@ -1,10 +1,6 @@
 //! What a test is written by: a value of `pkg` and a name.
-ghost use Rattle.std.specs.Prelude.{◌≡◌, ◌==◌, ◌↔◌, ◌<◌, length, true, ℕ, List, IfSome, IfNone, IsTrue};
-ghost use Rattle.std.specs.List.{list_all, list_any};
-ghost use Rattle.std.specs.Str.{chars};
-ghost use Rattle.go_bench_text.specs.Bytes.{line_feed};
-ghost use Rattle.go_bench_text.specs.Characters.{is_black};
-ghost use Rattle.go_bench_text.specs.Spellings.{is_bare_name, may_set, IsPartedAt, IsFirstPartedAt, IsOwnName, IsWrittenBy};
+ghost use Rattle.std.specs.{Prelude.{◌≡◌, ◌==◌, ◌↔◌, ◌<◌, length, true, ℕ, List, IfSome, IfNone, IsTrue}, List.{list_all, list_any}, Str.chars};
+ghost use Rattle.go_bench_text.specs.{Bytes.line_feed, Characters.is_black, Spellings.{is_bare_name, may_set, IsPartedAt, IsFirstPartedAt, IsOwnName, IsWrittenBy}};
 
 use crate::characters::{is_name, split_first};
 

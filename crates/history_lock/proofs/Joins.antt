@@ -7,11 +7,8 @@ use mathlib.Core.List.{append-nil}
 use native.Mathlib.Decide.{ℕ_discrete}
 use lib.ListN.{get_elem?}
 use lib.Seq.{set-get_or}
-use Rattle.atomic_table.specs.Table.{step, keeps, Allows, Splits, Joins, Final, Seen}
-use Rattle.atomic_table.proofs.Lists.{set_here, set_else, at_longer, one_turn}
-use Rattle.history_lock.specs.declared.view.View.{View}
-use Rattle.history_lock.specs.declared.view.Marked.{Marked}
-use Rattle.history_lock.specs.declared.view.Stage.TheVariants.{Outside, Inside, Meeting}
+use Rattle.atomic_table.{specs.Table.{step, keeps, Allows, Splits, Joins, Final, Seen}, proofs.Lists.{set_here, set_else, at_longer, one_turn}}
+use Rattle.history_lock.specs.declared.view.{View.View, Marked.Marked, Stage.TheVariants.{Outside, Inside, Meeting}}
 use Rattle.history_lock.specs.Rule.{busy, alive, HasTurn, Holds, seeing, waiting, Sees, Knows, IsBadge, split_left, split_right, join_both, spent_view, IsWholeView, LockState, Kept}
 use Rattle.history_lock.specs.Marks.{AreBy, AreByOthers, Follows, HaveMarksUpTo, IsLongerOf, IsNoneOf, IsOtherMark, entries}
 use Rattle.history_lock.specs.Steps.{Sat, met, heard, last_joined, joined_before, recalled}

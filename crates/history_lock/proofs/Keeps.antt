@@ -10,10 +10,7 @@ use lib.Dec.{eqb}
 use prog.Atomic.{either}
 use Rattle.atomic_table.specs.Table.{Act, step, keeps, takes, gives, stepped, homes_after, carried_after, opening, Allows, Valid}
 use Rattle.atomic_table.proofs.Lists.{exchanged, set_again, set_here, set_else, one_turn}
-use Rattle.history_lock.specs.declared.view.View.{View}
-use Rattle.history_lock.specs.declared.view.Marked.{Marked}
-use Rattle.history_lock.specs.declared.view.Stage.{Stage}
-use Rattle.history_lock.specs.declared.view.Stage.TheVariants.{Outside, Waiting, Turn, Inside}
+use Rattle.history_lock.specs.declared.view.{View.View, Marked.Marked, Stage.Stage, Stage.TheVariants.{Outside, Waiting, Turn, Inside}}
 use Rattle.history_lock.specs.Rule.{busy, alive, HasTurn, Holds, turn_of, listed, first_view, at_stage, seeing, waiting, Sees, Knows, IsBadge, LockState, KeptTurns, KeptMarks, KeptSlot, Kept}
 use Rattle.history_lock.specs.Marks.{Follows, HaveMarksUpTo, IsNoneOf, entries, marked, unmarked}
 use Rattle.history_lock.specs.Steps.{Sat, in_slot, drew, drew_if_free, looked, read_count, counted, passed_on}

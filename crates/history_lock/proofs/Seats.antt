@@ -4,12 +4,8 @@ use Rattle.std.specs.Prelude.{Option, Some, None}
 use mathlib.Core.Option.{some, some-injective, some-ne-none}
 use mathlib.Core.List.{append_assoc, append-nil}
 use lib.ListN.{get_elem?}
-use Rattle.atomic_table.specs.Table.{rest}
-use Rattle.atomic_table.proofs.Lists.{at_set}
-use Rattle.history_lock.specs.declared.view.View.{View}
-use Rattle.history_lock.specs.declared.view.Marked.{Marked}
-use Rattle.history_lock.specs.declared.view.Stage.{Stage}
-use Rattle.history_lock.specs.declared.view.Stage.TheVariants.{Spent, Outside, Waiting, Turn, Inside, Meeting}
+use Rattle.atomic_table.{specs.Table.rest, proofs.Lists.at_set}
+use Rattle.history_lock.specs.declared.view.{View.View, Marked.Marked, Stage.Stage, Stage.TheVariants.{Spent, Outside, Waiting, Turn, Inside, Meeting}}
 use Rattle.history_lock.specs.Marks.{AreByOthers, Follows, HaveMarksUpTo, IsLongerOf, IsNoneOf, IsOtherMark, marked}
 use Rattle.history_lock.specs.Rule.{busy, alive, HasTurn, Holds, waiting, living, Knows}
 

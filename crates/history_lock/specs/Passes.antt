@@ -1,10 +1,7 @@
 -- What the clauses of a lock say of it and of its passes.
 use Rattle.std.specs.Prelude.{◌≡◌, ℕ, ◌<◌, ◌≤◌, ◌⊎◌, List, [], ◌∷◌, ◌++◌, length, Option, Some, None}
 use Rattle.atomic_table.specs.Seated.{TableId}
-use Rattle.history_lock.specs.declared.lock.Pass.{Pass}
-use Rattle.history_lock.specs.declared.lock.HistoryLock.{HistoryLock}
-use Rattle.history_lock.specs.declared.view.Marked.{Marked}
-use Rattle.history_lock.specs.declared.view.Stage.TheVariants.{Outside, Inside}
+use Rattle.history_lock.specs.declared.{lock.Pass.Pass, lock.HistoryLock.HistoryLock, view.Marked.Marked, view.Stage.TheVariants.{Outside, Inside}}
 use Rattle.history_lock.specs.Marks.{IsNoneOf, marked, entries, Follows, IsLongerOf}
 
 module _ {S E L : Type 0} where

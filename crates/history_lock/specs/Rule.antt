@@ -3,11 +3,8 @@ use Rattle.std.specs.Prelude.{◌≡◌, ◌≢◌, ℕ, ◌+◌, ◌%◌, ◌^�
 use mathlib.Core.Option.{Option as Maybe, none, some}
 use lib.ListN.{get_elem?}
 use Rattle.atomic_table.specs.Table.{State}
-use Rattle.history_lock.specs.Marks.{IsNoneOf, entries, unmarked, Follows, HaveMarksUpTo}
-use Rattle.history_lock.specs.declared.view.View.{View}
-use Rattle.history_lock.specs.declared.view.Marked.{Marked}
-use Rattle.history_lock.specs.declared.view.Stage.{Stage}
-use Rattle.history_lock.specs.declared.view.Stage.TheVariants.{Spent, Outside, Waiting, Turn, Inside, Meeting}
+use Rattle.history_lock.specs.{Marks.{IsNoneOf, entries, unmarked, Follows, HaveMarksUpTo}, declared.view.View.View, declared.view.Marked.Marked}
+use Rattle.history_lock.specs.declared.view.Stage.{Stage, TheVariants.{Spent, Outside, Waiting, Turn, Inside, Meeting}}
 
 -- how many turns are out with a pass in this stage
 abbrev pub busy : {E : Type 0} → Stage E → ℕ

@@ -1,12 +1,8 @@
 -- No public contract cites this. What each step of a lock tells its caller.
 use Rattle.std.specs.Prelude.{◌≡◌, ◌≢◌, ℕ, ◌+◌, ◌%◌, ◌^◌, ◌<◌, ◌⊎◌, Bool, true, false, List, [], ◌∷◌, ◌++◌, length, Option, Some, None}
 use Rattle.atomic_table.specs.Table.{Me, Step}
-use Rattle.history_lock.specs.declared.view.View.{View}
-use Rattle.history_lock.specs.declared.view.Marked.{Marked}
-use Rattle.history_lock.specs.declared.view.Stage.{Stage}
-use Rattle.history_lock.specs.declared.view.Stage.TheVariants.{Spent, Outside, Waiting, Turn, Inside, Meeting}
-use Rattle.history_lock.specs.Marks.{marked, entries, HaveMarksUpTo, Follows, IsLongerOf}
-use Rattle.history_lock.specs.Rule.{at_stage, seeing, turn_of, listed}
+use Rattle.history_lock.specs.declared.view.{View.View, Marked.Marked, Stage.Stage, Stage.TheVariants.{Spent, Outside, Waiting, Turn, Inside, Meeting}}
+use Rattle.history_lock.specs.{Marks.{marked, entries, HaveMarksUpTo, Follows, IsLongerOf}, Rule.{at_stage, seeing, turn_of, listed}}
 
 -- a pass at its seat: what it knows, and what it took from the slot
 abbrev pub Sat : Type 0 → Type 0 → Type 0 → Type 0

@@ -44,11 +44,7 @@ pub struct Pass<S: Historied> {
 }
 
 impl<S: Historied> HistoryLock<S> {
-    ghost use Rattle.history_lock.specs.Passes.{seen, mark, given, joined, label, own_marks, IsFirst, IsWhole, IsPassOf, IsOutside, IsInside, IsSame, Extends, Joins, AddsOneAtMost, MayLeave};
-    ghost use Rattle.history_lock.specs.Marks.{AreBy, Follows, HaveMarksUpTo, entries, unmarked};
-    ghost use Rattle.history_lock.specs.Steps.{Carries, Catches, MayAdd, Waits};
-    ghost use Rattle.history_lock.specs.Steps.{in_slot};
-    ghost use Rattle.history_lock.specs.Rule.{WholeIsAlone};
+    ghost use Rattle.history_lock.specs.{Passes.{seen, mark, given, joined, label, own_marks, IsFirst, IsWhole, IsPassOf, IsOutside, IsInside, IsSame, Extends, Joins, AddsOneAtMost, MayLeave}, Marks.{AreBy, Follows, HaveMarksUpTo, entries, unmarked}, Steps.{Carries, Catches, MayAdd, Waits}, Steps.in_slot, Rule.WholeIsAlone};
 
     /// The lock of this state, and its first pass, which has seen the entries that the state has; these have no mark.
     /// Without memory the state is dropped. O(1).

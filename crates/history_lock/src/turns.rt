@@ -58,11 +58,7 @@ fn spin(looks: u32)
 }
 
 impl<S: Historied> HistoryLock<S> {
-    ghost use Rattle.history_lock.specs.Rule.{at_stage};
-    ghost use Rattle.history_lock.specs.Marks.{entries};
-    ghost use Rattle.history_lock.specs.Steps.{Carries, Comes, Drew, HasCome, IsOut, Waits};
-    ghost use Rattle.history_lock.specs.Steps.{in_slot};
-    ghost use Rattle.history_lock.specs.declared.view.Stage.TheVariants.{Outside};
+    ghost use Rattle.history_lock.specs.{Rule.at_stage, Marks.entries, Steps.{Carries, Comes, Drew, HasCome, IsOut, Waits}, Steps.in_slot, declared.view.Stage.TheVariants.Outside};
 
     // Draws a turn if the lock is free. No turn is served before it is drawn, so the one drawn has come.
     fn draw_if_free(&self, seat: &mut Seat<Option<S>, View<S::Entry, S::Label>>) -> Option<u64>

@@ -1,16 +1,10 @@
 -- The positions of a series after a run was accepted: its samples are put into the positions as they stand.
-use Rattle.std.proofs.Common.{◌≡◌, ◌+◌, List, [], ◌∷◌, ◌++◌, length, refl, sym, ap, ◌∙◌, cond}
-use Rattle.std.specs.Prelude.{None, find, is_none}
-use Rattle.std.proofs.lemmas.List.{append-nil, append_assoc}
-use Rattle.std.proofs.lemmas.List.Elements.{filter-append}
-use Rattle.std.proofs.lemmas.Grind.{flat_map-append}
-use Rattle.history_model.specs.declared.entries.Acceptance.{Acceptance}
-use Rattle.history_model.specs.declared.entries.Entry.{Entry}
+use Rattle.std.{proofs.Common.{◌≡◌, ◌+◌, List, [], ◌∷◌, ◌++◌, length, refl, sym, ap, ◌∙◌, cond}, specs.Prelude.{None, find, is_none}}
+use Rattle.std.proofs.lemmas.{List.{append-nil, append_assoc}, List.Elements.filter-append, Grind.flat_map-append}
+use Rattle.history_model.specs.declared.{entries.Acceptance.Acceptance, entries.Entry.Entry, run.Run.Run}
 use Rattle.history_model.specs.declared.entries.Entry.TheVariants as entry
-use Rattle.history_model.specs.declared.run.Run.{Run}
 use Rattle.history_model.specs.Runs.{Series, acceptance, acceptances, retraction, retractions, retracted, takes_back, live_of}
-use Rattle.history_model.specs.Positions.{Brought, brought_by, brought, positions, positions_of}
-use Rattle.history_model.proofs.Chosen.{chosen-push, chosen-skip}
+use Rattle.history_model.{specs.Positions.{Brought, brought_by, brought, positions, positions_of}, proofs.Chosen.{chosen-push, chosen-skip}}
 use Rattle.history_model.specs.Laws.{with_all}
 use Rattle.segment_model.proofs.Insertions.{positions-push}
 

@@ -1,10 +1,7 @@
 -- The declared numbers from one to another: they rise, and both ends stand there.
 use Rattle.std.proofs.Common.{◌≡◌, ℕ, zero, suc, ◌+◌, ◌-◌, ◌≤◌, ◌<◌, Bool, true, false, cond, List, ◌∷◌, length, get_or, sym, ap, ◌∙◌, arith}
-use Rattle.std.specs.Prelude.{filter, is_some, IsSome}
-use Rattle.std.specs.List.Sorted.{IsStrictlyIncreasing}
-use Rattle.std.proofs.lemmas.List.Kept.{IsStrictlyIncreasing-filter}
-use Rattle.history_model.specs.declared.entries.Declaration.{Declaration}
-use Rattle.history_model.specs.Commits.{name_in, numbers_from, numbers_between}
+use Rattle.std.{specs.Prelude.{filter, is_some, IsSome}, specs.List.Sorted.IsStrictlyIncreasing, proofs.lemmas.List.Kept.IsStrictlyIncreasing-filter}
+use Rattle.history_model.specs.{declared.entries.Declaration.Declaration, Commits.{name_in, numbers_from, numbers_between}}
 
 numbers-at : (lo count k d : ℕ) → k < length (numbers_from lo count) → get_or (numbers_from lo count) k d ≡ lo + k
 numbers-at lo zero k d lt = absurd (omega (arith, lt))

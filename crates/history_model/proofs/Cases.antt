@@ -1,6 +1,5 @@
 -- Options and answers, by cases.
-use Rattle.std.proofs.Common.{◌≡◌, Option, Some, None, refl}
-use Rattle.std.specs.Prelude.{IsSome, OnErr, Result, Ok, Err}
+use Rattle.std.{proofs.Common.{◌≡◌, Option, Some, None, refl}, specs.Prelude.{IsSome, OnErr, Result, Ok, Err}}
 
 pub some-is : {A : Type 0} (o : Option A) (x : A) → o ≡ Some x → IsSome o
 some-is None x e = absurd (cc)

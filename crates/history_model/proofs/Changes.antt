@@ -1,24 +1,14 @@
 -- Each cut of a publication that stands in a legal history is between positions of declared commits, in their order.
 use Rattle.std.proofs.Common.{◌≡◌, ℕ, zero, suc, ◌+◌, ◌-◌, ◌<◌, List, [], ◌∷◌, ◌++◌, length, All, refl, sym, ap, ◌∙◌, subst, arith, inl, inr}
 use Rattle.std.specs.Prelude.{Bool, IsSome, map, filter, find, is_none, drop, slice_index}
-use Rattle.std.proofs.lemmas.List.{append-nil, append_assoc, length-map, map-append, take-append-drop}
-use Rattle.std.proofs.lemmas.List.Elements.{All-filter, All-head, All-tail}
-use Rattle.segment_model.proofs.Rising.{IsIn, RisesFrom, rising-rises, rising-only, in-append}
-use Rattle.segment_model.specs.Cuts.{RisesBetween}
-use Rattle.segment_model.proofs.CutLists.{places-rise}
-use Rattle.segment_model.specs.Limits.{commits_of}
-use Rattle.segment_model.specs.Segments.{Position}
+use Rattle.std.proofs.lemmas.List.{append-nil, append_assoc, length-map, map-append, take-append-drop, Elements.{All-filter, All-head, All-tail}}
+use Rattle.segment_model.{proofs.Rising.{IsIn, RisesFrom, rising-rises, rising-only, in-append}, specs.Cuts.RisesBetween, proofs.CutLists.places-rise}
+use Rattle.segment_model.specs.{Limits.commits_of, Segments.Position}
 use Rattle.sample_model.specs.Samples.{Measurement}
-use Rattle.history_model.specs.declared.entries.Acceptance.{Acceptance}
-use Rattle.history_model.specs.declared.entries.Entry.{Entry}
-use Rattle.history_model.specs.declared.publication.Publication.{Publication}
-use Rattle.history_model.specs.Allowed.{AllowedAfter, Legal}
-use Rattle.history_model.specs.Commits.{name_of}
-use Rattle.history_model.specs.Penalties.{length_of}
-use Rattle.history_model.specs.Positions.{Brought, rising, position_at, brought_by, brought, positions}
-use Rattle.history_model.specs.Publications.{Stands, spoken_of, published}
-use Rattle.history_model.specs.Runs.{Series, acceptances, retractions, takes_back, live_runs, is_of}
-use Rattle.history_model.specs.Followed.{IsBetweenDeclared}
+use Rattle.history_model.specs.declared.{entries.Acceptance.Acceptance, entries.Entry.Entry, publication.Publication.Publication}
+use Rattle.history_model.specs.{Allowed.{AllowedAfter, Legal}, Commits.name_of, Penalties.length_of}
+use Rattle.history_model.specs.{Positions.{Brought, rising, position_at, brought_by, brought, positions}, Publications.{Stands, spoken_of, published}}
+use Rattle.history_model.specs.{Runs.{Series, acceptances, retractions, takes_back, live_runs, is_of}, Followed.IsBetweenDeclared}
 use Rattle.history_model.proofs.Named.{still-named, runs-named}
 
 -- ---- places of lists

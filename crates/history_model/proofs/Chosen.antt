@@ -1,11 +1,7 @@
 -- What is read from a history with one entry more.
-use Rattle.std.proofs.Common.{◌≡◌, ℕ, suc, ◌+◌, List, [], ◌∷◌, ◌++◌, length, refl, ap, ◌∙◌, arith, Option}
-use Rattle.std.specs.Prelude.{option_to_list, Some, None}
-use Rattle.std.specs.List.{cons_option}
-use Rattle.std.proofs.lemmas.List.{append-nil, map-append}
-use Rattle.history_model.specs.declared.entries.Entry.{Entry}
-use Rattle.history_model.specs.declared.entries.Placed.{Placed}
-use Rattle.history_model.specs.Entries.{chosen_from, chosen, entries_of}
+use Rattle.std.{proofs.Common.{◌≡◌, ℕ, suc, ◌+◌, List, [], ◌∷◌, ◌++◌, length, refl, ap, ◌∙◌, arith, Option}, specs.Prelude.{option_to_list, Some, None}}
+use Rattle.std.{specs.List.cons_option, proofs.lemmas.List.{append-nil, map-append}}
+use Rattle.history_model.specs.{declared.entries.Entry.Entry, declared.entries.Placed.Placed, Entries.{chosen_from, chosen, entries_of}}
 
 cons_option-one : {A : Type 0} (o : Option A) → cons_option o [] ≡ option_to_list o
 cons_option-one None = refl

@@ -1,8 +1,6 @@
 -- A commit has a position where a value was put in at it.
-use Rattle.std.proofs.Common.{◌≡◌, ℕ, true, List, [], ◌∷◌, refl, sym, inl, inr, arith}
-use Rattle.std.proofs.lemmas.Bool.{cases_order, lt-ltb, le-ltb, eq-eqb, ne_eqb}
-use Rattle.segment_model.specs.Segments.{Observation, Position}
-use Rattle.segment_model.specs.Edits.{inserted, has_commit}
+use Rattle.std.proofs.{Common.{◌≡◌, ℕ, true, List, [], ◌∷◌, refl, sym, inl, inr, arith}, lemmas.Bool.{cases_order, lt-ltb, le-ltb, eq-eqb, ne_eqb}}
+use Rattle.segment_model.specs.{Segments.{Observation, Position}, Edits.{inserted, has_commit}}
 
 pub has-inserted : (commit : ℕ) (x : Observation) (points : List Position) → has_commit commit (inserted commit x points) ≡ true
 has-inserted commit x [] = rw (eq-eqb commit commit refl) refl

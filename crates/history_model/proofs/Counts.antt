@@ -1,10 +1,7 @@
 -- Positions with some samples more have so many values more.
 use Rattle.std.proofs.Common.{◌≡◌, ◌+◌, List, [], ◌∷◌, length, arith}
-use Rattle.segment_model.specs.Segments.{Position, values_of}
-use Rattle.segment_model.specs.Edits.{inserted}
-use Rattle.history_model.specs.Laws.{observed, with_all}
-use Rattle.history_model.specs.Positions.{Brought}
-use Rattle.segment_model.proofs.Inserted.{count-inserted}
+use Rattle.segment_model.{specs.Segments.{Position, values_of}, specs.Edits.inserted, proofs.Inserted.count-inserted}
+use Rattle.history_model.specs.{Laws.{observed, with_all}, Positions.Brought}
 
 pub all-more : (xs : List Brought) (points : List Position) → length (values_of (with_all xs points)) ≡ length (values_of points) + length xs
 all-more [] points = omega arith

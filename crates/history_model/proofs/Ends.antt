@@ -1,19 +1,10 @@
 -- In a legal history the commits at the ends of each job are declared, in their order.
 use Rattle.std.proofs.Common.{◌≡◌, ℕ, zero, suc, ◌+◌, ◌-◌, ◌<◌, List, [], ◌∷◌, length, refl, ap, ◌∙◌, subst, arith}
-use Rattle.std.specs.Prelude.{drop, is_some, slice_get, slice_index, take, IsSome, Some, None}
-use Rattle.std.proofs.lemmas.List.{take-append-drop}
-use Rattle.std.proofs.lemmas.List.Elements.{filter_passes}
-use Rattle.std.proofs.lemmas.List.Kept.{AllPairs-from_increasing}
-use Rattle.std.proofs.lemmas.Option.{same_Some}
-use Rattle.bisect_core.specs.Bisections.{Bisection, bisection, low_after, high_after}
-use Rattle.bisect_core.specs.Laws.{EachIsWithinBound}
-use Rattle.bisect_core.specs.Turns.{Turn}
-use Rattle.history_model.specs.declared.entries.Entry.{Entry}
-use Rattle.history_model.specs.Allowed.{Legal}
-use Rattle.history_model.specs.Commits.{declarations, name_in, name_of, numbers_from}
-use Rattle.history_model.specs.Jobs.{Begun, begins, turns, commits_of, standing_from, jobs, job_in}
-use Rattle.history_model.proofs.Between.{between-rise}
-use Rattle.history_model.proofs.Changes.{named-more}
+use Rattle.std.{specs.Prelude.{drop, is_some, slice_get, slice_index, take, IsSome, Some, None}, proofs.lemmas.List.take-append-drop}
+use Rattle.std.proofs.lemmas.{List.Elements.filter_passes, List.Kept.AllPairs-from_increasing, Option.same_Some}
+use Rattle.bisect_core.specs.{Bisections.{Bisection, bisection, low_after, high_after}, Laws.EachIsWithinBound, Turns.Turn}
+use Rattle.history_model.specs.{declared.entries.Entry.Entry, Allowed.Legal, Commits.{declarations, name_in, name_of, numbers_from}}
+use Rattle.history_model.{specs.Jobs.{Begun, begins, turns, commits_of, standing_from, jobs, job_in}, proofs.Between.between-rise, proofs.Changes.named-more}
 use Rattle.history_model.proofs.Finished.{within-bound}
 
 -- what a job of some number is of

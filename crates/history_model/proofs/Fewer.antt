@@ -1,12 +1,9 @@
 -- Fewer live runs have no more samples of a series, and no more positions.
 use Rattle.std.proofs.Common.{◌≡◌, ℕ, ◌≤◌, inl, inr, Bool, true, false, cond, List, [], ◌∷◌, ◌++◌, length, map, max, arith}
-use Rattle.std.specs.Prelude.{Some, find, is_none, filter, flat_map}
-use Rattle.std.proofs.lemmas.List.{length-map, length-append, map-append}
+use Rattle.std.{specs.Prelude.{Some, find, is_none, filter, flat_map}, proofs.lemmas.List.{length-map, length-append, map-append}}
 use Rattle.std.proofs.lemmas.Bool.{cases_Bool}
 use Rattle.segment_model.proofs.Rising.{IsIn, rising-fewer, in-append, append-in}
-use Rattle.history_model.specs.declared.entries.Acceptance.{Acceptance}
-use Rattle.history_model.specs.Allowed.{greatest_of}
-use Rattle.history_model.specs.Runs.{Retraction, Series, takes_back, live_of}
+use Rattle.history_model.specs.{declared.entries.Acceptance.Acceptance, Allowed.greatest_of, Runs.{Retraction, Series, takes_back, live_of}}
 use Rattle.history_model.specs.Positions.{Brought, brought_by, brought, positions_of}
 
 pub greatest-fewer : {A : Type 0} (f g : A → ℕ) → ((x : A) → f x ≤ g x) → (xs : List A) → greatest_of (map f xs) ≤ greatest_of (map g xs)

@@ -1,26 +1,17 @@
 -- In a legal history each job is of two commits at least, and what was said of it was asked; so what it found is as it should be.
 use Rattle.std.proofs.Common.{◌≡◌, ◌⊎◌, inl, inr, ℕ, zero, suc, ◌+◌, ◌-◌, ◌/◌, ◌≤◌, ◌==◌, cond, List, [], ◌∷◌, ◌++◌, length, refl, sym, ap, ap₂, ◌∙◌, subst, arith, Option}
-use Rattle.std.specs.Prelude.{option_to_list, slice_get, Contains, Some, None}
-use Rattle.std.specs.List.{AllByRecursion}
-use Rattle.std.proofs.lemmas.Bool.{cases_Bool, eqb-true}
+use Rattle.std.{specs.Prelude.{option_to_list, slice_get, Contains, Some, None}, specs.List.AllByRecursion, proofs.lemmas.Bool.{cases_Bool, eqb-true}}
 use Rattle.std.proofs.lemmas.Option.{same_Some}
 use Rattle.bisect_core.specs.declared.outcome.Outcome.{Outcome}
 use Rattle.bisect_core.specs.declared.outcome.Outcome.TheVariants as outcome
-use Rattle.bisect_core.specs.Bisections.{bisection, asked_by, outcome_by, outcome_after, low_after, high_after, questions_after}
-use Rattle.bisect_core.specs.Bounds.{IsWithinBound}
+use Rattle.bisect_core.specs.{Bisections.{bisection, asked_by, outcome_by, outcome_after, low_after, high_after, questions_after}, Bounds.IsWithinBound}
 use Rattle.bisect_core.specs.Laws.{AreAsked, EachIsWithinBound, EndsWereAnswered, FoundIsFirstBad}
 use Rattle.bisect_core.specs.Turns.{Turn, tested, given_up, place_of, good_places, bad_places, ending}
-use Rattle.history_model.specs.declared.entries.Entry.{Entry}
+use Rattle.history_model.specs.{declared.entries.Entry.Entry, Allowed.{Allowed, Legal}, Commits.{declarations, numbers_between}, Followed.AllFinishWell}
 use Rattle.history_model.specs.declared.entries.Entry.TheVariants as entry
 use Rattle.history_model.specs.declared.events.JobEvent.TheVariants as event
-use Rattle.history_model.specs.Allowed.{Allowed, Legal}
-use Rattle.history_model.specs.Commits.{declarations, numbers_between}
-use Rattle.history_model.specs.Followed.{AllFinishWell}
-use Rattle.history_model.specs.Jobs.{Begun, begun, begins, said, turns, commits_of, standing_from, place_asked, asked}
-use Rattle.history_model.proofs.Between.{between-two}
-use Rattle.history_model.proofs.Chosen.{chosen-push, chosen-skip}
-use Rattle.history_model.proofs.Growth.{legal-each, legal-push}
-use Rattle.history_model.proofs.Jobs.{commits-begun, untold}
+use Rattle.history_model.{specs.Jobs.{Begun, begun, begins, said, turns, commits_of, standing_from, place_asked, asked}, proofs.Between.between-two}
+use Rattle.history_model.proofs.{Chosen.{chosen-push, chosen-skip}, Growth.{legal-each, legal-push}, Jobs.{commits-begun, untold}}
 use Rattle.history_model.proofs.Standings.{IsUpTo, all-past, commits-same}
 
 -- ---- lists with one item more

@@ -1,35 +1,19 @@
 -- When a run more stays within the limits of each series.
 use Rattle.std.proofs.Common.{◌≡◌, ℕ, zero, ◌+◌, ◌≤◌, ◌<◌, max, true, false, cond, List, [], ◌∷◌, ◌++◌, length, map, refl, sym, ap, ◌∙◌, inl, inr, arith, suc}
-use Rattle.std.specs.Prelude.{Some, None, filter, nat_lt}
-use Rattle.std.proofs.lemmas.Bool.{cases_Bool, cases_order, le-ltb, ltb-false, eq-eqb, ne_eqb}
-use Rattle.std.proofs.lemmas.List.{append-nil, append_assoc, length-append, length-map}
-use Rattle.std.proofs.lemmas.List.Sums.{sum_by_push}
-use Rattle.metric_table.specs.Limits.{most}
+use Rattle.std.{specs.Prelude.{Some, None, filter, nat_lt}, proofs.lemmas.Bool.{cases_Bool, cases_order, le-ltb, ltb-false, eq-eqb, ne_eqb}}
+use Rattle.std.proofs.lemmas.List.{append-nil, append_assoc, length-append, length-map, Sums.sum_by_push}
+use Rattle.metric_table.specs.{Limits.most, declared.limits.Limit.Limit}
 use Rattle.metric_table.specs.declared.limits.Limit.TheVariants as limit
-use Rattle.segment_model.specs.Segments.{Observation, Position, values_of}
-use Rattle.segment_model.specs.Edits.{inserted, has_commit}
-use Rattle.history_model.specs.declared.entries.Acceptance.{Acceptance}
-use Rattle.history_model.specs.declared.entries.Entry.{Entry}
+use Rattle.segment_model.{specs.Segments.{Observation, Position, values_of}, specs.Edits.{inserted, has_commit}, proofs.Inserted.{values-brought, size-new}}
+use Rattle.history_model.specs.declared.{entries.Acceptance.Acceptance, entries.Entry.Entry, run.Run.Run}
 use Rattle.history_model.specs.declared.entries.Entry.TheVariants as entry
-use Rattle.history_model.specs.declared.run.Run.{Run}
-use Rattle.history_model.specs.Allowed.{KeepsLimits, count_of, greatest_of, first_passed, run_limits}
-use Rattle.history_model.specs.Commits.{declaration}
-use Rattle.history_model.specs.Laws.{observed, with_all, CountsWith}
-use Rattle.metric_table.specs.declared.limits.Limit.{Limit}
-use Rattle.history_model.specs.Positions.{Brought, brought_by, brought, rising, position_at, positions, positions_of}
-use Rattle.history_model.specs.Publications.{publication}
-use Rattle.history_model.specs.Runs.{Series, acceptance, acceptances, retracted, live_runs, known_series, is_of, sample_count}
+use Rattle.history_model.specs.{Allowed.{KeepsLimits, count_of, greatest_of, first_passed, run_limits}, Commits.declaration}
+use Rattle.history_model.specs.{Laws.{observed, with_all, CountsWith}, Positions.{Brought, brought_by, brought, rising, position_at, positions, positions_of}}
+use Rattle.history_model.specs.{Publications.publication, Runs.{Series, acceptance, acceptances, retracted, live_runs, known_series, is_of, sample_count}}
 use Rattle.sample_model.specs.Samples.{Measurement, AreSamples}
-use Rattle.history_model.proofs.Accepts.{positions-more, positions-accept}
-use Rattle.history_model.proofs.Counts.{all-more}
-use Rattle.segment_model.proofs.Inserted.{values-brought, size-new}
-use Rattle.history_model.proofs.Chosen.{chosen-push, chosen-skip}
-use Rattle.history_model.proofs.Standings.{jobs-stay}
-use Rattle.history_model.proofs.Commit.{has-inserted}
-use Rattle.segment_model.proofs.Insertions.{positions-push}
-use Rattle.history_model.proofs.Listed.{known-grow}
-use Rattle.segment_model.proofs.Rising.{RisesFrom, rising-rises}
-use Rattle.history_model.proofs.Room.{samples-kept, positions-kept}
+use Rattle.history_model.proofs.{Accepts.{positions-more, positions-accept}, Counts.all-more, Chosen.{chosen-push, chosen-skip}, Standings.jobs-stay}
+use Rattle.history_model.proofs.{Commit.has-inserted, Listed.known-grow, Room.{samples-kept, positions-kept}}
+use Rattle.segment_model.proofs.{Insertions.positions-push, Rising.{RisesFrom, rising-rises}}
 
 greatest-most : (f : Series → ℕ) (ks : List Series) (n : ℕ) → ((k : Series) → f k ≤ n) → greatest_of (map f ks) ≤ n
 greatest-most f [] n all = omega arith

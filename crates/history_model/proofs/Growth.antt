@@ -1,15 +1,10 @@
 -- A history with one entry more is legal, and with one commit more keeps its limits.
-use Rattle.std.proofs.Common.{ℕ, ◌+◌, ◌≤◌, List, [], ◌∷◌, ◌++◌, length, refl, sym, subst}
-use Rattle.history_model.proofs.Chosen.{chosen-push, chosen-skip}
-use Rattle.history_model.proofs.Standings.{jobs-stay}
-use Rattle.std.proofs.lemmas.List.{append-nil, append_assoc, length-append}
-use Rattle.history_model.specs.declared.entries.Entry.{Entry}
+use Rattle.std.proofs.{Common.{ℕ, ◌+◌, ◌≤◌, List, [], ◌∷◌, ◌++◌, length, refl, sym, subst}, lemmas.List.{append-nil, append_assoc, length-append}}
+use Rattle.history_model.{proofs.Chosen.{chosen-push, chosen-skip}, proofs.Standings.jobs-stay, specs.declared.entries.Entry.Entry}
 use Rattle.history_model.specs.declared.entries.Entry.TheVariants as entry
 use Rattle.metric_table.specs.declared.limits.Limit.TheVariants as limit
 use Rattle.metric_table.specs.Limits.{most}
-use Rattle.history_model.specs.Commits.{declarations, declaration}
-use Rattle.history_model.specs.Publications.{publication}
-use Rattle.history_model.specs.Runs.{acceptance, retraction}
+use Rattle.history_model.specs.{Commits.{declarations, declaration}, Publications.publication, Runs.{acceptance, retraction}}
 use Rattle.history_model.specs.Allowed.{Legal, Allowed, AllowedAfter, KeepsLimits}
 
 AllowedAfter-push : (h es : List Entry) (e : Entry) → AllowedAfter h es → Allowed (h ++ es) e → AllowedAfter h (es ++ e ∷ [])

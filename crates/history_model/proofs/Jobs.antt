@@ -1,27 +1,16 @@
 -- A history with an entry more: where its jobs stand, and its limits.
 use Rattle.std.proofs.Common.{◌≡◌, ◌≢◌, ℕ, zero, suc, ◌+◌, ◌-◌, ◌≤◌, ◌<◌, ◌==◌, cond, List, [], ◌∷◌, ◌++◌, length, take, set, refl, sym, ap, ap₂, ◌∙◌, arith, inl, inr, Option}
-use Rattle.std.specs.Prelude.{option_to_list, slice_get, Some, None}
-use Rattle.std.specs.List.{AllByRecursion}
-use Rattle.std.proofs.lemmas.Bool.{cases_Bool, eqb-true, ne_eqb}
-use Rattle.std.proofs.Math.Seq.{take-append_seam}
-use Rattle.std.proofs.lemmas.Option.{slice_get_within}
-use Rattle.bisect_core.specs.Bisections.{Bisection, bisection, IsRecorded}
-use Rattle.bisect_core.specs.Turns.{Turn, tested, given_up}
+use Rattle.std.{specs.Prelude.{option_to_list, slice_get, Some, None}, specs.List.AllByRecursion, proofs.lemmas.Bool.{cases_Bool, eqb-true, ne_eqb}}
+use Rattle.std.proofs.{Math.Seq.take-append_seam, lemmas.Option.slice_get_within}
+use Rattle.bisect_core.specs.{Bisections.{Bisection, bisection, IsRecorded}, Turns.{Turn, tested, given_up}}
 use Rattle.metric_table.specs.Limits.{most}
 use Rattle.metric_table.specs.declared.limits.Limit.TheVariants as limit
-use Rattle.history_model.specs.declared.entries.Entry.{Entry}
+use Rattle.history_model.specs.{declared.entries.Entry.Entry, declared.events.JobEvent.JobEvent, Allowed.{Allowed, Legal, KeepsLimits}}
 use Rattle.history_model.specs.declared.entries.Entry.TheVariants as entry
-use Rattle.history_model.specs.declared.events.JobEvent.{JobEvent}
 use Rattle.history_model.specs.declared.events.JobEvent.TheVariants as event
-use Rattle.history_model.specs.Allowed.{Allowed, Legal, KeepsLimits}
-use Rattle.history_model.specs.Commits.{declarations, numbers_between}
-use Rattle.history_model.specs.Followed.{IsOfNoJob}
-use Rattle.history_model.specs.Publications.{publication}
+use Rattle.history_model.specs.{Commits.{declarations, numbers_between}, Followed.IsOfNoJob, Publications.publication}
 use Rattle.history_model.specs.Jobs.{Begun, begun, begins, said, turns, commits_of, standing_from, jobs, job_in, place_asked, asked, open_count}
-use Rattle.history_model.proofs.Chosen.{chosen-push, chosen-skip}
-use Rattle.history_model.proofs.OfKind.{by-kind}
-use Rattle.history_model.proofs.Others.{limits-other}
-use Rattle.history_model.proofs.Silent.{silent}
+use Rattle.history_model.proofs.{Chosen.{chosen-push, chosen-skip}, OfKind.by-kind, Others.limits-other, Silent.silent}
 use Rattle.history_model.proofs.Standings.{IsUpTo, all-past, commits-same, standing-same, jobs-stay}
 
 -- ---- an entry of no job

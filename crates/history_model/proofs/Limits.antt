@@ -1,11 +1,7 @@
 -- Whether an entry passes the first of some limits.
-use Rattle.std.proofs.Common.{◌≡◌, ◌<◌, ◌≤◌, true, false, List, [], ◌∷◌, ◌++◌, refl}
-use Rattle.std.specs.Prelude.{Some, nat_lt}
-use Rattle.std.proofs.lemmas.Bool.{lt-ltb, le-ltb}
-use Rattle.metric_table.specs.declared.limits.Limit.{Limit}
-use Rattle.metric_table.specs.Limits.{most}
-use Rattle.history_model.specs.declared.entries.Entry.{Entry}
-use Rattle.history_model.specs.Allowed.{count_of, first_passed}
+use Rattle.std.{proofs.Common.{◌≡◌, ◌<◌, ◌≤◌, true, false, List, [], ◌∷◌, ◌++◌, refl}, specs.Prelude.{Some, nat_lt}, proofs.lemmas.Bool.{lt-ltb, le-ltb}}
+use Rattle.metric_table.specs.{declared.limits.Limit.Limit, Limits.most}
+use Rattle.history_model.specs.{declared.entries.Entry.Entry, Allowed.{count_of, first_passed}}
 
 pub passed-is : (limit : Limit) (limits : List Limit) (h : List Entry) (e : Entry) → most limit < count_of limit (h ++ e ∷ []) → first_passed (limit ∷ limits) h e ≡ Some limit
 passed-is limit limits h e passed =

@@ -1,18 +1,11 @@
 -- Lists in which each item stands once, with more items; and the series that a run makes known.
 use Rattle.std.proofs.Common.{◌≡◌, ◌+◌, Bool, true, false, cond, not, ◌||◌, List, [], ◌∷◌, ◌++◌, length, map, refl, sym, ap, ◌∙◌}
-use Rattle.std.specs.Prelude.{filter, flat_map}
-use Rattle.std.specs.List.{list_any}
-use Rattle.std.proofs.lemmas.List.{append-nil, append_assoc, length-append}
-use Rattle.std.proofs.lemmas.List.Elements.{filter-append}
-use Rattle.std.proofs.lemmas.List.Folds.{list_any-append}
-use Rattle.std.proofs.lemmas.Grind.{flat_map-append}
-use Rattle.history_model.specs.declared.entries.Acceptance.{Acceptance}
-use Rattle.history_model.specs.declared.entries.Entry.{Entry}
+use Rattle.std.{specs.Prelude.{filter, flat_map}, specs.List.list_any, proofs.lemmas.List.{append-nil, append_assoc, length-append}}
+use Rattle.std.proofs.lemmas.{List.Elements.filter-append, List.Folds.list_any-append, Grind.flat_map-append}
+use Rattle.history_model.specs.declared.{entries.Acceptance.Acceptance, entries.Entry.Entry, run.Run.Run}
 use Rattle.history_model.specs.declared.entries.Entry.TheVariants as entry
-use Rattle.history_model.specs.declared.run.Run.{Run}
 use Rattle.history_model.specs.Runs.{Series, acceptance, acceptances, known_series, is_known, new_series, same_series, is_of, distinct, measured}
-use Rattle.history_model.proofs.Chosen.{chosen-push}
-use Rattle.history_model.proofs.Lists.{or-true, filter-same, any-map}
+use Rattle.history_model.proofs.{Chosen.chosen-push, Lists.{or-true, filter-same, any-map}}
 
 module _ {A : Type 0} (same : A → A → Bool) where
   abbrev stands : List A → A → Bool

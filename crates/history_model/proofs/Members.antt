@@ -1,11 +1,7 @@
 -- Members of a list, and lists in a strict order.
 use Rattle.std.proofs.Common.{◌≡◌, ◌⊎◌, inl, inr, zero, suc, true≢false, Ordering, Less, List, [], ◌∷◌, ◌++◌, refl, sym, ap, ◌∙◌, arith}
-use Rattle.std.specs.Prelude.{Contains}
-use Rattle.std.specs.Cmp.{IsTotalOrder}
-use Rattle.std.specs.Ordering.{is_lt, ordering_reverse}
-use Rattle.std.specs.List.Sorted.{IsStrictlySortedBy}
-use Rattle.std.proofs.lemmas.List.Elements.{All-contains, All-weaker, All-contains_itself, Contains-append_cases, recursion_from_All}
-use Rattle.std.proofs.lemmas.Map.Keys.{sorted_tail}
+use Rattle.std.specs.{Prelude.Contains, Cmp.IsTotalOrder, Ordering.{is_lt, ordering_reverse}, List.Sorted.IsStrictlySortedBy}
+use Rattle.std.proofs.lemmas.{List.Elements.{All-contains, All-weaker, All-contains_itself, Contains-append_cases, recursion_from_All}, Map.Keys.sorted_tail}
 use Rattle.std.proofs.lemmas.Map.Views.{All-after_first}
 
 pub here : {A : Type 0} (x : A) (xs : List A) → Contains (x ∷ xs) x

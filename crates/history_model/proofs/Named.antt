@@ -1,18 +1,11 @@
 -- In a legal history the commit of each accepted run is declared.
 use Rattle.std.proofs.Common.{◌≡◌, ℕ, ◌+◌, List, [], ◌∷◌, ◌++◌, length, All, false, true, refl, sym, ap, ◌∙◌, subst, Option}
-use Rattle.std.specs.Prelude.{Some, None, find, IsSome, option_map, option_to_list}
-use Rattle.std.specs.Option.{option_or}
-use Rattle.std.proofs.lemmas.List.Elements.{All-nil, All-push, All-weaker}
-use Rattle.std.proofs.lemmas.List.Folds.{find-append}
-use Rattle.history_model.specs.declared.entries.Acceptance.{Acceptance}
-use Rattle.history_model.specs.declared.entries.Declaration.{Declaration}
-use Rattle.history_model.specs.declared.entries.Entry.{Entry}
+use Rattle.std.specs.{Prelude.{Some, None, find, IsSome, option_map, option_to_list}, Option.option_or}
+use Rattle.std.proofs.lemmas.List.{Elements.{All-nil, All-push, All-weaker}, Folds.find-append}
+use Rattle.history_model.specs.declared.entries.{Acceptance.Acceptance, Declaration.Declaration, Entry.Entry}
 use Rattle.history_model.specs.declared.entries.Entry.TheVariants as entry
-use Rattle.history_model.specs.Allowed.{Allowed, Legal}
-use Rattle.history_model.specs.Commits.{declaration, declarations, has_number, name_of}
-use Rattle.history_model.specs.Runs.{acceptance, acceptances}
-use Rattle.history_model.proofs.Growth.{legal-each}
-use Rattle.history_model.proofs.Chosen.{chosen-push, chosen-skip}
+use Rattle.history_model.specs.{Allowed.{Allowed, Legal}, Commits.{declaration, declarations, has_number, name_of}, Runs.{acceptance, acceptances}}
+use Rattle.history_model.proofs.{Growth.legal-each, Chosen.{chosen-push, chosen-skip}}
 
 abbrev Named : List Entry → Acceptance → Type 0
 Named h a = IsSome (name_of a.run.commit h)

@@ -1,20 +1,11 @@
 -- In a legal history the commits that are told of a job are declared.
 use Rattle.std.proofs.Common.{◌≡◌, ℕ, zero, suc, ◌+◌, ◌-◌, ◌/◌, ◌<◌, ◌≤◌, ◌==◌, Bool, cond, List, [], ◌∷◌, ◌++◌, length, refl, sym, ap, ◌∙◌, subst, arith, append_assoc, Option, inl, inr}
-use Rattle.std.specs.Prelude.{find, slice_index, IsSome, Some, None}
-use Rattle.std.proofs.lemmas.Bool.{cases_Bool}
-use Rattle.std.proofs.lemmas.Option.{same_Some}
-use Rattle.bisect_core.specs.Bisections.{Bisection, standing, is_open, outcome_by, low_after, high_after, questions_after}
-use Rattle.bisect_core.specs.Laws.{AreAsked, EachIsWithinBound}
-use Rattle.bisect_core.specs.Turns.{Turn, tested, given_up, place_of, is_end, ending}
-use Rattle.bisect_core.specs.declared.outcome.Outcome.{Outcome}
+use Rattle.std.{specs.Prelude.{find, slice_index, IsSome, Some, None}, proofs.lemmas.Bool.cases_Bool, proofs.lemmas.Option.same_Some}
+use Rattle.bisect_core.specs.{Bisections.{Bisection, standing, is_open, outcome_by, low_after, high_after, questions_after}, Laws.{AreAsked, EachIsWithinBound}}
+use Rattle.bisect_core.specs.{Turns.{Turn, tested, given_up, place_of, is_end, ending}, declared.outcome.Outcome.Outcome}
 use Rattle.bisect_core.specs.declared.outcome.Outcome.TheVariants.{Asks, Found, Undecided, Faulted}
-use Rattle.history_model.specs.declared.entries.Entry.{Entry}
-use Rattle.history_model.specs.Allowed.{Legal}
-use Rattle.history_model.specs.Commits.{name_of}
-use Rattle.history_model.specs.Followed.{IsNamed}
-use Rattle.history_model.specs.Jobs.{begins, turns, commits_of, jobs, job_in}
-use Rattle.history_model.proofs.Ends.{begun-at, commit-declared}
-use Rattle.history_model.proofs.Finished.{asked-well, within-bound}
+use Rattle.history_model.specs.{declared.entries.Entry.Entry, Allowed.Legal, Commits.name_of, Followed.IsNamed, Jobs.{begins, turns, commits_of, jobs, job_in}}
+use Rattle.history_model.proofs.{Ends.{begun-at, commit-declared}, Finished.{asked-well, within-bound}}
 
 half-way : (low high : ℕ) → low < high → low + (high - low) / 2 < high
 half-way low high apart = omega (arith, apart)

@@ -1,16 +1,9 @@
 -- Entries by their kinds: most tell of commits, runs and settings, and others of publications, regressions or bisections.
-use Rattle.std.proofs.Common.{◌≡◌, ℕ, Bool, true, false, ◌&&◌, List, refl, ap, ◌∙◌}
-use Rattle.std.specs.Prelude.{None, bytes_eq}
-use Rattle.history_model.specs.declared.entries.Entry.{Entry}
+use Rattle.std.{proofs.Common.{◌≡◌, ℕ, Bool, true, false, ◌&&◌, List, refl, ap, ◌∙◌}, specs.Prelude.{None, bytes_eq}}
+use Rattle.history_model.specs.declared.{entries.Entry.Entry, events.JobEvent.JobEvent, events.RegressionEvent.RegressionEvent}
 use Rattle.history_model.specs.declared.entries.Entry.TheVariants as entry
-use Rattle.history_model.specs.declared.events.JobEvent.{JobEvent}
-use Rattle.history_model.specs.declared.events.RegressionEvent.{RegressionEvent}
-use Rattle.history_model.specs.declared.publication.Publication.{Publication}
-use Rattle.history_model.specs.Jobs.{begun, said}
-use Rattle.history_model.specs.Publications.{publication, publication_of, published}
-use Rattle.history_model.specs.Regressions.{raised, moved}
-use Rattle.history_model.specs.Runs.{Series}
-use Rattle.history_model.proofs.Lists.{same-bytes}
+use Rattle.history_model.specs.{declared.publication.Publication.Publication, Jobs.{begun, said}, Publications.{publication, publication_of, published}}
+use Rattle.history_model.{specs.Regressions.{raised, moved}, specs.Runs.Series, proofs.Lists.same-bytes}
 
 -- it publishes nothing, and tells of no regression and no bisection
 pub record IsPlain (e : Entry) : Type 0 where

@@ -1,17 +1,10 @@
 -- A history with an entry more that is no commit, no run and no retraction keeps its limits, where it keeps those of steps, cuts
 -- and open jobs.
-use Rattle.std.proofs.Common.{◌≡◌, ◌+◌, ◌≤◌, List, [], ◌∷◌, ◌++◌, length}
-use Rattle.std.specs.Prelude.{None}
-use Rattle.std.proofs.lemmas.List.{length-append}
+use Rattle.std.{proofs.Common.{◌≡◌, ◌+◌, ◌≤◌, List, [], ◌∷◌, ◌++◌, length}, specs.Prelude.None, proofs.lemmas.List.length-append}
 use Rattle.metric_table.specs.Limits.{most}
 use Rattle.metric_table.specs.declared.limits.Limit.TheVariants as limit
-use Rattle.history_model.specs.declared.entries.Entry.{Entry}
-use Rattle.history_model.specs.Allowed.{KeepsLimits}
-use Rattle.history_model.specs.Commits.{declaration}
-use Rattle.history_model.specs.Jobs.{jobs, open_count}
-use Rattle.history_model.specs.Publications.{cut_count}
-use Rattle.history_model.specs.Runs.{acceptance, retraction}
-use Rattle.history_model.proofs.Chosen.{chosen-skip}
+use Rattle.history_model.specs.{declared.entries.Entry.Entry, Allowed.KeepsLimits, Commits.declaration, Jobs.{jobs, open_count}, Publications.cut_count}
+use Rattle.history_model.{specs.Runs.{acceptance, retraction}, proofs.Chosen.chosen-skip}
 
 pub limits-other : (h : List Entry) (e : Entry) → declaration (length h + 1) e ≡ None → acceptance (length h + 1) e ≡ None → retraction (length h + 1) e ≡ None
     → KeepsLimits h → length h + 1 ≤ most limit.Steps → cut_count (h ++ e ∷ []) ≤ most limit.Cuts → open_count (jobs (h ++ e ∷ [])) ≤ most limit.Jobs

@@ -1,20 +1,12 @@
 -- A history with a publication more: its limits, its cuts, and what is published last of a series.
-use Rattle.std.proofs.Common.{◌≡◌, ℕ, ◌+◌, ◌≤◌, List, [], ◌∷◌, ◌++◌, length, refl, ap, ◌∙◌, arith, Option}
-use Rattle.std.specs.Prelude.{option_to_list, Some, None}
-use Rattle.std.specs.List.{last_or, sum_by}
-use Rattle.std.proofs.lemmas.List.Sums.{sum_by-append}
+use Rattle.std.{proofs.Common.{◌≡◌, ℕ, ◌+◌, ◌≤◌, List, [], ◌∷◌, ◌++◌, length, refl, ap, ◌∙◌, arith, Option}, specs.Prelude.{option_to_list, Some, None}}
+use Rattle.std.{specs.List.{last_or, sum_by}, proofs.lemmas.List.Sums.sum_by-append}
 use Rattle.metric_table.specs.Limits.{most}
 use Rattle.metric_table.specs.declared.limits.Limit.TheVariants as limit
-use Rattle.history_model.specs.declared.entries.Entry.{Entry}
+use Rattle.history_model.specs.{declared.entries.Entry.Entry, declared.publication.Publication.Publication, Allowed.KeepsLimits}
 use Rattle.history_model.specs.declared.entries.Entry.TheVariants as entry
-use Rattle.history_model.specs.declared.publication.Publication.{Publication}
-use Rattle.history_model.specs.Allowed.{KeepsLimits}
-use Rattle.history_model.specs.Publications.{publication, publications, publication_of, publications_of, last_publication, cuts_in, cut_count}
-use Rattle.history_model.specs.Runs.{Series}
-use Rattle.history_model.proofs.Chosen.{chosen-push, chosen-skip}
-use Rattle.history_model.proofs.Others.{limits-other}
-use Rattle.history_model.proofs.Standings.{jobs-stay}
-use Rattle.history_model.proofs.Tunings.{last-push}
+use Rattle.history_model.specs.{Publications.{publication, publications, publication_of, publications_of, last_publication, cuts_in, cut_count}, Runs.Series}
+use Rattle.history_model.proofs.{Chosen.{chosen-push, chosen-skip}, Others.limits-other, Standings.jobs-stay, Tunings.last-push}
 
 abbrev size : Publication → ℕ
 size p = length p.cuts

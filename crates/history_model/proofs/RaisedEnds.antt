@@ -1,19 +1,11 @@
 -- In a legal history both commits of each regression are declared.
-use Rattle.std.proofs.Common.{◌≡◌, ◌+◌, List, [], ◌∷◌, ◌++◌, length, All, refl, sym, subst}
-use Rattle.std.specs.Prelude.{None, IsSome}
+use Rattle.std.{proofs.Common.{◌≡◌, ◌+◌, List, [], ◌∷◌, ◌++◌, length, All, refl, sym, subst}, specs.Prelude.{None, IsSome}}
 use Rattle.std.proofs.lemmas.List.Elements.{All-nil, All-push, All-weaker}
-use Rattle.history_model.specs.declared.entries.Entry.{Entry}
+use Rattle.history_model.specs.declared.{entries.Entry.Entry, events.Raised.Raised, events.RegressionEvent.RegressionEvent}
 use Rattle.history_model.specs.declared.entries.Entry.TheVariants as entry
-use Rattle.history_model.specs.declared.events.Raised.{Raised}
-use Rattle.history_model.specs.declared.events.RegressionEvent.{RegressionEvent}
 use Rattle.history_model.specs.declared.events.RegressionEvent.TheVariants as event
-use Rattle.history_model.specs.Allowed.{Allowed, Legal}
-use Rattle.history_model.specs.Commits.{name_of}
-use Rattle.history_model.specs.Regressions.{raised, regressions}
-use Rattle.history_model.proofs.Chosen.{chosen-push, chosen-skip}
-use Rattle.history_model.proofs.Growth.{legal-each}
-use Rattle.history_model.proofs.OfKind.{by-kind}
-use Rattle.history_model.proofs.Named.{still-named}
+use Rattle.history_model.specs.{Allowed.{Allowed, Legal}, Commits.name_of, Regressions.{raised, regressions}}
+use Rattle.history_model.proofs.{Chosen.{chosen-push, chosen-skip}, Growth.legal-each, OfKind.by-kind, Named.still-named}
 
 abbrev Ends : List Entry → Raised → Type 0
 Ends h r = IsSome (name_of r.before h) × IsSome (name_of r.after h)

@@ -1,26 +1,14 @@
 -- A history with an entry more: its regressions, the state of each, and its limits.
 use Rattle.std.proofs.Common.{◌≡◌, ℕ, ◌+◌, ◌≤◌, ◌<◌, Bool, true, false, ◌&&◌, nat_le, cond, List, [], ◌∷◌, ◌++◌, length, refl, ap, ◌∙◌, arith, Option}
-use Rattle.std.specs.Prelude.{option_to_list, unwrap_or, Some, None}
-use Rattle.std.specs.List.{last_or}
-use Rattle.std.proofs.lemmas.Bool.{ne_eqb, leb-true}
+use Rattle.std.{specs.Prelude.{option_to_list, unwrap_or, Some, None}, specs.List.last_or, proofs.lemmas.Bool.{ne_eqb, leb-true}}
 use Rattle.metric_table.specs.Limits.{most}
 use Rattle.metric_table.specs.declared.limits.Limit.TheVariants as limit
-use Rattle.regression_state.specs.declared.states.State.{State}
-use Rattle.regression_state.specs.declared.states.State.TheVariants.{Detected}
-use Rattle.history_model.specs.declared.entries.Entry.{Entry}
+use Rattle.regression_state.specs.declared.states.State.{State, TheVariants.Detected}
+use Rattle.history_model.specs.{declared.entries.Entry.Entry, declared.events.RegressionEvent.RegressionEvent, Allowed.{Allowed, Legal, KeepsLimits}}
 use Rattle.history_model.specs.declared.entries.Entry.TheVariants as entry
-use Rattle.history_model.specs.declared.events.RegressionEvent.{RegressionEvent}
 use Rattle.history_model.specs.declared.events.RegressionEvent.TheVariants as event
-use Rattle.history_model.specs.Allowed.{Allowed, Legal, KeepsLimits}
-use Rattle.history_model.specs.Entries.{chosen}
-use Rattle.history_model.specs.Publications.{publication}
-use Rattle.history_model.specs.Regressions.{raised, regressions, moved, state_of}
-use Rattle.history_model.proofs.Chosen.{chosen-push, chosen-skip}
-use Rattle.history_model.proofs.OfKind.{by-kind}
-use Rattle.history_model.proofs.Others.{limits-other}
-use Rattle.history_model.proofs.Silent.{silent}
-use Rattle.history_model.proofs.Standings.{jobs-stay}
-use Rattle.history_model.proofs.Tunings.{last-push}
+use Rattle.history_model.specs.{Entries.chosen, Publications.publication, Regressions.{raised, regressions, moved, state_of}}
+use Rattle.history_model.proofs.{Chosen.{chosen-push, chosen-skip}, OfKind.by-kind, Others.limits-other, Silent.silent, Standings.jobs-stay, Tunings.last-push}
 
 -- ---- the state of a regression
 pub state-moved : (h : List Entry) (e : Entry) (number : ℕ) (state : State) → moved number (length h + 1) e ≡ Some state → state_of number (h ++ e ∷ []) ≡ state

@@ -1,9 +1,7 @@
 -- The samples of a step are taken away from the positions as they stand.
 use Rattle.std.proofs.Common.{◌≡◌, ◌≢◌, ℕ, suc, inl, inr, Bool, true, false, not, ◌&&◌, List, [], ◌∷◌, map, refl, sym, ap, ◌∙◌, arith, ◌==◌}
-use Rattle.std.specs.Prelude.{filter}
-use Rattle.std.proofs.lemmas.Bool.{cases_Bool, cases_eq, eq-eqb, ne_eqb}
-use Rattle.segment_model.specs.Segments.{Observation}
-use Rattle.segment_model.specs.Edits.{has_values, without_step, removed}
+use Rattle.std.{specs.Prelude.filter, proofs.lemmas.Bool.{cases_Bool, cases_eq, eq-eqb, ne_eqb}}
+use Rattle.segment_model.specs.{Segments.Observation, Edits.{has_values, without_step, removed}}
 use Rattle.history_model.specs.Positions.{Brought, rising, position_at, positions_of}
 use Rattle.segment_model.proofs.Rising.{IsIn, RisesFrom, rises-lower, rising-rises, rising-has, rising-only, same-rising}
 

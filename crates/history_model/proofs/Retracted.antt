@@ -1,17 +1,11 @@
 -- In a legal history a run that was never accepted was never taken back.
 use Rattle.std.proofs.Common.{◌≡◌, ℕ, ◌+◌, List, [], ◌∷◌, ◌++◌, length, refl, sym, ap, ◌∙◌, Option, inl, inr, true, false, cond}
-use Rattle.std.specs.Prelude.{Some, None, find, IsSome, bytes_eq, option_to_list}
-use Rattle.std.specs.Option.{option_or}
-use Rattle.std.proofs.lemmas.Bool.{cases_Bool}
+use Rattle.std.{specs.Prelude.{Some, None, find, IsSome, bytes_eq, option_to_list}, specs.Option.option_or, proofs.lemmas.Bool.cases_Bool}
 use Rattle.std.proofs.lemmas.List.Folds.{find-append}
-use Rattle.history_model.specs.declared.entries.Acceptance.{Acceptance}
-use Rattle.history_model.specs.declared.entries.Entry.{Entry}
+use Rattle.history_model.specs.{declared.entries.Acceptance.Acceptance, declared.entries.Entry.Entry, Allowed.{Allowed, Legal}}
 use Rattle.history_model.specs.declared.entries.Entry.TheVariants as entry
-use Rattle.history_model.specs.Allowed.{Allowed, Legal}
-use Rattle.history_model.specs.Runs.{acceptance, acceptances, retraction, retractions, accepted, retracted, is_run, takes_back}
-use Rattle.history_model.proofs.Growth.{legal-each}
-use Rattle.history_model.proofs.Chosen.{chosen-push}
-use Rattle.history_model.proofs.Lists.{same-bytes}
+use Rattle.history_model.{specs.Runs.{acceptance, acceptances, retraction, retractions, accepted, retracted, is_run, takes_back}, proofs.Growth.legal-each}
+use Rattle.history_model.proofs.{Chosen.chosen-push, Lists.same-bytes}
 
 -- the claim, of a history as it grows
 Claim : List Entry → Type 0

@@ -1,17 +1,11 @@
 -- A history with a retraction more keeps its limits.
-use Rattle.std.proofs.Common.{ℕ, ◌+◌, ◌≤◌, List, [], ◌∷◌, ◌++◌, length, refl, le_trans}
-use Rattle.std.proofs.lemmas.List.{length-append}
+use Rattle.std.proofs.{Common.{ℕ, ◌+◌, ◌≤◌, List, [], ◌∷◌, ◌++◌, length, refl, le_trans}, lemmas.List.length-append}
 use Rattle.metric_table.specs.Limits.{most}
 use Rattle.metric_table.specs.declared.limits.Limit.TheVariants as limit
-use Rattle.history_model.specs.declared.entries.Entry.{Entry}
+use Rattle.history_model.specs.{declared.entries.Entry.Entry, Allowed.KeepsLimits, Commits.declaration, Publications.publication}
 use Rattle.history_model.specs.declared.entries.Entry.TheVariants as entry
-use Rattle.history_model.specs.Allowed.{KeepsLimits}
-use Rattle.history_model.specs.Commits.{declaration}
-use Rattle.history_model.specs.Publications.{publication}
-use Rattle.history_model.specs.Runs.{Retraction, acceptance, acceptances, retraction, retractions, known_series}
-use Rattle.history_model.proofs.Chosen.{chosen-push, chosen-skip}
-use Rattle.history_model.proofs.Standings.{jobs-stay}
-use Rattle.history_model.proofs.Fewer.{greatest-fewer, brought-fewer, positions-fewer}
+use Rattle.history_model.{specs.Runs.{Retraction, acceptance, acceptances, retraction, retractions, known_series}, proofs.Chosen.{chosen-push, chosen-skip}}
+use Rattle.history_model.proofs.{Standings.jobs-stay, Fewer.{greatest-fewer, brought-fewer, positions-fewer}}
 
 -- a retraction leaves what is counted but steps, and fewer live samples and positions
 pub limits-retract : (h : List Entry) (run : List ℕ) → KeepsLimits h → length h + 1 ≤ most limit.Steps → KeepsLimits (h ++ entry.Retract run ∷ [])

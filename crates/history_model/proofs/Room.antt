@@ -1,28 +1,16 @@
 -- What the limits on a history say of each of its series.
 use Rattle.std.proofs.Common.{◌≡◌, ℕ, ◌+◌, ◌≤◌, ◌<◌, max, Bool, true, false, cond, not, ◌&&◌, ◌||◌, List, [], ◌∷◌, ◌++◌, length, map, refl, sym, ap, ◌∙◌, inl, inr, arith}
-use Rattle.std.specs.Prelude.{None, find, is_none, bytes_eq, filter, flat_map}
-use Rattle.std.specs.List.{list_any}
-use Rattle.std.specs.Cmp.Lexicographic.{nat_list_eq_equiv}
-use Rattle.std.proofs.lemmas.Bool.{cases_Bool}
-use Rattle.std.proofs.lemmas.List.{length-map}
-use Rattle.std.proofs.lemmas.List.Folds.{list_any-append}
+use Rattle.std.specs.{Prelude.{None, find, is_none, bytes_eq, filter, flat_map}, List.list_any, Cmp.Lexicographic.nat_list_eq_equiv}
+use Rattle.std.proofs.lemmas.{Bool.cases_Bool, List.length-map, List.Folds.list_any-append}
 use Rattle.metric_table.specs.Limits.{most}
 use Rattle.metric_table.specs.declared.limits.Limit.TheVariants as limit
-use Rattle.segment_model.specs.Segments.{Position, values_of}
-use Rattle.segment_model.specs.Edits.{inserted, has_commit}
-use Rattle.history_model.specs.declared.entries.Acceptance.{Acceptance}
-use Rattle.history_model.specs.declared.entries.Entry.{Entry}
+use Rattle.segment_model.{specs.Segments.{Position, values_of}, specs.Edits.{inserted, has_commit}, proofs.Inserted.{values-brought, size-grows, size-new}}
+use Rattle.history_model.specs.{declared.entries.Acceptance.Acceptance, declared.entries.Entry.Entry, declared.run.Run.Run, Allowed.{count_of, greatest_of}}
 use Rattle.history_model.specs.declared.entries.Entry.TheVariants as entry
-use Rattle.history_model.specs.declared.run.Run.{Run}
-use Rattle.history_model.specs.Allowed.{count_of, greatest_of}
-use Rattle.history_model.specs.Laws.{observed, with_all}
-use Rattle.history_model.specs.Positions.{Brought, brought_by, brought, positions}
+use Rattle.history_model.specs.{Laws.{observed, with_all}, Positions.{Brought, brought_by, brought, positions}}
 use Rattle.history_model.specs.Runs.{Series, acceptances, retractions, retracted, takes_back, live_runs, known_series, same_series, is_of, distinct}
 use Rattle.sample_model.specs.Samples.{Measurement}
-use Rattle.history_model.proofs.Accepts.{positions-accept}
-use Rattle.history_model.proofs.Counts.{all-more}
-use Rattle.segment_model.proofs.Inserted.{values-brought, size-grows, size-new}
-use Rattle.history_model.proofs.Lists.{same-bytes}
+use Rattle.history_model.proofs.{Accepts.positions-accept, Counts.all-more, Lists.same-bytes}
 
 both : (a b : Bool) → (a && b) ≡ true → (a ≡ true) × (b ≡ true)
 both true b h = (refl, h)

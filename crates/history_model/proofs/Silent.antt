@@ -1,11 +1,7 @@
 -- What is numbered in a history, and nothing is told of a number before it is there.
-use Rattle.std.proofs.Common.{◌≡◌, ℕ, ◌+◌, ◌<◌, List, [], ◌∷◌, ◌++◌, length, refl, ap, ◌∙◌, arith, Option}
-use Rattle.std.specs.Prelude.{option_to_list, None}
+use Rattle.std.{proofs.Common.{◌≡◌, ℕ, ◌+◌, ◌<◌, List, [], ◌∷◌, ◌++◌, length, refl, ap, ◌∙◌, arith, Option}, specs.Prelude.{option_to_list, None}}
 use Rattle.std.proofs.lemmas.List.{length-append}
-use Rattle.history_model.specs.declared.entries.Entry.{Entry}
-use Rattle.history_model.specs.Allowed.{Allowed, Legal}
-use Rattle.history_model.specs.Entries.{chosen}
-use Rattle.history_model.proofs.Chosen.{chosen-push, chosen-skip}
+use Rattle.history_model.{specs.declared.entries.Entry.Entry, specs.Allowed.{Allowed, Legal}, specs.Entries.chosen, proofs.Chosen.{chosen-push, chosen-skip}}
 use Rattle.history_model.proofs.Growth.{legal-each}
 
 module _ {A B : Type 0} (made : ℕ → Entry → Option A) (told : ℕ → ℕ → Entry → Option B) where

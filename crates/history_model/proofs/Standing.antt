@@ -1,22 +1,14 @@
 -- The publications of a legal history stand in it, since each version of it stays.
 use Rattle.std.proofs.Common.{◌≡◌, ℕ, ◌+◌, ◌≤◌, Bool, true, ◌&&◌, ◌||◌, cond, List, [], ◌∷◌, ◌++◌, length, All, refl, sym, ap, ◌∙◌, subst, arith, inl, inr}
-use Rattle.std.specs.Prelude.{Some, None, take, drop, bytes_eq, option_to_list}
-use Rattle.std.specs.List.{list_any}
-use Rattle.std.proofs.lemmas.Bool.{cases_Bool}
-use Rattle.std.proofs.lemmas.List.{append-nil, append_assoc, length-append, take-append-le, take-append-drop}
-use Rattle.std.proofs.lemmas.List.Elements.{All-nil, All-push, All-weaker}
+use Rattle.std.{specs.Prelude.{Some, None, take, drop, bytes_eq, option_to_list}, specs.List.list_any, proofs.lemmas.Bool.cases_Bool}
+use Rattle.std.proofs.lemmas.List.{append-nil, append_assoc, length-append, take-append-le, take-append-drop, Elements.{All-nil, All-push, All-weaker}}
 use Rattle.std.proofs.lemmas.List.Folds.{list_any-append}
-use Rattle.history_model.specs.declared.entries.Acceptance.{Acceptance}
-use Rattle.history_model.specs.declared.entries.Entry.{Entry}
+use Rattle.history_model.specs.declared.{entries.Acceptance.Acceptance, entries.Entry.Entry, publication.Publication.Publication}
 use Rattle.history_model.specs.declared.entries.Entry.TheVariants as entry
-use Rattle.history_model.specs.declared.publication.Publication.{Publication}
 use Rattle.history_model.specs.Allowed.{Allowed, Legal}
 use Rattle.history_model.specs.Publications.{publication, publications, publication_of, published, last_publication, spoken_of, IsBestAt, IsBaseAt, Stands}
-use Rattle.history_model.specs.Runs.{Series, acceptance, acceptances, is_known, is_of}
-use Rattle.history_model.proofs.Chosen.{chosen-push, chosen-skip}
-use Rattle.history_model.proofs.Growth.{legal-each}
-use Rattle.history_model.proofs.OfKind.{by-kind, published-of}
-use Rattle.history_model.proofs.Publishing.{published-last, published-stays}
+use Rattle.history_model.{specs.Runs.{Series, acceptance, acceptances, is_known, is_of}, proofs.Chosen.{chosen-push, chosen-skip}, proofs.Growth.legal-each}
+use Rattle.history_model.proofs.{OfKind.{by-kind, published-of}, Publishing.{published-last, published-stays}}
 
 pub versions-stay : (h more : List Entry) (version : ℕ) → version ≤ length h → take version (h ++ more) ≡ take version h
 versions-stay h more version le = take-append-le version h more le

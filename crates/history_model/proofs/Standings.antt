@@ -1,16 +1,11 @@
 -- Where jobs stand stays with each entry that begins none and says nothing of any.
-use Rattle.std.proofs.Common.{◌≡◌, ℕ, ◌+◌, ◌-◌, ◌≤◌, List, [], ◌∷◌, ◌++◌, length, refl, sym, ap, ap₂, ◌∙◌, arith, Option}
-use Rattle.std.specs.Prelude.{Some, None}
-use Rattle.std.specs.List.{cons_option, AllByRecursion}
-use Rattle.std.proofs.lemmas.List.{take-append-le}
+use Rattle.std.{proofs.Common.{◌≡◌, ℕ, ◌+◌, ◌-◌, ◌≤◌, List, [], ◌∷◌, ◌++◌, length, refl, sym, ap, ap₂, ◌∙◌, arith, Option}, specs.Prelude.{Some, None}}
+use Rattle.std.{specs.List.{cons_option, AllByRecursion}, proofs.lemmas.List.take-append-le}
 use Rattle.bisect_core.specs.Bisections.{Bisection, bisection}
-use Rattle.history_model.specs.declared.entries.Entry.{Entry}
+use Rattle.history_model.specs.{declared.entries.Entry.Entry, Commits.{declarations, numbers_between}, Entries.chosen_from}
 use Rattle.history_model.specs.declared.entries.Entry.TheVariants as entry
 use Rattle.history_model.specs.declared.events.JobEvent.TheVariants as event
-use Rattle.history_model.specs.Commits.{declarations, numbers_between}
-use Rattle.history_model.specs.Entries.{chosen_from}
-use Rattle.history_model.specs.Jobs.{Begun, begun, begins, said, commits_of, standing_from, jobs}
-use Rattle.history_model.proofs.Chosen.{chosen-skip}
+use Rattle.history_model.{specs.Jobs.{Begun, begun, begins, said, commits_of, standing_from, jobs}, proofs.Chosen.chosen-skip}
 
 -- ---- each job was begun by a step of the history
 never : (b : Begun) → None ≡ Some b → ⊥

@@ -1,18 +1,11 @@
 -- A history with a setting more keeps its limits, and gives the metric that setting.
-use Rattle.std.proofs.Common.{◌≡◌, ℕ, ℤ, ◌+◌, ◌≤◌, List, [], ◌∷◌, ◌++◌, length, refl, ap, ◌∙◌, Option}
-use Rattle.std.specs.Prelude.{option_to_list, unwrap_or, Some, None}
+use Rattle.std.{proofs.Common.{◌≡◌, ℕ, ℤ, ◌+◌, ◌≤◌, List, [], ◌∷◌, ◌++◌, length, refl, ap, ◌∙◌, Option}, specs.Prelude.{option_to_list, unwrap_or, Some, None}}
 use Rattle.std.specs.List.{last_or}
 use Rattle.metric_table.specs.Limits.{most}
 use Rattle.metric_table.specs.declared.limits.Limit.TheVariants as limit
-use Rattle.history_model.specs.declared.entries.Entry.{Entry}
+use Rattle.history_model.specs.{declared.entries.Entry.Entry, declared.setting.Setting.Setting, Allowed.KeepsLimits, Publications.publication, Entries.chosen}
 use Rattle.history_model.specs.declared.entries.Entry.TheVariants as entry
-use Rattle.history_model.specs.declared.setting.Setting.{Setting}
-use Rattle.history_model.specs.Allowed.{KeepsLimits}
-use Rattle.history_model.specs.Publications.{publication}
-use Rattle.history_model.specs.Entries.{chosen}
-use Rattle.history_model.specs.Penalties.{set_for, default_setting, setting_of}
-use Rattle.history_model.proofs.Chosen.{chosen-push, chosen-skip}
-use Rattle.history_model.proofs.Others.{limits-other}
+use Rattle.history_model.{specs.Penalties.{set_for, default_setting, setting_of}, proofs.Chosen.{chosen-push, chosen-skip}, proofs.Others.limits-other}
 use Rattle.history_model.proofs.Standings.{jobs-stay}
 
 module _ (h : List Entry) (metric : List ℕ) (penalty : ℤ) (len : ℕ) where

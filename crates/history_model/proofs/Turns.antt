@@ -1,27 +1,16 @@
 -- How many jobs are open: one more where one is begun of three commits or more, and no more where something is said of one.
 use Rattle.std.proofs.Common.{◌≡◌, ℕ, zero, suc, ◌+◌, ◌-◌, ◌≤◌, ◌<◌, Bool, true, false, ◌==◌, nat_lt, cond, List, [], ◌∷◌, ◌++◌, length, refl, sym, ap, ◌∙◌, arith, inl, inr}
-use Rattle.std.specs.Prelude.{filter, slice_get, IsSome, Some, None, Option}
-use Rattle.std.specs.List.{AllByRecursion}
-use Rattle.std.proofs.lemmas.Bool.{cases_Bool, eq-eqb, eqb-true, lt-ltb, le-ltb}
-use Rattle.std.proofs.lemmas.List.{length-append}
-use Rattle.std.proofs.lemmas.List.Elements.{filter-append}
-use Rattle.std.proofs.lemmas.Option.{same_Some}
-use Rattle.bisect_core.specs.Bisections.{Bisection, bisection, is_open, between}
-use Rattle.bisect_core.specs.Turns.{Turn, tested, given_up}
+use Rattle.std.specs.{Prelude.{filter, slice_get, IsSome, Some, None, Option}, List.AllByRecursion}
+use Rattle.std.proofs.lemmas.{Bool.{cases_Bool, eq-eqb, eqb-true, lt-ltb, le-ltb}, List.length-append, List.Elements.filter-append, Option.same_Some}
+use Rattle.bisect_core.specs.{Bisections.{Bisection, bisection, is_open, between}, Turns.{Turn, tested, given_up}}
 use Rattle.metric_table.specs.Limits.{most}
 use Rattle.metric_table.specs.declared.limits.Limit.TheVariants as limit
-use Rattle.history_model.specs.declared.entries.Entry.{Entry}
+use Rattle.history_model.specs.{declared.entries.Entry.Entry, declared.events.JobEvent.JobEvent, Allowed.{Legal, KeepsLimits}}
 use Rattle.history_model.specs.declared.entries.Entry.TheVariants as entry
-use Rattle.history_model.specs.declared.events.JobEvent.{JobEvent}
 use Rattle.history_model.specs.declared.events.JobEvent.TheVariants as event
-use Rattle.history_model.specs.Allowed.{Legal, KeepsLimits}
-use Rattle.history_model.specs.Commits.{declarations, name_of, numbers_between}
-use Rattle.history_model.specs.Followed.{IsTurnOf}
+use Rattle.history_model.specs.{Commits.{declarations, name_of, numbers_between}, Followed.IsTurnOf}
 use Rattle.history_model.specs.Jobs.{Begun, begun, begins, said, turns, commits_of, standing_from, jobs, place_asked, asked, is_under_way, open_count}
-use Rattle.history_model.proofs.Between.{between-two}
-use Rattle.history_model.proofs.Chosen.{chosen-skip}
-use Rattle.history_model.proofs.Finished.{asks-place}
-use Rattle.history_model.proofs.Jobs.{said-begins, said-other, job-begun, limits-job}
+use Rattle.history_model.proofs.{Between.between-two, Chosen.chosen-skip, Finished.asks-place, Jobs.{said-begins, said-other, job-begun, limits-job}}
 use Rattle.history_model.proofs.Standings.{IsUpTo, all-past, commits-same, standing-same}
 
 -- ---- one job more

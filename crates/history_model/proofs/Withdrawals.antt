@@ -1,25 +1,14 @@
 -- The positions of a series after a run was taken back: the samples of its step go.
 use Rattle.std.proofs.Common.{◌≡◌, ℕ, suc, ◌+◌, ◌≤◌, ◌<◌, Bool, true, false, cond, not, ◌&&◌, ◌==◌, List, [], ◌∷◌, ◌++◌, length, map, refl, sym, ap, ◌∙◌, subst, Option, inl, inr, arith}
-use Rattle.std.specs.Prelude.{Some, None, find, is_none, bytes_eq, filter}
-use Rattle.std.specs.Option.{option_or}
-use Rattle.std.specs.List.{list_any}
-use Rattle.std.specs.Cmp.Lexicographic.{nat_list_eq_equiv}
-use Rattle.std.proofs.lemmas.Bool.{cases_Bool, eq-eqb, ne_eqb}
-use Rattle.std.proofs.lemmas.List.Elements.{filter-append}
-use Rattle.std.proofs.lemmas.List.Folds.{find-append}
-use Rattle.history_model.specs.declared.entries.Acceptance.{Acceptance}
-use Rattle.history_model.specs.declared.entries.Entry.{Entry}
+use Rattle.std.specs.{Prelude.{Some, None, find, is_none, bytes_eq, filter}, Option.option_or, List.list_any, Cmp.Lexicographic.nat_list_eq_equiv}
+use Rattle.std.proofs.lemmas.{Bool.{cases_Bool, eq-eqb, ne_eqb}, List.Elements.filter-append, List.Folds.find-append}
+use Rattle.history_model.specs.{declared.entries.Acceptance.Acceptance, declared.entries.Entry.Entry, Allowed.{Allowed, Legal}, Laws.is_other}
 use Rattle.history_model.specs.declared.entries.Entry.TheVariants as entry
 use Rattle.segment_model.specs.Edits.{removed}
-use Rattle.history_model.specs.Allowed.{Allowed, Legal}
-use Rattle.history_model.specs.Laws.{is_other}
 use Rattle.history_model.specs.Positions.{Brought, brought_by, brought, positions, positions_of}
 use Rattle.history_model.specs.Runs.{Series, Retraction, acceptance, acceptances, retraction, retractions, accepted, is_run, takes_back, live_of, is_of}
 use Rattle.sample_model.specs.Samples.{Measurement}
-use Rattle.history_model.specs.Entries.{chosen_from}
-use Rattle.history_model.proofs.Growth.{legal-each}
-use Rattle.history_model.proofs.Chosen.{chosen-push, chosen-skip}
-use Rattle.history_model.proofs.Lists.{same-bytes, filter-none}
+use Rattle.history_model.{specs.Entries.chosen_from, proofs.Growth.legal-each, proofs.Chosen.{chosen-push, chosen-skip}, proofs.Lists.{same-bytes, filter-none}}
 use Rattle.history_model.proofs.Removals.{positions-without}
 
 -- ---- no name stands in two acceptances

@@ -1,20 +1,15 @@
 -- Which entry may come after a history, and which histories are legal.
 use Rattle.std.specs.Prelude.{◌≡◌, ℕ, ◌≤◌, nat_lt, if◌then◌else◌, max, List, [], ◌∷◌, ◌++◌, map, length, Option, Some, None, IsSome}
-use Rattle.metric_table.specs.Limits.{most}
-use Rattle.metric_table.specs.declared.limits.Limit.{Limit}
+use Rattle.metric_table.specs.{Limits.most, declared.limits.Limit.Limit}
 use Rattle.metric_table.specs.declared.limits.Limit.TheVariants.{Commits, Runs, RunSamples, Samples, Series as KnownSeries, SeriesSamples, Positions, Steps, Cuts, Jobs}
 use Rattle.segment_model.specs.Limits.{IsLength}
 use Rattle.sample_model.specs.Samples.{AreSamples}
-use Rattle.history_model.specs.declared.entries.Acceptance.{Acceptance}
-use Rattle.history_model.specs.declared.entries.Entry.{Entry}
+use Rattle.history_model.specs.declared.entries.{Acceptance.Acceptance, Entry.Entry}
 use Rattle.history_model.specs.declared.entries.Entry.TheVariants.{Commit, Accept, Retract, Tune, Publish, Regression, Job}
 use Rattle.history_model.specs.Commits.{declarations, number_of, name_of}
-use Rattle.history_model.specs.Runs.{Series, acceptances, accepted, retracted, live_runs, known_series, sample_count}
-use Rattle.history_model.specs.Positions.{brought, positions}
+use Rattle.history_model.specs.{Runs.{Series, acceptances, accepted, retracted, live_runs, known_series, sample_count}, Positions.{brought, positions}}
 use Rattle.metric_table.specs.Table.{IsPenalty}
-use Rattle.history_model.specs.Publications.{cut_count, MayPublish}
-use Rattle.history_model.specs.Regressions.{MayBecome}
-use Rattle.history_model.specs.Jobs.{jobs, open_count, MayHappen}
+use Rattle.history_model.specs.{Publications.{cut_count, MayPublish}, Regressions.MayBecome, Jobs.{jobs, open_count, MayHappen}}
 
 -- the greatest of some numbers, or 0
 abbrev pub greatest_of : List ℕ → ℕ

@@ -1,27 +1,17 @@
 -- What holds of the regressions and of the jobs of all histories.
 use Rattle.std.specs.Prelude.{◌≡◌, ◌⊎◌, ℕ, ◌+◌, ◌-◌, ◌*◌, ◌^◌, ◌<◌, ◌≤◌, nat_lt, if◌then◌else◌, List, [], ◌∷◌, ◌++◌, length, set, slice_get, slice_index, unwrap_or, All, Contains, option_to_list, IsSome, Some, None}
 use Rattle.std.specs.List.Sorted.{IsStrictlyIncreasing}
-use Rattle.bisect_core.specs.Bisections.{Bisection, bisection, asked_by, IsRecorded, outcome_after, questions_after}
-use Rattle.bisect_core.specs.Turns.{Turn, good_places, bad_places}
-use Rattle.bisect_core.specs.declared.outcome.Outcome.{Outcome}
-use Rattle.bisect_core.specs.declared.outcome.Outcome.TheVariants.{Asks, Found, Undecided, Faulted}
+use Rattle.bisect_core.specs.{Bisections.{Bisection, bisection, asked_by, IsRecorded, outcome_after, questions_after}, Turns.{Turn, good_places, bad_places}}
+use Rattle.bisect_core.specs.declared.outcome.Outcome.{Outcome, TheVariants.{Asks, Found, Undecided, Faulted}}
 use Rattle.metric_table.specs.Limits.{most}
 use Rattle.metric_table.specs.declared.limits.Limit.TheVariants as limit
-use Rattle.regression_state.specs.declared.states.State.{State}
-use Rattle.regression_state.specs.declared.states.State.TheVariants.{Detected}
-use Rattle.history_model.specs.declared.entries.Declaration.{Declaration}
-use Rattle.history_model.specs.declared.entries.Entry.{Entry}
+use Rattle.regression_state.specs.declared.states.State.{State, TheVariants.Detected}
+use Rattle.history_model.specs.declared.{entries.Declaration.Declaration, entries.Entry.Entry, events.JobEvent.JobEvent, events.Raised.Raised}
 use Rattle.history_model.specs.declared.entries.Entry.TheVariants as entry
-use Rattle.history_model.specs.declared.events.JobEvent.{JobEvent}
 use Rattle.history_model.specs.declared.events.JobEvent.TheVariants as event
-use Rattle.history_model.specs.declared.events.Raised.{Raised}
-use Rattle.history_model.specs.declared.events.RegressionEvent.{RegressionEvent}
-use Rattle.history_model.specs.Allowed.{Legal, KeepsLimits}
+use Rattle.history_model.specs.{declared.events.RegressionEvent.RegressionEvent, Allowed.{Legal, KeepsLimits}, declared.publication.Publication.Publication}
 use Rattle.segment_model.specs.Limits.{commits_of as commits_in}
-use Rattle.history_model.specs.declared.publication.Publication.{Publication}
-use Rattle.history_model.specs.Commits.{declarations, name_in, name_of, numbers_between}
-use Rattle.history_model.specs.Positions.{positions}
-use Rattle.history_model.specs.Publications.{Stands, spoken_of, published}
+use Rattle.history_model.specs.{Commits.{declarations, name_in, name_of, numbers_between}, Positions.positions, Publications.{Stands, spoken_of, published}}
 use Rattle.history_model.specs.Jobs.{Begun, begins, said, turns, commits_of, jobs, job_in, asked, open_count}
 use Rattle.history_model.specs.Regressions.{raised, regressions, moved, state_of}
 

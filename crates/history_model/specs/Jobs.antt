@@ -1,13 +1,9 @@
 -- The bisections that a history begins, numbered from 1, what was said of their places, and where each stands.
 use Rattle.std.specs.Prelude.{◌≡◌, ℕ, zero, suc, ◌+◌, ◌-◌, ◌<◌, Bool, ◌==◌, List, [], ◌∷◌, length, take, filter, slice_get, if◌then◌else◌, IsSome, Option, Some, None}
-use Rattle.bisect_core.specs.Bisections.{Bisection, bisection, is_open, asked_by}
-use Rattle.bisect_core.specs.Turns.{Turn, tested, given_up}
-use Rattle.history_model.specs.declared.entries.Entry.{Entry}
-use Rattle.history_model.specs.declared.entries.Entry.TheVariants.{Job}
-use Rattle.history_model.specs.declared.events.JobEvent.{JobEvent}
+use Rattle.bisect_core.specs.{Bisections.{Bisection, bisection, is_open, asked_by}, Turns.{Turn, tested, given_up}}
+use Rattle.history_model.specs.declared.{entries.Entry.Entry, entries.Entry.TheVariants.Job, events.JobEvent.JobEvent}
 use Rattle.history_model.specs.declared.events.JobEvent.TheVariants as event
-use Rattle.history_model.specs.Commits.{declarations, name_of, numbers_between}
-use Rattle.history_model.specs.Entries.{chosen}
+use Rattle.history_model.specs.{Commits.{declarations, name_of, numbers_between}, Entries.chosen}
 
 -- the range of a job, with the step at which it was begun
 pub record Begun : Type 0 where

@@ -1,18 +1,13 @@
 -- What holds of all histories: how each projection, the positions and the limits change by one entry.
 use Rattle.std.specs.Prelude.{◌≡◌, ◌≤◌, ℕ, ℤ, ◌+◌, ◌<◌, ◌&&◌, ◌==◌, Bool, true, false, not, List, [], ◌∷◌, ◌++◌, All, filter, length, take, option_to_list, if◌then◌else◌, ◌↔◌, IsSome, Some, None}
 use Rattle.std.specs.List.{list_any}
-use Rattle.metric_table.specs.Limits.{most}
+use Rattle.metric_table.specs.{Limits.most, declared.limits.Limit.Limit}
 use Rattle.metric_table.specs.declared.limits.Limit.TheVariants as limit
-use Rattle.segment_model.specs.Segments.{Observation, Position, values_of}
-use Rattle.segment_model.specs.Edits.{inserted, removed, has_commit}
-use Rattle.history_model.specs.declared.entries.Acceptance.{Acceptance}
-use Rattle.history_model.specs.declared.entries.Entry.{Entry}
+use Rattle.segment_model.specs.{Segments.{Observation, Position, values_of}, Edits.{inserted, removed, has_commit}}
+use Rattle.history_model.specs.declared.{entries.Acceptance.Acceptance, entries.Entry.Entry, run.Run.Run}
 use Rattle.history_model.specs.declared.entries.Entry.TheVariants as entry
-use Rattle.history_model.specs.declared.run.Run.{Run}
-use Rattle.history_model.specs.Allowed.{Allowed, Legal, KeepsLimits, count_of, first_passed, run_limits}
-use Rattle.history_model.specs.Commits.{declaration, declarations, name_of}
+use Rattle.history_model.specs.{Allowed.{Allowed, Legal, KeepsLimits, count_of, first_passed, run_limits}, Commits.{declaration, declarations, name_of}}
 use Rattle.sample_model.specs.Samples.{AreSamples}
-use Rattle.metric_table.specs.declared.limits.Limit.{Limit}
 use Rattle.history_model.specs.declared.publication.Publication.{Publication}
 use Rattle.history_model.specs.Publications.{publication_of, publications, published, cuts_in, cut_count, last_publication, Stands}
 pub use Rattle.segment_model.specs.Brought.{observed, ValuesAreBrought}

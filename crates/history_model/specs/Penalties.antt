@@ -1,12 +1,8 @@
 -- The setting of a metric by which a history segments: the last one that was set, else the penalty of the table and length 1.
-use Rattle.std.specs.Prelude.{◌≡◌, ℕ, ℤ, ◌+◌, List, [], ◌∷◌, ◌++◌, length, bytes_eq, unwrap_or, if◌then◌else◌, Option, Some, None}
-use Rattle.std.specs.List.{last_or}
+use Rattle.std.specs.{Prelude.{◌≡◌, ℕ, ℤ, ◌+◌, List, [], ◌∷◌, ◌++◌, length, bytes_eq, unwrap_or, if◌then◌else◌, Option, Some, None}, List.last_or}
 use Rattle.metric_table.specs.Table.{row_of, IsPenalty}
 use Rattle.segment_model.specs.Limits.{IsLength}
-use Rattle.history_model.specs.declared.entries.Entry.{Entry}
-use Rattle.history_model.specs.declared.entries.Entry.TheVariants.{Tune}
-use Rattle.history_model.specs.declared.setting.Setting.{Setting}
-use Rattle.history_model.specs.Entries.{chosen}
+use Rattle.history_model.specs.{declared.entries.Entry.Entry, declared.entries.Entry.TheVariants.Tune, declared.setting.Setting.Setting, Entries.chosen}
 
 -- the setting that an entry gives the metric
 abbrev pub set_for : List ℕ → ℕ → Entry → Option Setting

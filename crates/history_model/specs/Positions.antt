@@ -3,9 +3,7 @@ use Rattle.std.specs.Prelude.{List, map, filter, flat_map}
 use Rattle.segment_model.specs.Segments.{Position}
 pub use Rattle.segment_model.specs.Brought.{Brought, in_place, rising, position_at, positions_of, observed}
 use Rattle.sample_model.specs.Samples.{Measurement}
-use Rattle.history_model.specs.Runs.{Series, live_runs, is_of}
-use Rattle.history_model.specs.declared.entries.Acceptance.{Acceptance}
-use Rattle.history_model.specs.declared.entries.Entry.{Entry}
+use Rattle.history_model.specs.{Runs.{Series, live_runs, is_of}, declared.entries.Acceptance.Acceptance, declared.entries.Entry.Entry}
 
 -- what a run brought of a series, in the order of its samples
 abbrev pub brought_by : Series → Acceptance → List Brought

@@ -1,15 +1,8 @@
 -- The segmentations that a history publishes, and when one may be published.
-use Rattle.std.specs.Prelude.{◌≡◌, ℕ, ℤ, ◌≤◌, true, ◌&&◌, ◌⊎◌, List, length, take, sum_by, bytes_eq, if◌then◌else◌, Option, Some, None}
-use Rattle.std.specs.List.{Any, last_or}
-use Rattle.segment_model.specs.Segments.{Position, IsCost}
-use Rattle.segment_model.specs.Cuts.{IsBest, total}
-use Rattle.history_model.specs.declared.entries.Entry.{Entry}
-use Rattle.history_model.specs.declared.entries.Entry.TheVariants.{Publish}
-use Rattle.history_model.specs.declared.publication.Publication.{Publication}
-use Rattle.history_model.specs.Entries.{chosen}
-use Rattle.history_model.specs.Penalties.{setting_of, penalty_of, length_of}
-use Rattle.history_model.specs.Positions.{positions}
-use Rattle.history_model.specs.Runs.{Series, is_known}
+use Rattle.std.specs.{Prelude.{◌≡◌, ℕ, ℤ, ◌≤◌, true, ◌&&◌, ◌⊎◌, List, length, take, sum_by, bytes_eq, if◌then◌else◌, Option, Some, None}, List.{Any, last_or}}
+use Rattle.segment_model.specs.{Segments.{Position, IsCost}, Cuts.{IsBest, total}}
+use Rattle.history_model.specs.declared.{entries.Entry.Entry, entries.Entry.TheVariants.Publish, publication.Publication.Publication}
+use Rattle.history_model.specs.{Entries.chosen, Penalties.{setting_of, penalty_of, length_of}, Positions.positions, Runs.{Series, is_known}}
 
 -- the publications of a history, in order
 abbrev pub publication : ℕ → Entry → Option Publication

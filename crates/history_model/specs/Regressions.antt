@@ -1,17 +1,9 @@
 -- The regressions that a history raises, numbered from 1, and the state that each came to.
-use Rattle.std.specs.Prelude.{◌≡◌, ℕ, ◌<◌, Bool, true, ◌&&◌, ◌==◌, nat_le, List, length, unwrap_or, if◌then◌else◌, IsSome, Option, Some, None}
-use Rattle.std.specs.List.{last_or}
-use Rattle.regression_state.specs.Moves.{is_move}
-use Rattle.regression_state.specs.declared.states.State.{State}
-use Rattle.regression_state.specs.declared.states.State.TheVariants.{Detected}
-use Rattle.history_model.specs.declared.entries.Entry.{Entry}
-use Rattle.history_model.specs.declared.entries.Entry.TheVariants.{Regression}
-use Rattle.history_model.specs.declared.events.Raised.{Raised}
-use Rattle.history_model.specs.declared.events.RegressionEvent.{RegressionEvent}
+use Rattle.std.specs.{Prelude.{◌≡◌, ℕ, ◌<◌, Bool, true, ◌&&◌, ◌==◌, nat_le, List, length, unwrap_or, if◌then◌else◌, IsSome, Option, Some, None}, List.last_or}
+use Rattle.regression_state.specs.{Moves.is_move, declared.states.State.State, declared.states.State.TheVariants.Detected}
+use Rattle.history_model.specs.declared.{entries.Entry.Entry, entries.Entry.TheVariants.Regression, events.Raised.Raised}
+use Rattle.history_model.specs.{declared.events.RegressionEvent.RegressionEvent, Commits.name_of, Entries.chosen, Runs.{Series, is_known}}
 use Rattle.history_model.specs.declared.events.RegressionEvent.TheVariants as event
-use Rattle.history_model.specs.Commits.{name_of}
-use Rattle.history_model.specs.Entries.{chosen}
-use Rattle.history_model.specs.Runs.{Series, is_known}
 
 -- the change that an entry raises, and all that were raised
 abbrev pub raised : ℕ → Entry → Option Raised

@@ -1,13 +1,9 @@
 -- The runs that a history accepts and retracts, and the series of their samples.
 use Rattle.std.specs.Prelude.{ℕ, Bool, not, ◌&&◌, ◌==◌, List, [], ◌∷◌, map, length, sum_by, filter, flat_map, find, is_none, bytes_eq, Option, Some, None}
-use Rattle.std.specs.List.{list_any}
-use Rattle.std.specs.Ordering.{int_eq}
+use Rattle.std.specs.{List.list_any, Ordering.int_eq}
 use lib.Pointwise.{pointwise}
-use Rattle.history_model.specs.Entries.{chosen}
-use Rattle.history_model.specs.declared.entries.Acceptance.{Acceptance}
-use Rattle.history_model.specs.declared.entries.Entry.{Entry}
-use Rattle.history_model.specs.declared.entries.Entry.TheVariants.{Accept, Retract}
-use Rattle.history_model.specs.declared.run.Run.{Run}
+use Rattle.history_model.specs.{Entries.chosen, declared.entries.Acceptance.Acceptance, declared.entries.Entry.Entry}
+use Rattle.history_model.specs.declared.{entries.Entry.TheVariants.{Accept, Retract}, run.Run.Run}
 use Rattle.sample_model.specs.Samples.{Measurement}
 
 -- a run, with the step at which it was accepted

@@ -1,7 +1,5 @@
 -- The order of series.
-use Rattle.std.specs.declared.cmp.Ordering.{Ordering}
-use Rattle.std.specs.Ordering.{nat_cmp, ordering_then}
-use Rattle.std.specs.Cmp.Lexicographic.{slice_cmp}
+use Rattle.std.specs.{declared.cmp.Ordering.Ordering, Ordering.{nat_cmp, ordering_then}, Cmp.Lexicographic.slice_cmp}
 use Rattle.history_model.specs.Runs.{Series}
 
 -- by the bytes of the test, then of the metric

@@ -1,6 +1,5 @@
 //! Worked bisections.
-ghost use Rattle.std.specs.Prelude.{IsTrue};
-ghost use Rattle.std.specs.List.Sorted.{IsStrictlyIncreasing};
+ghost use Rattle.std.specs.{Prelude.IsTrue, List.Sorted.IsStrictlyIncreasing};
 
 use bisect_core::{Answered, Job, Outcome};
 use line_text::{Duplicate, Numbers};

@@ -5,8 +5,7 @@ use Rattle.track_outside.specs.declared.runner.Runner as runner
 use Rattle.track_outside.specs.Calls.{IsUntouched}
 use Rattle.line_pieces.specs.declared.stop.Stop.{Stop}
 use Rattle.line_pieces.specs.declared.stop.Stop.TheVariants as stop
-use Rattle.hunt_command.specs.Endings.{EndsHunt}
-use Rattle.hunt_command.specs.declared.end.HuntEnd.TheVariants.{Stopped}
+use Rattle.hunt_command.specs.{Endings.EndsHunt, declared.end.HuntEnd.TheVariants.Stopped}
 
 -- a sink that nothing was done to
 pub untouched : {O : Type 0} (g : sink.Ghosts O) (out : O) → IsUntouched g out out

@@ -1,19 +1,14 @@
 -- How a hunt ends, on its objects.
-use Rattle.std.specs.Io.KnownBytes.{IsAtEnd}
-use Rattle.std.specs.Prelude.{◌≡◌, ◌⊎◌, ℕ, ◌+◌, ◌-◌, ◌^◌, ◌<◌, ◌≤◌, List, length, Option}
+use Rattle.std.specs.{Io.KnownBytes.IsAtEnd, Prelude.{◌≡◌, ◌⊎◌, ℕ, ◌+◌, ◌-◌, ◌^◌, ◌<◌, ◌≤◌, List, length, Option}}
 use Rattle.track_outside.specs.Calls.{Took, FailedIn, IsUntouched, GaveAtMost}
 use Rattle.track_outside.specs.declared.source.Source as source
 use Rattle.track_outside.specs.declared.sink.Sink as sink
 use Rattle.track_outside.specs.declared.runner.Runner as runner
 use Rattle.wide_bisect.specs.Searches.{Search}
 use Rattle.line_pieces.specs.declared.stop.Stop.TheVariants as stop
-use Rattle.commit_lines.specs.Reading.{AreNamesOfInput}
-use Rattle.commit_lines.specs.Stops.{StopsFor}
-use Rattle.hunt_rounds.specs.Asked.{WereAskedOf}
-use Rattle.hunt_rounds.specs.Hunts.{IsHunted}
-use Rattle.hunt_command.specs.Text.{hunt_text}
-use Rattle.hunt_command.specs.declared.end.HuntEnd.{HuntEnd}
-use Rattle.hunt_command.specs.declared.end.HuntEnd.TheVariants.{Done, Stopped, TooFew, WriteFault}
+use Rattle.commit_lines.specs.{Reading.AreNamesOfInput, Stops.StopsFor}
+use Rattle.hunt_rounds.specs.{Asked.WereAskedOf, Hunts.IsHunted}
+use Rattle.hunt_command.specs.{Text.hunt_text, declared.end.HuntEnd.HuntEnd, declared.end.HuntEnd.TheVariants.{Done, Stopped, TooFew, WriteFault}}
 
 -- the lines of the input have so many names, fewer than two
 abbrev pub HasFew : Option (List ℕ) → ℕ → Type 0

@@ -1,8 +1,7 @@
 -- The line that a hunt prints.
 use Rattle.std.specs.Prelude.{ℕ, List, [], ◌∷◌, ◌++◌, codes, decimal}
 use Rattle.line_text.specs.Names.{spelling}
-use Rattle.wide_bisect.specs.declared.outcome.WideOutcome.{WideOutcome}
-use Rattle.wide_bisect.specs.declared.outcome.WideOutcome.TheVariants.{Asks, Found, Undecided, Faulted}
+use Rattle.wide_bisect.specs.declared.outcome.WideOutcome.{WideOutcome, TheVariants.{Asks, Found, Undecided, Faulted}}
 use Rattle.wide_bisect.specs.Searches.{Search}
 use Rattle.hunt_rounds.specs.Hunts.{name_at}
 

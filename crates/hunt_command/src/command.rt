@@ -1,7 +1,6 @@
 //! The command, from its input to its output.
 ghost use Rattle.std.specs.Prelude.{◌≡◌, ◌≤◌, length, IfOk};
-ghost use Rattle.hunt_command.specs.Endings.{EndsInput, EndsHunt};
-ghost use Rattle.hunt_command.specs.Text.{hunt_text};
+ghost use Rattle.hunt_command.specs.{Endings.{EndsInput, EndsHunt}, Text.hunt_text};
 
 use crate::end::HuntEnd;
 use crate::text::put_hunt;

@@ -1,18 +1,11 @@
 -- Chains of asks, and of rounds.
 use Rattle.std.proofs.Common.{◌≡◌, ℕ, ◌+◌, ◌-◌, List, [], ◌∷◌, ◌++◌, length, get_or, Option, Some, None, inl, inr, refl, sym, ap, subst, ◌∙◌, arith, append_assoc, append-nil}
-use Rattle.std.specs.Prelude.{Contains, option_map}
-use Rattle.std.proofs.lemmas.Bool.{cases_lt, le-ltb}
-use Rattle.std.proofs.lemmas.List.Elements.{Contains-append_cases, All-append}
+use Rattle.std.{specs.Prelude.{Contains, option_map}, proofs.lemmas.Bool.{cases_lt, le-ltb}, proofs.lemmas.List.Elements.{Contains-append_cases, All-append}}
 use Rattle.std.proofs.lemmas.List.FromFn.{length-map-range_with_len, get_or-map-range_with_len}
-use Rattle.track_outside.specs.Asked.{Ask}
-use Rattle.track_outside.specs.Counts.{Rose}
-use Rattle.track_outside.specs.declared.runner.Runner.{Ghosts}
-use Rattle.wide_bisect.specs.declared.outcome.WideOutcome.TheVariants.{Asks}
-use Rattle.wide_bisect.specs.Searches.{Search, begun, asks, asked, place_in_round, after, after_all}
+use Rattle.track_outside.specs.{Asked.Ask, Counts.Rose, declared.runner.Runner.Ghosts}
+use Rattle.wide_bisect.specs.{declared.outcome.WideOutcome.TheVariants.Asks, Searches.{Search, begun, asks, asked, place_in_round, after, after_all}}
 use Rattle.wide_bisect.specs.Laws.{AreTaken}
-use Rattle.hunt_rounds.specs.Asked.{WasAsked, EachWasAsked, IsOf, WereAskedOf}
-use Rattle.hunt_rounds.specs.Hunts.{ask_in, asks_in, Goes}
-use Rattle.hunt_rounds.specs.Rounds.{asks_at}
+use Rattle.hunt_rounds.specs.{Asked.{WasAsked, EachWasAsked, IsOf, WereAskedOf}, Hunts.{ask_in, asks_in, Goes}, Rounds.asks_at}
 
 -- ---- one runner
 

@@ -1,14 +1,9 @@
 -- Searches that run, and those that are closed.
 use Rattle.std.proofs.Common.{◌≡◌, ◌≢◌, ℕ, ◌+◌, ◌-◌, ◌<◌, ◌≤◌, min, Bool, true, cond, eqb, List, [], ◌∷◌, length, map, Option, Some, None, inl, inr, refl, sym, ap, subst, ◌∙◌, arith}
-use Rattle.std.specs.Prelude.{All}
-use Rattle.std.specs.List.{range_with_len}
-use Rattle.std.proofs.lemmas.Bool.{cases_Bool, eq-eqb}
-use Rattle.std.proofs.lemmas.List.Elements.{All-weaker}
+use Rattle.std.{specs.Prelude.All, specs.List.range_with_len, proofs.lemmas.Bool.{cases_Bool, eq-eqb}, proofs.lemmas.List.Elements.All-weaker}
 use Rattle.std.proofs.lemmas.List.FromFn.{length-map-range_with_len}
 use Rattle.track_outside.specs.declared.runner.Runner.{Ghosts}
-use Rattle.wide_bisect.specs.declared.said.Said.{Said}
-use Rattle.wide_bisect.specs.declared.outcome.WideOutcome.{WideOutcome}
-use Rattle.wide_bisect.specs.declared.outcome.WideOutcome.TheVariants.{Asks, Found, Undecided, Faulted}
+use Rattle.wide_bisect.specs.declared.{said.Said.Said, outcome.WideOutcome.WideOutcome, outcome.WideOutcome.TheVariants.{Asks, Found, Undecided, Faulted}}
 use Rattle.wide_bisect.specs.declared.outcome.WideAnswered.TheVariants as answered
 use Rattle.wide_bisect.specs.Answers.{ending, skipped_places}
 use Rattle.wide_bisect.specs.Searches.{Search, is_running, settled, begun, asks, asked, place_in_round, said_of, end_by, after_end, after, after_all, answer_to}

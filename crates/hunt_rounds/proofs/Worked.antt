@@ -1,19 +1,13 @@
 -- What workers were asked in a round.
 use Rattle.std.proofs.Common.{◌≡◌, ℕ, zero, suc, ◌+◌, ◌-◌, ◌<◌, ◌≤◌, List, [], ◌∷◌, ◌++◌, length, get_or, take, drop, Option, Result, Ok, Err, inl, inr, refl, sym, ap, subst, ◌∙◌, arith, length-append, length-drop}
-use Rattle.std.specs.Prelude.{⊤, All, Contains, slice_index, zip}
-use Rattle.std.proofs.lemmas.Bool.{cases_lt, lt-ltb, le-ltb}
+use Rattle.std.{specs.Prelude.{⊤, All, Contains, slice_index, zip}, proofs.lemmas.Bool.{cases_lt, lt-ltb, le-ltb}}
 use Rattle.std.proofs.lemmas.List.{take_all, take-append-le, get_or_append_left, get_or-append_right, get_or-take, get_or-drop, length-take}
-use Rattle.std.proofs.lemmas.List.Elements.{All-get_or, AllZip-get_or, Contains-get_or}
-use Rattle.std.proofs.lemmas.Slice.Zip.{get_or-zip, length-zip}
-use Rattle.std.specs.declared.alloc.AllocError.{AllocError}
-use Rattle.std.specs.List.{AllByRecursion}
+use Rattle.std.proofs.lemmas.{List.Elements.{All-get_or, AllZip-get_or, Contains-get_or}, Slice.Zip.{get_or-zip, length-zip}}
+use Rattle.std.specs.{declared.alloc.AllocError.AllocError, List.AllByRecursion}
 use Rattle.side_by_side.specs.Runs.{AllWorked}
 use Rattle.track_outside.specs.declared.runner.Runner.{Ghosts}
-use Rattle.hunt_rounds.specs.declared.asking.Asking.{Asking}
-use Rattle.hunt_rounds.specs.Asked.{WasAsked, EachWasAsked, IsOf, WereAskedOf}
-use Rattle.hunt_rounds.specs.Hunts.{name_at}
-use Rattle.hunt_rounds.specs.Rounds.{asks_of, asks_at, AreAskings, AreAnswers}
-use Rattle.hunt_rounds.proofs.Chains.{unasked}
+use Rattle.hunt_rounds.specs.{declared.asking.Asking.Asking, Asked.{WasAsked, EachWasAsked, IsOf, WereAskedOf}, Hunts.name_at}
+use Rattle.hunt_rounds.{specs.Rounds.{asks_of, asks_at, AreAskings, AreAnswers}, proofs.Chains.unasked}
 
 -- what a worker gives
 abbrev pub Gives : {R : Type 0} → Ghosts R → Asking → R → Asking → R → Type 0

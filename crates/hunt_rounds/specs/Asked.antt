@@ -1,8 +1,6 @@
 -- What runners were asked, each by its place.
 use Rattle.std.specs.Prelude.{◌≡◌, ◌≤◌, ◌<◌, ℕ, List, ◌++◌, All, Contains, length, get_or, option_map, None}
-use Rattle.track_outside.specs.Asked.{Ask}
-use Rattle.track_outside.specs.Counts.{Rose}
-use Rattle.track_outside.specs.declared.runner.Runner.{Ghosts}
+use Rattle.track_outside.specs.{Asked.Ask, Counts.Rose, declared.runner.Runner.Ghosts}
 
 -- the runner was asked just this, where it tells what it was asked, and failed where an ask has no status
 pub record WasAsked {R : Type 0} (g : Ghosts R) (asks : List Ask) (old new : R) : Type 0 where

@@ -1,11 +1,8 @@
 -- A hunt: a search by rounds over commits by name, of which each place of a round is asked of the runner in that place.
 use Rattle.std.specs.Prelude.{◌≡◌, ◌≢◌, ℕ, ◌+◌, ◌-◌, List, [], ◌∷◌, ◌++◌, length, slice_index_or, nat_lt, if◌then◌else◌, Option, None}
-use Rattle.track_outside.specs.Asked.{Ask}
-use Rattle.track_outside.specs.declared.runner.Runner.{Ghosts}
-use Rattle.wide_bisect.specs.declared.outcome.WideOutcome.TheVariants.{Asks}
-use Rattle.wide_bisect.specs.Searches.{Search, begun, asks, place_in_round, after, after_all}
-use Rattle.wide_bisect.specs.Answers.{skipped_places}
-use Rattle.wide_bisect.specs.Laws.{AreTaken, IsWithinBound, all_said, skipping}
+use Rattle.track_outside.specs.{Asked.Ask, declared.runner.Runner.Ghosts}
+use Rattle.wide_bisect.specs.{declared.outcome.WideOutcome.TheVariants.Asks, Searches.{Search, begun, asks, place_in_round, after, after_all}}
+use Rattle.wide_bisect.specs.{Answers.skipped_places, Laws.{AreTaken, IsWithinBound, all_said, skipping}}
 use Rattle.hunt_rounds.specs.Asked.{EachWasAsked}
 
 -- the name of the commit at a place

@@ -1,8 +1,7 @@
 -- No public contract cites this. One round of asks.
 use Rattle.std.specs.Prelude.{◌≡◌, ◌<◌, ℕ, get_or, List, [], ◌∷◌, length, slice_index, slice_index_or, nat_lt, if◌then◌else◌, Option, None, Result, Ok, Err}
 use Rattle.track_outside.specs.Asked.{Ask}
-use Rattle.hunt_rounds.specs.declared.asking.Asking.{Asking}
-use Rattle.hunt_rounds.specs.Hunts.{name_at}
+use Rattle.hunt_rounds.specs.{declared.asking.Asking.Asking, Hunts.name_at}
 
 -- an ask that was answered, if only that it failed
 abbrev pub asks_of : {E : Type 0} → List ℕ → List ℕ → Result (Option ℕ) E → List Ask

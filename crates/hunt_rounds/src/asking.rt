@@ -1,7 +1,6 @@
 //! An ask, made by a thread of its own.
 ghost use Rattle.std.specs.Prelude.{⊤};
-ghost use Rattle.hunt_rounds.specs.Asked.{WasAsked};
-ghost use Rattle.hunt_rounds.specs.Rounds.{asks_of};
+ghost use Rattle.hunt_rounds.specs.{Asked.WasAsked, Rounds.asks_of};
 
 use crate::NoMemory;
 use side_by_side::Worker;

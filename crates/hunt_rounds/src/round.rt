@@ -1,7 +1,6 @@
 //! A round of asks.
 ghost use Rattle.std.specs.Prelude.{◌≡◌, ◌≤◌, ◌<◌, length, All, IfOk};
-ghost use Rattle.hunt_rounds.specs.Asked.{EachWasAsked, WereAskedOf};
-ghost use Rattle.hunt_rounds.specs.Rounds.{asks_at, AreAskings, AreAnswers};
+ghost use Rattle.hunt_rounds.specs.{Asked.{EachWasAsked, WereAskedOf}, Rounds.{asks_at, AreAskings, AreAnswers}};
 
 use crate::NoMemory;
 use crate::asking::Asking;

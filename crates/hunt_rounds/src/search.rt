@@ -1,7 +1,6 @@
 //! A hunt from its first round to its end.
 ghost use Rattle.std.specs.Prelude.{◌≤◌, length, IfOk};
-ghost use Rattle.hunt_rounds.specs.Asked.{WereAskedOf};
-ghost use Rattle.hunt_rounds.specs.Hunts.{IsHunted};
+ghost use Rattle.hunt_rounds.specs.{Asked.WereAskedOf, Hunts.IsHunted};
 
 use crate::NoMemory;
 use crate::round::ask_round;

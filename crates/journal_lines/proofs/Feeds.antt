@@ -1,23 +1,15 @@
 -- Private: no public contract cites this. The lines of journals have no line feed within.
 use Rattle.std.proofs.Common.{ℕ, ℤ, pos, negsuc, FitsSigned, suc, ◌^◌, ◌<◌, ◌≤◌, List, [], ◌∷◌, length, All, map, flat_map, codes, decimal, unsigned_abs, refl, arith}
-use Rattle.std.specs.Fmt.{signed_decimal}
-use Rattle.std.specs.Int.{w128}
-use Rattle.std.proofs.lemmas.Int.{ints}
+use Rattle.std.{specs.Fmt.signed_decimal, specs.Int.w128, proofs.lemmas.Int.ints}
 use Rattle.line_text.specs.Names.{IsName, spelling, NamesAreSpelledBack}
 use Rattle.sample_model.specs.Samples.{Measurement, IsSample}
-use Rattle.history_model.specs.declared.entries.Author.{Author}
+use Rattle.history_model.specs.declared.entries.{Author.Author, Entry.Entry, Entry.TheVariants.{Commit, Accept, Retract, Tune, Publish, Regression, Job}}
 use Rattle.history_model.specs.declared.entries.Author.TheVariants as author
-use Rattle.history_model.specs.declared.entries.Entry.{Entry}
-use Rattle.history_model.specs.declared.entries.Entry.TheVariants.{Commit, Accept, Retract, Tune, Publish, Regression, Job}
-use Rattle.history_model.specs.declared.events.RegressionEvent.TheVariants.{Raise, Move}
-use Rattle.history_model.specs.declared.events.JobEvent.TheVariants.{Begin, Answer, GiveUp}
-use Rattle.regression_state.specs.Moves.{word}
-use Rattle.regression_state.specs.declared.states.State.{State}
+use Rattle.history_model.specs.declared.events.{RegressionEvent.TheVariants.{Raise, Move}, JobEvent.TheVariants.{Begin, Answer, GiveUp}}
+use Rattle.regression_state.specs.{Moves.word, declared.states.State.State}
 use Rattle.regression_state.specs.declared.states.State.TheVariants.{Detected, Staged, Active, NotToBeFixed, Ignored, Verify, Fixed}
 use Rattle.track_entry.specs.Texts.{next, spaced, sample_words, entry_words, entry_text, IsEntry}
-use Rattle.journal_lines.specs.Texts.{author_word}
-use Rattle.journal_lines.specs.Lines.{IsAuthor}
-use Rattle.journal_lines.proofs.Lacking.{Lacks, lacks_both, lacks_standing, lacks_decimal, lacks_over}
+use Rattle.journal_lines.{specs.Texts.author_word, specs.Lines.IsAuthor, proofs.Lacking.{Lacks, lacks_both, lacks_standing, lacks_decimal, lacks_over}}
 
 abbrev AreLacking : List (List ℕ) → Type 0
 AreLacking [] = Unit {0}

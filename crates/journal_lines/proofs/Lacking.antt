@@ -1,8 +1,6 @@
 -- Private: no public contract cites this. Bytes that lack one byte, and where bytes are parted at it.
 use Rattle.std.proofs.Common.{◌≡◌, ◌≢◌, ℕ, zero, suc, ◌^◌, ◌+◌, ◌<◌, ◌≤◌, List, [], ◌∷◌, ◌++◌, length, get_or, take, drop, All, Bool, true, false, cond, ltb, decimal, refl, sym, ap, ◌∙◌, arith}
-use Rattle.std.specs.Str.Parse.{AllDigits}
-use Rattle.std.proofs.lemmas.Bool.{false≢true, le-ltb}
-use Rattle.std.proofs.lemmas.Fmt.{decimal_is_IsNumeral_wide}
+use Rattle.std.{specs.Str.Parse.AllDigits, proofs.lemmas.Bool.{false≢true, le-ltb}, proofs.lemmas.Fmt.decimal_is_IsNumeral_wide}
 use Rattle.std.proofs.lemmas.Str.Parse.{digit_from_value}
 use Rattle.line_text.specs.Names.{MayStand}
 

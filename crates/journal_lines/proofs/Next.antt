@@ -3,12 +3,8 @@ use Rattle.std.proofs.Common.{◌≡◌, ◌≢◌, ℕ, ◌+◌, ◌^◌, ◌<�
 use Rattle.line_text.specs.Names.{NamesAreSpelledBack}
 use Rattle.history_model.specs.declared.entries.Placed.{Placed}
 use Rattle.track_entry.specs.Texts.{entry_text}
-use Rattle.journal_lines.specs.Coming.{HasNoNext, MayCome}
-use Rattle.journal_lines.specs.Laws.{OneStep}
-use Rattle.journal_lines.specs.Lines.{HasLine, IsStep}
-use Rattle.journal_lines.specs.Texts.{author_word, entry_line}
-use Rattle.journal_lines.proofs.Feeds.{author_lacks, entry_lacks}
-use Rattle.journal_lines.proofs.Lacking.{Lacks, lacks_all, lacks_both, lacks_decimal, parted}
+use Rattle.journal_lines.specs.{Coming.{HasNoNext, MayCome}, Laws.OneStep, Lines.{HasLine, IsStep}, Texts.{author_word, entry_line}}
+use Rattle.journal_lines.proofs.{Feeds.{author_lacks, entry_lacks}, Lacking.{Lacks, lacks_all, lacks_both, lacks_decimal, parted}}
 use Rattle.journal_lines.proofs.Words.{no_part, step_shown, step_words}
 
 -- the line of an entry has no line feed within

@@ -1,13 +1,9 @@
 -- Private: no public contract cites this. One entry more in front of a text.
 use Rattle.std.proofs.Common.{◌≡◌, inl, inr, ℕ, suc, ◌+◌, ◌-◌, ◌≤◌, ◌<◌, List, [], ◌∷◌, ◌++◌, length, refl, sym, ap, ◌∙◌, subst, Bool, true, ◌↔◌, IsTrue, Option, Some, None, IfSome, IfNone, arith, append_assoc, append-nil, length-append}
 use Rattle.std.specs.List.{AllByRecursion}
-use Rattle.history_model.specs.declared.entries.Author.{Author}
+use Rattle.history_model.specs.declared.entries.{Author.Author, Placed.Placed}
 use Rattle.history_model.specs.declared.entries.Author.TheVariants as author
-use Rattle.history_model.specs.declared.entries.Placed.{Placed}
-use Rattle.journal_lines.specs.Authors.{Crew, MayAdd}
-use Rattle.journal_lines.specs.Coming.{AreRead, HasNoNext, MayCome, MayComeAfter, WasKept, crew_with}
-use Rattle.journal_lines.specs.Lines.{HasLine}
-use Rattle.journal_lines.specs.Unread.{Unread}
+use Rattle.journal_lines.specs.{Authors.{Crew, MayAdd}, Coming.{AreRead, HasNoNext, MayCome, MayComeAfter, WasKept, crew_with}, Lines.HasLine, Unread.Unread}
 use Rattle.journal_lines.specs.Texts.{entry_line, lines_from}
 
 lines_more : (step : ℕ) (h : List Placed) (p : Placed) → lines_from step (h ++ p ∷ []) ≡ lines_from step h ++ entry_line (step + length h) p

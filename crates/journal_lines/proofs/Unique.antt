@@ -1,19 +1,13 @@
 -- Private: no public contract cites this. A line says one thing at most, and bytes are the text of one list of journals.
 use Rattle.std.proofs.Common.{◌≡◌, ℕ, ◌+◌, ◌^◌, ◌<◌, List, [], ◌∷◌, ◌++◌, length, get_or, drop, codes, decimal, refl, sym, ap, ap₂, ◌∙◌, arith, append_assoc, append-nil}
-use Rattle.std.specs.List.{AllByRecursion}
-use Rattle.std.specs.Str.Parse.{digits_value}
+use Rattle.std.specs.{List.AllByRecursion, Str.Parse.digits_value}
 use Rattle.percent_encoding.specs.Percent.{percent_decode}
-use Rattle.line_text.specs.Names.{IsName, spelling, NamesAreSpelledBack}
-use Rattle.line_text.specs.Numbers.{NumbersAreSpelled}
-use Rattle.history_model.specs.declared.entries.Author.{Author}
+use Rattle.line_text.specs.{Names.{IsName, spelling, NamesAreSpelledBack}, Numbers.NumbersAreSpelled}
+use Rattle.history_model.specs.declared.entries.{Author.Author, Entry.Entry, Placed.Placed}
 use Rattle.history_model.specs.declared.entries.Author.TheVariants as author
-use Rattle.history_model.specs.declared.entries.Entry.{Entry}
-use Rattle.history_model.specs.declared.entries.Placed.{Placed}
 use Rattle.track_entry.specs.Texts.{entry_text, IsEntry, IsOneEntry}
-use Rattle.journal_lines.specs.Texts.{Journal, author_word, entry_line, head_line, lines_from, texts_of}
-use Rattle.journal_lines.specs.Lines.{IsAuthor, HasLine}
-use Rattle.journal_lines.specs.Laws.{OneHead, OneStep, OneText}
-use Rattle.journal_lines.proofs.Lacking.{parted, lacks_decimal, behind_same}
+use Rattle.journal_lines.specs.{Texts.{Journal, author_word, entry_line, head_line, lines_from, texts_of}, Lines.{IsAuthor, HasLine}}
+use Rattle.journal_lines.{specs.Laws.{OneHead, OneStep, OneText}, proofs.Lacking.{parted, lacks_decimal, behind_same}}
 use Rattle.journal_lines.proofs.Feeds.{name_lacks, entry_lacks, author_lacks}
 
 -- names with one spelling are one

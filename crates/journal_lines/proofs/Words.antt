@@ -3,10 +3,8 @@ use Rattle.std.proofs.Common.{◌≡◌, ◌≢◌, ℕ, ◌^◌, ◌<◌, List,
 use Rattle.line_text.specs.Names.{IsName, spelling, NamesAreSpelledBack}
 use Rattle.history_model.specs.declared.entries.Placed.{Placed}
 use Rattle.track_entry.specs.Texts.{entry_text}
-use Rattle.journal_lines.specs.Texts.{author_word, entry_line, head_line}
-use Rattle.journal_lines.specs.Lines.{IsAuthor, IsHead, IsStep}
-use Rattle.journal_lines.proofs.Lacking.{Lacks, lacks_all, lacks_both, lacks_decimal, lacks_over, parted}
-use Rattle.journal_lines.proofs.Feeds.{name_lacks, author_lacks}
+use Rattle.journal_lines.specs.{Texts.{author_word, entry_line, head_line}, Lines.{IsAuthor, IsHead, IsStep}}
+use Rattle.journal_lines.proofs.{Lacking.{Lacks, lacks_all, lacks_both, lacks_decimal, lacks_over, parted}, Feeds.{name_lacks, author_lacks}}
 
 without_feed : (one other : List ℕ) → one ++ 10 ∷ [] ≡ other ++ 10 ∷ [] → one ≡ other
 without_feed [] [] e = refl

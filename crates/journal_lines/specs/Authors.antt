@@ -1,10 +1,8 @@
 -- Whose entries may stand in the journals of a shared run: those of its scripts and workers, of the kinds that these may add.
 use Rattle.std.specs.Prelude.{ℕ, ◌≤◌}
-use Rattle.history_model.specs.declared.entries.Author.{Author}
+use Rattle.history_model.specs.declared.entries.{Author.Author, Entry.Entry, Placed.Placed}
 use Rattle.history_model.specs.declared.entries.Author.TheVariants as author
-use Rattle.history_model.specs.declared.entries.Entry.{Entry}
 use Rattle.history_model.specs.declared.entries.Entry.TheVariants as entry
-use Rattle.history_model.specs.declared.entries.Placed.{Placed}
 use Rattle.history_model.specs.declared.events.JobEvent.TheVariants as event
 
 -- what a worker that recomputes may add: publications alone

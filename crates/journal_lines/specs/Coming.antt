@@ -1,11 +1,8 @@
 -- Which entries may come behind one another in a journal, and how far a text has their lines.
-use Rattle.std.specs.Prelude.{◌≡◌, ◌≢◌, ◌⊎◌, ℕ, ◌+◌, ◌≤◌, List, [], ◌∷◌, ◌++◌, length}
-use Rattle.std.specs.List.{AllByRecursion}
+use Rattle.std.specs.{Prelude.{◌≡◌, ◌≢◌, ◌⊎◌, ℕ, ◌+◌, ◌≤◌, List, [], ◌∷◌, ◌++◌, length}, List.AllByRecursion}
 use Rattle.history_model.specs.declared.entries.Author.TheVariants as author
 use Rattle.history_model.specs.declared.entries.Placed.{Placed}
-use Rattle.journal_lines.specs.Authors.{Crew, IsPublication, MayAdd}
-use Rattle.journal_lines.specs.Lines.{HasLine}
-use Rattle.journal_lines.specs.Texts.{entry_line, lines_from}
+use Rattle.journal_lines.specs.{Authors.{Crew, IsPublication, MayAdd}, Lines.HasLine, Texts.{entry_line, lines_from}}
 
 -- so many scripts, and eight workers of each kind
 abbrev pub crew_with : ℕ → Crew

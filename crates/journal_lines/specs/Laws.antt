@@ -1,9 +1,7 @@
 -- What holds of all lines of journals.
-use Rattle.std.specs.Prelude.{◌≡◌, ℕ, List}
-use Rattle.std.specs.List.{AllByRecursion}
+use Rattle.std.specs.{Prelude.{◌≡◌, ℕ, List}, List.AllByRecursion}
 use Rattle.history_model.specs.declared.entries.Placed.{Placed}
-use Rattle.journal_lines.specs.Texts.{Journal, texts_of}
-use Rattle.journal_lines.specs.Lines.{IsHead, IsStep, HasLines}
+use Rattle.journal_lines.specs.{Texts.{Journal, texts_of}, Lines.{IsHead, IsStep, HasLines}}
 
 -- a line is that of one machine at most
 abbrev pub OneHead : Type 0

@@ -1,10 +1,8 @@
 -- What the lines of journals say, without their line feeds.
-use Rattle.std.specs.Prelude.{◌≡◌, ℕ, ◌^◌, ◌<◌, List, [], ◌∷◌, ◌++◌, length}
-use Rattle.std.specs.List.{AllByRecursion}
+use Rattle.std.specs.{Prelude.{◌≡◌, ℕ, ◌^◌, ◌<◌, List, [], ◌∷◌, ◌++◌, length}, List.AllByRecursion}
 use Rattle.line_text.specs.Names.{IsName}
-use Rattle.history_model.specs.declared.entries.Author.{Author}
+use Rattle.history_model.specs.declared.entries.{Author.Author, Placed.Placed}
 use Rattle.history_model.specs.declared.entries.Author.TheVariants as author
-use Rattle.history_model.specs.declared.entries.Placed.{Placed}
 use Rattle.track_entry.specs.Texts.{IsEntry}
 use Rattle.journal_lines.specs.Texts.{Journal, head_line, entry_line}
 

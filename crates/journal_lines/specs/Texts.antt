@@ -1,10 +1,8 @@
 -- The text of journals: for each machine a line, and a line for each of its entries.
-use Rattle.std.specs.Prelude.{ℕ, ◌+◌, List, [], ◌∷◌, ◌++◌, length, codes, decimal}
-use Rattle.std.specs.List.{flat_map}
+use Rattle.std.specs.{Prelude.{ℕ, ◌+◌, List, [], ◌∷◌, ◌++◌, length, codes, decimal}, List.flat_map}
 use Rattle.line_text.specs.Names.{spelling}
-use Rattle.history_model.specs.declared.entries.Author.{Author}
+use Rattle.history_model.specs.declared.entries.{Author.Author, Placed.Placed}
 use Rattle.history_model.specs.declared.entries.Author.TheVariants as author
-use Rattle.history_model.specs.declared.entries.Placed.{Placed}
 use Rattle.track_entry.specs.Texts.{entry_text}
 
 -- k for a kept entry, else s, r or b and the number of the script or worker

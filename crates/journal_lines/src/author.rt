@@ -2,8 +2,7 @@
 ghost use Rattle.std.specs.Prelude.{◌≡◌, ◌≢◌, ◌<◌, ◌^◌, ℕ, [], IfSome, IfNone, decimal};
 ghost use Rattle.history_model.specs.declared.entries.Author.{Author as AnAuthor};
 ghost use Rattle.history_model.specs.declared.entries.Author.TheVariants as author;
-ghost use Rattle.journal_lines.specs.Texts.{author_word};
-ghost use Rattle.journal_lines.specs.Lines.{IsAuthor};
+ghost use Rattle.journal_lines.specs.{Texts.author_word, Lines.IsAuthor};
 
 use history_model::Author;
 use line_text::read_u64;

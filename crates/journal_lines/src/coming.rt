@@ -1,9 +1,7 @@
 //! Which entries may come behind one another in a journal.
-ghost use Rattle.std.specs.Prelude.{◌↔◌, List, IsTrue};
-ghost use Rattle.std.specs.List.{AllByRecursion};
+ghost use Rattle.std.specs.{Prelude.{◌↔◌, List, IsTrue}, List.AllByRecursion};
 ghost use Rattle.history_model.specs.declared.entries.Placed.{Placed as APlaced};
-ghost use Rattle.journal_lines.specs.Authors.{IsOneOf, IsPublication, IsSettled};
-ghost use Rattle.journal_lines.specs.Coming.{MayCome, WasKept};
+ghost use Rattle.journal_lines.specs.{Authors.{IsOneOf, IsPublication, IsSettled}, Coming.{MayCome, WasKept}};
 
 use history_model::{Author, Entry, JobEvent, Placed};
 

@@ -1,10 +1,7 @@
 //! The lines of a journal's entries, read.
-ghost use Rattle.std.specs.Prelude.{◌≡◌, ◌↔◌, ◌+◌, ◌++◌, IfOk, IfSome, IfNone, IsTrue, length};
-ghost use Rattle.std.specs.List.{AllByRecursion};
+ghost use Rattle.std.specs.{Prelude.{◌≡◌, ◌↔◌, ◌+◌, ◌++◌, IfOk, IfSome, IfNone, IsTrue, length}, List.AllByRecursion};
 ghost use Rattle.history_model.specs.declared.entries.Author.TheVariants as made_by;
-ghost use Rattle.journal_lines.specs.Coming.{AreRead, HasNoNext, MayCome, WasKept};
-ghost use Rattle.journal_lines.specs.Lines.{HasLine};
-ghost use Rattle.journal_lines.specs.Texts.{entry_line};
+ghost use Rattle.journal_lines.specs.{Coming.{AreRead, HasNoNext, MayCome, WasKept}, Lines.HasLine, Texts.entry_line};
 
 use crate::NoMemory;
 use crate::coming::may_come;

@@ -1,27 +1,15 @@
 -- Private: no public contract cites this. What the next line of a text says of a machine.
 use Rattle.std.proofs.lemmas.List.{length-map}
-use Rattle.history_model.specs.Entries.{entries_of}
-use Rattle.journal_reader.specs.Judging.{AreAllowed}
+use Rattle.history_model.specs.{Entries.entries_of, declared.entries.Placed.Placed}
+use Rattle.journal_reader.specs.{Judging.AreAllowed, Journals.IsOther, Reading.IsRefusedAt, Next.{IsNewHead, IsNext, IsRefusedNext}}
 use Rattle.std.proofs.Common.{◌≡◌, ◌≢◌, ◌⊎◌, inl, inr, ◌^◌, ℕ, ◌+◌, ◌<◌, ◌≤◌, List, [], ◌∷◌, ◌++◌, length, All, codes, decimal, refl, sym, ap, ◌∙◌, subst, arith, append_assoc, length-append}
 use Rattle.std.specs.List.{AllByRecursion}
-use Rattle.metric_table.specs.Limits.{most}
-use Rattle.metric_table.specs.declared.limits.Limit.TheVariants.{Machines}
+use Rattle.metric_table.specs.{Limits.most, declared.limits.Limit.TheVariants.Machines}
 use Rattle.line_text.specs.Names.{NamesAreSpelledBack, spelling}
-use Rattle.history_model.specs.declared.entries.Placed.{Placed}
 use Rattle.track_entry.specs.Texts.{entry_text}
-use Rattle.journal_lines.specs.Coming.{AreRead}
-use Rattle.journal_lines.specs.Laws.{OneHead}
-use Rattle.journal_lines.specs.Lines.{IsHead}
-use Rattle.journal_lines.specs.Texts.{Journal, author_word, entry_line, head_line, lines_from, text_of}
-use Rattle.journal_lines.specs.Unread.{Unread}
-use Rattle.journal_lines.specs.declared.head.Head.{Head}
-use Rattle.journal_lines.proofs.Lacking.{lacks_all, parted}
-use Rattle.journal_lines.proofs.Words.{head_lacks, no_part}
-use Rattle.journal_reader.specs.Journals.{IsOther}
-use Rattle.journal_reader.specs.Reading.{IsRefusedAt}
-use Rattle.journal_reader.specs.Next.{IsNewHead, IsNext, IsRefusedNext}
-use Rattle.journal_reader.proofs.Refusing.{SoFar, none_so_far, head_refused, is_journal, next_refused, so_more, so_refused}
-use Rattle.journal_reader.proofs.Unique.{fits}
+use Rattle.journal_lines.specs.{Coming.AreRead, Laws.OneHead, Lines.IsHead, Texts.{Journal, author_word, entry_line, head_line, lines_from, text_of}}
+use Rattle.journal_lines.{specs.Unread.Unread, specs.declared.head.Head.Head, proofs.Lacking.{lacks_all, parted}, proofs.Words.{head_lacks, no_part}}
+use Rattle.journal_reader.proofs.{Refusing.{SoFar, none_so_far, head_refused, is_journal, next_refused, so_more, so_refused}, Unique.fits}
 
 -- a machine's line in front of a text is its first line
 one_line : NamesAreSpelledBack → (rest line next bytes more machine : List ℕ) (count : ℕ) → rest ≡ line ++ 10 ∷ next → All (λ b. b ≢ 10) line

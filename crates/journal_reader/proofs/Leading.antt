@@ -1,19 +1,12 @@
 -- Private: no public contract cites this. The lines of a journal lead to it.
 use Rattle.std.proofs.Common.{◌≡◌, inl, inr, ℕ, suc, ◌+◌, ◌^◌, ◌<◌, List, [], ◌∷◌, ◌++◌, length, refl, sym, ap, ap₂, ◌∙◌, subst, arith, append_assoc, append-nil, length-append}
 use Rattle.std.specs.List.{AllByRecursion}
-use Rattle.metric_table.specs.Limits.{most}
-use Rattle.metric_table.specs.declared.limits.Limit.TheVariants.{Machines}
+use Rattle.metric_table.specs.{Limits.most, declared.limits.Limit.TheVariants.Machines}
 use Rattle.line_text.specs.Names.{IsName}
-use Rattle.history_model.specs.declared.entries.Entry.{Entry}
-use Rattle.history_model.specs.declared.entries.Placed.{Placed}
-use Rattle.history_model.specs.Allowed.{AllowedAfter}
-use Rattle.history_model.specs.Entries.{entries_of}
-use Rattle.journal_lines.specs.Coming.{MayComeAfter}
-use Rattle.journal_lines.specs.Lines.{HasLine}
-use Rattle.journal_lines.specs.Texts.{Journal, head_line, lines_from}
+use Rattle.history_model.specs.{declared.entries.Entry.Entry, declared.entries.Placed.Placed, Allowed.AllowedAfter, Entries.entries_of}
+use Rattle.journal_lines.specs.{Coming.MayComeAfter, Lines.HasLine, Texts.{Journal, head_line, lines_from}}
 use Rattle.journal_lines.proofs.Words.{machine_words, head_shown, step_words, step_shown}
-use Rattle.journal_reader.specs.Journals.{IsOther}
-use Rattle.journal_reader.specs.Reading.{Reading, LeadTo, with_feed, with_feeds}
+use Rattle.journal_reader.specs.{Journals.IsOther, Reading.{Reading, LeadTo, with_feed, with_feeds}}
 
 pub led_on : (scripts : ℕ) (before between after : Reading) (lines more : List (List ℕ)) → LeadTo scripts before lines between → LeadTo scripts between more after
     → LeadTo scripts before (lines ++ more) after

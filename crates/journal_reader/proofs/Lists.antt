@@ -1,6 +1,5 @@
 -- Private: no public contract cites this. Plain lists with one item more.
-use Rattle.std.proofs.Common.{◌≡◌, ℕ, zero, suc, ◌≤◌, ◌<◌, List, [], ◌∷◌, ◌++◌, length, take, map, refl, ap, ap₂, subst, arith, Some}
-use Rattle.std.specs.Prelude.{slice_get}
+use Rattle.std.{proofs.Common.{◌≡◌, ℕ, zero, suc, ◌≤◌, ◌<◌, List, [], ◌∷◌, ◌++◌, length, take, map, refl, ap, ap₂, subst, arith, Some}, specs.Prelude.slice_get}
 use Rattle.std.specs.List.{AllByRecursion}
 
 -- equal lists have the same last item, and the same before it

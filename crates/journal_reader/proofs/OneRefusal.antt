@@ -1,28 +1,16 @@
 -- Private: no public contract cites this. One line of bytes is the first that is refused, and none of journals' text.
 use Rattle.std.proofs.Common.{◌≡◌, inl, inr, ℕ, suc, ◌+◌, ◌^◌, ◌<◌, ◌≤◌, List, [], ◌∷◌, ◌++◌, length, decimal, refl, sym, ap, ◌∙◌, subst, arith, append_assoc, append-nil, length-append}
-use Rattle.std.proofs.lemmas.List.{length-map}
-use Rattle.std.specs.List.{AllByRecursion}
-use Rattle.metric_table.specs.Limits.{most}
-use Rattle.metric_table.specs.declared.limits.Limit.TheVariants.{Machines, Steps}
+use Rattle.std.{proofs.lemmas.List.length-map, specs.List.AllByRecursion}
+use Rattle.metric_table.specs.{Limits.most, declared.limits.Limit.TheVariants.{Machines, Steps}}
 use Rattle.line_text.specs.Names.{NamesAreSpelledBack}
-use Rattle.history_model.specs.declared.entries.Placed.{Placed}
-use Rattle.history_model.specs.Entries.{entries_of}
+use Rattle.history_model.specs.{declared.entries.Placed.Placed, Entries.entries_of}
 use Rattle.track_entry.specs.Texts.{entry_text}
-use Rattle.journal_lines.specs.Authors.{MayAdd}
-use Rattle.journal_lines.specs.Coming.{MayComeAfter, WasKept, crew_with}
-use Rattle.journal_lines.specs.Laws.{OneHead, OneStep}
-use Rattle.journal_lines.specs.Lines.{IsStep}
-use Rattle.journal_lines.specs.Texts.{Journal, author_word, head_line, lines_from, texts_of}
-use Rattle.journal_lines.proofs.Feeds.{author_lacks, entry_lacks}
-use Rattle.journal_lines.proofs.Lacking.{Lacks, lacks_both, lacks_decimal, parted}
-use Rattle.journal_lines.proofs.OneMore.{all_more}
-use Rattle.journal_lines.proofs.Words.{head_lacks, machine_words, step_is}
-use Rattle.journal_reader.specs.Journals.{AreDifferent, IsJournal, IsOther}
-use Rattle.journal_reader.specs.Laws.{NoneRefused, OneRefusal}
+use Rattle.journal_lines.specs.{Authors.MayAdd, Coming.{MayComeAfter, WasKept, crew_with}, Laws.{OneHead, OneStep}, Lines.IsStep}
+use Rattle.journal_lines.{specs.Texts.{Journal, author_word, head_line, lines_from, texts_of}, proofs.Feeds.{author_lacks, entry_lacks}}
+use Rattle.journal_lines.proofs.{Lacking.{Lacks, lacks_both, lacks_decimal, parted}, OneMore.all_more, Words.{head_lacks, machine_words, step_is}}
+use Rattle.journal_reader.specs.{Journals.{AreDifferent, IsJournal, IsOther}, Laws.{NoneRefused, OneRefusal}}
 use Rattle.journal_reader.specs.Reading.{Reading, nothing_read, GoesOn, LeadTo, with_feed, with_feeds}
-use Rattle.journal_reader.proofs.Leading.{entry_lines, feeds_both, led_on, machine_feeds, machine_leads, reading_of}
-use Rattle.journal_reader.proofs.Lists.{same_ends}
-use Rattle.journal_reader.proofs.Unique.{fits}
+use Rattle.journal_reader.proofs.{Leading.{entry_lines, feeds_both, led_on, machine_feeds, machine_leads, reading_of}, Lists.same_ends, Unique.fits}
 
 -- ---- journals' text leads to them
 

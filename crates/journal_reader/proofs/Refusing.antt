@@ -1,27 +1,14 @@
 -- Private: no public contract cites this. Where a line of the next journal is refused, and how journals are read one by one.
 use Rattle.std.proofs.Common.{◌≡◌, ◌≢◌, inl, inr, ◌⊎◌, ℕ, suc, ◌+◌, ◌-◌, ◌^◌, ◌<◌, ◌≤◌, List, [], ◌∷◌, ◌++◌, length, take, refl, sym, ap, ◌∙◌, subst, arith, append_assoc, append-nil, length-append}
-use Rattle.std.proofs.lemmas.List.{length-map}
-use Rattle.std.specs.List.{AllByRecursion}
-use Rattle.std.proofs.lemmas.Bool.{cases_order}
-use Rattle.metric_table.specs.Limits.{most}
-use Rattle.metric_table.specs.declared.limits.Limit.TheVariants.{Machines}
-use Rattle.line_text.specs.Names.{NamesAreSpelledBack}
-use Rattle.line_text.specs.Numbers.{NumbersAreSpelled}
-use Rattle.history_model.specs.declared.entries.Entry.{Entry}
-use Rattle.history_model.specs.declared.entries.Placed.{Placed}
-use Rattle.history_model.specs.Allowed.{Allowed, Legal}
-use Rattle.history_model.specs.Entries.{entries_of}
+use Rattle.std.{proofs.lemmas.List.length-map, specs.List.AllByRecursion, proofs.lemmas.Bool.cases_order}
+use Rattle.metric_table.specs.{Limits.most, declared.limits.Limit.TheVariants.Machines}
+use Rattle.line_text.specs.{Names.NamesAreSpelledBack, Numbers.NumbersAreSpelled}
+use Rattle.history_model.specs.{declared.entries.Entry.Entry, declared.entries.Placed.Placed, Allowed.{Allowed, Legal}, Entries.entries_of}
 use Rattle.track_entry.specs.Texts.{IsOneEntry}
-use Rattle.journal_lines.specs.Coming.{AreRead, HasNoNext, MayCome, MayComeAfter}
-use Rattle.journal_lines.specs.Lines.{IsHead, HasLine}
-use Rattle.journal_lines.specs.Texts.{Journal, entry_line, head_line, lines_from, text_of, texts_of}
-use Rattle.journal_lines.specs.Unread.{Unread}
-use Rattle.journal_lines.specs.declared.head.Head.{Head}
-use Rattle.journal_lines.proofs.Unique.{one_step, SameStep}
-use Rattle.journal_lines.proofs.Words.{machine_words}
-use Rattle.journal_lines.proofs.OneMore.{all_more}
-use Rattle.journal_reader.specs.Journals.{IsJournal, IsOther, AreDifferent, AreJournals, IsTextOf}
-use Rattle.journal_reader.specs.Judging.{AreAllowed}
+use Rattle.journal_lines.specs.{Coming.{AreRead, HasNoNext, MayCome, MayComeAfter}, Lines.{IsHead, HasLine}}
+use Rattle.journal_lines.specs.{Texts.{Journal, entry_line, head_line, lines_from, text_of, texts_of}, Unread.Unread, declared.head.Head.Head}
+use Rattle.journal_lines.proofs.{Unique.{one_step, SameStep}, Words.machine_words, OneMore.all_more}
+use Rattle.journal_reader.specs.{Journals.{IsJournal, IsOther, AreDifferent, AreJournals, IsTextOf}, Judging.AreAllowed}
 use Rattle.journal_reader.specs.Next.{IsNewHead, IsRead, IsNext, IsRefusedNext}
 use Rattle.journal_reader.specs.Reading.{Reading, nothing_read, GoesOn, LeadTo, Refuses, IsRefusedAt, IsRefusedBehind, with_feeds}
 use Rattle.journal_reader.proofs.Leading.{reading_of, entry_lines, entry_count, machine_leads, machine_feeds, led_on, feeds_both}

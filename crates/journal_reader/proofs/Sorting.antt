@@ -1,13 +1,8 @@
 -- Private: no public contract cites this. Entries that may come behind one another are kept ones, and then those of a run.
-use Rattle.std.proofs.Common.{◌≡◌, inl, inr, ℕ, List, [], ◌∷◌, ◌++◌, refl, ap}
-use Rattle.std.specs.List.{AllByRecursion}
-use Rattle.history_model.specs.declared.entries.Author.{Author}
+use Rattle.std.{proofs.Common.{◌≡◌, inl, inr, ℕ, List, [], ◌∷◌, ◌++◌, refl, ap}, specs.List.AllByRecursion}
+use Rattle.history_model.specs.declared.entries.{Author.Author, Entry.Entry, Placed.Placed}
 use Rattle.history_model.specs.declared.entries.Author.TheVariants as author
-use Rattle.history_model.specs.declared.entries.Entry.{Entry}
-use Rattle.history_model.specs.declared.entries.Placed.{Placed}
-use Rattle.journal_lines.specs.Authors.{Crew, MayAdd}
-use Rattle.journal_lines.specs.Coming.{MayComeAfter, WasKept, crew_with}
-use Rattle.journal_lines.proofs.OneMore.{all_more, all_fewer}
+use Rattle.journal_lines.{specs.Authors.{Crew, MayAdd}, specs.Coming.{MayComeAfter, WasKept, crew_with}, proofs.OneMore.{all_more, all_fewer}}
 
 not_kept : (crew : Crew) (a : Author) (e : Entry) → MayAdd crew (record { author = a; entry = e }) → a ≡ author.Kept → ⊥
 not_kept crew author.Kept e may same = may

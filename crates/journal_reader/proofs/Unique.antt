@@ -1,17 +1,10 @@
 -- Private: no public contract cites this. Bytes are the text of one list of journals.
-use Rattle.std.proofs.Common.{ℕ, ◌+◌, ◌≤◌, ◌<◌, ◌^◌, List, [], ◌∷◌, ◌++◌, length, sym, ◌∙◌, arith, length-append}
-use Rattle.std.proofs.lemmas.List.{length-map}
+use Rattle.std.proofs.{Common.{ℕ, ◌+◌, ◌≤◌, ◌<◌, ◌^◌, List, [], ◌∷◌, ◌++◌, length, sym, ◌∙◌, arith, length-append}, lemmas.List.length-map}
 use Rattle.std.specs.List.{AllByRecursion}
-use Rattle.metric_table.specs.Limits.{most}
-use Rattle.metric_table.specs.declared.limits.Limit.TheVariants.{Steps}
-use Rattle.history_model.specs.declared.entries.Entry.{Entry}
-use Rattle.history_model.specs.declared.entries.Placed.{Placed}
-use Rattle.history_model.specs.Allowed.{AllowedAfter}
-use Rattle.journal_lines.specs.Laws.{OneText}
-use Rattle.journal_lines.specs.Lines.{HasLines}
-use Rattle.journal_lines.specs.Texts.{Journal}
-use Rattle.journal_reader.specs.Journals.{IsJournal}
-use Rattle.journal_reader.specs.Laws.{OneReading}
+use Rattle.metric_table.specs.{Limits.most, declared.limits.Limit.TheVariants.Steps}
+use Rattle.history_model.specs.{declared.entries.Entry.Entry, declared.entries.Placed.Placed, Allowed.AllowedAfter}
+use Rattle.journal_lines.specs.{Laws.OneText, Lines.HasLines, Texts.Journal}
+use Rattle.journal_reader.specs.{Journals.IsJournal, Laws.OneReading}
 
 few_steps : (front h : List Entry) → length front ≤ most Steps → AllowedAfter front h → length front + length h ≤ most Steps
 few_steps front [] few allowed = omega (arith, few)

@@ -1,16 +1,10 @@
 -- The journals of a shared run as a reader takes them: whose entries may stand in them, and their text.
-use Rattle.std.specs.Prelude.{◌≡◌, ◌≢◌, ℕ, ◌≤◌, List, [], ◌∷◌, ◌++◌, length}
-use Rattle.std.specs.List.{AllByRecursion}
-use Rattle.metric_table.specs.Limits.{most}
-use Rattle.metric_table.specs.declared.limits.Limit.TheVariants.{Machines}
+use Rattle.std.specs.{Prelude.{◌≡◌, ◌≢◌, ℕ, ◌≤◌, List, [], ◌∷◌, ◌++◌, length}, List.AllByRecursion}
+use Rattle.metric_table.specs.{Limits.most, declared.limits.Limit.TheVariants.Machines}
 use Rattle.line_text.specs.Names.{IsName}
-use Rattle.history_model.specs.declared.entries.Placed.{Placed}
-use Rattle.history_model.specs.Allowed.{Legal}
-use Rattle.history_model.specs.Entries.{entries_of}
-use Rattle.journal_lines.specs.Authors.{MayAdd}
-use Rattle.journal_lines.specs.Lines.{HasLine}
-pub use Rattle.journal_lines.specs.Coming.{WasKept, crew_with}
-pub use Rattle.journal_lines.specs.Texts.{Journal, texts_of}
+use Rattle.history_model.specs.{declared.entries.Placed.Placed, Allowed.Legal, Entries.entries_of}
+use Rattle.journal_lines.specs.{Authors.MayAdd, Lines.HasLine}
+pub use Rattle.journal_lines.specs.{Coming.{WasKept, crew_with}, Texts.{Journal, texts_of}}
 
 -- A journal is a legal history, first of entries that a store kept, and then of those that scripts and workers made.
 pub record IsJournal (scripts : ℕ) (j : Journal) : Type 0 where

@@ -1,7 +1,6 @@
 -- What holds of all texts of journals.
 use Rattle.std.specs.Prelude.{◌≡◌, ℕ, List}
-use Rattle.journal_reader.specs.Journals.{Journal, IsTextOf}
-use Rattle.journal_reader.specs.Reading.{IsRefusedAt}
+use Rattle.journal_reader.specs.{Journals.{Journal, IsTextOf}, Reading.IsRefusedAt}
 
 -- bytes are the text of one list of journals at most
 abbrev pub OneReading : Type 0

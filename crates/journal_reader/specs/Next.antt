@@ -1,18 +1,10 @@
 -- No public contract cites this. The next journal of a text, and where it is refused.
-use Rattle.std.specs.Prelude.{◌≡◌, ℕ, ◌+◌, ◌<◌, ◌^◌, List, [], ◌++◌, length}
-use Rattle.std.specs.List.{AllByRecursion}
-use Rattle.metric_table.specs.Limits.{most}
-use Rattle.metric_table.specs.declared.limits.Limit.TheVariants.{Machines}
+use Rattle.std.specs.{Prelude.{◌≡◌, ℕ, ◌+◌, ◌<◌, ◌^◌, List, [], ◌++◌, length}, List.AllByRecursion}
+use Rattle.metric_table.specs.{Limits.most, declared.limits.Limit.TheVariants.Machines}
 use Rattle.line_text.specs.Names.{IsName}
-use Rattle.history_model.specs.Allowed.{Legal}
-use Rattle.history_model.specs.Entries.{entries_of}
-use Rattle.journal_lines.specs.Coming.{MayComeAfter}
-use Rattle.journal_lines.specs.Lines.{HasLine}
-use Rattle.journal_lines.specs.Texts.{head_line, text_of}
-use Rattle.journal_lines.specs.declared.head.Head.{Head}
-use Rattle.journal_lines.specs.Unread.{Unread}
-use Rattle.journal_reader.specs.Journals.{Journal, IsOther}
-use Rattle.journal_reader.specs.Reading.{IsRefusedBehind}
+use Rattle.history_model.specs.{Allowed.Legal, Entries.entries_of}
+use Rattle.journal_lines.specs.{Coming.MayComeAfter, Lines.HasLine, Texts.{head_line, text_of}, declared.head.Head.Head, Unread.Unread}
+use Rattle.journal_reader.specs.{Journals.{Journal, IsOther}, Reading.IsRefusedBehind}
 
 -- a journal as it is read: each entry may come behind those before it, and is allowed there
 pub record IsRead (scripts : ℕ) (j : Journal) : Type 0 where

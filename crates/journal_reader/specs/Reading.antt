@@ -1,13 +1,8 @@
 -- Journals' text, read line by line, and the first line that is refused.
-use Rattle.std.specs.Prelude.{◌≡◌, ◌≢◌, ◌⊎◌, ℕ, ◌+◌, ◌<◌, List, [], ◌∷◌, ◌++◌, length}
-use Rattle.std.specs.List.{AllByRecursion, flat_map}
-use Rattle.metric_table.specs.Limits.{most}
-use Rattle.metric_table.specs.declared.limits.Limit.TheVariants.{Machines}
-use Rattle.history_model.specs.declared.entries.Placed.{Placed}
-use Rattle.history_model.specs.Allowed.{Allowed}
-use Rattle.history_model.specs.Entries.{entries_of}
-use Rattle.journal_lines.specs.Lines.{IsHead, IsStep}
-use Rattle.journal_lines.specs.Coming.{MayCome}
+use Rattle.std.specs.{Prelude.{◌≡◌, ◌≢◌, ◌⊎◌, ℕ, ◌+◌, ◌<◌, List, [], ◌∷◌, ◌++◌, length}, List.{AllByRecursion, flat_map}}
+use Rattle.metric_table.specs.{Limits.most, declared.limits.Limit.TheVariants.Machines}
+use Rattle.history_model.specs.{declared.entries.Placed.Placed, Allowed.Allowed, Entries.entries_of}
+use Rattle.journal_lines.specs.{Lines.{IsHead, IsStep}, Coming.MayCome}
 use Rattle.journal_reader.specs.Journals.{Journal, IsOther}
 
 -- what was read: the journals so far, and how many entries of the last one are still to come

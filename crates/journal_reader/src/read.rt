@@ -1,9 +1,6 @@
 //! Journals, read from their text.
-ghost use Rattle.std.specs.Prelude.{◌≡◌, ◌≢◌, ℕ, true, false, [], IfOk};
-ghost use Rattle.std.specs.List.{AllByRecursion};
-ghost use Rattle.journal_reader.specs.Journals.{IsOther, IsTextOf};
-ghost use Rattle.journal_reader.specs.Next.{IsNewHead, IsNext, IsRefusedNext};
-ghost use Rattle.journal_reader.specs.Reading.{IsRefusedAt};
+ghost use Rattle.std.specs.{Prelude.{◌≡◌, ◌≢◌, ℕ, true, false, [], IfOk}, List.AllByRecursion};
+ghost use Rattle.journal_reader.specs.{Journals.{IsOther, IsTextOf}, Next.{IsNewHead, IsNext, IsRefusedNext}, Reading.IsRefusedAt};
 ghost use Rattle.journal_reader.specs.declared.read.Refused.TheVariants as refused;
 
 use crate::journal::Journal;

@@ -1,12 +1,8 @@
 -- Private: no public contract cites this. Machines and their journals have one text.
-use Rattle.std.proofs.Common.{◌≡◌, ℕ, List, [], ◌∷◌, ◌++◌, map, refl, sym, ap, ◌∙◌}
-use Rattle.std.specs.List.{AllByRecursion}
-use Rattle.journal_lines.specs.Laws.{OneText}
-use Rattle.journal_lines.specs.Lines.{HasLines as HasJournalLines}
-use Rattle.journal_lines.specs.Texts.{Journal, texts_of}
+use Rattle.std.{proofs.Common.{◌≡◌, ℕ, List, [], ◌∷◌, ◌++◌, map, refl, sym, ap, ◌∙◌}, specs.List.AllByRecursion}
+use Rattle.journal_lines.specs.{Laws.OneText, Lines.HasLines as HasJournalLines, Texts.{Journal, texts_of}}
 use Rattle.track_model.specs.Tracks.{Track}
-use Rattle.journal_text.specs.Journals.{journal_text, journals_text}
-use Rattle.journal_text.specs.Reading.{HasLines, HasOneReading, journal_of}
+use Rattle.journal_text.specs.{Journals.{journal_text, journals_text}, Reading.{HasLines, HasOneReading, journal_of}}
 
 same-text : (tracks : List Track) → texts_of (map journal_of tracks) ≡ journals_text tracks
 same-text [] = refl

@@ -1,13 +1,8 @@
 -- Private: no public contract cites this. What a sink took of a text that is written to it in parts.
-use Rattle.std.proofs.Common.{◌≡◌, ℕ, List, ◌++◌, length, sym, ap, subst, ◌∙◌, arith, append_assoc, length-append, Err}
-use Rattle.std.specs.Io.KnownBytes.{append_known}
-use Rattle.std.proofs.lemmas.List.{take-append-le}
-use Rattle.std.proofs.Math.Seq.{take-append_seam}
-use Rattle.track_outside.specs.Calls.{Took, FailedIn, TookPart}
-use Rattle.track_outside.specs.declared.sink.Sink.{Ghosts}
-use Rattle.track_outside.specs.declared.out_error.OutError.{OutError}
-use Rattle.track_outside.specs.declared.out_error.OutError.TheVariants.{Failed, NoMemory}
-use Rattle.track_outside.proofs.InParts.{took_more, failed_more, failed_first, part_more}
+use Rattle.std.{proofs.Common.{◌≡◌, ℕ, List, ◌++◌, length, sym, ap, subst, ◌∙◌, arith, append_assoc, length-append, Err}, specs.Io.KnownBytes.append_known}
+use Rattle.std.proofs.{lemmas.List.take-append-le, Math.Seq.take-append_seam}
+use Rattle.track_outside.specs.{Calls.{Took, FailedIn, TookPart}, declared.sink.Sink.Ghosts, declared.out_error.OutError.OutError}
+use Rattle.track_outside.{specs.declared.out_error.OutError.TheVariants.{Failed, NoMemory}, proofs.InParts.{took_more, failed_more, failed_first, part_more}}
 use Rattle.journal_text.specs.Writing.{Writes, Pends}
 
 module _ {O : Type 0} (g : Ghosts O) where

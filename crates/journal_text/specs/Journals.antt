@@ -1,6 +1,5 @@
 -- The text of a journal: a line with the machine and the number of its entries, and a line for each.
-use Rattle.std.specs.Prelude.{ℕ, List, ◌++◌, length}
-use Rattle.std.specs.List.{flat_map}
+use Rattle.std.specs.{Prelude.{ℕ, List, ◌++◌, length}, List.flat_map}
 pub use Rattle.journal_lines.specs.Texts.{author_word, entry_line, lines_from, head_line}
 use Rattle.track_model.specs.Tracks.{Track}
 

@@ -1,8 +1,6 @@
 -- The text of journals has one reading: it tells each machine and each of its entries.
-use Rattle.std.specs.Prelude.{◌≡◌, List, map}
-use Rattle.std.specs.List.{AllByRecursion}
-use Rattle.journal_lines.specs.Lines.{HasLines as HasJournalLines}
-use Rattle.journal_lines.specs.Texts.{Journal}
+use Rattle.std.specs.{Prelude.{◌≡◌, List, map}, List.AllByRecursion}
+use Rattle.journal_lines.specs.{Lines.HasLines as HasJournalLines, Texts.Journal}
 use Rattle.track_model.specs.Tracks.{Track}
 use Rattle.journal_text.specs.Journals.{journals_text}
 

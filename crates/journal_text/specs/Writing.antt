@@ -1,8 +1,6 @@
 -- What a sink took of a text that is written to it in parts.
 use Rattle.std.specs.Prelude.{◌≡◌, ℕ, List, ◌++◌, Result, Ok, Err}
-use Rattle.track_outside.specs.Calls.{Took, FailedIn, TookPart}
-use Rattle.track_outside.specs.declared.sink.Sink.{Ghosts}
-use Rattle.track_outside.specs.declared.out_error.OutError.{OutError}
+use Rattle.track_outside.specs.{Calls.{Took, FailedIn, TookPart}, declared.sink.Sink.Ghosts, declared.out_error.OutError.OutError}
 use Rattle.track_outside.specs.declared.out_error.OutError.TheVariants.{Failed, NoMemory}
 
 -- all of it, or a first part: where it failed, and where memory was wanting

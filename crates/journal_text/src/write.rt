@@ -1,8 +1,7 @@
 //! Journals, written to a sink.
 ghost use Rattle.std.specs.Prelude.{◌≡◌, ◌≤◌, ◌<◌, ◌-◌, ◌++◌, length, slice_get, OnOk, IfErr, Some, Err};
 ghost use Rattle.history_model.specs.declared.entries.Placed.{Placed};
-ghost use Rattle.journal_text.specs.Journals.{entry_line, journal_text, journals_text};
-ghost use Rattle.journal_text.specs.Writing.{Pends, Writes};
+ghost use Rattle.journal_text.specs.{Journals.{entry_line, journal_text, journals_text}, Writing.{Pends, Writes}};
 
 use crate::NoMemory;
 use crate::lines::{put_head, put_line};

@@ -1,21 +1,10 @@
 -- What a walk keeps, as its parts change.
 use Rattle.std.proofs.Common.{◌≡◌, ℕ, ◌+◌, ◌<◌, cond, List, [], ◌∷◌, ◌++◌, length, set, replicate, refl, sym, ap, ◌∙◌, subst, Option, Some, None}
-use Rattle.std.specs.Prelude.{slice_get}
-use Rattle.std.proofs.lemmas.List.{length-replicate}
-use Rattle.history_model.specs.declared.entries.Entry.{Entry}
-use Rattle.history_model.specs.declared.entries.Entry.TheVariants.{Publish}
-use Rattle.history_model.specs.declared.entries.Placed.{Placed}
-use Rattle.history_model.specs.declared.publication.Publication.{Publication}
-use Rattle.history_model.specs.Entries.{entries_of}
-use Rattle.history_model.specs.Publications.{published}
-use Rattle.journal_walk.specs.Ahead.{AllMet, Keeps, KeepsAhead, Slots}
-use Rattle.journal_walk.specs.declared.ahead.Ahead.{Ahead}
-use Rattle.journal_walk.specs.declared.needs.Need.{Need}
-use Rattle.journal_walk.specs.declared.version.Version.{Version}
-use Rattle.journal_walk.specs.Firsts.{AreFirsts, Places}
-use Rattle.journal_walk.specs.Needs.{IsPlan}
-use Rattle.journal_walk.specs.Versions.{IsNow}
-use Rattle.journal_walk.proofs.Keeping.{begins, grows, lets-go, meets}
+use Rattle.std.{specs.Prelude.slice_get, proofs.lemmas.List.length-replicate}
+use Rattle.history_model.specs.declared.{entries.Entry.Entry, entries.Entry.TheVariants.Publish, entries.Placed.Placed, publication.Publication.Publication}
+use Rattle.history_model.specs.{Entries.entries_of, Publications.published}
+use Rattle.journal_walk.specs.{Ahead.{AllMet, Keeps, KeepsAhead, Slots}, declared.ahead.Ahead.Ahead, declared.needs.Need.Need, declared.version.Version.Version}
+use Rattle.journal_walk.{specs.Firsts.{AreFirsts, Places}, specs.Needs.IsPlan, specs.Versions.IsNow, proofs.Keeping.{begins, grows, lets-go, meets}}
 use Rattle.journal_walk.proofs.Plans.{many}
 
 -- of other lists that are the same

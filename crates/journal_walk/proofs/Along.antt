@@ -1,15 +1,8 @@
 -- A walk that has the first entries of its history.
-use Rattle.std.proofs.Common.{◌≡◌, ℕ, ◌+◌, ◌<◌, List, [], ◌∷◌, ◌++◌, length, take, refl, sym, ap, ◌∙◌, arith, Some}
-use Rattle.std.specs.Prelude.{slice_get}
-use Rattle.std.proofs.lemmas.List.{length-append, take-map, take_more}
-use Rattle.std.proofs.lemmas.Option.{get_or_from_slice_get, slice_get_within}
-use Rattle.history_model.specs.declared.entries.Entry.{Entry}
-use Rattle.history_model.specs.declared.entries.Placed.{Placed}
-use Rattle.history_model.specs.Entries.{entries_of}
-use Rattle.history_model.proofs.Chosen.{entries-push}
-use Rattle.journal_walk.specs.Laws.{BeginsAlong, StaysAlong}
-use Rattle.journal_walk.specs.Walks.{IsAlong, Walked, added, coming}
-use Rattle.journal_walk.proofs.Plans.{entry-there, many}
+use Rattle.std.{proofs.Common.{◌≡◌, ℕ, ◌+◌, ◌<◌, List, [], ◌∷◌, ◌++◌, length, take, refl, sym, ap, ◌∙◌, arith, Some}, specs.Prelude.slice_get}
+use Rattle.std.proofs.lemmas.{List.{length-append, take-map, take_more}, Option.{get_or_from_slice_get, slice_get_within}}
+use Rattle.history_model.{specs.declared.entries.Entry.Entry, specs.declared.entries.Placed.Placed, specs.Entries.entries_of, proofs.Chosen.entries-push}
+use Rattle.journal_walk.{specs.Laws.{BeginsAlong, StaysAlong}, specs.Walks.{IsAlong, Walked, added, coming}, proofs.Plans.{entry-there, many}}
 
 pub begins-along : BeginsAlong
 begins-along machine history = record { within = omega arith; first = refl }

@@ -1,31 +1,16 @@
 -- Where a version of a series is published first, and whether it was published before a version.
 use Rattle.std.proofs.Common.{◌≡◌, ℕ, zero, suc, ◌+◌, ◌<◌, ◌≤◌, Bool, true, false, ◌&&◌, cond, List, [], ◌∷◌, ◌++◌, length, get_or, take, drop, inl, inr, refl, sym, ap, ap₂, ◌∙◌, subst, arith, Option, Some, None}
-use Rattle.std.specs.Prelude.{Contains, slice_get, bytes_eq}
-use Rattle.std.specs.List.{Any, cons_option}
-use Rattle.std.specs.declared.cmp.Ordering.{Ordering}
-use Rattle.std.specs.declared.cmp.Ordering.TheVariants.{Less, Equal, Greater}
-use Rattle.std.specs.Ordering.{nat_cmp, is_eq, ordering_then}
-use Rattle.std.specs.Cmp.{nat_cmp_is}
-use Rattle.std.specs.Cmp.Lexicographic.{slice_cmp}
-use Rattle.std.proofs.lemmas.Bool.{cases_Bool}
-use Rattle.std.proofs.lemmas.Map.Lookups.{exact_unsigned}
-use Rattle.std.proofs.lemmas.Map.Text.{is_eq-slice_cmp}
-use Rattle.std.proofs.lemmas.Option.{slice_get_within}
-use Rattle.std.proofs.lemmas.Slice.Eq.{bytes_eq-Decides}
-use Rattle.std.proofs.lemmas.List.{append-nil, append_assoc, drop_all, get_or-map, length-take-le, take-take}
-use Rattle.std.proofs.Math.Seq.{drop-cons}
-use Rattle.history_model.specs.declared.entries.Entry.{Entry}
+use Rattle.std.specs.{Prelude.{Contains, slice_get, bytes_eq}, List.{Any, cons_option}, declared.cmp.Ordering.Ordering}
+use Rattle.std.specs.{declared.cmp.Ordering.TheVariants.{Less, Equal, Greater}, Ordering.{nat_cmp, is_eq, ordering_then}, Cmp.nat_cmp_is}
+use Rattle.std.{specs.Cmp.Lexicographic.slice_cmp, proofs.lemmas.Bool.cases_Bool, proofs.lemmas.Map.Lookups.exact_unsigned}
+use Rattle.std.proofs.lemmas.{Map.Text.is_eq-slice_cmp, Option.slice_get_within, Slice.Eq.bytes_eq-Decides}
+use Rattle.std.proofs.{lemmas.List.{append-nil, append_assoc, drop_all, get_or-map, length-take-le, take-take}, Math.Seq.drop-cons}
+use Rattle.history_model.specs.declared.{entries.Entry.Entry, entries.Placed.Placed, publication.Publication.Publication}
 use Rattle.history_model.specs.declared.entries.Entry.TheVariants as entry
-use Rattle.history_model.specs.declared.entries.Placed.{Placed}
-use Rattle.history_model.specs.declared.publication.Publication.{Publication}
-use Rattle.history_model.specs.Allowed.{Allowed, AllowedAfter, Legal}
-use Rattle.history_model.specs.Entries.{chosen_from, entries_of}
-use Rattle.history_model.specs.Publications.{publication_of, publications_of, published, Stands}
-use Rattle.history_model.specs.Runs.{Series, is_known}
-use Rattle.history_model.proofs.Lists.{same-bytes}
+use Rattle.history_model.specs.{Allowed.{Allowed, AllowedAfter, Legal}, Entries.{chosen_from, entries_of}}
+use Rattle.history_model.{specs.Publications.{publication_of, publications_of, published, Stands}, specs.Runs.{Series, is_known}, proofs.Lists.same-bytes}
 use Rattle.history_model.proofs.Members.{here, behind, either, none-in-nil}
-use Rattle.journal_walk.proofs.Plans.{many}
-use Rattle.journal_walk.specs.declared.firsts.SeriesVersion.{SeriesVersion}
+use Rattle.journal_walk.{proofs.Plans.many, specs.declared.firsts.SeriesVersion.SeriesVersion}
 use Rattle.journal_walk.specs.Firsts.{IsBefore, base_key, first_from, key_cmp, key_of, publishes}
 
 -- ---- keys

@@ -1,29 +1,17 @@
 -- A walk that goes on with its next entry, or is stuck.
 use Rattle.std.proofs.Common.{◌≡◌, ℕ, Bool, true, false, List, [], ◌∷◌, ◌++◌, length, inl, inr, refl, sym, ap, ◌∙◌, subst, Option, Some, None, IfSome, IfNone}
-use Rattle.std.specs.Prelude.{cond, is_some, slice_get}
-use Rattle.std.specs.Slice.{IsItemAt}
+use Rattle.std.{specs.Prelude.{cond, is_some, slice_get}, specs.Slice.IsItemAt, proofs.lemmas.Bool.{cases_Bool, false≢true}}
 use denote.Ref.{Bor}
-use Rattle.std.proofs.lemmas.Bool.{cases_Bool, false≢true}
 use Rattle.std.proofs.lemmas.Option.{slice_get-get_or}
-use Rattle.history_model.specs.declared.entries.Author.TheVariants.{Kept}
-use Rattle.history_model.specs.declared.entries.Entry.{Entry}
-use Rattle.history_model.specs.declared.entries.Entry.TheVariants.{Publish}
-use Rattle.history_model.specs.declared.entries.Placed.{Placed}
-use Rattle.history_model.specs.declared.publication.Publication.{Publication}
-use Rattle.history_model.specs.Allowed.{Allowed}
-use Rattle.history_model.specs.Entries.{entries_of}
-use Rattle.history_model.proofs.Chosen.{entries-push}
+use Rattle.history_model.specs.declared.entries.{Author.TheVariants.Kept, Entry.Entry, Entry.TheVariants.Publish, Placed.Placed}
+use Rattle.history_model.{specs.declared.publication.Publication.Publication, specs.Allowed.Allowed, specs.Entries.entries_of, proofs.Chosen.entries-push}
 use Rattle.request_model.specs.declared.replies.Reply.{Reply}
-use Rattle.track_model.specs.Outcomes.{Outcome}
-use Rattle.track_model.specs.Tracks.{IsStep, Track, with_added, with_entry}
+use Rattle.track_model.specs.{Outcomes.Outcome, Tracks.{IsStep, Track, with_added, with_entry}}
 use Rattle.track_step.specs.Replays.{IsReplayed}
 use Rattle.journal_lines.specs.Authors.{IsPublication}
-use Rattle.journal_walk.specs.Ahead.{AllMet, IsReady, KeepsAhead}
-use Rattle.journal_walk.specs.Steps.{Publishes}
-use Rattle.journal_walk.specs.Walks.{GoesOn, IsAlong, IsPublishedNext, IsStuck, PublishesNothing, Walked, coming}
-use Rattle.journal_walk.specs.declared.ahead.Ahead.{Ahead}
-use Rattle.journal_walk.proofs.Adding.{grown, stays}
-use Rattle.journal_walk.proofs.Along.{along-entries, coming-entry}
+use Rattle.journal_walk.specs.{Ahead.{AllMet, IsReady, KeepsAhead}, Steps.Publishes}
+use Rattle.journal_walk.specs.{Walks.{GoesOn, IsAlong, IsPublishedNext, IsStuck, PublishesNothing, Walked, coming}, declared.ahead.Ahead.Ahead}
+use Rattle.journal_walk.proofs.{Adding.{grown, stays}, Along.{along-entries, coming-entry}}
 
 abbrev pub walk : List Placed → Track → Walked
 walk history track = record { history = history; track = track }

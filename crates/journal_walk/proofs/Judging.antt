@@ -1,15 +1,9 @@
 -- How many first entries of a history are allowed, as a walk along it says.
-use Rattle.std.proofs.Common.{◌≡◌, ℕ, List, length, take, inl, inr, sym, ap, ◌∙◌, subst, arith, Some, None}
-use Rattle.std.specs.Prelude.{option_map, slice_get}
+use Rattle.std.{proofs.Common.{◌≡◌, ℕ, List, length, take, inl, inr, sym, ap, ◌∙◌, subst, arith, Some, None}, specs.Prelude.{option_map, slice_get}}
 use Rattle.std.proofs.lemmas.Option.{slice_get-map}
-use Rattle.history_model.specs.declared.entries.Entry.{Entry}
-use Rattle.history_model.specs.declared.entries.Placed.{Placed}
-use Rattle.history_model.specs.Allowed.{Allowed, Legal}
-use Rattle.history_model.specs.Entries.{entries_of}
+use Rattle.history_model.specs.{declared.entries.Entry.Entry, declared.entries.Placed.Placed, Allowed.{Allowed, Legal}, Entries.entries_of}
 use Rattle.journal_reader.specs.Judging.{AreAllowed}
-use Rattle.journal_walk.specs.Walks.{IsAlong, IsStuck, Walked, added, coming}
-use Rattle.journal_walk.proofs.Along.{along-entries, coming-entry}
-use Rattle.journal_walk.proofs.Plans.{many}
+use Rattle.journal_walk.{specs.Walks.{IsAlong, IsStuck, Walked, added, coming}, proofs.Along.{along-entries, coming-entry}, proofs.Plans.many}
 
 pub are-allowed : (w : Walked) → IsAlong w → IsStuck w → Legal (added w) → AreAllowed (entries_of w.history) (length w.track.history)
 are-allowed w along stuck legal =

@@ -1,19 +1,10 @@
 -- What a walk keeps for publications that are to come: at its beginning, as needs are met, and as entries are added.
 use Rattle.std.proofs.Common.{◌≡◌, ◌≢◌, ℕ, zero, suc, ◌+◌, ◌<◌, ◌≤◌, Bool, true, false, cond, List, [], ◌∷◌, ◌++◌, length, take, set, replicate, inl, inr, refl, sym, ap, ◌∙◌, subst, arith, Option, Some, None}
-use Rattle.std.specs.Prelude.{slice_get, ◌⊎◌}
-use Rattle.std.proofs.lemmas.List.{length-append, length-set, take-append-le, take_all}
-use Rattle.std.proofs.lemmas.Option.{slice_get_within}
-use Rattle.history_model.specs.declared.entries.Entry.{Entry}
-use Rattle.history_model.specs.declared.entries.Entry.TheVariants.{Publish}
-use Rattle.history_model.specs.declared.publication.Publication.{Publication}
-use Rattle.history_model.specs.Publications.{published}
-use Rattle.history_model.specs.Runs.{is_known}
-use Rattle.journal_walk.specs.Ahead.{AreThen, IsMet, Keeps, Slots, slots_of}
-use Rattle.journal_walk.specs.declared.needs.Need.{Need}
-use Rattle.journal_walk.specs.declared.version.Version.{Version}
-use Rattle.journal_walk.specs.Needs.{IsPlan, time_of}
-use Rattle.journal_walk.specs.Versions.{IsNow, IsOf}
-use Rattle.journal_walk.proofs.Plans.{IsNeedOf, need-of, no-earlier}
+use Rattle.std.{specs.Prelude.{slice_get, ◌⊎◌}, proofs.lemmas.List.{length-append, length-set, take-append-le, take_all}, proofs.lemmas.Option.slice_get_within}
+use Rattle.history_model.specs.declared.{entries.Entry.Entry, entries.Entry.TheVariants.Publish, publication.Publication.Publication}
+use Rattle.history_model.specs.{Publications.published, Runs.is_known}
+use Rattle.journal_walk.specs.{Ahead.{AreThen, IsMet, Keeps, Slots, slots_of}, declared.needs.Need.Need, declared.version.Version.Version}
+use Rattle.journal_walk.{specs.Needs.{IsPlan, time_of}, specs.Versions.{IsNow, IsOf}, proofs.Plans.{IsNeedOf, need-of, no-earlier}}
 
 -- ---- lists
 pub get-set : {A : Type 0} (xs : List A) (i : ℕ) (x : A) → i < length xs → slice_get (set xs i x) i ≡ Some x

@@ -1,31 +1,18 @@
 -- The segmentation that is made for the publication that comes next.
 use Rattle.std.proofs.Common.{◌≡◌, ℕ, ℤ, ◌-◌, ◌<◌, ◌≤◌, ◌^◌, ◌==◌, true, List, length, take, sym, ap, ap₂, ◌∙◌, subst, FitsSigned, unsigned_abs, arith}
-use Rattle.std.specs.Int.{w128}
-use Rattle.std.specs.Ordering.{int_eq}
-use Rattle.std.proofs.lemmas.Bool.{and_from}
-use Rattle.std.proofs.lemmas.Bool.Decides.{Decides-eqb, Decides-int_eq}
+use Rattle.std.{specs.Int.w128, specs.Ordering.int_eq, proofs.lemmas.Bool.and_from, proofs.lemmas.Bool.Decides.{Decides-eqb, Decides-int_eq}}
 use Rattle.std.proofs.lemmas.Int.{fits_signed_from_abs, ints}
-use Rattle.segment_model.specs.Segments.{Position}
-use Rattle.segment_model.specs.Cuts.{Agree, total}
-use Rattle.segment_model.specs.Laws.{AgreeingCostsHaveOneBest, BestIsUnique, CostIsUnique}
+use Rattle.segment_model.specs.{Segments.Position, Cuts.{Agree, total}, Laws.{AgreeingCostsHaveOneBest, BestIsUnique, CostIsUnique}}
 use Rattle.point_list.specs.Places.{common}
-use Rattle.segment_cost.specs.Certificate.{StandsFor}
-use Rattle.segment_cost.specs.declared.done.Done.{Done}
-use Rattle.history_model.specs.declared.entries.Entry.{Entry}
-use Rattle.history_model.specs.declared.publication.Publication.{Publication}
-use Rattle.history_model.specs.declared.setting.Setting.{Setting}
-use Rattle.history_model.specs.Penalties.{penalty_of, length_of, setting_of, IsSetting}
-use Rattle.history_model.specs.Positions.{positions}
-use Rattle.history_model.specs.Publications.{AreBest, IsBaseAt, Stands, published}
-use Rattle.history_model.specs.Runs.{Series, is_known}
+use Rattle.segment_cost.specs.{Certificate.StandsFor, declared.done.Done.Done}
+use Rattle.history_model.specs.declared.{entries.Entry.Entry, publication.Publication.Publication, setting.Setting.Setting}
+use Rattle.history_model.specs.{Penalties.{penalty_of, length_of, setting_of, IsSetting}, Positions.positions}
+use Rattle.history_model.specs.{Publications.{AreBest, IsBaseAt, Stands, published}, Runs.{Series, is_known}}
 use Rattle.publication_index.specs.Kept.{series_of}
-use Rattle.track_model.specs.Publishing.{redone_since}
-use Rattle.track_model.specs.Tracks.{is_setting}
+use Rattle.track_model.specs.{Publishing.redone_since, Tracks.is_setting}
 use Rattle.track_step.specs.Redone.{Redone}
 use Rattle.machine_state.specs.Made.{publication_from, setting_in}
-use Rattle.journal_walk.specs.Made.{IsMadeFor, IsSegmented}
-use Rattle.journal_walk.specs.Versions.{IsOf}
-use Rattle.journal_walk.specs.declared.version.Version.{Version}
+use Rattle.journal_walk.specs.{Made.{IsMadeFor, IsSegmented}, Versions.IsOf, declared.version.Version.Version}
 
 -- a setting's penalty fits 128 bits
 pub fits : (x : Setting) → IsSetting x → FitsSigned w128 x.penalty

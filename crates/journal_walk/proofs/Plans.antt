@@ -1,18 +1,12 @@
 -- What is needed for the publications of a history, and where each need stands in the plan.
 use Rattle.std.proofs.Common.{◌≡◌, ℕ, zero, suc, ◌+◌, ◌<◌, ◌≤◌, Bool, true, false, List, [], ◌∷◌, ◌++◌, length, get_or, take, inl, inr, refl, sym, ap, ◌∙◌, subst, arith, append_assoc, append-nil, Some}
-use Rattle.std.specs.Prelude.{Contains, option_map, slice_get}
-use Rattle.std.proofs.lemmas.List.{get_or-map, length-map, length-take-le, take_all, take_more}
-use Rattle.std.proofs.lemmas.List.Elements.{Contains-append_left, Contains-append_right}
-use Rattle.std.proofs.lemmas.List.Sorted.{Contains-permutation, IsPermutation-sym}
+use Rattle.std.{specs.Prelude.{Contains, option_map, slice_get}, proofs.lemmas.List.{get_or-map, length-map, length-take-le, take_all, take_more}}
+use Rattle.std.proofs.lemmas.List.{Elements.{Contains-append_left, Contains-append_right}, Sorted.{Contains-permutation, IsPermutation-sym}}
 use Rattle.std.proofs.lemmas.Option.{slice_get-get_or, slice_get-map, slice_get_read, slice_get_within, get_or_from_slice_get}
-use Rattle.history_model.specs.declared.entries.Entry.{Entry}
+use Rattle.history_model.specs.{declared.entries.Entry.Entry, declared.entries.Placed.Placed, declared.publication.Publication.Publication, Entries.entries_of}
 use Rattle.history_model.specs.declared.entries.Entry.TheVariants as entry
-use Rattle.history_model.specs.declared.entries.Placed.{Placed}
-use Rattle.history_model.specs.declared.publication.Publication.{Publication}
-use Rattle.history_model.specs.Entries.{entries_of}
 use Rattle.history_model.proofs.Members.{here, behind, either, none-in-nil}
-use Rattle.journal_walk.specs.declared.needs.Need.{Need}
-use Rattle.journal_walk.specs.Needs.{IsPlan, need_of, needs_from, needs_of, time_of}
+use Rattle.journal_walk.specs.{declared.needs.Need.Need, Needs.{IsPlan, need_of, needs_from, needs_of, time_of}}
 
 -- a history has as many entries as items
 pub many : (history : List Placed) → length (entries_of history) ≡ length history

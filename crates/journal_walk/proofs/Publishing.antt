@@ -1,26 +1,14 @@
 -- What became of a segmentation that was published for the next entry.
 use Rattle.std.proofs.Common.{◌≡◌, ℕ, ◌+◌, ◌<◌, ◌≤◌, Bool, cond, nat_lt, List, [], ◌∷◌, ◌++◌, length, take, drop, inl, inr, refl, sym, ap, ◌∙◌, subst, arith, Option, Some, None}
-use Rattle.std.proofs.lemmas.Bool.{cases_Bool}
-use Rattle.std.proofs.lemmas.Bool.Decides.{nat_tests}
-use Rattle.std.proofs.lemmas.List.{length-append}
-use Rattle.metric_table.specs.Limits.{most}
-use Rattle.metric_table.specs.declared.limits.Limit.{Limit}
-use Rattle.metric_table.specs.declared.limits.Limit.TheVariants.{Cuts, Steps}
+use Rattle.std.proofs.lemmas.{Bool.cases_Bool, Bool.Decides.nat_tests, List.length-append}
+use Rattle.metric_table.specs.{Limits.most, declared.limits.Limit.Limit, declared.limits.Limit.TheVariants.{Cuts, Steps}}
 use Rattle.segment_cost.specs.declared.done.Done.{Done}
-use Rattle.history_model.specs.declared.entries.Author.TheVariants.{Kept}
-use Rattle.history_model.specs.declared.entries.Entry.{Entry}
-use Rattle.history_model.specs.declared.entries.Entry.TheVariants.{Publish}
-use Rattle.history_model.specs.declared.entries.Placed.{Placed}
-use Rattle.history_model.specs.declared.publication.Publication.{Publication}
-use Rattle.history_model.specs.Allowed.{Allowed, count_of, first_passed}
-use Rattle.history_model.specs.Entries.{entries_of}
-use Rattle.history_model.specs.Publications.{IsUpTo, last_publication}
-use Rattle.history_model.proofs.Chosen.{entries-push}
+use Rattle.history_model.specs.declared.entries.{Author.TheVariants.Kept, Entry.Entry, Entry.TheVariants.Publish, Placed.Placed}
+use Rattle.history_model.specs.{declared.publication.Publication.Publication, Allowed.{Allowed, count_of, first_passed}, Entries.entries_of}
+use Rattle.history_model.{specs.Publications.{IsUpTo, last_publication}, proofs.Chosen.entries-push}
 use Rattle.publication_index.specs.Kept.{series_of}
 use Rattle.request_model.specs.declared.replies.Reply.{Reply}
-use Rattle.track_model.specs.Outcomes.{Outcome}
-use Rattle.track_model.specs.Publishing.{SegmentComesFrom, later}
-use Rattle.track_model.specs.Tracks.{IsFinishStep, Track, with_finished}
+use Rattle.track_model.specs.{Outcomes.Outcome, Publishing.{SegmentComesFrom, later}, Tracks.{IsFinishStep, Track, with_finished}}
 use Rattle.machine_state.specs.Made.{entry_of, publication_from}
 use Rattle.track_step.specs.Publications.{IsAdded, IsPublished, IsTaken, passed}
 use Rattle.track_step.specs.Published.TheVariants as published

@@ -1,24 +1,11 @@
 -- What is known of a publication that comes next.
 use Rattle.std.proofs.Common.{◌≡◌, ◌⊎◌, ℕ, zero, suc, ◌<◌, ◌≤◌, Bool, true, false, List, length, get_or, take, inl, inr, refl, sym, ap, ◌∙◌, subst, arith, Option, Some, None}
-use Rattle.std.specs.Prelude.{slice_get}
-use Rattle.std.proofs.lemmas.List.{take-take}
-use Rattle.std.proofs.lemmas.Option.{slice_get_read, slice_get_within}
-use Rattle.history_model.specs.declared.entries.Entry.{Entry}
-use Rattle.history_model.specs.declared.entries.Entry.TheVariants.{Publish}
-use Rattle.history_model.specs.declared.publication.Publication.{Publication}
-use Rattle.history_model.specs.Allowed.{Legal}
-use Rattle.history_model.specs.Penalties.{setting_of}
-use Rattle.history_model.specs.Positions.{positions}
-use Rattle.history_model.specs.Publications.{IsBaseAt, Stands, published}
-use Rattle.history_model.specs.Runs.{is_known}
-use Rattle.journal_walk.specs.Ahead.{IsReady, Slots, slots_of}
-use Rattle.journal_walk.specs.Firsts.{IsBefore, base_key, place_of}
-use Rattle.journal_walk.specs.Needs.{need_of, time_of}
-use Rattle.journal_walk.specs.Versions.{IsOf}
-use Rattle.journal_walk.specs.declared.ahead.Ahead.{Ahead}
-use Rattle.journal_walk.specs.declared.version.Version.{Version}
-use Rattle.journal_walk.proofs.FirstPlaces.{BaseStands, IsNamed, base-stands, before-named, named-before}
-use Rattle.journal_walk.proofs.Plans.{StandsIn, in-plan}
+use Rattle.std.{specs.Prelude.slice_get, proofs.lemmas.List.take-take, proofs.lemmas.Option.{slice_get_read, slice_get_within}}
+use Rattle.history_model.specs.declared.{entries.Entry.Entry, entries.Entry.TheVariants.Publish, publication.Publication.Publication}
+use Rattle.history_model.specs.{Allowed.Legal, Penalties.setting_of, Positions.positions, Publications.{IsBaseAt, Stands, published}, Runs.is_known}
+use Rattle.journal_walk.specs.{Ahead.{IsReady, Slots, slots_of}, Firsts.{IsBefore, base_key, place_of}, Needs.{need_of, time_of}, Versions.IsOf}
+use Rattle.journal_walk.specs.declared.{ahead.Ahead.Ahead, version.Version.Version}
+use Rattle.journal_walk.proofs.{FirstPlaces.{BaseStands, IsNamed, base-stands, before-named, named-before}, Plans.{StandsIn, in-plan}}
 
 less-or-not : (a b : ℕ) → (a < b) ⊎ (b ≤ a)
 less-or-not zero zero = inr (omega arith)

@@ -3,13 +3,9 @@ use Rattle.std.proofs.Common.{◌≡◌, ◌==◌, Bool, true, false, cond, refl
 use Rattle.std.specs.FinSet as set
 use Rattle.segment_model.specs.Values.{values_by_position}
 use Rattle.pelt_core.specs.Seen.{table_of}
-use Rattle.history_model.specs.declared.setting.Setting.{Setting}
-use Rattle.history_model.specs.Entries.{entries_of}
-use Rattle.history_model.specs.Penalties.{setting_of}
-use Rattle.history_model.specs.Runs.{Series}
+use Rattle.history_model.specs.{declared.setting.Setting.Setting, Entries.entries_of, Penalties.setting_of, Runs.Series}
 use Rattle.track_model.specs.Tracks.{Track, base_of, with_home, with_taken}
-use Rattle.machine_state.specs.State.{BeginsWith}
-use Rattle.machine_state.specs.declared.base.Base.{Base}
+use Rattle.machine_state.specs.{State.BeginsWith, declared.base.Base.Base}
 use Rattle.track_step.specs.TrackSeriesBegun.{Begins}
 
 either : (b : Bool) (t u : Track) → u.machine ≡ t.machine → u.history ≡ t.history → ((cond b t u).machine ≡ t.machine) × ((cond b t u).history ≡ t.history)

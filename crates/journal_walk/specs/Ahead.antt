@@ -1,16 +1,9 @@
 -- No public contract cites this. What a walk keeps for publications that are to come.
 use Rattle.std.specs.Prelude.{◌≡◌, ◌<◌, ◌≤◌, ℕ, Bool, true, false, List, length, take, slice_get, Option, Some}
-use Rattle.history_model.specs.declared.entries.Entry.{Entry}
-use Rattle.history_model.specs.declared.entries.Entry.TheVariants.{Publish}
-use Rattle.history_model.specs.declared.publication.Publication.{Publication}
-use Rattle.history_model.specs.Publications.{published}
-use Rattle.history_model.specs.Runs.{is_known}
-use Rattle.journal_walk.specs.declared.ahead.Ahead.{Ahead}
-use Rattle.journal_walk.specs.declared.needs.Need.{Need}
-use Rattle.journal_walk.specs.declared.version.Version.{Version}
-use Rattle.journal_walk.specs.Firsts.{AreFirsts}
-use Rattle.journal_walk.specs.Needs.{IsPlan, time_of}
-use Rattle.journal_walk.specs.Versions.{IsOf}
+use Rattle.history_model.specs.declared.{entries.Entry.Entry, entries.Entry.TheVariants.Publish, publication.Publication.Publication}
+use Rattle.history_model.specs.{Publications.published, Runs.is_known}
+use Rattle.journal_walk.specs.{declared.ahead.Ahead.Ahead, declared.needs.Need.Need, declared.version.Version.Version, Firsts.AreFirsts}
+use Rattle.journal_walk.specs.{Needs.{IsPlan, time_of}, Versions.IsOf}
 
 -- by the place of a publication: its series at its base, or at its version
 abbrev pub Slots : Type 0

@@ -3,8 +3,7 @@ use Rattle.std.specs.Prelude.{◌≡◌, ◌-◌, List, length}
 use Rattle.point_list.specs.Places.{common}
 use Rattle.segment_cost.specs.Certificate.{StandsFor}
 use Rattle.segment_model.specs.Segments.{Position}
-use Rattle.history_model.specs.declared.entries.Entry.{Entry}
-use Rattle.history_model.specs.declared.publication.Publication.{Publication}
+use Rattle.history_model.specs.declared.{entries.Entry.Entry, publication.Publication.Publication}
 use Rattle.publication_index.specs.Standing.{table_for}
 use Rattle.track_step.specs.Redone.{Redone}
 use Rattle.machine_state.specs.Made.{IsMadeFrom, publication_from}

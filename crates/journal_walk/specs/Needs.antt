@@ -1,9 +1,6 @@
 -- No public contract cites this. What is needed for the publications of a history, and when.
-use Rattle.std.specs.Prelude.{ℕ, ◌+◌, Bool, true, false, List, [], ◌∷◌, ◌++◌}
-use Rattle.std.specs.List.Sorted.{IsPermutation, IsNonDecreasingBy}
-use Rattle.history_model.specs.declared.entries.Entry.{Entry}
-use Rattle.history_model.specs.declared.entries.Entry.TheVariants.{Publish}
-use Rattle.history_model.specs.declared.publication.Publication.{Publication}
+use Rattle.std.specs.{Prelude.{ℕ, ◌+◌, Bool, true, false, List, [], ◌∷◌, ◌++◌}, List.Sorted.{IsPermutation, IsNonDecreasingBy}}
+use Rattle.history_model.specs.declared.{entries.Entry.Entry, entries.Entry.TheVariants.Publish, publication.Publication.Publication}
 use Rattle.journal_walk.specs.declared.needs.Need.{Need}
 
 -- the version of a history at which the series of a publication is needed: its base, or the one that it speaks of

@@ -1,14 +1,9 @@
 -- No public contract cites this. A publication, added behind a history.
 use Rattle.std.specs.Prelude.{◌≡◌, [], ◌∷◌, ◌++◌, take, Some}
-use Rattle.history_model.specs.declared.entries.Entry.TheVariants.{Publish}
-use Rattle.history_model.specs.declared.publication.Publication.{Publication}
-use Rattle.history_model.specs.Entries.{entries_of}
+use Rattle.history_model.specs.{declared.entries.Entry.TheVariants.Publish, declared.publication.Publication.Publication, Entries.entries_of}
 use Rattle.history_model.specs.Publications.{published}
 use Rattle.request_model.specs.declared.replies.Reply.{Reply}
-use Rattle.track_model.specs.Outcomes.{Outcome}
-use Rattle.track_model.specs.Publishing.{SegmentComesFrom}
-use Rattle.track_model.specs.Replies.{reply_of}
-use Rattle.track_model.specs.Tracks.{Track}
+use Rattle.track_model.specs.{Outcomes.Outcome, Publishing.SegmentComesFrom, Replies.reply_of, Tracks.Track}
 
 -- it was added, and the reply is the one to the request for it
 pub record Publishes (old : Track) (p : Publication) (new : Track) (reply : Reply) : Type 0 where

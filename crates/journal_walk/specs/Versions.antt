@@ -1,9 +1,6 @@
 -- No public contract cites this. What a series is at a version of a history.
 use Rattle.std.specs.Prelude.{◌≡◌, true, false, List, Option, Some, None}
-use Rattle.history_model.specs.declared.entries.Entry.{Entry}
-use Rattle.history_model.specs.Penalties.{setting_of}
-use Rattle.history_model.specs.Positions.{positions}
-use Rattle.history_model.specs.Runs.{Series, is_known}
+use Rattle.history_model.specs.{declared.entries.Entry.Entry, Penalties.setting_of, Positions.positions, Runs.{Series, is_known}}
 use Rattle.journal_walk.specs.declared.version.Version.{Version}
 
 -- the series is known there, and has these positions and this setting

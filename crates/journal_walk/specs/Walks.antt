@@ -1,23 +1,12 @@
 -- A walk along a history: the entries that are to be added, and the state that has the first of them.
 use Rattle.std.specs.Prelude.{◌≡◌, ◌⊎◌, ℕ, ◌≤◌, true, false, List, [], ◌∷◌, ◌++◌, length, take, slice_get, Option, Some, None}
-use Rattle.segment_cost.specs.Certificate.{StandsFor}
-use Rattle.segment_cost.specs.declared.cert.Cert.{Cert}
-use Rattle.history_model.specs.declared.entries.Entry.{Entry}
-use Rattle.history_model.specs.declared.entries.Entry.TheVariants.{Publish}
-use Rattle.history_model.specs.declared.entries.Placed.{Placed}
-use Rattle.history_model.specs.declared.publication.Publication.{Publication}
-use Rattle.history_model.specs.Allowed.{Allowed}
-use Rattle.history_model.specs.Entries.{entries_of}
-use Rattle.history_model.specs.Penalties.{penalty_of, length_of}
-use Rattle.history_model.specs.Positions.{positions}
-use Rattle.history_model.specs.Publications.{published}
+use Rattle.segment_cost.specs.{Certificate.StandsFor, declared.cert.Cert.Cert}
+use Rattle.history_model.specs.declared.{entries.Entry.Entry, entries.Entry.TheVariants.Publish, entries.Placed.Placed, publication.Publication.Publication}
+use Rattle.history_model.specs.{Allowed.Allowed, Entries.entries_of, Penalties.{penalty_of, length_of}, Positions.positions, Publications.published}
 use Rattle.history_model.specs.Runs.{Series, is_known}
 use Rattle.journal_lines.specs.Authors.{IsPublication}
 use Rattle.request_model.specs.declared.replies.Reply.{Reply}
-use Rattle.track_model.specs.Outcomes.{Outcome}
-use Rattle.track_model.specs.Publishing.{SegmentComesFrom}
-use Rattle.track_model.specs.Replies.{reply_of}
-use Rattle.track_model.specs.Tracks.{Track}
+use Rattle.track_model.specs.{Outcomes.Outcome, Publishing.SegmentComesFrom, Replies.reply_of, Tracks.Track}
 
 pub record Walked : Type 0 where
   pub history : List Placed

@@ -1,8 +1,7 @@
 //! Where each version of a series is published first.
 ghost use Rattle.std.specs.Prelude.{◌≡◌, ◌↔◌, [], if◌then◌else◌, IfOk, OnOk, IsTrue, Some};
 ghost use Rattle.history_model.specs.Entries.{entries_of};
-ghost use Rattle.journal_walk.specs.Firsts.{AreFirsts, IsBefore, base_key, place_of, publishes};
-ghost use Rattle.journal_walk.specs.declared.firsts.SeriesVersion.{SeriesVersion};
+ghost use Rattle.journal_walk.specs.{Firsts.{AreFirsts, IsBefore, base_key, place_of, publishes}, declared.firsts.SeriesVersion.SeriesVersion};
 
 use crate::NoMemory;
 use history_model::{Entry, Placed, Publication};

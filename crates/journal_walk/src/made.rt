@@ -1,14 +1,9 @@
 //! The segmentation of the publication that comes next.
 ghost use Rattle.std.specs.Prelude.{◌≡◌, ◌≤◌, ◌↔◌, IfOk, IfSome, IfNone, IsTrue, length, take};
-ghost use Rattle.segment_cost.specs.Certificate.{StandsFor};
-ghost use Rattle.segment_cost.specs.declared.cert.Cert.{Cert};
-ghost use Rattle.history_model.specs.Entries.{entries_of};
-ghost use Rattle.history_model.specs.Positions.{positions};
-ghost use Rattle.history_model.specs.Publications.{IsBaseAt, Stands, published};
+ghost use Rattle.segment_cost.specs.{Certificate.StandsFor, declared.cert.Cert.Cert};
+ghost use Rattle.history_model.specs.{Entries.entries_of, Positions.positions, Publications.{IsBaseAt, Stands, published}};
 ghost use Rattle.track_model.specs.Tracks.{is_setting};
-ghost use Rattle.journal_walk.specs.Ahead.{IsReady};
-ghost use Rattle.journal_walk.specs.Made.{IsMadeFor, IsSegmented};
-ghost use Rattle.journal_walk.specs.Versions.{IsOf};
+ghost use Rattle.journal_walk.specs.{Ahead.IsReady, Made.{IsMadeFor, IsSegmented}, Versions.IsOf};
 
 use crate::NoMemory;
 use crate::ahead::Ahead;

@@ -1,12 +1,10 @@
 //! The publication that comes next, added.
 ghost use Rattle.std.specs.Prelude.{◌≡◌, IfOk, IfSome, IfNone, OnErr};
-ghost use Rattle.history_model.specs.Allowed.{Allowed};
-ghost use Rattle.history_model.specs.Entries.{entries_of};
+ghost use Rattle.history_model.specs.{Allowed.Allowed, Entries.entries_of};
 ghost use Rattle.history_model.specs.declared.entries.Entry.TheVariants as entry;
 ghost use Rattle.publication_index.specs.Standing.{table_for};
 ghost use Rattle.machine_state.specs.Made.{IsMadeFrom, publication_from};
-ghost use Rattle.journal_walk.specs.Ahead.{IsReady, KeepsAhead};
-ghost use Rattle.journal_walk.specs.Steps.{Publishes};
+ghost use Rattle.journal_walk.specs.{Ahead.{IsReady, KeepsAhead}, Steps.Publishes};
 
 use crate::NoMemory;
 use crate::ahead::Ahead;

@@ -6,10 +6,8 @@ ghost use Rattle.history_model.specs.declared.entries.Placed.{Placed};
 ghost use Rattle.journal_lines.specs.Authors.{IsPublication};
 ghost use Rattle.machine_state.specs.Made.{IsPlain};
 ghost use Rattle.journal_walk.specs.Walks.{AreCutsNow, GoesOn, IsAlong, IsPublishedNext, IsStuck, PublishesNothing, added, coming};
-ghost use Rattle.track_model.specs.Counts.{is_segment};
-ghost use Rattle.track_model.specs.Outcomes.{Outcome};
+ghost use Rattle.track_model.specs.{Counts.is_segment, Outcomes.Outcome, Tracks.{ComesTo, IsStep, new_track}};
 ghost use Rattle.request_model.specs.Requests.{machine_of};
-ghost use Rattle.track_model.specs.Tracks.{ComesTo, IsStep, new_track};
 
 use crate::NoMemory;
 use crate::ahead::{Ahead, meet_needs};
@@ -39,8 +37,7 @@ impl<'a> Model for Walk<'a> {
     ghost use Rattle.std.specs.Coded.{codes};
     ghost use Rattle.history_model.specs.Entries.{entries_of};
     ghost use Rattle.track_model.specs.Tracks.{coded_home};
-    ghost use Rattle.journal_walk.specs.Ahead.{KeepsAhead};
-    ghost use Rattle.journal_walk.specs.Walks.{Walked};
+    ghost use Rattle.journal_walk.specs.{Ahead.KeepsAhead, Walks.Walked};
 
     ghost Value = { Walked };
 

@@ -1,15 +1,11 @@
 -- Where the machine goes on, the grammar does.
 use Rattle.std.proofs.Common.{◌≡◌, ℕ, ◌==◌, true, false, List, [], ◌∷◌, ◌++◌, inl, inr, IsTrue, Option, Some, None, option_map, refl, sym, subst, ◌∙◌, ap, append_assoc, append-nil}
-use Rattle.json_text.specs.declared.state.Digits.{Digits}
-use Rattle.json_text.specs.declared.state.Digits.TheVariants.{AfterMinus}
-use Rattle.json_text.specs.Classes.{is_blank}
+use Rattle.json_text.specs.{declared.state.Digits.Digits, declared.state.Digits.TheVariants.AfterMinus, Classes.is_blank}
 use Rattle.json_text.specs.Tree.{Tree, null, boolean, number, text, list, object, Items, no_items, item, Members, no_members, member}
 use Rattle.json_text.specs.Grammar.{IsNumber, IsValue, IsItems, IsMembers, IsMember}
 use Rattle.json_text.specs.Machine.{Frame, in_list, in_member, Mode, value, first_item, first_key, next_key, colon, letters, digits, State, begin, begin_key, first_digit, digits_after, may_end, after_value, close, step, next_digit, with_frames}
-use Rattle.json_text.specs.Parts.{then_item, then_member}
-use Rattle.json_text.proofs.Completion.{Closes, EndsNumber, Completes, Leads}
-use Rattle.json_text.proofs.Numbers.{LeadsOn, digits_back, ends_here}
-use Rattle.json_text.proofs.Forth.{and_no_items, then_and_items, and_no_members, then_and_members}
+use Rattle.json_text.{specs.Parts.{then_item, then_member}, proofs.Completion.{Closes, EndsNumber, Completes, Leads}}
+use Rattle.json_text.proofs.{Numbers.{LeadsOn, digits_back, ends_here}, Forth.{and_no_items, then_and_items, and_no_members, then_and_members}}
 use Rattle.json_text.proofs.Choices.{chosen, equal}
 
 joined : {b c : ℕ} {rest other : List ℕ} → b ≡ c → rest ≡ other → b ∷ rest ≡ c ∷ other

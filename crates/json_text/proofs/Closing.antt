@@ -1,12 +1,8 @@
 -- A closing bracket behind a value.
 use Rattle.std.proofs.Common.{◌≡◌, ℕ, List, ◌∷◌, Some, refl, ap, sym, subst, ◌∙◌}
-use Rattle.json_text.specs.Tree.{Tree, list, object}
-use Rattle.json_text.specs.Machine.{Frame, in_list, in_member, ended, close}
-use Rattle.json_text.specs.Parts.{then_item, then_member}
-use Rattle.json_text.specs.View.{tree_of, items_view, members_view}
+use Rattle.json_text.specs.{Tree.{Tree, list, object}, Machine.{Frame, in_list, in_member, ended, close}, Parts.{then_item, then_member}}
+use Rattle.json_text.specs.{View.{tree_of, items_view, members_view}, declared.tree.JsonList.JsonList, declared.tree.JsonMembers.JsonMembers}
 use Rattle.json_text.specs.declared.tree.Json as json
-use Rattle.json_text.specs.declared.tree.JsonList.{JsonList}
-use Rattle.json_text.specs.declared.tree.JsonMembers.{JsonMembers}
 use Rattle.json_text.proofs.Variants.{tree_of-list, tree_of-object}
 
 pub list_closed : (b : ℕ) (tree : Tree) (frames outer : List Frame) (before after : JsonList) → frames ≡ in_list (items_view before) ∷ outer → b ≡ 93

@@ -1,6 +1,5 @@
 -- What completes a text from a state on: the grammar's rest, with any tree. A text that begins with some bytes completes the state after them.
-use Rattle.std.proofs.Common.{◌≡◌, ℕ, ◌+◌, ◌*◌, false, List, [], ◌∷◌, ◌++◌, ◌⊎◌, length, IsTrue, Option, Some, None}
-use Rattle.std.specs.Char.{digit_value, encode_utf8}
+use Rattle.std.{proofs.Common.{◌≡◌, ℕ, ◌+◌, ◌*◌, false, List, [], ◌∷◌, ◌++◌, ◌⊎◌, length, IsTrue, Option, Some, None}, specs.Char.{digit_value, encode_utf8}}
 use Rattle.json_text.specs.declared.state.Digits.{Digits}
 use Rattle.json_text.specs.declared.state.Digits.TheVariants.{AfterMinus, AfterZero, InWhole, AfterPoint, InFraction, AfterMark, AfterSign, InExponent}
 use Rattle.json_text.specs.declared.state.Within.{Within}

@@ -3,16 +3,13 @@ use Rattle.std.proofs.Common.{◌≡◌, ℕ, suc, ◌+◌, ◌*◌, ◌==◌, a
 use Rattle.std.specs.Char.{digit_value, encode_utf8}
 use Rattle.json_text.specs.declared.state.Within.{Within}
 use Rattle.json_text.specs.declared.state.Within.TheVariants.{Plain, AfterBackslash, AfterU, AfterHex, AfterTwoHex, AfterThreeHex, AfterHigh, AfterHighBackslash, AfterHighU, AfterHighHex, AfterHighTwoHex, AfterHighThreeHex}
-use Rattle.json_text.specs.declared.state.Move.{Move}
+use Rattle.json_text.specs.{declared.state.Move.Move, Classes.{is_plain, short_escape, is_hex, is_high_surrogate}, Tree.Tree}
 use Rattle.json_text.specs.declared.state.Move.TheVariants as moving
-use Rattle.json_text.specs.Classes.{is_plain, short_escape, is_hex, is_high_surrogate}
-use Rattle.json_text.specs.Tree.{Tree}
 use Rattle.json_text.specs.Grammar.{IsCharacter, Spells, nothing, further}
 use Rattle.json_text.specs.Machine.{Frame, Role, as_value, as_key, content, step, moves, moved, escape_moves, with_frames, move_by, with_hex, after_unit, begins_low, IsPlace}
 use Rattle.json_text.proofs.Completion.{EndsText, FirstUnit, LowUnit, Follows, Completes, Leads}
 use Rattle.json_text.proofs.Escapes.{LeadsText, plain_forth, hex_none_forth, hex_one_forth, hex_two_forth, hex_three_forth, high_forth, high_backslash_forth, high_u_forth, high_hex_forth, high_two_forth, high_three_forth}
-use Rattle.json_text.proofs.Units.{backslash_forth, text_back}
-use Rattle.json_text.proofs.Choices.{along, head_same, tail_same, chosen, equal}
+use Rattle.json_text.proofs.{Units.{backslash_forth, text_back}, Choices.{along, head_same, tail_same, chosen, equal}}
 
 -- where the grammar goes on, the machine does
 pub text_forth : (place : Within) (b : ℕ) (inside spelled : List ℕ) → EndsText place (b ∷ inside) spelled → LeadsText (moves b place) inside spelled

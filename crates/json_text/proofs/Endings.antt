@@ -1,7 +1,6 @@
 -- What ends a text from a sound state on, with no level more; and a text that goes on from a state is as deep as the state at least.
 use Rattle.std.proofs.Common.{◌≡◌, ℕ, suc, ◌+◌, ◌*◌, ◌<◌, ◌≤◌, false, max, List, [], ◌∷◌, ◌++◌, ◌⊎◌, inl, inr, length, IsTrue, refl, arith, sym, subst, append-nil, zero}
-use Rattle.std.proofs.lemmas.Bool.Decides.{nat_tests}
-use Rattle.std.specs.Char.{encode_utf8}
+use Rattle.std.{proofs.lemmas.Bool.Decides.nat_tests, specs.Char.encode_utf8}
 use Rattle.json_text.specs.declared.state.Digits.{Digits}
 use Rattle.json_text.specs.declared.state.Digits.TheVariants.{AfterMinus, AfterZero, InWhole, AfterPoint, InFraction, AfterMark, AfterSign, InExponent}
 use Rattle.json_text.specs.declared.state.Within.{Within}
@@ -10,11 +9,9 @@ use Rattle.json_text.specs.Classes.{is_surrogate, is_high_surrogate, is_low_surr
 use Rattle.json_text.specs.Tree.{Tree, null, number, text, list, object, Items, no_items, item, Members, no_members, member, nesting, items_nesting, members_nesting}
 use Rattle.json_text.specs.Grammar.{nothing, further}
 use Rattle.json_text.specs.Machine.{Frame, in_list, in_member, Role, as_value, as_key, Mode, value, first_item, first_key, next_key, colon, letters, digits, content, ended, IsPlace}
-use Rattle.json_text.specs.Parts.{then_item, then_member}
-use Rattle.json_text.specs.Depth.{around, inner_depth, depth}
+use Rattle.json_text.specs.{Parts.{then_item, then_member}, Depth.{around, inner_depth, depth}}
 use Rattle.json_text.proofs.Completion.{and_items, and_members, Closes, EndsNumber, Hex, LowUnit, FirstUnit, EndsText, Follows, Completes}
-use Rattle.json_text.proofs.Forth.{and_no_items, and_no_members}
-use Rattle.json_text.proofs.Steps.{IsSoundMode, around_grows, then_item_nesting, then_member_nesting}
+use Rattle.json_text.proofs.{Forth.{and_no_items, and_no_members}, Steps.{IsSoundMode, around_grows, then_item_nesting, then_member_nesting}}
 
 -- items and members behind others
 and_items_nesting : (items more : Items) → items_nesting (and_items items more) ≡ max (items_nesting items) (items_nesting more)

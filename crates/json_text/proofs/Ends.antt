@@ -1,13 +1,9 @@
 -- Where the grammar may end, the machine may, and the other way round.
 use Rattle.std.proofs.Common.{◌≡◌, ℕ, true, false, List, [], ◌∷◌, ◌++◌, inl, inr, Some, Option, ap, refl, sym, subst, ◌∙◌, append-nil}
-use Rattle.json_text.specs.declared.state.Digits.{Digits}
-use Rattle.json_text.specs.Tree.{Tree, null, boolean, number, text, list, object}
-use Rattle.json_text.specs.Bytes.{null_letters, true_letters, false_letters}
-use Rattle.json_text.specs.Grammar.{IsValue}
+use Rattle.json_text.specs.{declared.state.Digits.Digits, Tree.{Tree, null, boolean, number, text, list, object}}
+use Rattle.json_text.specs.{Bytes.{null_letters, true_letters, false_letters}, Grammar.IsValue}
 use Rattle.json_text.specs.Machine.{Frame, in_list, in_member, Mode, value, first_item, first_key, next_key, colon, letters, digits, content, ended, finish, may_end}
-use Rattle.json_text.proofs.Completion.{Closes, EndsNumber, Completes}
-use Rattle.json_text.proofs.Numbers.{digits_end, ends_here}
-use Rattle.json_text.proofs.Choices.{when, chosen}
+use Rattle.json_text.proofs.{Completion.{Closes, EndsNumber, Completes}, Numbers.{digits_end, ends_here}, Choices.{when, chosen}}
 
 -- a bracket is missing
 something : (after inside : List ℕ) (b : ℕ) (more : List ℕ) → [] ≡ after ++ (inside ++ b ∷ more) → ⊥

@@ -1,15 +1,11 @@
 -- Texts byte by byte: where the machine goes on, the grammar does.
 use Rattle.std.proofs.Common.{◌≡◌, ℕ, suc, ◌+◌, ◌*◌, ◌<◌, ◌≤◌, ◌==◌, false, List, [], ◌∷◌, ◌++◌, ◌⊎◌, inl, inr, IsTrue, nat_lt, refl, arith, sym, subst, ◌∙◌, ap, eq-eqb}
-use Rattle.std.proofs.lemmas.Bool.Decides.{nat_tests}
-use Rattle.std.specs.Char.{digit_value, encode_utf8}
+use Rattle.std.{proofs.lemmas.Bool.Decides.nat_tests, specs.Char.{digit_value, encode_utf8}}
 use Rattle.json_text.specs.declared.state.Within.TheVariants.{Plain, AfterU, AfterHex, AfterTwoHex, AfterThreeHex, AfterHigh, AfterHighBackslash, AfterHighU, AfterHighHex, AfterHighTwoHex, AfterHighThreeHex}
-use Rattle.json_text.specs.declared.state.Move.{Move}
+use Rattle.json_text.specs.{declared.state.Move.Move, Classes.{is_plain, is_hex, is_low_surrogate, is_high_surrogate, is_surrogate, pair_of}}
 use Rattle.json_text.specs.declared.state.Move.TheVariants as moving
-use Rattle.json_text.specs.Classes.{is_plain, is_hex, is_low_surrogate, is_high_surrogate, is_surrogate, pair_of}
-use Rattle.json_text.specs.Grammar.{Spells, further}
-use Rattle.json_text.specs.Machine.{moves, begins_low, after_unit}
-use Rattle.json_text.proofs.Completion.{EndsText, FirstUnit, LowUnit, BehindUnit}
-use Rattle.json_text.proofs.Choices.{head_same, when, unless, along}
+use Rattle.json_text.specs.{Grammar.{Spells, further}, Machine.{moves, begins_low, after_unit}}
+use Rattle.json_text.proofs.{Completion.{EndsText, FirstUnit, LowUnit, BehindUnit}, Choices.{head_same, when, unless, along}}
 
 -- the text goes on as the move says
 abbrev pub LeadsText : Move → List ℕ → List ℕ → Type 0

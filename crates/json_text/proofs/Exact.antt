@@ -1,19 +1,9 @@
 -- The outcome in terms of the machine is the one in terms of the grammar, and one answer alone is due.
 use Rattle.std.proofs.Common.{◌≡◌, ℕ, zero, suc, ◌+◌, ◌<◌, ◌≤◌, List, [], ◌∷◌, ◌++◌, ◌⊎◌, inl, inr, length, take, drop, Some, None, Result, Ok, Err, IfOk, IfErr, MatchResult, refl, arith, sym, subst, ◌∙◌, ap, append_assoc}
-use Rattle.std.proofs.Math.Seq.{take-length}
-use Rattle.std.proofs.lemmas.List.{take-append-drop}
-use Rattle.std.specs.Str.{IsUtf8}
-use Rattle.json_text.specs.Tree.{Tree}
-use Rattle.json_text.specs.Grammar.{IsText}
-use Rattle.json_text.specs.Places.{most_levels, Begins, BeginsWithin, Reads, IsNotText, IsNotJson, IsTooDeep}
-use Rattle.json_text.specs.View.{tree_of}
-use Rattle.json_text.specs.Machine.{State, run, start, levels}
-use Rattle.json_text.specs.Reached.{ended_tree, Reaches}
-use Rattle.json_text.specs.Outcome.{StopsAt, DeepAt, Outcome}
-use Rattle.json_text.specs.Answers.{IsFault, IsDue}
-use Rattle.json_text.specs.declared.tree.Json.{Json}
-use Rattle.json_text.specs.declared.reading.JsonFault.{JsonFault}
-use Rattle.json_text.specs.declared.reading.JsonFault.TheVariants.{NotText, NotJson, TooDeep, NoMemory}
+use Rattle.std.{proofs.Math.Seq.take-length, proofs.lemmas.List.take-append-drop, specs.Str.IsUtf8}
+use Rattle.json_text.specs.{Tree.Tree, Grammar.IsText, Places.{most_levels, Begins, BeginsWithin, Reads, IsNotText, IsNotJson, IsTooDeep}, View.tree_of}
+use Rattle.json_text.specs.{Machine.{State, run, start, levels}, Reached.{ended_tree, Reaches}, Outcome.{StopsAt, DeepAt, Outcome}, Answers.{IsFault, IsDue}}
+use Rattle.json_text.specs.declared.{tree.Json.Json, reading.JsonFault.JsonFault, reading.JsonFault.TheVariants.{NotText, NotJson, TooDeep, NoMemory}}
 use Rattle.json_text.proofs.Texts.{begins_runs, begins_deep, reached_begins, text_ends, ends_text, finish_deep, one_tree, levels_deep}
 
 -- a longer front goes on from a shorter one

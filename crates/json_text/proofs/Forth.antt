@@ -3,12 +3,10 @@ use Rattle.std.proofs.Common.{◌≡◌, ℕ, ◌<◌, ◌≤◌, ◌==◌, Bool
 use Rattle.std.proofs.lemmas.Bool.Decides.{nat_tests}
 use Rattle.json_text.specs.declared.state.Digits.{Digits}
 use Rattle.json_text.specs.declared.state.Digits.TheVariants.{AfterMinus, AfterZero, InWhole, AfterPoint, InFraction, AfterMark, AfterSign, InExponent}
-use Rattle.json_text.specs.Classes.{is_blank}
-use Rattle.json_text.specs.Tree.{Tree, null, boolean, number, text, list, object, Items, no_items, item, Members, no_members, member}
+use Rattle.json_text.specs.{Classes.is_blank, Tree.{Tree, null, boolean, number, text, list, object, Items, no_items, item, Members, no_members, member}}
 use Rattle.json_text.specs.Grammar.{IsBlank, IsWhole, IsNumber, Spells, Spaced, IsMember, IsValue, IsItems, MoreItems, IsMembers, MoreMembers}
 use Rattle.json_text.specs.Machine.{Frame, in_list, in_member, Mode, value, first_item, first_key, next_key, colon, letters, digits, State, begin, first_digit, digits_after, may_end, after_value, step, next_digit, with_frames}
-use Rattle.json_text.specs.Parts.{then_item, then_member}
-use Rattle.json_text.proofs.Completion.{and_items, and_members, Closes, EndsNumber, Leads}
+use Rattle.json_text.{specs.Parts.{then_item, then_member}, proofs.Completion.{and_items, and_members, Closes, EndsNumber, Leads}}
 use Rattle.json_text.proofs.Numbers.{LeadsOn, digits_forth, digits_end, first_whole}
 use Rattle.json_text.proofs.Choices.{when, unless, head_same, along, blank_cases, leading_range, not_equal, equal_self}
 

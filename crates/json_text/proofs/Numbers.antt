@@ -2,10 +2,8 @@
 use Rattle.std.proofs.Common.{◌≡◌, ℕ, ◌==◌, true, false, cond, List, [], ◌∷◌, ◌++◌, inl, inr, IsTrue, Option, Some, None, refl, arith, sym, subst, ap}
 use Rattle.json_text.specs.declared.state.Digits.{Digits}
 use Rattle.json_text.specs.declared.state.Digits.TheVariants.{AfterMinus, AfterZero, InWhole, AfterPoint, InFraction, AfterMark, AfterSign, InExponent}
-use Rattle.json_text.specs.Classes.{is_digit, is_leading_digit, is_exponent_mark, is_sign}
-use Rattle.json_text.specs.Grammar.{Each, IsWhole, IsFraction, IsSigned, IsExponent}
-use Rattle.json_text.specs.Machine.{digits_after, may_end}
-use Rattle.json_text.proofs.Completion.{EndsNumber}
+use Rattle.json_text.specs.{Classes.{is_digit, is_leading_digit, is_exponent_mark, is_sign}, Grammar.{Each, IsWhole, IsFraction, IsSigned, IsExponent}}
+use Rattle.json_text.{specs.Machine.{digits_after, may_end}, proofs.Completion.EndsNumber}
 use Rattle.json_text.proofs.Choices.{when, unless, head_same, along, mark_cases, sign_cases, leading_range, not_equal, not_digit, chosen, equal}
 
 -- the number goes on to a place that the tail ends

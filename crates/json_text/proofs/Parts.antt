@@ -1,10 +1,7 @@
 -- The items and members of a tree, as their vectors hold them.
 use Rattle.std.proofs.Common.{◌≡◌, ℕ, zero, suc, ◌+◌, ◌<◌, ◌≤◌, List, [], ◌∷◌, ◌++◌, length, get_or, take, map, add-one, Option, Some, None, MatchOption, IfSome, Bor, arith, refl, sym, ap, ◌∙◌}
-use Rattle.json_text.specs.View.{items_of, members_of, tree_of, entry_of}
-use Rattle.json_text.specs.Parts.{item_count, item_at, member_count, member_at, then_item, then_member}
-use Rattle.std.proofs.Math.Seq.{take-suc}
-use Rattle.std.proofs.lemmas.List.{take_all}
-use Rattle.std.specs.List.{HoldsAt}
+use Rattle.json_text.specs.{View.{items_of, members_of, tree_of, entry_of}, Parts.{item_count, item_at, member_count, member_at, then_item, then_member}}
+use Rattle.std.{proofs.Math.Seq.take-suc, proofs.lemmas.List.take_all, specs.List.HoldsAt}
 use Rattle.json_text.proofs.Views.{items_of-end, members_of-end, map-end}
 
 -- how a list of a tree is counted, looked up and added to, as the items of its vector

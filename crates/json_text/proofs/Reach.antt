@@ -1,36 +1,20 @@
 -- Tokens: what their loops keep, and what stands behind them.
 use Rattle.std.proofs.Common.{◌≡◌, ℕ, zero, suc, ◌+◌, ◌-◌, ◌<◌, ◌≤◌, ◌==◌, ◌⊎◌, false, List, [], ◌∷◌, ◌++◌, inl, inr, length, get_or, take, drop, slice_range, IsTrue, Option, Some, None, option_map, Result, Ok, Err, IfOk, IfErr, refl, arith, ap, sym, subst, ◌∙◌, append_assoc, append-nil, add-one}
-use Rattle.std.specs.Result.{IsErrAnd}
-use Rattle.std.specs.Str.{IsUtf8, IsCharBoundary}
-use Rattle.std.proofs.lemmas.Str.{IsCharBoundary-after_ascii}
-use Rattle.std.proofs.lemmas.Bool.Decides.{nat_tests}
-use Rattle.std.specs.Char.{encode_utf8}
-use Rattle.json_text.specs.Classes.{is_blank, is_plain, is_leading_digit}
-use Rattle.json_text.specs.Tree.{Tree, number, no_items, Members, no_members}
+use Rattle.std.{specs.Result.IsErrAnd, specs.Str.{IsUtf8, IsCharBoundary}, proofs.lemmas.Str.IsCharBoundary-after_ascii, proofs.lemmas.Bool.Decides.nat_tests}
+use Rattle.std.{specs.Char.encode_utf8, proofs.Math.Seq.drop-cons, proofs.lemmas.List.drop_all}
+use Rattle.json_text.specs.{Classes.{is_blank, is_plain, is_leading_digit}, Tree.{Tree, number, no_items, Members, no_members}}
 use Rattle.json_text.specs.Tree as trees
 use Rattle.json_text.specs.Machine.{Frame, in_list, Role, as_value, as_key, Mode, value, first_item, first_key, next_key, colon, letters, digits, content, ended, State, step, start, own_level, begin, begin_key, close, first_digit, digits_after, next_digit, may_end, after_value, moves, moved, text_ended, with_frames}
-use Rattle.json_text.specs.Depth.{inner_depth, around}
-use Rattle.json_text.specs.Places.{most_levels}
+use Rattle.json_text.specs.{Depth.{inner_depth, around}, Places.most_levels}
 use Rattle.json_text.specs.Reached.{ended_tree, Reaches, Alike, Stands, Carries, word_mode, ReadsWord, StopsWord, ReadsDigits, StopsDigits, ReadsContent, ReadsText, StopsText}
 use Rattle.json_text.specs.Outcome.{StopsAt, DeepAt, Fault, fault_at}
 use Rattle.json_text.specs.States.{frames_of, mode_of, StepGives, Arrives, SpellsNumber, ReadsNumber, StopsNumber, ReadsQuoted, StopsQuoted}
-use Rattle.json_text.specs.declared.state.Digits.{Digits}
-use Rattle.json_text.specs.declared.state.Within.{Within}
-use Rattle.json_text.specs.declared.state.Within.TheVariants.{Plain}
-use Rattle.json_text.specs.declared.state.Move.{Move}
+use Rattle.json_text.specs.declared.state.{Digits.Digits, Within.Within, Within.TheVariants.Plain, Move.Move, Stop.Stop, Awaits.Awaits}
 use Rattle.json_text.specs.declared.state.Move.TheVariants as moving
-use Rattle.json_text.specs.declared.state.Stop.{Stop}
 use Rattle.json_text.specs.declared.state.Stop.TheVariants as stops
-use Rattle.json_text.specs.declared.state.Awaits.{Awaits}
-use Rattle.json_text.specs.declared.state.Awaits.TheVariants.{Value, FirstItem, FirstKey, NextKey, Colon, Ended}
-use Rattle.json_text.specs.declared.state.Open.{Open}
-use Rattle.json_text.specs.View.{tree_of}
-use Rattle.json_text.specs.declared.tree.Json.{Json}
+use Rattle.json_text.specs.{declared.state.Awaits.TheVariants.{Value, FirstItem, FirstKey, NextKey, Colon, Ended}, declared.state.Open.Open, View.tree_of}
+use Rattle.json_text.{specs.declared.tree.Json.Json, proofs.Variants.{tree_of-number, tree_of-text}, proofs.Stack.length_frames}
 use Rattle.json_text.specs.declared.tree.Json as json
-use Rattle.json_text.proofs.Variants.{tree_of-number, tree_of-text}
-use Rattle.json_text.proofs.Stack.{length_frames}
-use Rattle.std.proofs.Math.Seq.{drop-cons}
-use Rattle.std.proofs.lemmas.List.{drop_all}
 use Rattle.json_text.proofs.Runs.{below_or, carry_on, takes, refuses, opens_deep, reached_stands, stands_alike, carried, stops_here, range_grows, range_begins, range_none}
 use Rattle.json_text.proofs.Choices.{when, unless, chosen, equal, equal_self, not_equal, leading_range}
 

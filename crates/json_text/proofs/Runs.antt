@@ -1,13 +1,8 @@
 -- Runs of the machine, a byte at a time.
 use Rattle.std.proofs.Common.{◌≡◌, ℕ, zero, suc, ◌⊎◌, ◌+◌, ◌-◌, ◌<◌, ◌≤◌, List, [], ◌∷◌, ◌++◌, inl, inr, length, get_or, take, drop, slice_range, Option, Some, None, option_and_then, refl, arith, ap, subst, ◌∙◌, add-one}
-use Rattle.std.proofs.Math.Seq.{take-suc, drop-cons}
-use Rattle.std.proofs.lemmas.List.{get_or-drop, length-drop}
-use Rattle.json_text.specs.Machine.{Mode, Frame, State, step, run, start, levels}
-use Rattle.json_text.specs.Places.{most_levels}
-use Rattle.json_text.specs.Depth.{depth}
-use Rattle.json_text.specs.Reached.{ended_tree, Reaches, Alike, Stands, Carries}
-use Rattle.json_text.specs.Outcome.{StopsAt, DeepAt}
-use Rattle.json_text.proofs.Steps.{Keeps, step_keeps}
+use Rattle.std.proofs.{Math.Seq.{take-suc, drop-cons}, lemmas.List.{get_or-drop, length-drop}}
+use Rattle.json_text.specs.{Machine.{Mode, Frame, State, step, run, start, levels}, Places.most_levels, Depth.depth}
+use Rattle.json_text.{specs.Reached.{ended_tree, Reaches, Alike, Stands, Carries}, specs.Outcome.{StopsAt, DeepAt}, proofs.Steps.{Keeps, step_keeps}}
 use Rattle.json_text.proofs.Texts.{reached_sound}
 
 stepped : (after : Option State) → option_and_then (run []) after ≡ after

@@ -1,22 +1,16 @@
 -- One byte: where the grammar goes on the machine does, and from a sound state the other way round. A sound state stays sound, and it grows deeper only by a level that it opens.
 use Rattle.std.proofs.Common.{◌≡◌, ℕ, suc, ◌+◌, ◌*◌, ◌<◌, ◌≤◌, ◌==◌, Bool, true, false, cond, max, List, [], ◌∷◌, ◌++◌, ◌⊎◌, inl, inr, length, IsTrue, nat_le, Option, Some, None, option_map, refl, arith, subst, zero}
-use Rattle.std.proofs.lemmas.Bool.Decides.{nat_tests}
-use Rattle.std.specs.Char.{digit_value}
-use Rattle.json_text.specs.declared.state.Digits.{Digits}
-use Rattle.json_text.specs.declared.state.Within.{Within}
+use Rattle.std.{proofs.lemmas.Bool.Decides.nat_tests, specs.Char.digit_value}
+use Rattle.json_text.specs.declared.state.{Digits.Digits, Within.Within}
 use Rattle.json_text.specs.declared.state.Within.TheVariants.{Plain, AfterBackslash, AfterU, AfterHex, AfterTwoHex, AfterThreeHex, AfterHigh, AfterHighBackslash, AfterHighU, AfterHighHex, AfterHighTwoHex, AfterHighThreeHex}
-use Rattle.json_text.specs.declared.state.Move.{Move}
+use Rattle.json_text.specs.{declared.state.Move.Move, Classes.{is_blank, is_hex, is_high_surrogate, short_escape}}
 use Rattle.json_text.specs.declared.state.Move.TheVariants as moving
-use Rattle.json_text.specs.Classes.{is_blank, is_hex, is_high_surrogate, short_escape}
 use Rattle.json_text.specs.Tree.{Tree, number, list, object, Items, no_items, item, Members, no_members, member, nesting, items_nesting, members_nesting}
 use Rattle.json_text.specs.Machine.{Frame, in_list, in_member, Role, as_value, as_key, Mode, value, first_item, first_key, next_key, colon, letters, digits, content, ended, State, begin, begin_key, first_digit, close, after_value, next_letter, next_digit, digits_after, may_end, moved, moves, move_by, with_hex, so_far, after_unit, begins_low, escape_moves, with_frames, step, IsPlace, levels}
-use Rattle.json_text.specs.Parts.{then_item, then_member}
-use Rattle.json_text.specs.Depth.{around, inner_depth, depth}
-use Rattle.json_text.proofs.Completion.{Completes, Leads}
+use Rattle.json_text.{specs.Parts.{then_item, then_member}, specs.Depth.{around, inner_depth, depth}, proofs.Completion.{Completes, Leads}}
 use Rattle.json_text.proofs.Forth.{spaced_forth, items_forth, members_forth, next_member_forth, colon_forth, letters_forth, digits_on, ended_forth}
 use Rattle.json_text.proofs.Back.{value_back, first_item_back, first_key_back, next_key_back, colon_back, letters_back, digits_on_back, ended_back}
-use Rattle.json_text.proofs.Contents.{content_forth, content_back}
-use Rattle.json_text.proofs.Escapes.{hex_range}
+use Rattle.json_text.proofs.{Contents.{content_forth, content_back}, Escapes.hex_range}
 
 -- where the grammar goes on, the machine does
 pub forth : (mode : Mode) (frames : List Frame) (b : ℕ) (rest : List ℕ) (whole : Tree) → Completes mode frames (b ∷ rest) whole → Leads (step b mode frames) rest whole

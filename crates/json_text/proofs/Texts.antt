@@ -1,14 +1,9 @@
 -- Whole texts, from what one byte does: the machine reads exactly what texts begin with, and ends exactly where they do.
 use Rattle.std.proofs.Common.{◌≡◌, ℕ, ◌≤◌, List, [], ◌∷◌, ◌++◌, Option, Some, None, option_and_then, refl, arith, sym, subst, ◌∙◌, ap, append-nil}
-use Rattle.json_text.specs.Tree.{Tree, number, nesting}
-use Rattle.json_text.specs.Grammar.{IsText}
-use Rattle.json_text.specs.Places.{Begins}
+use Rattle.json_text.specs.{Tree.{Tree, number, nesting}, Grammar.IsText, Places.Begins}
 use Rattle.json_text.specs.Machine.{Mode, Frame, State, value, first_item, first_key, next_key, colon, letters, digits, content, ended, step, run, start, finish, own_level, levels, as_value, as_key}
-use Rattle.json_text.specs.Depth.{inner_depth, depth}
-use Rattle.json_text.specs.Reached.{ended_tree}
-use Rattle.json_text.proofs.Completion.{Completes, Leads}
-use Rattle.json_text.proofs.Steps.{IsSoundMode, Keeps, forth, back, step_keeps, around_least}
-use Rattle.json_text.proofs.Endings.{ending, completes_deep}
+use Rattle.json_text.{specs.Depth.{inner_depth, depth}, specs.Reached.ended_tree, proofs.Completion.{Completes, Leads}}
+use Rattle.json_text.proofs.{Steps.{IsSoundMode, Keeps, forth, back, step_keeps, around_least}, Endings.{ending, completes_deep}}
 use Rattle.json_text.proofs.Ends.{grammar_ends, machine_ends, finished}
 
 -- a text is what completes the first state

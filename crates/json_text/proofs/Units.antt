@@ -1,14 +1,11 @@
 -- Texts byte by byte, at the place after a backslash; and where the machine goes on, the grammar does.
 use Rattle.std.proofs.Common.{◌≡◌, ℕ, append_assoc, ◌+◌, ◌*◌, ◌<◌, ◌≤◌, ◌==◌, Bool, true, false, not, List, [], ◌∷◌, ◌++◌, ◌⊎◌, inl, inr, length, IsTrue, nat_le, Option, Some, None, refl, arith, sym, subst, ◌∙◌, ap}
-use Rattle.std.proofs.lemmas.Bool.Decides.{nat_tests}
-use Rattle.std.specs.Char.{digit_value, encode_utf8}
+use Rattle.std.{proofs.lemmas.Bool.Decides.nat_tests, specs.Char.{digit_value, encode_utf8}}
 use Rattle.json_text.specs.declared.state.Within.{Within}
 use Rattle.json_text.specs.declared.state.Within.TheVariants.{Plain, AfterBackslash, AfterU, AfterHex, AfterTwoHex, AfterThreeHex, AfterHigh, AfterHighBackslash, AfterHighU, AfterHighHex, AfterHighTwoHex, AfterHighThreeHex}
 use Rattle.json_text.specs.Classes.{is_plain, short_escape, is_hex, unit_of, is_low_surrogate, is_high_surrogate, is_surrogate, pair_of}
-use Rattle.json_text.specs.Grammar.{Spells, further, IsUnit}
-use Rattle.json_text.specs.Machine.{moves, begins_low, after_unit, escape_moves, IsPlace}
-use Rattle.json_text.proofs.Completion.{EndsText, FirstUnit, LowUnit, Hex}
-use Rattle.json_text.proofs.Escapes.{LeadsText, first_back, low_back, hex_range}
+use Rattle.json_text.specs.{Grammar.{Spells, further, IsUnit}, Machine.{moves, begins_low, after_unit, escape_moves, IsPlace}}
+use Rattle.json_text.proofs.{Completion.{EndsText, FirstUnit, LowUnit, Hex}, Escapes.{LeadsText, first_back, low_back, hex_range}}
 use Rattle.json_text.proofs.Choices.{unless, along, head_same, tail_same, not_equal, chosen, equal}
 
 joined : {b c : ℕ} {rest other : List ℕ} → b ≡ c → rest ≡ other → b ∷ rest ≡ c ∷ other

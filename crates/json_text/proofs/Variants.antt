@@ -4,10 +4,7 @@ use Rattle.json_text.specs.Tree.{Tree, null, boolean, number, text, list, object
 use Rattle.json_text.specs.View.{tree_of, items_view, members_view, value_step, list_step, members_step, member_step}
 use Rattle.json_text.specs.declared.tree.Json as variant
 use Rattle.json_text.specs.declared.tree.Json.TheVariants.{rolls-Null, rolls-Bool, rolls-Number, rolls-Text, rolls-List, rolls-Object}
-use Rattle.json_text.specs.declared.tree.Json.TheFolds.{fold-roll-Json}
-use Rattle.json_text.specs.declared.tree.Json.TheOpen.{Json-F}
-use Rattle.json_text.specs.declared.tree.JsonList.{JsonList}
-use Rattle.json_text.specs.declared.tree.JsonMembers.{JsonMembers}
+use Rattle.json_text.specs.declared.tree.{Json.TheFolds.fold-roll-Json, Json.TheOpen.Json-F, JsonList.JsonList, JsonMembers.JsonMembers}
 
 pub tree_of-list : (items : JsonList) → tree_of (variant.List items) ≡ list (items_view items)
 tree_of-list items = ap tree_of (sym (rolls-List items)) ∙ fold-roll-Json Tree Items Members (List ℕ × Tree) value_step list_step members_step member_step (Json-F.List items)

@@ -1,13 +1,9 @@
 -- The lists of a tree, as their vectors hold them.
 use Rattle.std.proofs.Common.{◌≡◌, ℕ, List, [], ◌∷◌, ◌++◌, refl, ap, map}
-use Rattle.json_text.specs.Tree.{Tree, Items, item, Members, member}
-use Rattle.json_text.specs.Parts.{then_item, then_member}
+use Rattle.json_text.specs.{Tree.{Tree, Items, item, Members, member}, Parts.{then_item, then_member}}
 use Rattle.json_text.specs.View.{items_of, members_of, tree_of, entry_of, items_view, members_view, value_step, list_step, member_step, members_step}
-use Rattle.json_text.specs.declared.tree.Json.{Json}
-use Rattle.json_text.specs.declared.tree.Json.TheFolds.{fold-roll-JsonList, fold_out-JsonList, fold-roll-JsonMembers, fold_out-JsonMembers}
-use Rattle.json_text.specs.declared.tree.Json.TheOpen.{JsonList-F, JsonMembers-F}
-use Rattle.json_text.specs.declared.tree.JsonList.{JsonList, roll-JsonList, out-JsonList}
-use Rattle.json_text.specs.declared.tree.Member.{Member}
+use Rattle.json_text.specs.declared.tree.Json.{Json, TheFolds.{fold-roll-JsonList, fold_out-JsonList, fold-roll-JsonMembers, fold_out-JsonMembers}}
+use Rattle.json_text.specs.declared.tree.{Json.TheOpen.{JsonList-F, JsonMembers-F}, JsonList.{JsonList, roll-JsonList, out-JsonList}, Member.Member}
 use Rattle.json_text.specs.declared.tree.JsonMembers.{JsonMembers, roll-JsonMembers, out-JsonMembers}
 
 -- an item at the end

@@ -1,8 +1,6 @@
 -- What each answer of the reader says of the bytes.
 use Rattle.std.specs.Prelude.{ℕ, List, Result, Ok, Err}
-use Rattle.json_text.specs.Tree.{Tree}
-use Rattle.json_text.specs.Places.{Reads, IsNotText, IsNotJson, IsTooDeep}
-use Rattle.json_text.specs.declared.reading.JsonFault.{JsonFault}
+use Rattle.json_text.specs.{Tree.Tree, Places.{Reads, IsNotText, IsNotJson, IsTooDeep}, declared.reading.JsonFault.JsonFault}
 use Rattle.json_text.specs.declared.reading.JsonFault.TheVariants.{NotText, NotJson, TooDeep, NoMemory}
 
 -- what a fault says of the bytes

@@ -1,14 +1,11 @@
 -- No public contract cites this. What reads JSON text byte by byte: a state says what is open and what has to come. It has no limit of nesting.
 use Rattle.std.specs.Prelude.{ℕ, ◌+◌, ◌*◌, Bool, true, false, cond, ◌&&◌, ◌==◌, nat_le, nat_lt, ◌<◌, ◌≤◌, ◌⊎◌, List, [], ◌∷◌, ◌++◌, length, Option, Some, None, option_map, option_and_then}
 use Rattle.std.specs.Char.{digit_value, encode_utf8, IsScalar}
-use Rattle.json_text.specs.Tree.{Tree, null, boolean, number, text, list, object, Items, no_items, Members, no_members}
-use Rattle.json_text.specs.declared.state.Digits.{Digits}
+use Rattle.json_text.specs.{Tree.{Tree, null, boolean, number, text, list, object, Items, no_items, Members, no_members}, declared.state.Digits.Digits}
 use Rattle.json_text.specs.declared.state.Digits.TheVariants.{AfterMinus, AfterZero, InWhole, AfterPoint, InFraction, AfterMark, AfterSign, InExponent}
 use Rattle.json_text.specs.declared.state.Within.{Within}
 use Rattle.json_text.specs.declared.state.Within.TheVariants.{Plain, AfterBackslash, AfterU, AfterHex, AfterTwoHex, AfterThreeHex, AfterHigh, AfterHighBackslash, AfterHighU, AfterHighHex, AfterHighTwoHex, AfterHighThreeHex}
-use Rattle.json_text.specs.declared.state.Move.{Move}
-use Rattle.json_text.specs.declared.state.Move.TheVariants.{Goes, Adds, Spells, Ends, Refused}
-use Rattle.json_text.specs.Parts.{then_item, then_member}
+use Rattle.json_text.specs.{declared.state.Move.Move, declared.state.Move.TheVariants.{Goes, Adds, Spells, Ends, Refused}, Parts.{then_item, then_member}}
 use Rattle.json_text.specs.Bytes as byte
 use Rattle.json_text.specs.Classes.{is_blank, is_digit, is_leading_digit, is_exponent_mark, is_sign, short_escape, is_hex, is_high_surrogate, pair_of}
 

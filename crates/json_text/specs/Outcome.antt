@@ -1,14 +1,8 @@
 -- No public contract cites this. What the reader answers, in terms of the machine.
 use Rattle.std.specs.Prelude.{◌≡◌, ℕ, ◌+◌, ◌<◌, ◌⊎◌, List, length, take, Some, None, Result, Ok, Err}
-use Rattle.json_text.specs.View.{tree_of}
-use Rattle.json_text.specs.Reached.{ended_tree, Reaches}
-use Rattle.json_text.specs.Places.{most_levels}
-use Rattle.json_text.specs.Machine.{State, run, start, levels}
-use Rattle.json_text.specs.declared.tree.Json.{Json}
-use Rattle.json_text.specs.declared.state.Stop.{Stop}
+use Rattle.json_text.specs.{View.tree_of, Reached.{ended_tree, Reaches}, Places.most_levels, Machine.{State, run, start, levels}, declared.tree.Json.Json}
+use Rattle.json_text.specs.declared.{state.Stop.Stop, reading.JsonFault.JsonFault, reading.JsonFault.TheVariants.{NotText, NotJson, TooDeep, NoMemory}}
 use Rattle.json_text.specs.declared.state.Stop.TheVariants as stops
-use Rattle.json_text.specs.declared.reading.JsonFault.{JsonFault}
-use Rattle.json_text.specs.declared.reading.JsonFault.TheVariants.{NotText, NotJson, TooDeep, NoMemory}
 
 -- the fault of a stop at a place
 abbrev pub fault_at : Stop → ℕ → JsonFault

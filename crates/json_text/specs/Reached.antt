@@ -1,15 +1,10 @@
 -- No public contract cites this. Where the machine stands after some of the bytes, and what leads it from one place to another.
 use Rattle.std.specs.Prelude.{◌≡◌, ℕ, ◌<◌, ◌≤◌, List, [], ◌∷◌, ◌++◌, length, take, slice_index, slice_range, Option, Some, None}
-use Rattle.json_text.specs.Tree.{Tree}
-use Rattle.json_text.specs.Places.{most_levels}
+use Rattle.json_text.specs.{Tree.Tree, Places.most_levels}
 use Rattle.json_text.specs.Machine.{Frame, Role, Mode, letters, digits, content, ended, State, step, run, start, finish, text_ended, moves, digits_after}
-use Rattle.json_text.specs.Depth.{depth}
-use Rattle.json_text.specs.declared.state.Digits.{Digits}
-use Rattle.json_text.specs.declared.state.Within.{Within}
-use Rattle.json_text.specs.declared.state.Within.TheVariants.{Plain}
+use Rattle.json_text.specs.{Depth.depth, declared.state.Digits.Digits, declared.state.Within.Within, declared.state.Within.TheVariants.Plain}
 use Rattle.json_text.specs.declared.state.Move.TheVariants as moving
-use Rattle.json_text.specs.declared.state.Stop.{Stop}
-use Rattle.json_text.specs.declared.state.Stop.TheVariants.{Refused, TooDeep, NoMemory}
+use Rattle.json_text.specs.declared.state.Stop.{Stop, TheVariants.{Refused, TooDeep, NoMemory}}
 
 -- the tree, where a text ends in this state
 abbrev pub ended_tree : State → Option Tree

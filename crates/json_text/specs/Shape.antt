@@ -1,8 +1,6 @@
 -- One level of a value, with what is inside it seen as trees.
 use Rattle.std.specs.Prelude.{map}
-use Rattle.json_text.specs.Tree.{Tree, null, boolean, number, text, list, object}
-use Rattle.json_text.specs.View.{tree_of, entry_of, items_of, members_of}
-use Rattle.json_text.specs.declared.shape.Shape.{Shape}
+use Rattle.json_text.specs.{Tree.{Tree, null, boolean, number, text, list, object}, View.{tree_of, entry_of, items_of, members_of}, declared.shape.Shape.Shape}
 use Rattle.json_text.specs.declared.shape.Shape.TheVariants as shape
 
 -- the tree of a value of this level

@@ -1,18 +1,11 @@
 -- No public contract cites this. The reader's state as the machine's, and what a token of it gives.
 use Rattle.std.specs.Prelude.{◌≡◌, ℕ, ◌+◌, ◌<◌, ◌≤◌, ◌⊎◌, false, List, [], ◌∷◌, length, slice_index, Option, Some, None, IsTrue, Result, Ok, Err}
-use Rattle.json_text.specs.declared.state.Open.{Open}
+use Rattle.json_text.specs.declared.state.{Open.Open, Awaits.Awaits, Awaits.TheVariants.{Value, FirstItem, FirstKey, NextKey, Colon, Ended}, Digits.Digits}
 use Rattle.json_text.specs.declared.state.Open.TheVariants as open_frame
-use Rattle.json_text.specs.declared.state.Awaits.{Awaits}
-use Rattle.json_text.specs.declared.state.Awaits.TheVariants.{Value, FirstItem, FirstKey, NextKey, Colon, Ended}
-use Rattle.json_text.specs.declared.state.Digits.{Digits}
-use Rattle.json_text.specs.declared.state.Stop.{Stop}
-use Rattle.json_text.specs.declared.state.Stop.TheVariants.{Refused, TooDeep, NoMemory}
-use Rattle.json_text.specs.View.{tree_of, items_view, members_view}
-use Rattle.json_text.specs.Places.{most_levels}
+use Rattle.json_text.specs.{declared.state.Stop.Stop, declared.state.Stop.TheVariants.{Refused, TooDeep, NoMemory}, View.{tree_of, items_view, members_view}}
+use Rattle.json_text.specs.{Places.most_levels, Reached.{Stands, Carries, StopsDigits, ReadsText, StopsText}, Outcome.{Fault, fault_at}}
 use Rattle.json_text.specs.Machine as machine
 use Rattle.json_text.specs.Bytes as byte
-use Rattle.json_text.specs.Reached.{Stands, Carries, StopsDigits, ReadsText, StopsText}
-use Rattle.json_text.specs.Outcome.{Fault, fault_at}
 
 -- an entry of the stack, as the machine has it
 abbrev pub frame_of : Open → machine.Frame

@@ -1,12 +1,8 @@
 -- The tree of a value that was read, without where it lies in memory.
 use Rattle.std.specs.Prelude.{ℕ, List, [], ◌∷◌}
 use Rattle.json_text.specs.Tree.{Tree, null, boolean, number, text, list, object, Items, no_items, item, Members, no_members, member}
-use Rattle.json_text.specs.declared.tree.Json.{Json, fold-Json}
-use Rattle.json_text.specs.declared.tree.Json.TheFolds.{fold-JsonList, fold-JsonMembers, fold-Member}
-use Rattle.json_text.specs.declared.tree.Json.TheOpen.{Json-F, JsonList-F, Member-F, JsonMembers-F}
-use Rattle.json_text.specs.declared.tree.JsonList.{JsonList}
-use Rattle.json_text.specs.declared.tree.JsonMembers.{JsonMembers}
-use Rattle.json_text.specs.declared.tree.Member.{Member}
+use Rattle.json_text.specs.declared.tree.Json.{Json, fold-Json, TheFolds.{fold-JsonList, fold-JsonMembers, fold-Member}}
+use Rattle.json_text.specs.declared.tree.{Json.TheOpen.{Json-F, JsonList-F, Member-F, JsonMembers-F}, JsonList.JsonList, JsonMembers.JsonMembers, Member.Member}
 
 -- items in their order
 abbrev pub items_of : List Tree → Items

@@ -1,8 +1,6 @@
 //! One byte more of a number or a text.
-ghost use Rattle.std.specs.Prelude.{◌≡◌, ℕ, ◌/◌, ◌<◌, ◌≤◌, ◌⊎◌, if◌then◌else◌, IfSome};
-ghost use Rattle.std.specs.Char.{IsScalar};
-ghost use Rattle.json_text.specs.Classes.{is_blank, is_plain, is_exponent_mark, short_escape, pair_of};
-ghost use Rattle.json_text.specs.Machine.{first_digit, digits_after, may_end, so_far, with_hex, letter_moves, begins_low, moves, after_unit, IsPlace, IsEscape, IsSoundMove};
+ghost use Rattle.std.specs.{Prelude.{◌≡◌, ℕ, ◌/◌, ◌<◌, ◌≤◌, ◌⊎◌, if◌then◌else◌, IfSome}, Char.IsScalar};
+ghost use Rattle.json_text.specs.{Classes.{is_blank, is_plain, is_exponent_mark, short_escape, pair_of}, Machine.{first_digit, digits_after, may_end, so_far, with_hex, letter_moves, begins_low, moves, after_unit, IsPlace, IsEscape, IsSoundMove}};
 
 use crate::state::{Digits, Move, Within};
 

@@ -2,10 +2,7 @@
 ghost use Rattle.std.specs.Prelude.{◌≡◌, ◌+◌, ◌^◌, ◌<◌, ◌≤◌, length, slice_index, false, IfOk, IfErr, option_map};
 ghost use Rattle.json_text.specs.Classes.{is_blank};
 ghost use Rattle.json_text.specs.Machine as machine;
-ghost use Rattle.json_text.specs.Places.{most_levels};
-ghost use Rattle.json_text.specs.Reached.{Stands, ReadsWord, StopsWord};
-ghost use Rattle.json_text.specs.States.{frames_of, mode_of, StepGives, Arrives, ReadsNumber, StopsNumber, ReadsQuoted, StopsQuoted};
-ghost use Rattle.json_text.specs.View.{tree_of, members_view};
+ghost use Rattle.json_text.specs.{Places.most_levels, Reached.{Stands, ReadsWord, StopsWord}, States.{frames_of, mode_of, StepGives, Arrives, ReadsNumber, StopsNumber, ReadsQuoted, StopsQuoted}, View.{tree_of, members_view}};
 
 use crate::lexeme::{first_digit, may_end};
 use crate::shared::{SharedText, Source};

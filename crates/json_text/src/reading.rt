@@ -1,11 +1,6 @@
 //! The public reader.
 ghost use Rattle.std.specs.Prelude.{◌≡◌, ◌⊎◌, Result, IfOk, IfErr, MatchResult};
-ghost use Rattle.json_text.specs.Grammar.{IsText};
-ghost use Rattle.json_text.specs.Outcome.{Outcome, fault_at};
-ghost use Rattle.json_text.specs.Answers.{IsFault, IsDue};
-ghost use Rattle.json_text.specs.Places.{Reads};
-ghost use Rattle.json_text.specs.Tree.{Tree};
-ghost use Rattle.json_text.specs.View.{tree_of};
+ghost use Rattle.json_text.specs.{Grammar.IsText, Outcome.{Outcome, fault_at}, Answers.{IsFault, IsDue}, Places.Reads, Tree.Tree, View.tree_of};
 
 use crate::class::Blank;
 use crate::machine::{finish, step};

@@ -1,7 +1,6 @@
 //! One level of a value: what a reader of trees looks at.
 ghost use Rattle.std.specs.Prelude.{◌≡◌};
-ghost use Rattle.json_text.specs.View.{tree_of, entry_of};
-ghost use Rattle.json_text.specs.Shape.{tree_of_shape};
+ghost use Rattle.json_text.specs.{View.{tree_of, entry_of}, Shape.tree_of_shape};
 
 use crate::tree::{Json, Member};
 

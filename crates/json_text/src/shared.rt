@@ -1,6 +1,5 @@
 //! Texts that share the bytes of the text which they stand in.
-ghost use Rattle.std.specs.Prelude.{◌≡◌, ◌<◌, ◌≤◌, length, slice_range, string_bytes, IfOk};
-ghost use Rattle.std.specs.Str.{IsUtf8, IsCharBoundary};
+ghost use Rattle.std.specs.{Prelude.{◌≡◌, ◌<◌, ◌≤◌, length, slice_range, string_bytes, IfOk}, Str.{IsUtf8, IsCharBoundary}};
 
 use crate::NoMemory;
 use std::alloc::Global;
@@ -14,8 +13,7 @@ pub(crate) struct Source {
 }
 
 impl Model for Source {
-    ghost use Rattle.std.specs.Prelude.{ℕ, List};
-    ghost use Rattle.std.specs.Rc.{rc_str_bytes};
+    ghost use Rattle.std.specs.{Prelude.{ℕ, List}, Rc.rc_str_bytes};
 
     ghost Value = { List ℕ };
 
@@ -91,8 +89,7 @@ pub struct SharedText {
 }
 
 impl Model for SharedText {
-    ghost use Rattle.std.specs.Prelude.{ℕ, List, ◌≤◌, slice_range};
-    ghost use Rattle.std.specs.Str.{IsCharBoundary};
+    ghost use Rattle.std.specs.{Prelude.{ℕ, List, ◌≤◌, slice_range}, Str.IsCharBoundary};
 
     ghost Value = { List ℕ };
 

@@ -1,7 +1,5 @@
 //! Tokens: runs of white space, words, numbers and texts, each read at once.
-ghost use Rattle.std.specs.Prelude.{◌≡◌, ℕ, ◌+◌, ◌<◌, ◌≤◌, length, slice_index, false, IsTrue, IfOk, IfErr};
-ghost use Rattle.std.specs.Char.{encode_utf8};
-ghost use Rattle.std.specs.Str.{IsUtf8, IsCharBoundary};
+ghost use Rattle.std.specs.{Prelude.{◌≡◌, ℕ, ◌+◌, ◌<◌, ◌≤◌, length, slice_index, false, IsTrue, IfOk, IfErr}, Char.encode_utf8, Str.{IsUtf8, IsCharBoundary}};
 ghost use Rattle.json_text.specs.Reached.{ReadsWord, StopsWord, ReadsDigits, StopsDigits, ReadsContent, ReadsText, StopsText};
 
 use crate::class::{Class, Plain};

@@ -1,8 +1,6 @@
 //! The tree of a JSON text.
 ghost use Rattle.std.specs.Prelude.{◌≡◌, Some, None, [], ◌∷◌, ◌++◌, is_ok, if◌then◌else◌, IfOk, OnOk, OnErr, MatchOption};
-ghost use Rattle.json_text.specs.Tree.{no_items, no_members};
-ghost use Rattle.json_text.specs.Parts.{then_item, then_member, item_count, item_at, member_count, member_at};
-ghost use Rattle.json_text.specs.View.{tree_of, items_view, members_view, entry_of};
+ghost use Rattle.json_text.specs.{Tree.{no_items, no_members}, Parts.{then_item, then_member, item_count, item_at, member_count, member_at}, View.{tree_of, items_view, members_view, entry_of}};
 
 use crate::NoMemory;
 use crate::shared::SharedText;

@@ -1,9 +1,6 @@
 -- A machine among others: the names of tracks with one more, and of those with one changed.
 use Rattle.std.proofs.Common.{◌≡◌, ℕ, suc, inl, inr, Bool, true, false, cond, List, [], ◌∷◌, ◌++◌, length, Some, None, refl, ap, ◌∙◌}
-use Rattle.std.specs.Prelude.{find, bytes_eq}
-use Rattle.std.specs.List.{AllByRecursion}
-use Rattle.std.specs.Cmp.Lexicographic.{nat_list_eq_equiv}
-use Rattle.std.proofs.lemmas.Bool.{cases_Bool}
+use Rattle.std.{specs.Prelude.{find, bytes_eq}, specs.List.AllByRecursion, specs.Cmp.Lexicographic.nat_list_eq_equiv, proofs.lemmas.Bool.cases_Bool}
 use Rattle.track_model.specs.Tracks.{Track}
 use Rattle.keep_rows.specs.Machines.{is_track, changed, IsOther, AreDifferent, names_of}
 

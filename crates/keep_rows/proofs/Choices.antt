@@ -1,15 +1,10 @@
 -- What is chosen of a history of which the publications are left out, and which commits it declares: the same but for the steps.
 use Rattle.std.proofs.Common.{◌≡◌, ℕ, ◌+◌, ◌≤◌, inl, inr, Bool, false, List, [], ◌∷◌, ◌++◌, length, map, Option, None, Some, refl, sym, ap, ap₂, ◌∙◌, arith, eqb}
-use Rattle.std.specs.Prelude.{find, filter, flat_map, option_map, sum_by, bytes_eq}
-use Rattle.std.specs.List.{cons_option}
-use Rattle.std.proofs.lemmas.Bool.{cases_Bool}
+use Rattle.std.{specs.Prelude.{find, filter, flat_map, option_map, sum_by, bytes_eq}, specs.List.cons_option, proofs.lemmas.Bool.cases_Bool}
 use Rattle.std.proofs.lemmas.List.Sums.{sum_by-cons}
-use Rattle.history_model.specs.declared.entries.Declaration.{Declaration}
-use Rattle.history_model.specs.declared.entries.Entry.{Entry}
+use Rattle.history_model.specs.declared.{entries.Declaration.Declaration, entries.Entry.Entry, publication.Publication.Publication}
 use Rattle.history_model.specs.declared.entries.Entry.TheVariants as entry
-use Rattle.history_model.specs.declared.publication.Publication.{Publication}
-use Rattle.history_model.specs.Commits.{declaration, declarations, number_of, name_of}
-use Rattle.history_model.specs.Entries.{chosen_from, chosen}
+use Rattle.history_model.specs.{Commits.{declaration, declarations, number_of, name_of}, Entries.{chosen_from, chosen}}
 use Rattle.keep_rows.specs.Kept.{is_kept}
 
 -- ---- lists that are the same but for what a function leaves out

@@ -1,32 +1,20 @@
 -- What was kept comes back.
 use Rattle.std.specs.FinSet as set
-use Rattle.history_model.specs.SeriesOrder.{series_cmp}
+use Rattle.history_model.specs.{SeriesOrder.series_cmp, declared.entries.Entry.Entry, declared.entries.Placed.Placed, Allowed.{AllowedAfter, Legal}}
 use Rattle.std.proofs.Common.{◌≡◌, ◌⊎◌, ℕ, ◌+◌, ◌<◌, ◌≤◌, inl, inr, Bool, true, false, cond, List, [], ◌∷◌, ◌++◌, length, map, Some, None, refl, sym, ap, ap₂, subst, ◌∙◌, arith, append_assoc, append-nil, length-append}
-use Rattle.std.specs.Prelude.{find, bytes_eq, filter}
-use Rattle.std.specs.List.{AllByRecursion}
-use Rattle.std.proofs.lemmas.Bool.{cases_Bool}
-use Rattle.std.proofs.lemmas.List.{map-append}
+use Rattle.std.{specs.Prelude.{find, bytes_eq, filter}, specs.List.AllByRecursion, proofs.lemmas.Bool.cases_Bool, proofs.lemmas.List.map-append}
 use Rattle.std.specs.Cmp.Lexicographic.{nat_list_eq_equiv}
-use Rattle.metric_table.specs.Limits.{most}
-use Rattle.metric_table.specs.declared.limits.Limit.TheVariants.{Machines}
+use Rattle.metric_table.specs.{Limits.most, declared.limits.Limit.TheVariants.Machines}
 use Rattle.line_text.specs.Names.{IsName}
 use Rattle.history_model.specs.declared.entries.Author.TheVariants as author
-use Rattle.history_model.specs.declared.entries.Entry.{Entry}
-use Rattle.history_model.specs.declared.entries.Placed.{Placed}
-use Rattle.history_model.specs.Allowed.{AllowedAfter, Legal}
 use Rattle.history_model.specs.Entries.{entries_of}
-use Rattle.store_rows.specs.Loading.{LeadsTo}
-use Rattle.store_rows.specs.Rows.{machine_row, entry_row}
+use Rattle.store_rows.specs.{Loading.LeadsTo, Rows.{machine_row, entry_row}}
 use Rattle.track_entry.specs.Texts.{IsEntry, entry_text}
 use Rattle.track_model.specs.Tracks.{Track, with_entry}
-use Rattle.keep_rows.specs.Machines.{is_track, changed}
-use Rattle.keep_rows.specs.Machines.{IsOther, AreDifferent, names_of}
-use Rattle.keep_rows.specs.Growth.{AreOfSession, GoOn, GoesOn, IsNewTrack, MayBeKept}
-use Rattle.keep_rows.specs.Kept.{is_kept, kept, kept_of, AreKept, kept_entries}
-use Rattle.keep_rows.specs.Laws.{KeptComesBack, LoadedAreKept}
-use Rattle.keep_rows.specs.Loading.{Stored, nothing_stored, stored_track, AddsRow, Makes}
-use Rattle.keep_rows.specs.Rows.{is_new, row_of, track_rows, session_rows, placed, new_rows, version_after}
-use Rattle.keep_rows.proofs.Machines.{machine_more, entry_more}
+use Rattle.keep_rows.specs.Machines.{is_track, changed, IsOther, AreDifferent, names_of}
+use Rattle.keep_rows.specs.{Growth.{AreOfSession, GoOn, GoesOn, IsNewTrack, MayBeKept}, Kept.{is_kept, kept, kept_of, AreKept, kept_entries}}
+use Rattle.keep_rows.specs.{Laws.{KeptComesBack, LoadedAreKept}, Loading.{Stored, nothing_stored, stored_track, AddsRow, Makes}}
+use Rattle.keep_rows.{specs.Rows.{is_new, row_of, track_rows, session_rows, placed, new_rows, version_after}, proofs.Machines.{machine_more, entry_more}}
 
 -- ---- rows one after another
 leads_join : {S : Type 0} (does : S → List ℕ → S → Type 0) (a b c : S) (xs ys : List (List ℕ)) → LeadsTo does a xs b → LeadsTo does b ys c → LeadsTo does a (xs ++ ys) c

@@ -1,16 +1,11 @@
 -- The rows that a session adds, and those that a later one does.
-use Rattle.std.proofs.Common.{◌≡◌, ℕ, pos, false, List, [], ◌∷◌, refl}
-use Rattle.std.specs.Prelude.{codes}
+use Rattle.std.{proofs.Common.{◌≡◌, ℕ, pos, false, List, [], ◌∷◌, refl}, specs.Prelude.codes, specs.Fmt.digits}
 use Rattle.std.specs.FinSet as set
-use Rattle.std.specs.Fmt.{digits}
-use Rattle.history_model.specs.declared.entries.Author.{Author}
+use Rattle.history_model.specs.declared.entries.{Author.Author, Entry.Entry, Placed.Placed}
 use Rattle.history_model.specs.declared.entries.Author.TheVariants as author
-use Rattle.history_model.specs.declared.entries.Entry.{Entry}
 use Rattle.history_model.specs.declared.entries.Entry.TheVariants as entry
-use Rattle.history_model.specs.declared.entries.Placed.{Placed}
 use Rattle.track_model.specs.Tracks.{Track}
-use Rattle.keep_rows.specs.Kept.{kept_of}
-use Rattle.keep_rows.specs.Rows.{new_rows}
+use Rattle.keep_rows.specs.{Kept.kept_of, Rows.new_rows}
 
 m : List ℕ
 m = codes "m1"

@@ -1,20 +1,12 @@
 -- The entries of a machine that are kept have texts.
-use Rattle.std.proofs.Common.{◌≡◌, ℕ, ◌+◌, ◌<◌, inl, inr, List, [], ◌∷◌, All, length, take, get_or, Some, subst, ◌∙◌}
-use Rattle.std.specs.Prelude.{filter, slice_get}
-use Rattle.std.specs.List.{AllByRecursion}
-use Rattle.std.proofs.lemmas.Bool.{cases_Bool}
-use Rattle.std.proofs.lemmas.List.Elements.{All-more, recursion_from_All}
+use Rattle.std.{proofs.Common.{◌≡◌, ℕ, ◌+◌, ◌<◌, inl, inr, List, [], ◌∷◌, All, length, take, get_or, Some, subst, ◌∙◌}, specs.Prelude.{filter, slice_get}}
+use Rattle.std.{specs.List.AllByRecursion, proofs.lemmas.Bool.cases_Bool, proofs.lemmas.List.Elements.{All-more, recursion_from_All}}
 use Rattle.std.proofs.lemmas.Option.{slice_get-get_or}
 use Rattle.line_text.specs.Names.{IsName}
-use Rattle.history_model.specs.declared.entries.Placed.{Placed}
-use Rattle.history_model.specs.Allowed.{Legal}
-use Rattle.history_model.specs.Entries.{entries_of}
-use Rattle.track_entry.specs.Texts.{HasShortMetric, IsEntry}
-use Rattle.track_entry.specs.Laws.{LegalIsShort}
+use Rattle.history_model.specs.{declared.entries.Placed.Placed, Allowed.Legal, Entries.entries_of}
+use Rattle.track_entry.specs.{Texts.{HasShortMetric, IsEntry}, Laws.LegalIsShort}
 use Rattle.track_model.specs.Tracks.{Track}
-use Rattle.keep_rows.specs.Growth.{HasTextIfShort, MayBeKept}
-use Rattle.keep_rows.specs.Kept.{is_kept}
-use Rattle.keep_rows.specs.Laws.{KeptIsLegal}
+use Rattle.keep_rows.specs.{Growth.{HasTextIfShort, MayBeKept}, Kept.is_kept, Laws.KeptIsLegal}
 
 -- one entry more has a text
 pub fit_more : (h : List Placed) (j k : ℕ) (p : Placed) → j ≡ k → k < length h → Some p ≡ slice_get h j → HasTextIfShort p

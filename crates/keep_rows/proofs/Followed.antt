@@ -1,21 +1,14 @@
 -- Regressions and jobs stand as they stood where the publications are left out.
 use Rattle.std.proofs.Common.{◌≡◌, ℕ, ◌+◌, ◌-◌, List, [], ◌∷◌, ◌++◌, length, take, None, refl, sym, ap, ap₂, ◌∙◌, arith, append-nil, append_assoc}
-use Rattle.std.specs.Prelude.{filter, is_some, unwrap_or}
-use Rattle.std.specs.List.{last_or}
-use Rattle.std.proofs.Math.Seq.{take-append_seam}
-use Rattle.std.proofs.lemmas.List.{length-append}
+use Rattle.std.{specs.Prelude.{filter, is_some, unwrap_or}, specs.List.last_or, proofs.Math.Seq.take-append_seam, proofs.lemmas.List.length-append}
 use Rattle.std.proofs.lemmas.List.Elements.{filter-append}
 use Rattle.bisect_core.specs.Bisections.{Bisection, bisection}
 use Rattle.regression_state.specs.declared.states.State.TheVariants.{Detected}
-use Rattle.history_model.specs.declared.entries.Entry.{Entry}
+use Rattle.history_model.specs.{declared.entries.Entry.Entry, Commits.{declarations, name_in, numbers_between, numbers_from}, Entries.chosen_from}
 use Rattle.history_model.specs.declared.entries.Entry.TheVariants as entry
 use Rattle.history_model.specs.declared.events.JobEvent.TheVariants as event
-use Rattle.history_model.specs.Commits.{declarations, name_in, numbers_between, numbers_from}
-use Rattle.history_model.specs.Entries.{chosen_from}
-use Rattle.history_model.specs.Jobs.{Begun, begun, said, turns, commits_of, standing_from, jobs}
-use Rattle.history_model.specs.Regressions.{raised, regressions, moved, state_of}
-use Rattle.keep_rows.specs.Kept.{is_kept}
-use Rattle.keep_rows.proofs.Choices.{filter_so, never, same_name, same_plain}
+use Rattle.history_model.specs.{Jobs.{Begun, begun, said, turns, commits_of, standing_from, jobs}, Regressions.{raised, regressions, moved, state_of}}
+use Rattle.keep_rows.{specs.Kept.is_kept, proofs.Choices.{filter_so, never, same_name, same_plain}}
 
 -- ---- regressions
 pub same_regressions : (h : List Entry) → regressions (filter is_kept h) ≡ regressions h

@@ -1,21 +1,12 @@
 -- The machines of rows stay as a store keeps them.
 use Rattle.std.specs.FinSet as set
-use Rattle.history_model.specs.SeriesOrder.{series_cmp}
+use Rattle.history_model.specs.{SeriesOrder.series_cmp, declared.entries.Entry.Entry, declared.entries.Placed.Placed, Entries.entries_of}
 use Rattle.std.proofs.Common.{◌≡◌, ℕ, ◌<◌, inl, inr, Bool, true, List, [], ◌∷◌, ◌++◌, length, map, None, refl, sym, ap, ap₂, subst, ◌∙◌, arith, length-append}
-use Rattle.std.specs.Prelude.{find, filter}
-use Rattle.std.specs.List.{AllByRecursion}
-use Rattle.std.proofs.lemmas.Bool.{cases_Bool}
-use Rattle.metric_table.specs.Limits.{most}
-use Rattle.metric_table.specs.declared.limits.Limit.TheVariants.{Machines}
+use Rattle.std.{specs.Prelude.{find, filter}, specs.List.AllByRecursion, proofs.lemmas.Bool.cases_Bool}
+use Rattle.metric_table.specs.{Limits.most, declared.limits.Limit.TheVariants.Machines}
 use Rattle.history_model.specs.declared.entries.Author.TheVariants as author
-use Rattle.history_model.specs.declared.entries.Entry.{Entry}
-use Rattle.history_model.specs.declared.entries.Placed.{Placed}
-use Rattle.history_model.specs.Entries.{entries_of}
 use Rattle.track_model.specs.Tracks.{Track, with_entry}
-use Rattle.keep_rows.specs.Machines.{is_track, changed}
-use Rattle.keep_rows.specs.Machines.{AreDifferent}
-use Rattle.keep_rows.specs.Kept.{is_kept, kept, kept_of, AreKept}
-use Rattle.keep_rows.specs.Loading.{stored_track}
+use Rattle.keep_rows.specs.{Machines.{is_track, changed}, Machines.AreDifferent, Kept.{is_kept, kept, kept_of, AreKept}, Loading.stored_track}
 use Rattle.keep_rows.proofs.Among.{different_last, changed_names, changed_length}
 
 pub all_join : {A : Type 0} (P : A → Type 0) (xs ys : List A) → AllByRecursion P xs → AllByRecursion P ys → AllByRecursion P (xs ++ ys)

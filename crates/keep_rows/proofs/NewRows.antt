@@ -1,10 +1,8 @@
 -- The new rows of a history, entry by entry.
 use Rattle.std.proofs.Common.{◌≡◌, ℕ, zero, suc, ◌+◌, List, [], ◌∷◌, ◌++◌, take, map, Some, refl, sym, ap, subst, ◌∙◌, arith, append_assoc}
-use Rattle.std.specs.Prelude.{slice_get, filter}
-use Rattle.std.proofs.lemmas.List.{map-append}
+use Rattle.std.{specs.Prelude.{slice_get, filter}, proofs.lemmas.List.map-append}
 use Rattle.history_model.specs.declared.entries.Placed.{Placed}
-use Rattle.keep_rows.specs.Rows.{is_new, row_of}
-use Rattle.keep_rows.proofs.ComesBack.{filter_join}
+use Rattle.keep_rows.{specs.Rows.{is_new, row_of}, proofs.ComesBack.filter_join}
 
 take_more : {A : Type 0} (h : List A) (k : ℕ) (p : A) → slice_get h k ≡ Some p → take (k + 1) h ≡ take k h ++ p ∷ []
 take_more [] k p is = absurd cc

@@ -2,14 +2,10 @@
 use Rattle.std.proofs.Common.{◌≡◌, ℕ, zero, suc, List, inl, inr, sym, ap, subst, ◌∙◌, arith, slice_index_or}
 use Rattle.history_model.specs.declared.entries.Author.TheVariants as author
 use Rattle.history_model.specs.declared.entries.Entry.{Entry}
-use Rattle.store_rows.specs.Rows.{Row, machine_row, entry_row, IsRowOf}
-use Rattle.store_rows.specs.Laws.{RowsAreUnique, IsDetermined}
-use Rattle.track_entry.specs.Texts.{IsOneEntry}
-use Rattle.track_entry.specs.Versions.{IsOneEntryV1}
+use Rattle.store_rows.specs.{Rows.{Row, machine_row, entry_row, IsRowOf}, Laws.{RowsAreUnique, IsDetermined}}
+use Rattle.track_entry.specs.{Texts.IsOneEntry, Versions.IsOneEntryV1}
 use Rattle.track_model.specs.Tracks.{Track, with_entry}
-use Rattle.keep_rows.specs.Machines.{changed}
-use Rattle.keep_rows.specs.Loading.{Stored, SpellsIn, Adds, AddsRow, Makes}
-use Rattle.keep_rows.specs.Rows.{format_row}
+use Rattle.keep_rows.specs.{Machines.changed, Loading.{Stored, SpellsIn, Adds, AddsRow, Makes}, Rows.format_row}
 
 -- no text spells two entries in one version
 pub one_in : IsOneEntry → IsOneEntryV1 → (version : ℕ) (text : List ℕ) (e other : Entry) → SpellsIn version text e → SpellsIn version text other → e ≡ other

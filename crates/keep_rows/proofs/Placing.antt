@@ -2,8 +2,7 @@
 use Rattle.std.proofs.Common.{◌≡◌, ℕ, zero, suc, ◌≤◌, true, false, cond, List, [], ◌∷◌, length, refl, ap, sym, subst, Some, None, arith}
 use Rattle.std.specs.Prelude.{find, slice_get, set}
 use Rattle.track_model.specs.Tracks.{Track}
-use Rattle.keep_rows.specs.Machines.{is_track, changed}
-use Rattle.keep_rows.specs.Places.{NoneBefore}
+use Rattle.keep_rows.specs.{Machines.{is_track, changed}, Places.NoneBefore}
 
 pub found_at : (machine : List ℕ) (tracks : List Track) (i : ℕ) (t : Track)
     → NoneBefore machine tracks i → slice_get tracks i ≡ Some t → is_track machine t ≡ true → find (is_track machine) tracks ≡ Some t

@@ -2,22 +2,12 @@
 use Rattle.std.proofs.Common.{◌≡◌, ◌≢◌, inl, inr, ℕ, zero, suc, Bool, true, false, List, [], ◌∷◌, Option, None, Some, Result, Ok, Err, IfOk, OnErr, get_or, refl, sym, ap, subst, ◌∙◌}
 use Rattle.std.specs.Prelude.{find, slice_get, set, is_some, IfNone}
 use Rattle.history_model.specs.declared.entries.Author.TheVariants as author
-use Rattle.history_model.specs.declared.entries.Entry.{Entry}
-use Rattle.history_model.specs.declared.entries.Entry.TheVariants.{Publish}
-use Rattle.history_model.specs.Allowed.{Allowed}
-use Rattle.history_model.specs.Entries.{entries_of}
-use Rattle.store_rows.specs.Laws.{RowsAreUnique}
-use Rattle.store_rows.specs.Rows.{Row, IsRowOf}
+use Rattle.history_model.specs.{declared.entries.Entry.Entry, declared.entries.Entry.TheVariants.Publish, Allowed.Allowed, Entries.entries_of}
+use Rattle.store_rows.specs.{Laws.RowsAreUnique, Rows.{Row, IsRowOf}}
 use Rattle.track_model.specs.Tracks.{Track, with_entry}
-use Rattle.track_replay.specs.Made.{IsPlain}
-use Rattle.track_replay.specs.Replays.{IsReplayed}
-use Rattle.keep_rows.specs.Kept.{is_kept, AreKept}
-use Rattle.keep_rows.specs.Loading.{Stored, SpellsIn, AddsEntry, Adds, Makes}
-use Rattle.keep_rows.specs.Rows.{format_row}
-use Rattle.keep_rows.specs.Machines.{is_track}
-use Rattle.keep_rows.specs.Places.{IsFirstAt}
-use Rattle.keep_rows.proofs.Machines.{entry_more}
-use Rattle.keep_rows.proofs.Once.{no_format}
+use Rattle.track_replay.specs.{Made.IsPlain, Replays.IsReplayed}
+use Rattle.keep_rows.specs.{Kept.{is_kept, AreKept}, Loading.{Stored, SpellsIn, AddsEntry, Adds, Makes}, Rows.format_row, Machines.is_track, Places.IsFirstAt}
+use Rattle.keep_rows.proofs.{Machines.entry_more, Once.no_format}
 
 pub none_of : {A P : Type 0} (o : Option A) → IfNone o P → is_some o ≡ false → P
 none_of None p is = p

@@ -1,27 +1,18 @@
 -- A history without its publications is legal where the history is.
 use Rattle.std.proofs.Common.{◌≡◌, ℕ, ◌+◌, ◌≤◌, inl, inr, Bool, true, false, cond, ◌||◌, List, [], ◌∷◌, ◌++◌, length, map, Option, None, Some, refl, sym, ap, ap₂, subst, ◌∙◌, arith, append-nil}
-use Rattle.std.specs.Prelude.{find, filter, flat_map, is_none, IsSome, option_map, sum_by, bytes_eq}
-use Rattle.std.specs.List.{list_any}
-use Rattle.std.proofs.lemmas.Bool.{cases_Bool}
-use Rattle.std.proofs.lemmas.List.{length-map, map-append}
-use Rattle.std.proofs.lemmas.List.Elements.{filter-append}
+use Rattle.std.{specs.Prelude.{find, filter, flat_map, is_none, IsSome, option_map, sum_by, bytes_eq}, specs.List.list_any, proofs.lemmas.Bool.cases_Bool}
+use Rattle.std.proofs.lemmas.List.{length-map, map-append, Elements.filter-append}
 use Rattle.metric_table.specs.declared.limits.Limit.{Limit}
 use Rattle.metric_table.specs.declared.limits.Limit.TheVariants as limit
 use Rattle.sample_model.specs.Samples.{Measurement}
-use Rattle.regression_state.specs.declared.states.State.{State}
-use Rattle.regression_state.specs.Moves.{is_move}
-use Rattle.history_model.specs.declared.entries.Acceptance.{Acceptance}
-use Rattle.history_model.specs.declared.entries.Entry.{Entry}
+use Rattle.regression_state.specs.{declared.states.State.State, Moves.is_move}
+use Rattle.history_model.specs.declared.{entries.Acceptance.Acceptance, entries.Entry.Entry, run.Run.Run}
 use Rattle.history_model.specs.declared.entries.Entry.TheVariants as entry
 use Rattle.history_model.specs.declared.events.JobEvent.TheVariants as job
 use Rattle.history_model.specs.declared.events.RegressionEvent.TheVariants as regression
-use Rattle.history_model.specs.declared.run.Run.{Run}
-use Rattle.history_model.specs.Allowed.{Allowed, AllowedAfter, Legal, KeepsLimits, MayFollow, count_of, greatest_of}
-use Rattle.history_model.specs.Commits.{declarations}
-use Rattle.history_model.specs.Entries.{chosen_from}
-use Rattle.history_model.specs.Jobs.{asked, job_in, open_count, place_asked}
-use Rattle.history_model.specs.Positions.{Brought, brought, brought_by, positions, positions_of, position_at, rising}
-use Rattle.history_model.specs.Publications.{publication}
+use Rattle.history_model.specs.{Allowed.{Allowed, AllowedAfter, Legal, KeepsLimits, MayFollow, count_of, greatest_of}, Commits.declarations}
+use Rattle.history_model.specs.{Entries.chosen_from, Jobs.{asked, job_in, open_count, place_asked}}
+use Rattle.history_model.specs.{Positions.{Brought, brought, brought_by, positions, positions_of, position_at, rising}, Publications.publication}
 use Rattle.history_model.specs.Regressions.{is_number}
 use Rattle.history_model.specs.Runs.{Retraction, Series, acceptance, acceptances, accepted, is_known, is_of, known_series, live_of, live_runs, retraction, retractions, retracted, same_series, distinct}
 use Rattle.keep_rows.specs.Kept.{is_kept}

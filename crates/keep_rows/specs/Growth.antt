@@ -1,17 +1,11 @@
 -- How machines go on from those that were loaded.
-use Rattle.std.specs.Prelude.{◌≡◌, ◌≤◌, true, false, List, [], ◌∷◌, ◌++◌, length}
-use Rattle.std.specs.List.{AllByRecursion}
-use Rattle.metric_table.specs.Limits.{most}
-use Rattle.metric_table.specs.declared.limits.Limit.TheVariants.{Machines}
-use Rattle.history_model.specs.declared.entries.Placed.{Placed}
-use Rattle.history_model.specs.Allowed.{Legal}
-use Rattle.history_model.specs.Entries.{entries_of}
+use Rattle.std.specs.{Prelude.{◌≡◌, ◌≤◌, true, false, List, [], ◌∷◌, ◌++◌, length}, List.AllByRecursion}
+use Rattle.metric_table.specs.{Limits.most, declared.limits.Limit.TheVariants.Machines}
+use Rattle.history_model.specs.{declared.entries.Placed.Placed, Allowed.Legal, Entries.entries_of}
 use Rattle.line_text.specs.Names.{IsName}
 use Rattle.track_entry.specs.Texts.{HasShortMetric, IsEntry}
 use Rattle.track_model.specs.Tracks.{Track}
-use Rattle.keep_rows.specs.Machines.{AreDifferent, names_of}
-use Rattle.keep_rows.specs.Kept.{kept_entries}
-use Rattle.keep_rows.specs.Rows.{is_of_session}
+use Rattle.keep_rows.specs.{Machines.{AreDifferent, names_of}, Kept.kept_entries, Rows.is_of_session}
 
 -- entries that this session made
 abbrev pub AreOfSession : List Placed → Type 0

@@ -1,14 +1,9 @@
 -- What a store keeps of a machine: its history without the publications, as entries that were kept.
-use Rattle.std.specs.Prelude.{◌≡◌, ◌≤◌, Bool, true, false, List, map, filter, length}
+use Rattle.std.specs.{Prelude.{◌≡◌, ◌≤◌, Bool, true, false, List, map, filter, length}, List.AllByRecursion}
 use Rattle.std.specs.FinSet as set
-use Rattle.std.specs.List.{AllByRecursion}
-use Rattle.metric_table.specs.Limits.{most}
-use Rattle.metric_table.specs.declared.limits.Limit.TheVariants.{Machines}
+use Rattle.metric_table.specs.{Limits.most, declared.limits.Limit.TheVariants.Machines}
 use Rattle.history_model.specs.declared.entries.Author.TheVariants as author
-use Rattle.history_model.specs.declared.entries.Entry.{Entry}
-use Rattle.history_model.specs.declared.entries.Entry.TheVariants.{Publish}
-use Rattle.history_model.specs.declared.entries.Placed.{Placed}
-use Rattle.history_model.specs.Entries.{entries_of}
+use Rattle.history_model.specs.{declared.entries.Entry.Entry, declared.entries.Entry.TheVariants.Publish, declared.entries.Placed.Placed, Entries.entries_of}
 use Rattle.track_model.specs.Tracks.{Track}
 use Rattle.keep_rows.specs.Machines.{AreDifferent, names_of}
 

@@ -1,12 +1,8 @@
 -- What holds of the rows of machines.
 use Rattle.std.specs.Prelude.{ℕ, List, ◌++◌, map, filter}
-use Rattle.history_model.specs.declared.entries.Entry.{Entry}
-use Rattle.history_model.specs.Allowed.{Legal}
+use Rattle.history_model.specs.{declared.entries.Entry.Entry, Allowed.Legal}
 use Rattle.track_model.specs.Tracks.{Track}
-use Rattle.keep_rows.specs.Growth.{WentOn}
-use Rattle.keep_rows.specs.Kept.{is_kept, kept_of, AreKept}
-use Rattle.keep_rows.specs.Loading.{Stored, LeadTo}
-use Rattle.keep_rows.specs.Rows.{new_rows, session_rows, version_after}
+use Rattle.keep_rows.specs.{Growth.WentOn, Kept.{is_kept, kept_of, AreKept}, Loading.{Stored, LeadTo}, Rows.{new_rows, session_rows, version_after}}
 
 -- what was kept comes back: rows that led to some machines, and the new rows of machines that went on from those, lead to
 -- each of the latter as it is kept

@@ -1,19 +1,12 @@
 -- What the rows of a store lead to: machines with their histories.
 use Rattle.std.specs.Prelude.{◌≡◌, ◌⊎◌, ℕ, suc, ◌<◌, true, List, [], ◌∷◌, ◌++◌, length, find, Some, None}
-use Rattle.metric_table.specs.Limits.{most}
-use Rattle.metric_table.specs.declared.limits.Limit.TheVariants.{Machines}
+use Rattle.metric_table.specs.{Limits.most, declared.limits.Limit.TheVariants.Machines}
 use Rattle.history_model.specs.declared.entries.Author.TheVariants as author
-use Rattle.history_model.specs.declared.entries.Entry.{Entry}
-use Rattle.history_model.specs.Allowed.{Allowed}
-use Rattle.history_model.specs.Entries.{entries_of}
-use Rattle.track_entry.specs.Texts.{SpellsEntry}
-use Rattle.track_entry.specs.Versions.{SpellsV1}
+use Rattle.history_model.specs.{declared.entries.Entry.Entry, Allowed.Allowed, Entries.entries_of}
+use Rattle.track_entry.specs.{Texts.SpellsEntry, Versions.SpellsV1}
 use Rattle.track_model.specs.Tracks.{Track, new_track, with_entry}
-use Rattle.store_rows.specs.Rows.{Row, machine_row, entry_row, IsRowOf}
-use Rattle.store_rows.specs.Loading.{LeadsTo, IsBad}
-use Rattle.keep_rows.specs.Machines.{is_track, changed}
-use Rattle.keep_rows.specs.Kept.{is_kept}
-use Rattle.keep_rows.specs.Rows.{format_row}
+use Rattle.store_rows.specs.{Rows.{Row, machine_row, entry_row, IsRowOf}, Loading.{LeadsTo, IsBad}}
+use Rattle.keep_rows.specs.{Machines.{is_track, changed}, Kept.is_kept, Rows.format_row}
 
 -- what rows lead to: machines with their histories, and the version of the rows behind them
 pub record Stored : Type 0 where

@@ -1,6 +1,5 @@
 -- A machine among others.
-use Rattle.std.specs.Prelude.{◌≡◌, ℕ, Bool, false, if◌then◌else◌, List, [], ◌∷◌, map, bytes_eq}
-use Rattle.std.specs.List.{AllByRecursion}
+use Rattle.std.specs.{Prelude.{◌≡◌, ℕ, Bool, false, if◌then◌else◌, List, [], ◌∷◌, map, bytes_eq}, List.AllByRecursion}
 use Rattle.track_model.specs.Tracks.{Track}
 
 -- the track is of that machine

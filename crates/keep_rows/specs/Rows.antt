@@ -1,9 +1,7 @@
 -- The rows that a session adds to a store: the version where it is new, then machine by machine, in order of declaration.
-use Rattle.std.specs.Prelude.{ℕ, Bool, true, false, ◌&&◌, if◌then◌else◌, List, [], ◌∷◌, ◌++◌, map, filter, codes, ◌==◌}
-use Rattle.std.specs.List.{flat_map}
-use Rattle.history_model.specs.declared.entries.Author.{Author}
+use Rattle.std.specs.{Prelude.{ℕ, Bool, true, false, ◌&&◌, if◌then◌else◌, List, [], ◌∷◌, ◌++◌, map, filter, codes, ◌==◌}, List.flat_map}
+use Rattle.history_model.specs.declared.entries.{Author.Author, Placed.Placed}
 use Rattle.history_model.specs.declared.entries.Author.TheVariants as author
-use Rattle.history_model.specs.declared.entries.Placed.{Placed}
 use Rattle.store_rows.specs.Rows.{machine_row, entry_row, row_text}
 use Rattle.track_entry.specs.Texts.{entry_text}
 use Rattle.track_model.specs.Tracks.{Track}

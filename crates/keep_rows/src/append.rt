@@ -1,7 +1,6 @@
 //! The new rows of machines, added to a keeper.
 ghost use Rattle.std.specs.Prelude.{◌≡◌, ◌≤◌, [], ◌∷◌, ◌++◌, map, filter, OnOk, OnErr};
-ghost use Rattle.track_outside.specs.Counts.{Rose};
-ghost use Rattle.track_outside.specs.Kept.{bytes_of, with_more};
+ghost use Rattle.track_outside.specs.{Counts.Rose, Kept.{bytes_of, with_more}};
 ghost use Rattle.store_rows.specs.declared.append.AppendFault.TheVariants as fault;
 ghost use Rattle.keep_rows.specs.Rows.{is_new, is_of_session, row_of, head_rows, track_rows, session_rows, placed, new_rows};
 

@@ -1,7 +1,6 @@
 //! Laws of the definitions, as public functions that do nothing: their contracts are what they are for.
 ghost use Rattle.store_rows.specs.Laws.{HasOneOutcome};
-ghost use Rattle.keep_rows.specs.Laws.{KeptComesBack, LoadedAreKept, KeptIsLegal};
-ghost use Rattle.keep_rows.specs.Loading.{Makes};
+ghost use Rattle.keep_rows.specs.{Laws.{KeptComesBack, LoadedAreKept, KeptIsLegal}, Loading.Makes};
 
 use crate::states::States;
 use store_rows::loading_law;

@@ -12,8 +12,7 @@ pub struct Loaded {
 }
 
 impl Model for Loaded {
-    ghost use Rattle.keep_rows.specs.Codes.{track_codes};
-    ghost use Rattle.keep_rows.specs.Loading.{Stored};
+    ghost use Rattle.keep_rows.specs.{Codes.track_codes, Loading.Stored};
 
     ghost Value = { Stored };
 

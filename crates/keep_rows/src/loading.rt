@@ -1,11 +1,9 @@
 //! Machines that are loaded from a keeper.
 ghost use Rattle.std.specs.Prelude.{◌≡◌, ◌≢◌, ℕ, ◌≤◌, [], ◌∷◌, IfOk, IfSome};
-ghost use Rattle.track_outside.specs.Counts.{Rose};
-ghost use Rattle.track_outside.specs.Kept.{with_more};
+ghost use Rattle.track_outside.specs.{Counts.Rose, Kept.with_more};
 ghost use Rattle.store_rows.specs.Faults.{MayHaveName};
 ghost use Rattle.store_rows.specs.declared.load.LoadFault.TheVariants as fault;
-ghost use Rattle.keep_rows.specs.Kept.{AreKept};
-ghost use Rattle.keep_rows.specs.Loading.{LeadTo, IsFirstBad};
+ghost use Rattle.keep_rows.specs.{Kept.AreKept, Loading.{LeadTo, IsFirstBad}};
 
 use crate::loaded::Loaded;
 use crate::states::States;

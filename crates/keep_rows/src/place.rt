@@ -1,8 +1,7 @@
 //! Where a machine stands among others.
 ghost use Rattle.std.specs.Prelude.{◌≡◌, IfSome, IfNone, find, None};
 ghost use Rattle.track_model.specs.Tracks.{Track};
-ghost use Rattle.keep_rows.specs.Machines.{is_track};
-ghost use Rattle.keep_rows.specs.Places.{IsFirstAt};
+ghost use Rattle.keep_rows.specs.{Machines.is_track, Places.IsFirstAt};
 
 use line_text::Name;
 use track_replay::MachineState;

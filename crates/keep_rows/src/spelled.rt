@@ -1,6 +1,5 @@
 //! What the types keep of machines, so that they can be kept.
-ghost use Rattle.std.specs.Prelude.{All};
-ghost use Rattle.std.specs.List.{AllByRecursion};
+ghost use Rattle.std.specs.{Prelude.All, List.AllByRecursion};
 ghost use Rattle.keep_rows.specs.Growth.{HasTextIfShort, MayBeKept};
 
 use crate::laws::kept_law;

@@ -5,8 +5,7 @@ ghost use Rattle.store_rows.specs.Rows.{machine_row, entry_row};
 ghost use Rattle.track_model.specs.Tracks.{Track};
 ghost use Rattle.keep_rows.specs.Kept.{is_kept, AreKept};
 ghost use Rattle.track_entry.specs.declared.fault.EntryFault.TheVariants as fault;
-ghost use Rattle.keep_rows.specs.Loading.{nothing_stored, Adds, SpellsIn};
-ghost use Rattle.keep_rows.specs.Rows.{format_row};
+ghost use Rattle.keep_rows.specs.{Loading.{nothing_stored, Adds, SpellsIn}, Rows.format_row};
 
 use crate::NoMemory;
 use crate::loaded::Loaded;
@@ -35,9 +34,7 @@ pub(crate) struct States {
 }
 
 impl Model for States {
-    ghost use Rattle.keep_rows.specs.Codes.{track_codes};
-    ghost use Rattle.keep_rows.specs.Kept.{AreKept};
-    ghost use Rattle.keep_rows.specs.Loading.{Stored};
+    ghost use Rattle.keep_rows.specs.{Codes.track_codes, Kept.AreKept, Loading.Stored};
 
     ghost Value = { Stored };
 

@@ -1,20 +1,14 @@
 -- A commit is declared on the kept history as on the history.
-use Rattle.std.proofs.Common.{◌≡◌, ℕ, inl, inr, List, [], ◌∷◌, map, Option, None, Some, refl, sym, ap, ◌∙◌}
-use Rattle.std.specs.Prelude.{find, option_map, bytes_eq}
+use Rattle.std.{proofs.Common.{◌≡◌, ℕ, inl, inr, List, [], ◌∷◌, map, Option, None, Some, refl, sym, ap, ◌∙◌}, specs.Prelude.{find, option_map, bytes_eq}}
 use Rattle.std.proofs.lemmas.Bool.{cases_Bool}
 use Rattle.metric_table.specs.declared.limits.Limit.TheVariants.{Commits, Steps}
-use Rattle.history_model.specs.declared.entries.Declaration.{Declaration}
-use Rattle.history_model.specs.declared.entries.Entry.{Entry}
+use Rattle.history_model.specs.{declared.entries.Declaration.Declaration, declared.entries.Entry.Entry, Commits.{declarations, has_number, has_name}}
 use Rattle.history_model.specs.declared.entries.Entry.TheVariants as entry
-use Rattle.history_model.specs.Commits.{declarations, has_number, has_name}
 use Rattle.request_model.specs.declared.replies.Answer.{Answer}
 use Rattle.request_model.specs.declared.replies.Answer.TheVariants as answer
-use Rattle.track_model.specs.Forms.{told_of, taken_by, commit}
-use Rattle.track_model.specs.Outcomes.{first}
-use Rattle.keep_rows.specs.Kept.{kept_entries}
-use Rattle.kept_replies.specs.Replies.{kept_step, kept_answer, kept_outcome, HasRoom}
-use Rattle.keep_rows.proofs.Choices.{find_map}
-use Rattle.kept_replies.proofs.Outcomes.{next, form_so, form_kept, IsKept}
+use Rattle.track_model.specs.{Forms.{told_of, taken_by, commit}, Outcomes.first}
+use Rattle.keep_rows.{specs.Kept.kept_entries, proofs.Choices.find_map}
+use Rattle.kept_replies.{specs.Replies.{kept_step, kept_answer, kept_outcome, HasRoom}, proofs.Outcomes.{next, form_so, form_kept, IsKept}}
 use Rattle.kept_replies.proofs.Steps.{declared_at, kept_declarations}
 
 module _ (h : List Entry) (number : ℕ) (name : List ℕ) where

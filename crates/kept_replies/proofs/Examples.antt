@@ -3,8 +3,7 @@ use Rattle.std.proofs.Common.{◌≡◌, pos, List, [], ◌∷◌, refl}
 use Rattle.history_model.specs.declared.entries.Entry.{Entry}
 use Rattle.history_model.specs.declared.entries.Entry.TheVariants as entry
 use Rattle.request_model.specs.declared.replies.Answer.TheVariants as answer
-use Rattle.track_model.specs.Forms.{commit, retract}
-use Rattle.track_model.specs.Outcomes.{tells}
+use Rattle.track_model.specs.{Forms.{commit, retract}, Outcomes.tells}
 use Rattle.request_model.specs.declared.replies.Refusal.TheVariants as refusal
 use Rattle.keep_rows.specs.Kept.{kept_entries}
 use Rattle.kept_replies.specs.Replies.{kept_step, kept_answer}

@@ -2,30 +2,22 @@
 use Rattle.std.proofs.Common.{◌≡◌, ℕ, ◌+◌, inl, inr, ◌⊎◌, not, List, [], ◌∷◌, ◌++◌, Bool, length, map, Option, None, Some, refl, sym, ap, ap₂, subst, ◌∙◌}
 use Rattle.std.specs.Prelude.{is_none, nat_lt, option_map, unwrap_or, ◌==◌}
 use Rattle.metric_table.specs.declared.limits.Limit.TheVariants.{Jobs, Steps}
-use Rattle.bisect_core.specs.Bisections.{Bisection, is_open, asked_by}
-use Rattle.bisect_core.specs.declared.outcome.Outcome.{Outcome as Standing}
+use Rattle.bisect_core.specs.{Bisections.{Bisection, is_open, asked_by}, declared.outcome.Outcome.Outcome as Standing}
 use Rattle.bisect_core.specs.declared.outcome.Outcome.TheVariants.{Asks, Found, Undecided, Faulted}
-use Rattle.regression_state.specs.Moves.{is_move}
-use Rattle.regression_state.specs.declared.states.State.{State}
+use Rattle.regression_state.specs.{Moves.is_move, declared.states.State.State}
 use Rattle.report_model.specs.declared.told.Told.TheVariants as told_as
-use Rattle.history_model.specs.declared.entries.Entry.{Entry}
+use Rattle.history_model.specs.{declared.entries.Entry.Entry, declared.events.JobEvent.JobEvent, Commits.number_of, Jobs.{jobs, job_in}}
 use Rattle.history_model.specs.declared.entries.Entry.TheVariants as entry
-use Rattle.history_model.specs.declared.events.JobEvent.{JobEvent}
 use Rattle.history_model.specs.declared.events.JobEvent.TheVariants as job_event
 use Rattle.history_model.specs.declared.events.RegressionEvent.TheVariants as event
-use Rattle.history_model.specs.Commits.{number_of}
-use Rattle.history_model.specs.Jobs.{jobs, job_in}
 use Rattle.history_model.specs.Regressions.{regressions, state_of, is_number}
 use Rattle.request_model.specs.declared.replies.Answer.{Answer}
 use Rattle.request_model.specs.declared.replies.Answer.TheVariants as answer
 use Rattle.request_model.specs.declared.replies.Refusal.TheVariants as refusal
 use Rattle.track_model.specs.Following.{move_refusal, set_state, named_by, asked_commit, told_by, told_of, told_if, job_answer, job, begin, bisect_refusal, bisect, of_job, answer_refusal, say, answer_to, answer_job, is_found, resume_refusal, resume}
 use Rattle.track_model.specs.Outcomes.{Outcome, tells, refuses, refusal_if, first, unless, adds_within}
-use Rattle.keep_rows.specs.Kept.{kept_entries}
-use Rattle.kept_replies.specs.Replies.{kept_answer, kept_outcome, HasRoom}
-use Rattle.keep_rows.proofs.Choices.{same_number, same_name}
-use Rattle.keep_rows.proofs.Followed.{same_regressions, same_state, same_jobs}
-use Rattle.kept_replies.proofs.Limits.{kept_append}
+use Rattle.keep_rows.{specs.Kept.kept_entries, proofs.Choices.{same_number, same_name}, proofs.Followed.{same_regressions, same_state, same_jobs}}
+use Rattle.kept_replies.{specs.Replies.{kept_answer, kept_outcome, HasRoom}, proofs.Limits.kept_append}
 use Rattle.kept_replies.proofs.Outcomes.{next, plain, form_so, form_kept, IsKept, TellsNone}
 
 -- ---- state

@@ -1,16 +1,10 @@
 -- Which limit an entry passes first, on a history and on the kept one.
 use Rattle.std.proofs.Common.{◌≡◌, ◌≢◌, ℕ, ◌≤◌, inl, inr, Bool, true, false, cond, List, [], ◌∷◌, ◌++◌, length, Some, refl, sym, ap, ◌∙◌, arith}
-use Rattle.std.specs.Prelude.{nat_lt}
-use Rattle.std.proofs.lemmas.Bool.{cases_Bool, le-ltb, ltb-false}
-use Rattle.std.proofs.lemmas.List.Elements.{filter-append}
-use Rattle.metric_table.specs.Limits.{most}
-use Rattle.metric_table.specs.declared.limits.Limit.{Limit}
+use Rattle.std.{specs.Prelude.nat_lt, proofs.lemmas.Bool.{cases_Bool, le-ltb, ltb-false}, proofs.lemmas.List.Elements.filter-append}
+use Rattle.metric_table.specs.{Limits.most, declared.limits.Limit.Limit}
 use Rattle.metric_table.specs.declared.limits.Limit.TheVariants as limit
-use Rattle.history_model.specs.declared.entries.Entry.{Entry}
-use Rattle.history_model.specs.Allowed.{count_of, first_passed}
-use Rattle.keep_rows.specs.Kept.{is_kept, kept_entries}
-use Rattle.keep_rows.proofs.Choices.{shorter}
-use Rattle.keep_rows.proofs.Unpublished.{IsUnpublished, count_equal}
+use Rattle.history_model.specs.{declared.entries.Entry.Entry, Allowed.{count_of, first_passed}}
+use Rattle.keep_rows.{specs.Kept.{is_kept, kept_entries}, proofs.Choices.shorter, proofs.Unpublished.{IsUnpublished, count_equal}}
 
 -- limits on anything but cuts
 abbrev pub AreUncut : List Limit → Type 0

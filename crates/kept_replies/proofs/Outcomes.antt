@@ -1,16 +1,11 @@
 -- The outcome of a form on the kept history, from its refusals and its answer.
 use Rattle.std.proofs.Common.{◌≡◌, ℕ, ◌+◌, Bool, true, false, List, [], ◌∷◌, ◌++◌, length, map, Option, None, Some, refl, sym, ap, ap₂, ◌∙◌, append-nil}
-use Rattle.std.specs.Prelude.{option_map}
-use Rattle.std.proofs.Math.Seq.{take-length}
-use Rattle.std.proofs.lemmas.List.{length-append}
+use Rattle.std.{specs.Prelude.option_map, proofs.Math.Seq.take-length, proofs.lemmas.List.length-append}
 use Rattle.metric_table.specs.declared.limits.Limit.{Limit}
-use Rattle.history_model.specs.declared.entries.Entry.{Entry}
-use Rattle.history_model.specs.Allowed.{first_passed}
-use Rattle.request_model.specs.declared.replies.Answer.{Answer}
+use Rattle.history_model.specs.{declared.entries.Entry.Entry, Allowed.first_passed}
+use Rattle.request_model.specs.declared.replies.{Answer.Answer, Refusal.Refusal}
 use Rattle.request_model.specs.declared.replies.Answer.TheVariants as answer
-use Rattle.request_model.specs.declared.replies.Refusal.{Refusal}
-use Rattle.track_model.specs.Outcomes.{Outcome, refusal_if, first, unless, added_unless, adds_within}
-use Rattle.track_model.specs.Replies.{reply_of}
+use Rattle.track_model.specs.{Outcomes.{Outcome, refusal_if, first, unless, added_unless, adds_within}, Replies.reply_of}
 use Rattle.keep_rows.specs.Kept.{is_kept, kept_entries}
 use Rattle.kept_replies.specs.Replies.{kept_step, kept_refusal, kept_answer, kept_outcome, kept_reply, behind, HasRoom}
 use Rattle.kept_replies.proofs.Limits.{AreUncut, kept_append, passed_so}

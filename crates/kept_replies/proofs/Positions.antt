@@ -1,18 +1,12 @@
 -- The positions of a series on the kept history: the same values at each, brought by other steps.
-use Rattle.std.proofs.Common.{◌≡◌, ℕ, ℤ, List, [], ◌∷◌, ◌++◌, length, map, refl, sym, ap, ap₂, ◌∙◌, eqb}
-use Rattle.std.specs.Prelude.{filter, flat_map}
+use Rattle.std.{proofs.Common.{◌≡◌, ℕ, ℤ, List, [], ◌∷◌, ◌++◌, length, map, refl, sym, ap, ap₂, ◌∙◌, eqb}, specs.Prelude.{filter, flat_map}}
 use Rattle.std.proofs.lemmas.List.{length-map, map-append}
 use Rattle.sample_model.specs.Samples.{Measurement}
-use Rattle.segment_model.specs.Segments.{Position, position_values}
-use Rattle.segment_model.specs.Values.{values_by_position}
-use Rattle.history_model.specs.declared.entries.Acceptance.{Acceptance}
-use Rattle.history_model.specs.declared.entries.Entry.{Entry}
-use Rattle.history_model.specs.declared.run.Run.{Run}
+use Rattle.segment_model.specs.{Segments.{Position, position_values}, Values.values_by_position}
+use Rattle.history_model.specs.declared.{entries.Acceptance.Acceptance, entries.Entry.Entry, run.Run.Run}
 use Rattle.history_model.specs.Positions.{Brought, brought, brought_by, observed, positions, positions_of, position_at, rising}
 use Rattle.history_model.specs.Runs.{Series, is_of, live_runs}
-use Rattle.keep_rows.proofs.Choices.{filter_map, map_map, map_so}
-use Rattle.keep_rows.proofs.Unpublished.{run_of, same_live}
-use Rattle.keep_rows.specs.Kept.{kept_entries}
+use Rattle.keep_rows.{proofs.Choices.{filter_map, map_map, map_so}, proofs.Unpublished.{run_of, same_live}, specs.Kept.kept_entries}
 
 -- what was brought, but for its step
 record Value : Type 0 where

@@ -1,31 +1,18 @@
 -- A metric is calibrated on the kept history as on the history, and a segmentation finds the same cuts.
 use Rattle.std.proofs.Common.{◌≡◌, ℕ, ℤ, pos, ◌*◌, Bool, true, false, List, [], ◌∷◌, length, Option, None, Some, refl, sym, ap, subst, ◌∙◌}
-use Rattle.std.specs.Prelude.{max, nat_lt, unwrap_or}
-use Rattle.std.specs.List.{last_or}
-use Rattle.metric_table.specs.declared.limits.Limit.{Limit}
-use Rattle.metric_table.specs.declared.limits.Limit.TheVariants.{Cuts, Steps}
-use Rattle.segment_cost.specs.Certificate.{StandsFor, OneCertificate}
-use Rattle.segment_cost.specs.declared.cert.Cert.{Cert}
+use Rattle.std.specs.{Prelude.{max, nat_lt, unwrap_or}, List.last_or}
+use Rattle.metric_table.specs.declared.limits.Limit.{Limit, TheVariants.{Cuts, Steps}}
+use Rattle.segment_cost.specs.{Certificate.{StandsFor, OneCertificate}, declared.cert.Cert.Cert}
 use Rattle.segment_model.specs.Values.{ValuesOfPoints, values_by_position}
 use Rattle.series_noise.specs.Noise.{IsNoise}
-use Rattle.history_model.specs.declared.entries.Entry.{Entry}
+use Rattle.history_model.specs.{declared.entries.Entry.Entry, Allowed.first_passed, Penalties.{default_setting, setting_of, penalty_of, length_of, set_for}}
 use Rattle.history_model.specs.declared.entries.Entry.TheVariants as entry
-use Rattle.history_model.specs.Allowed.{first_passed}
-use Rattle.history_model.specs.Penalties.{default_setting, setting_of, penalty_of, length_of, set_for}
-use Rattle.history_model.specs.declared.setting.Setting.{Setting}
-use Rattle.history_model.specs.Positions.{positions}
-use Rattle.history_model.specs.Runs.{Series, is_known}
-use Rattle.track_model.specs.Forms.{tune}
-use Rattle.track_model.specs.Outcomes.{Outcome, added_unless}
+use Rattle.history_model.specs.{declared.setting.Setting.Setting, Positions.positions, Runs.{Series, is_known}}
+use Rattle.track_model.specs.{Forms.tune, Outcomes.{Outcome, added_unless}}
 use Rattle.track_model.specs.Publishing.{OfKnown, publication, publish, redone_since, segmented, IsPublished, SegmentComesTo, is_factor, OfFactor, OfMany, IsCalibrated, CalibrateComesTo}
-use Rattle.keep_rows.specs.Kept.{is_kept, kept_entries}
-use Rattle.kept_replies.specs.Replies.{kept_outcome, HasRoom, is_refused, TellSameCuts, PublishSameCuts}
-use Rattle.keep_rows.proofs.Choices.{same_plain}
-use Rattle.kept_replies.proofs.Outcomes.{IsKept}
-use Rattle.kept_replies.proofs.Positions.{same_values, same_length}
-use Rattle.kept_replies.proofs.Runs.{tune_so, tune_kept}
-use Rattle.keep_rows.proofs.Unpublished.{known_so}
-use Rattle.kept_replies.proofs.Values.{same_noise, same_stands}
+use Rattle.keep_rows.{specs.Kept.{is_kept, kept_entries}, proofs.Choices.same_plain, proofs.Unpublished.known_so}
+use Rattle.kept_replies.{specs.Replies.{kept_outcome, HasRoom, is_refused, TellSameCuts, PublishSameCuts}, proofs.Outcomes.IsKept}
+use Rattle.kept_replies.proofs.{Positions.{same_values, same_length}, Runs.{tune_so, tune_kept}, Values.{same_noise, same_stands}}
 
 -- what holds of an outcome that has room holds of one that is the same
 pub along : (P : Outcome → Type 0) (o x : Outcome) → o ≡ x → (HasRoom x → P x) → HasRoom o → P o

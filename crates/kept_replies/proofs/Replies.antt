@@ -1,25 +1,18 @@
 -- Each request on the kept history.
-use Rattle.std.proofs.Common.{◌≡◌, ℕ, List, refl, sym, ap, ◌∙◌}
-use Rattle.std.specs.Prelude.{unwrap_or}
-use Rattle.history_model.specs.declared.setting.Setting.{Setting}
-use Rattle.history_model.specs.Penalties.{length_of}
+use Rattle.std.{proofs.Common.{◌≡◌, ℕ, List, refl, sym, ap, ◌∙◌}, specs.Prelude.unwrap_or}
+use Rattle.history_model.specs.{declared.setting.Setting.Setting, Penalties.length_of, declared.entries.Entry.Entry}
 use Rattle.segment_model.specs.Values.{ValuesOfPoints}
-use Rattle.history_model.specs.declared.entries.Entry.{Entry}
 use Rattle.request_model.specs.declared.requests.Request.{Request}
 use Rattle.request_model.specs.declared.requests.Request.TheVariants as request
 use Rattle.request_model.specs.declared.replies.Answer.TheVariants as answer
 use Rattle.track_model.specs.Following as following
 use Rattle.track_model.specs.Forms as forms
-use Rattle.track_model.specs.Laws.{OneOutcome}
-use Rattle.track_model.specs.Outcomes.{Outcome, tells}
-use Rattle.track_model.specs.Replies.{reply_of}
-use Rattle.track_model.specs.Tracks.{ComesTo}
+use Rattle.track_model.specs.{Laws.OneOutcome, Outcomes.{Outcome, tells}, Replies.reply_of, Tracks.ComesTo}
 use Rattle.keep_rows.specs.Kept.{kept_entries}
 use Rattle.kept_replies.specs.Replies.{kept_outcome, behind, HasRoom, IsOfKept, AnswersAlike, RepliesAlike, HistoriesAlike}
 use Rattle.kept_replies.proofs.Commits.{commit_so, commit_kept}
 use Rattle.kept_replies.proofs.Following.{state_so, state_kept, bisect_so, bisect_kept, answer_so, answer_kept, resume_so, resume_kept, told_job_so}
-use Rattle.kept_replies.proofs.Outcomes.{IsKept, reply_so, behind_so}
-use Rattle.kept_replies.proofs.Publishing.{along, calibrate_so, setting_so}
+use Rattle.kept_replies.proofs.{Outcomes.{IsKept, reply_so, behind_so}, Publishing.{along, calibrate_so, setting_so}}
 use Rattle.kept_replies.proofs.Runs.{submit_so, submit_kept, retract_so, retract_kept, tune_so, tune_kept, runs_so}
 
 -- a request comes to the same, and what it adds is kept

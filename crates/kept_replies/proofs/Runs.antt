@@ -1,28 +1,19 @@
 -- Runs are accepted, taken back and listed, and penalties are set, on the kept history as on the history.
 use Rattle.std.proofs.Common.{◌≡◌, ℕ, ℤ, inl, inr, Bool, not, List, [], ◌∷◌, length, map, Option, None, Some, refl, sym, ap, ap₂, ◌∙◌}
-use Rattle.std.specs.Prelude.{codes, find, is_none, nat_lt, option_map, unwrap_or}
-use Rattle.std.proofs.lemmas.Bool.{cases_Bool}
+use Rattle.std.{specs.Prelude.{codes, find, is_none, nat_lt, option_map, unwrap_or}, proofs.lemmas.Bool.cases_Bool}
 use Rattle.metric_table.specs.declared.limits.Limit.TheVariants.{Steps}
 use Rattle.sample_model.specs.Samples.{Measurement}
-use Rattle.history_model.specs.declared.entries.Acceptance.{Acceptance}
-use Rattle.history_model.specs.declared.entries.Entry.{Entry}
+use Rattle.history_model.specs.{declared.entries.Acceptance.Acceptance, declared.entries.Entry.Entry, declared.run.Run.Run, Allowed.run_limits}
 use Rattle.history_model.specs.declared.entries.Entry.TheVariants as entry
-use Rattle.history_model.specs.declared.run.Run.{Run}
-use Rattle.history_model.specs.Allowed.{run_limits}
-use Rattle.history_model.specs.Commits.{number_of}
-use Rattle.history_model.specs.Runs.{Retraction, acceptances, accepted, is_run, retracted, retractions, same_run, takes_back}
-use Rattle.request_model.specs.declared.replies.Answer.{Answer}
+use Rattle.history_model.specs.{Commits.number_of, Runs.{Retraction, acceptances, accepted, is_run, retracted, retractions, same_run, takes_back}}
+use Rattle.request_model.specs.declared.{replies.Answer.Answer, runs.RunLine.RunLine}
 use Rattle.request_model.specs.declared.replies.Answer.TheVariants as answer
 use Rattle.request_model.specs.declared.replies.Refusal.TheVariants as refusal
-use Rattle.request_model.specs.declared.runs.RunLine.{RunLine}
 use Rattle.track_model.specs.Forms.{told_again, states_another, submitted, submit_refusal, submit, retract_refusal, retract, is_penalty, is_length, tune_refusal, tune, run_line, runs}
 use Rattle.track_model.specs.Outcomes.{Outcome, tells, refusal_if, first, unless, adds_within}
-use Rattle.keep_rows.specs.Kept.{kept_entries}
-use Rattle.kept_replies.specs.Replies.{kept_step, kept_answer, kept_outcome, HasRoom}
-use Rattle.keep_rows.proofs.Choices.{find_map, map_map, map_so, same_number, same_name}
-use Rattle.kept_replies.proofs.Outcomes.{next, plain, form_so, form_kept, IsKept}
+use Rattle.keep_rows.{specs.Kept.kept_entries, proofs.Choices.{find_map, map_map, map_so, same_number, same_name}, proofs.Unpublished.is_none_map}
+use Rattle.kept_replies.{specs.Replies.{kept_step, kept_answer, kept_outcome, HasRoom}, proofs.Outcomes.{next, plain, form_so, form_kept, IsKept}}
 use Rattle.kept_replies.proofs.Steps.{accepted_at, retracted_at, kept_acceptances, kept_retractions}
-use Rattle.keep_rows.proofs.Unpublished.{is_none_map}
 
 module _ (h : List Entry) where
   -- ---- the run of a name, and its retraction

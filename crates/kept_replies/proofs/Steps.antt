@@ -1,21 +1,12 @@
 -- What is chosen of a kept history: what is chosen of the history, with each step counted without publications.
 use Rattle.std.proofs.Common.{◌≡◌, ℕ, ◌+◌, inl, inr, Bool, true, false, cond, List, [], ◌∷◌, ◌++◌, length, map, Option, None, refl, sym, ap, ap₂, ◌∙◌, append-nil, append_assoc}
-use Rattle.std.specs.Prelude.{option_map}
-use Rattle.std.specs.List.{cons_option}
-use Rattle.std.proofs.Math.Seq.{take-append_seam}
-use Rattle.std.proofs.lemmas.Bool.{cases_Bool}
-use Rattle.std.proofs.lemmas.List.{length-append}
-use Rattle.std.proofs.lemmas.List.Elements.{filter-append}
-use Rattle.history_model.specs.declared.entries.Acceptance.{Acceptance}
-use Rattle.history_model.specs.declared.entries.Declaration.{Declaration}
-use Rattle.history_model.specs.declared.entries.Entry.{Entry}
+use Rattle.std.{specs.Prelude.option_map, specs.List.cons_option, proofs.Math.Seq.take-append_seam, proofs.lemmas.Bool.cases_Bool}
+use Rattle.std.proofs.lemmas.List.{length-append, Elements.filter-append}
+use Rattle.history_model.specs.declared.entries.{Acceptance.Acceptance, Declaration.Declaration, Entry.Entry}
 use Rattle.history_model.specs.declared.entries.Entry.TheVariants as entry
-use Rattle.history_model.specs.Commits.{declaration, declarations}
-use Rattle.history_model.specs.Entries.{chosen_from, chosen, entries_of}
+use Rattle.history_model.specs.{Commits.{declaration, declarations}, Entries.{chosen_from, chosen, entries_of}}
 use Rattle.history_model.specs.Runs.{Retraction, acceptance, acceptances, retraction, retractions}
-use Rattle.keep_rows.specs.Kept.{is_kept, kept, kept_entries}
-use Rattle.keep_rows.proofs.Choices.{map_cons, declared_none}
-use Rattle.keep_rows.proofs.Unpublished.{accepted_none, taken_none}
+use Rattle.keep_rows.{specs.Kept.{is_kept, kept, kept_entries}, proofs.Choices.{map_cons, declared_none}, proofs.Unpublished.{accepted_none, taken_none}}
 use Rattle.kept_replies.specs.Replies.{StoreKeepsEntries, kept_step}
 
 -- a store keeps the kept entries

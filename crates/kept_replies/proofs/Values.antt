@@ -1,12 +1,8 @@
 -- Noise and certificates of positions are those of their values.
-use Rattle.std.proofs.Common.{◌≡◌, ℕ, ℤ, ◌+◌, List, length, sym, ap, subst, ◌∙◌, arith}
-use Rattle.std.specs.Prelude.{slice_index}
-use Rattle.segment_cost.specs.Certificate.{StandsFor}
-use Rattle.segment_cost.specs.declared.cert.Cert.{Cert}
-use Rattle.segment_model.specs.Segments.{Position, segment, IsCentre, IsLeastSum}
-use Rattle.segment_model.specs.Values.{ValuesOfPoints, values_between, values_by_position}
-use Rattle.segment_model.specs.Cuts.{IsBest, total}
-use Rattle.segment_model.specs.Tables.{IsTable}
+use Rattle.std.{proofs.Common.{◌≡◌, ℕ, ℤ, ◌+◌, List, length, sym, ap, subst, ◌∙◌, arith}, specs.Prelude.slice_index}
+use Rattle.segment_cost.specs.{Certificate.StandsFor, declared.cert.Cert.Cert}
+use Rattle.segment_model.specs.{Segments.{Position, segment, IsCentre, IsLeastSum}, Values.{ValuesOfPoints, values_between, values_by_position}}
+use Rattle.segment_model.specs.{Cuts.{IsBest, total}, Tables.IsTable}
 use Rattle.series_noise.specs.Noise.{IsDistance, IsNoise}
 use Rattle.kept_replies.proofs.Positions.{same_length}
 

@@ -1,19 +1,13 @@
 -- What a machine's history without its publications answers: as the history does, but for the numbers of steps.
 use Rattle.std.specs.Prelude.{◌≡◌, ◌≢◌, ℕ, ℤ, Bool, true, false, List, ◌++◌, length, take, option_to_list, Option, Some}
 use Rattle.metric_table.specs.declared.limits.Limit.TheVariants.{Steps}
-use Rattle.history_model.specs.declared.entries.Entry.{Entry}
+use Rattle.history_model.specs.{declared.entries.Entry.Entry, Entries.entries_of}
 use Rattle.history_model.specs.declared.entries.Entry.TheVariants as entry
-use Rattle.history_model.specs.Entries.{entries_of}
-use Rattle.request_model.specs.declared.replies.Answer.{Answer}
+use Rattle.request_model.specs.declared.{replies.Answer.Answer, replies.Refusal.Refusal, replies.Reply.Reply, requests.Request.Request}
 use Rattle.request_model.specs.declared.replies.Answer.TheVariants as answer
-use Rattle.request_model.specs.declared.replies.Refusal.{Refusal}
 use Rattle.request_model.specs.declared.replies.Refusal.TheVariants as refusal
-use Rattle.request_model.specs.declared.replies.Reply.{Reply}
-use Rattle.request_model.specs.declared.requests.Request.{Request}
 use Rattle.request_model.specs.declared.requests.Request.TheVariants as request
-use Rattle.track_model.specs.Outcomes.{Outcome}
-use Rattle.track_model.specs.Replies.{reply_of}
-use Rattle.track_model.specs.Tracks.{ComesTo, Track}
+use Rattle.track_model.specs.{Outcomes.Outcome, Replies.reply_of, Tracks.{ComesTo, Track}}
 use Rattle.keep_rows.specs.Kept.{kept_of, kept_entries}
 
 -- they are those of the machine as a store keeps it

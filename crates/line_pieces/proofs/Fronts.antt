@@ -1,7 +1,6 @@
 -- First parts of bytes, and first lines.
 use Rattle.std.proofs.Common.{◌≡◌, ℕ, ◌+◌, ◌-◌, ◌^◌, ◌<◌, ◌≤◌, List, [], ◌∷◌, ◌++◌, length, take, drop, get_or, eqb, true, refl, sym, ap, ap₂, subst, ◌∙◌, arith, append_assoc, length-append}
-use Rattle.std.proofs.lemmas.Bool.{eqb-true}
-use Rattle.std.proofs.lemmas.List.{take-append-le, take-append-drop, length-take-le, drop_more}
+use Rattle.std.proofs.lemmas.{Bool.eqb-true, List.{take-append-le, take-append-drop, length-take-le, drop_more}}
 use lib.Seq.{take-append-add}
 
 -- ---- bytes, of which 2^30 are looked at

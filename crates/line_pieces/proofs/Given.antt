@@ -1,12 +1,8 @@
 -- What an input gave since a first state, which a reader has.
 use Rattle.std.proofs.Common.{◌≡◌, ℕ, ◌+◌, ◌-◌, ◌^◌, ◌≤◌, List, [], ◌++◌, length, Option, None, Some, IfSome, Result, Ok, Err, OnOk, refl, sym, ap, subst, ◌∙◌, arith, append-nil, append_assoc, length-append}
 use Rattle.std.specs.Io.KnownBytes.{prepend_known, IsAtEnd}
-use Rattle.track_outside.specs.declared.source.Source.{Ghosts}
-use Rattle.track_outside.specs.Calls.{GaveAtMost}
-use Rattle.track_outside.specs.Counts.{Rose}
-use Rattle.line_pieces.specs.declared.stop.Stop.{Stop}
-use Rattle.line_pieces.specs.declared.stop.Stop.TheVariants.{Fault, TooLong, Refused, NoMemory}
-use Rattle.line_pieces.specs.Stops.{Rules, StopsFor}
+use Rattle.track_outside.specs.{declared.source.Source.Ghosts, Calls.GaveAtMost, Counts.Rose}
+use Rattle.line_pieces.specs.{declared.stop.Stop.Stop, declared.stop.Stop.TheVariants.{Fault, TooLong, Refused, NoMemory}, Stops.{Rules, StopsFor}}
 use Rattle.line_pieces.specs.Pieces.{Reading, HasCause, MoreRefused, MoreHasCause, IsOpen, Gave, TakesAll, TakesPiece}
 
 prepend_known-nil : (known : Option (List ℕ)) → known ≡ prepend_known [] known

@@ -1,13 +1,8 @@
 -- Lines that go on, and refused ones.
 use Rattle.std.proofs.Common.{◌≡◌, ◌≢◌, ℕ, List, [], ◌∷◌, ◌++◌, Bool, false, eqb, ne_eqb, refl, sym, ap, ◌∙◌, append-nil, append_assoc}
-use Rattle.std.proofs.lemmas.List.Elements.{All-weaker}
-use Rattle.std.proofs.lemmas.List.Splits.{slice_split_none}
-use Rattle.line_text.specs.Lines.{lines_of}
-use Rattle.line_text.proofs.Parts.{goes_on}
-use Rattle.line_pieces.specs.declared.stop.Refusal.{Refusal}
-use Rattle.line_pieces.specs.declared.stop.Stop.{Stop}
-use Rattle.line_pieces.specs.declared.stop.Stop.TheVariants.{Refused}
-use Rattle.line_pieces.specs.Pieces.{HasNoLineFeed, OnRefused}
+use Rattle.std.proofs.lemmas.List.{Elements.All-weaker, Splits.slice_split_none}
+use Rattle.line_text.{specs.Lines.lines_of, proofs.Parts.goes_on}
+use Rattle.line_pieces.specs.{declared.stop.Refusal.Refusal, declared.stop.Stop.Stop, declared.stop.Stop.TheVariants.Refused, Pieces.{HasNoLineFeed, OnRefused}}
 
 abbrev pub is_feed : ℕ → Bool
 is_feed b = eqb b 10

@@ -1,9 +1,7 @@
 -- A part of some bytes that shows why reading stops, and parts that are read one after another.
 use Rattle.std.proofs.Common.{◌≡◌, ℕ, ◌+◌, ◌^◌, ◌≤◌, List, [], ◌++◌, length, take, drop, refl, sym, ap, subst, ◌∙◌, arith, append-nil, append_assoc, length-append}
 use Rattle.std.proofs.lemmas.List.{length-take}
-use Rattle.line_pieces.specs.declared.stop.Stop.{Stop}
-use Rattle.line_pieces.specs.Pieces.{Reading, HasCause, ReadsMore, MoreRefused}
-use Rattle.line_pieces.proofs.Fronts.{part_front, split_at}
+use Rattle.line_pieces.{specs.declared.stop.Stop.Stop, specs.Pieces.{Reading, HasCause, ReadsMore, MoreRefused}, proofs.Fronts.{part_front, split_at}}
 
 module _ {R : Type 0} (kind : Reading R) (old : R) (read : List ℕ) where
   -- a part of the bytes, behind those that were done

@@ -1,11 +1,7 @@
 -- What a reader has of an input that is read in pieces.
-use Rattle.std.specs.Prelude.{◌≡◌, ◌≢◌, ℕ, ◌+◌, ◌-◌, ◌^◌, ◌≤◌, List, [], ◌∷◌, ◌++◌, length, All}
-use Rattle.std.specs.Io.KnownBytes.{prepend_known, IsAtEnd}
-use Rattle.track_outside.specs.declared.source.Source.{Ghosts}
-use Rattle.track_outside.specs.Calls.{GaveAtMost}
-use Rattle.line_pieces.specs.declared.stop.Refusal.{Refusal}
-use Rattle.line_pieces.specs.declared.stop.Stop.{Stop}
-use Rattle.line_pieces.specs.declared.stop.Stop.TheVariants.{Refused, NoMemory}
+use Rattle.std.specs.{Prelude.{◌≡◌, ◌≢◌, ℕ, ◌+◌, ◌-◌, ◌^◌, ◌≤◌, List, [], ◌∷◌, ◌++◌, length, All}, Io.KnownBytes.{prepend_known, IsAtEnd}}
+use Rattle.track_outside.specs.{declared.source.Source.Ghosts, Calls.GaveAtMost}
+use Rattle.line_pieces.specs.declared.stop.{Refusal.Refusal, Stop.Stop, Stop.TheVariants.{Refused, NoMemory}}
 use Rattle.line_pieces.specs.Stops.{Rules, BytesShow, StopsFor}
 
 -- bytes within a line

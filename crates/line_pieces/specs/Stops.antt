@@ -1,11 +1,7 @@
 -- Why reading of the lines of an input stops.
-use Rattle.std.specs.Prelude.{◌≡◌, ℕ, ◌^◌, ◌<◌, List, length, take, Option, IfSome}
-use Rattle.std.specs.Io.KnownBytes.{prepend_known}
-use Rattle.track_outside.specs.declared.source.Source.{Ghosts}
-use Rattle.track_outside.specs.Counts.{Rose}
-use Rattle.line_pieces.specs.declared.stop.Refusal.{Refusal}
-use Rattle.line_pieces.specs.declared.stop.Stop.{Stop}
-use Rattle.line_pieces.specs.declared.stop.Stop.TheVariants.{Fault, TooLong, Refused, NoMemory}
+use Rattle.std.specs.{Prelude.{◌≡◌, ℕ, ◌^◌, ◌<◌, List, length, take, Option, IfSome}, Io.KnownBytes.prepend_known}
+use Rattle.track_outside.specs.{declared.source.Source.Ghosts, Counts.Rose}
+use Rattle.line_pieces.specs.declared.stop.{Refusal.Refusal, Stop.Stop, Stop.TheVariants.{Fault, TooLong, Refused, NoMemory}}
 
 -- what lines must be: the bytes of an input refuse line k, counted from 1, for this reason, and the
 -- first bytes of one may go on

@@ -1,8 +1,7 @@
 //! Reading of an input in pieces.
 ghost use Rattle.std.specs.Prelude.{◌≡◌, ◌+◌, ◌-◌, ◌^◌, ◌<◌, ◌≤◌, [], length, OnOk, IfOk, IfErr};
 ghost use Rattle.track_outside.specs.Calls.{GaveAtMost};
-ghost use Rattle.line_pieces.specs.Stops.{StopsFor};
-ghost use Rattle.line_pieces.specs.Pieces.{ReadsMore, MoreRefused, TakesAll, TakesPiece, GivesFew, MoreHasCause, GivesStop, ReadsWhole};
+ghost use Rattle.line_pieces.specs.{Stops.StopsFor, Pieces.{ReadsMore, MoreRefused, TakesAll, TakesPiece, GivesFew, MoreHasCause, GivesStop, ReadsWhole}};
 
 use crate::line_reader::LineReader;
 use crate::stop::Stop;

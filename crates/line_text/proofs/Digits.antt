@@ -1,7 +1,5 @@
 -- The digits of a word, one after another.
-use Rattle.std.proofs.Common.{◌↔◌, ℕ, ◌+◌, ◌<◌, ◌≤◌, List, ◌∷◌, length, drop, get_or, sym, subst}
-use Rattle.std.specs.Char.{digit_value}
-use Rattle.std.specs.Str.Parse.{AllDigits}
+use Rattle.std.{proofs.Common.{◌↔◌, ℕ, ◌+◌, ◌<◌, ◌≤◌, List, ◌∷◌, length, drop, get_or, sym, subst}, specs.Char.digit_value, specs.Str.Parse.AllDigits}
 use Rattle.std.proofs.lemmas.List.{drop_more, drop_all}
 
 -- all are digits where those from place i on are

@@ -1,8 +1,6 @@
 -- A word without `%`.
-use Rattle.std.proofs.Common.{◌≡◌, ◌≢◌, ℕ, List, [], ◌∷◌, ap, ◌∙◌, suc}
-use Rattle.std.specs.Prelude.{slice_index}
-use Rattle.percent_encoding.specs.Percent.{percent_decode}
-use Rattle.percent_encoding.proofs.PercentLemmas.{percent_decode-nil, percent_decode_not_percent}
+use Rattle.std.{proofs.Common.{◌≡◌, ◌≢◌, ℕ, List, [], ◌∷◌, ap, ◌∙◌, suc}, specs.Prelude.slice_index}
+use Rattle.percent_encoding.{specs.Percent.percent_decode, proofs.PercentLemmas.{percent_decode-nil, percent_decode_not_percent}}
 use Rattle.line_text.specs.Names.{IsName, Spells}
 
 -- it stands for its own bytes

@@ -1,22 +1,14 @@
 -- From what was checked and gathered to the answer.
 use Rattle.std.proofs.Common.{◌≡◌, ℕ, ◌≤◌, inl, inr, List, [], ◌++◌, Bool, true, false, Option, Some, None, Result, Ok, Err, IfOk, IfErr, is_some, length, refl, sym, ap, ◌∙◌, subst, append-nil, length-append, codes, arith}
-use Rattle.std.specs.Option.{option_or}
-use Rattle.std.specs.List.{flat_map, sum_by}
-use Rattle.json_text.specs.Tree.{Tree, object}
-use Rattle.json_text.specs.View.{members_of}
-use Rattle.metric_table.specs.Limits.{most}
-use Rattle.metric_table.specs.declared.limits.Limit.TheVariants.{RunSamples}
+use Rattle.std.specs.{Option.option_or, List.{flat_map, sum_by}}
+use Rattle.json_text.specs.{Tree.{Tree, object}, View.members_of}
+use Rattle.metric_table.specs.{Limits.most, declared.limits.Limit.TheVariants.RunSamples}
 use Rattle.sample_model.specs.Samples.{Measurement}
 use Rattle.lnt_report.specs.Look.{Entry, fields, items_in, value_at, is_object, is_list}
 use Rattle.lnt_report.specs.Rules.{Break, unless, machine_name, commit_name, tests_in, tests_break, run_break, head_break, first_break, IsSound}
-use Rattle.lnt_report.specs.Numbers.{Reading, readings, ignored_in, test_readings, test_ignored, AreMeasured, IsOut}
-use Rattle.lnt_report.specs.Runs.{Report, IsRun}
-use Rattle.lnt_report.specs.Gathering.{Leaves, AreBeyond, IsRefusal}
-use Rattle.lnt_report.specs.Checks.{IsAnswerOf}
-use Rattle.lnt_report.specs.Outcomes.{IsOver}
-use Rattle.lnt_report.specs.declared.gathered.Gathered.{Gathered}
-use Rattle.lnt_report.specs.declared.fault.ReportFault.{ReportFault}
-use Rattle.lnt_report.specs.declared.fault.ReportFault.TheVariants.{NotText, NotJson, TooDeep, NotReport, OutOfRange, Full, NoMemory}
+use Rattle.lnt_report.specs.{Numbers.{Reading, readings, ignored_in, test_readings, test_ignored, AreMeasured, IsOut}, Runs.{Report, IsRun}}
+use Rattle.lnt_report.specs.{Gathering.{Leaves, AreBeyond, IsRefusal}, Checks.IsAnswerOf, Outcomes.IsOver, declared.gathered.Gathered.Gathered}
+use Rattle.lnt_report.specs.declared.fault.ReportFault.{ReportFault, TheVariants.{NotText, NotJson, TooDeep, NotReport, OutOfRange, Full, NoMemory}}
 use Rattle.lnt_report.proofs.Walks.{fields_of}
 
 pub after : (first later : Option Break) → option_or first later ≡ None → later ≡ None

@@ -1,18 +1,11 @@
 -- The compact text of a tree is a text of it, and UTF-8.
-use Rattle.std.proofs.Common.{◌≡◌, ℕ, List, [], ◌∷◌, ◌++◌, true, false, ◌<◌, refl, sym, ap, nat_lt}
-use Rattle.std.proofs.lemmas.List.{append-nil}
-use Rattle.std.specs.Str.{IsUtf8}
-use Rattle.std.specs.List.{list_all}
-use Rattle.std.proofs.lemmas.Bool.{ltb-true}
-use Rattle.std.proofs.lemmas.List.Elements.{All-weaker}
-use Rattle.std.proofs.lemmas.List.Sums.{AllPass-from_list_all}
-use Rattle.std.proofs.lemmas.Str.{IsUtf8-append, IsUtf8-from_ascii}
-use Rattle.std.proofs.lemmas.Str.Ascii.{IsAscii-from_all}
+use Rattle.std.{proofs.Common.{◌≡◌, ℕ, List, [], ◌∷◌, ◌++◌, true, false, ◌<◌, refl, sym, ap, nat_lt}, proofs.lemmas.List.append-nil, specs.Str.IsUtf8}
+use Rattle.std.{specs.List.list_all, proofs.lemmas.Bool.ltb-true, proofs.lemmas.List.Elements.All-weaker, proofs.lemmas.List.Sums.AllPass-from_list_all}
+use Rattle.std.proofs.lemmas.Str.{IsUtf8-append, IsUtf8-from_ascii, Ascii.IsAscii-from_all}
 use Rattle.json_text.specs.Bytes as byte
 use Rattle.json_text.specs.Tree.{Tree, null, boolean, number, text, list, object, Items, no_items, item, Members, no_members, member}
 use Rattle.json_text.specs.Grammar.{IsNumber, IsQuoted, Spaced, IsMember, IsValue, IsItems, MoreItems, IsMembers, MoreMembers, IsText}
-use Rattle.lnt_report.specs.Quoted.{quoted}
-use Rattle.lnt_report.specs.Written.{compact, compact_items, more_items, compact_members, more_members}
+use Rattle.lnt_report.specs.{Quoted.quoted, Written.{compact, compact_items, more_items, compact_members, more_members}}
 use Rattle.lnt_report.proofs.QuotedTexts.{quoted-is, quoted-utf8}
 
 -- texts and keys are UTF-8, and each number is spelled as one

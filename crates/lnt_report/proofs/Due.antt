@@ -1,22 +1,12 @@
 -- One answer at most is due.
 use Rattle.std.proofs.Common.{◌≡◌, ℕ, ◌≤◌, ◌⊎◌, inl, inr, List, [], ◌∷◌, ◌++◌, Option, Some, None, Result, Ok, Err, length, refl, sym, ap, ◌∙◌, subst, arith}
-use Rattle.json_text.specs.Tree.{Tree}
-use Rattle.json_text.specs.Places.{Reads}
-use Rattle.json_text.specs.Answers.{IsDue as IsTextDue, IsFault as IsTextFault}
-use Rattle.json_text.specs.declared.reading.JsonFault.{JsonFault}
+use Rattle.json_text.specs.{Tree.Tree, Places.Reads, Answers.{IsDue as IsTextDue, IsFault as IsTextFault}, declared.reading.JsonFault.JsonFault}
 use Rattle.json_text.specs.declared.reading.JsonFault.TheVariants as json
-use Rattle.metric_table.specs.Limits.{most}
-use Rattle.metric_table.specs.declared.limits.Limit.{Limit}
-use Rattle.metric_table.specs.declared.limits.Limit.TheVariants.{RunSamples}
+use Rattle.metric_table.specs.{Limits.most, declared.limits.Limit.Limit, declared.limits.Limit.TheVariants.RunSamples}
 use Rattle.sample_model.specs.Samples.{Measurement}
-use Rattle.lnt_report.specs.Rules.{Break, break, first_break}
-use Rattle.lnt_report.specs.Numbers.{Reading, readings, AreMeasured, none, one, IsMeasured, IsOut}
-use Rattle.lnt_report.specs.Runs.{Report, IsRun}
+use Rattle.lnt_report.specs.{Rules.{Break, break, first_break}, Numbers.{Reading, readings, AreMeasured, none, one, IsMeasured, IsOut}, Runs.{Report, IsRun}}
 use Rattle.metric_value.specs.Values.{HasNoneInRange, ValueIsOne}
-use Rattle.lnt_report.specs.Gathering.{measurement}
-use Rattle.lnt_report.specs.Checks.{IsOfText}
-use Rattle.lnt_report.specs.Outcomes.{IsOver, IsDue, IsDueOf}
-use Rattle.lnt_report.specs.declared.fault.ReportFault.{ReportFault}
+use Rattle.lnt_report.specs.{Gathering.measurement, Checks.IsOfText, Outcomes.{IsOver, IsDue, IsDueOf}, declared.fault.ReportFault.ReportFault}
 use Rattle.lnt_report.specs.declared.fault.ReportFault.TheVariants.{NotText, NotJson, TooDeep, NotReport, OutOfRange, Full, NoMemory}
 
 -- a number that is a sample has a value in range

@@ -1,10 +1,7 @@
 -- How the search for a key that comes again goes on.
-use Rattle.std.proofs.Common.{◌≡◌, ℕ, List, ◌∷◌, Bool, true, false, ◌||◌, cond, Option, Some, None, is_some, refl}
-use Rattle.std.specs.List.{list_any}
-use Rattle.std.specs.Str.{bytes_eq}
+use Rattle.std.{proofs.Common.{◌≡◌, ℕ, List, ◌∷◌, Bool, true, false, ◌||◌, cond, Option, Some, None, is_some, refl}, specs.List.list_any, specs.Str.bytes_eq}
 use Rattle.json_text.specs.Tree.{Tree, Members, member}
-use Rattle.lnt_report.specs.Look.{Entry}
-use Rattle.lnt_report.specs.Rules.{repeated_key, repeated_in_members}
+use Rattle.lnt_report.specs.{Look.Entry, Rules.{repeated_key, repeated_in_members}}
 
 -- one key more is in the map
 pub with_key : {A : Type 0} (same : Bool) (value : A) (found : Option A) (among : Bool) → is_some found ≡ among → is_some (cond same (Some value) found) ≡ (same || among)

@@ -1,7 +1,6 @@
 -- Lists of trees, and how deep what is in them lies.
 use Rattle.std.proofs.Common.{◌≡◌, ℕ, zero, suc, ◌<◌, ◌≤◌, List, [], ◌∷◌, map, length, get_or, refl, ap, arith}
-use Rattle.json_text.specs.Tree.{Tree, nesting, items_nesting, members_nesting}
-use Rattle.json_text.specs.View.{items_of, members_of}
+use Rattle.json_text.specs.{Tree.{Tree, nesting, items_nesting, members_nesting}, View.{items_of, members_of}}
 use Rattle.lnt_report.specs.Look.{Entry, entries, trees}
 
 pub trees_of_items : (xs : List Tree) → trees (items_of xs) ≡ xs

@@ -1,15 +1,9 @@
 -- The text of bytes is one of JSON that spells them, and is UTF-8 where they are.
 use Rattle.std.proofs.Common.{◌≡◌, ℕ, zero, suc, ◌/◌, ◌%◌, ◌<◌, ◌≤◌, Bool, true, false, cond, not, ◌&&◌, ◌||◌, ◌==◌, nat_lt, List, [], ◌∷◌, ◌++◌, length, get_or, inl, inr, refl, sym, ap, ap₂, ◌∙◌, subst, arith, append-nil, ltb-true}
-use Rattle.std.specs.Str.{IsUtf8, IsAscii}
-use Rattle.std.specs.Fmt.{digit_glyph}
-use Rattle.std.specs.List.{flat_map}
-use Rattle.std.proofs.Math.Utf8.{encode, encodes, scalar, scalars}
-use Rattle.std.proofs.lemmas.Bool.{agree_below, agree_below_at, and_parts, cases_lt, cases_eq, lt-ltb, le-ltb, eqb-true}
-use Rattle.std.proofs.lemmas.Bool.Decides.{nat_tests}
-use Rattle.std.proofs.lemmas.Grind.{flat_map-append}
-use Rattle.std.proofs.lemmas.Str.{IsUtf8-append, IsUtf8-nil, IsUtf8-encode, IsUtf8-from_ascii, encode_ascii, inside_one}
-use Rattle.json_text.specs.Classes.{is_plain, is_hex, unit_of, is_surrogate}
-use Rattle.json_text.specs.Grammar.{IsUnit, IsCharacter, IsQuoted, Spells, nothing, further}
+use Rattle.std.{specs.Str.{IsUtf8, IsAscii}, specs.Fmt.digit_glyph, specs.List.flat_map, proofs.Math.Utf8.{encode, encodes, scalar, scalars}}
+use Rattle.std.proofs.lemmas.Bool.{agree_below, agree_below_at, and_parts, cases_lt, cases_eq, lt-ltb, le-ltb, eqb-true, Decides.nat_tests}
+use Rattle.std.proofs.lemmas.{Grind.flat_map-append, Str.{IsUtf8-append, IsUtf8-nil, IsUtf8-encode, IsUtf8-from_ascii, encode_ascii, inside_one}}
+use Rattle.json_text.specs.{Classes.{is_plain, is_hex, unit_of, is_surrogate}, Grammar.{IsUnit, IsCharacter, IsQuoted, Spells, nothing, further}}
 use Rattle.lnt_report.specs.Quoted.{code_escape, escape, quoted}
 
 -- ---- what a byte's escape spells

@@ -1,16 +1,11 @@
 -- One number more is gathered, or is no sample.
 use Rattle.std.proofs.Common.{◌≡◌, ◌≢◌, ℕ, ◌<◌, ◌≤◌, inl, inr, List, [], ◌∷◌, ◌++◌, Bool, true, false, All, length, refl, sym, ap, ◌∙◌, subst, append_assoc, append-nil, length-append, rules, arith, codes}
-use Rattle.std.proofs.lemmas.Bool.{cases_lt}
-use Rattle.std.proofs.lemmas.List.Elements.{All-append}
-use Rattle.metric_table.specs.Limits.{most}
-use Rattle.metric_table.specs.declared.limits.Limit.TheVariants.{RunSamples}
+use Rattle.std.proofs.lemmas.{Bool.cases_lt, List.Elements.All-append}
+use Rattle.metric_table.specs.{Limits.most, declared.limits.Limit.TheVariants.RunSamples}
 use Rattle.sample_model.specs.Samples.{Measurement}
-use Rattle.lnt_report.specs.Runs.{IsGiven}
+use Rattle.lnt_report.specs.{Runs.IsGiven, Numbers.{Reading, reading, IsMeasured, AreMeasured, none, one, is_metric}}
 use Rattle.metric_value.specs.Values.{HasNoneInRange}
-use Rattle.lnt_report.specs.Numbers.{Reading, reading, IsMeasured, AreMeasured, none, one, is_metric}
-use Rattle.lnt_report.specs.Gathering.{Leaves, AreBeyond, IsRefusal, IsNamed}
-use Rattle.lnt_report.specs.declared.gathered.Gathered.{Gathered}
-use Rattle.lnt_report.specs.declared.fault.ReportFault.{ReportFault}
+use Rattle.lnt_report.specs.{Gathering.{Leaves, AreBeyond, IsRefusal, IsNamed}, declared.gathered.Gathered.Gathered, declared.fault.ReportFault.ReportFault}
 
 pub measured_end : {rs : List Reading} {ms : List Measurement} {r : Reading} {m : Measurement} → AreMeasured rs ms → IsMeasured r m
     → AreMeasured (rs ++ r ∷ []) (ms ++ m ∷ [])

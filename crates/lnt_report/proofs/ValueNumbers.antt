@@ -1,19 +1,12 @@
 -- The text of a value is a number of JSON.
 use Rattle.std.proofs.Common.{◌≡◌, ℕ, zero, suc, ◌+◌, ◌/◌, ◌%◌, ◌^◌, ◌<◌, ◌≤◌, List, [], ◌∷◌, ◌++◌, inl, inr, length, decimal, IsTrue, refl, sym, ◌∙◌, arith, append_assoc, append-nil, ℤ, pos, negsuc}
-use Rattle.std.specs.Prelude.{All, unsigned_abs, slice_index}
-use Rattle.std.specs.Char.{digit_value}
-use Rattle.std.specs.Str.{IsUtf8, IsAscii}
-use Rattle.std.specs.Str.Parse.{AllDigits}
-use Rattle.std.proofs.lemmas.Bool.{cases_eq}
-use Rattle.std.proofs.lemmas.Bool.Decides.{nat_tests}
-use Rattle.std.proofs.lemmas.List.Elements.{All-head, All-tail}
-use Rattle.std.proofs.lemmas.Str.{IsUtf8-append, IsUtf8-nil, IsUtf8-from_ascii}
+use Rattle.std.specs.{Prelude.{All, unsigned_abs, slice_index}, Char.digit_value, Str.{IsUtf8, IsAscii}, Str.Parse.AllDigits}
+use Rattle.std.proofs.lemmas.{Bool.cases_eq, Bool.Decides.nat_tests, List.Elements.{All-head, All-tail}, Str.{IsUtf8-append, IsUtf8-nil, IsUtf8-from_ascii}}
 use Rattle.line_text.specs.Numbers.{NumbersAreSpelled}
 use Rattle.fixed_value.specs.Fixed.{low_digits, fraction_text, magnitude_text, IsFixedByte}
 use Rattle.metric_table.specs.Table.{row_of}
 use Rattle.metric_value.specs.Values.{value_text, ValueIsReadBack}
-use Rattle.json_text.specs.Classes.{is_digit, is_leading_digit}
-use Rattle.json_text.specs.Grammar.{Each, IsMinus, IsWhole, IsFraction, IsNumber}
+use Rattle.json_text.specs.{Classes.{is_digit, is_leading_digit}, Grammar.{Each, IsMinus, IsWhole, IsFraction, IsNumber}}
 
 digit_tests : (c : ℕ) → digit_value c < 10 → IsTrue (is_digit c)
 digit_tests c small = grind (arith, nat_tests)

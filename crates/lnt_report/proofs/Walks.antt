@@ -1,18 +1,12 @@
 -- A walk along a list, gathering what each item gives.
 use Rattle.std.proofs.Common.{◌≡◌, ℕ, ◌+◌, ◌<◌, ◌≤◌, List, [], ◌∷◌, ◌++◌, map, length, get_or, drop, refl, ap, sym, ◌∙◌, subst, append_assoc, arith, zero-add, Option, Some, codes, if◌then◌else◌, append-nil, Bool, false, All, Result, Ok, Err}
-use Rattle.std.specs.List.{flat_map, sum_by}
-use Rattle.std.proofs.lemmas.List.{at_drop_more, at_drop_all}
-use Rattle.std.proofs.lemmas.List.Sums.{sum_by-cons}
-use Rattle.json_text.specs.Tree.{Tree, list, object}
-use Rattle.json_text.specs.View.{items_of, members_of}
-use Rattle.lnt_report.specs.Look.{Entry, fields, name_in, value_at}
+use Rattle.std.{specs.List.{flat_map, sum_by}, proofs.lemmas.List.{at_drop_more, at_drop_all}, proofs.lemmas.List.Sums.sum_by-cons}
+use Rattle.json_text.specs.{Tree.{Tree, list, object}, View.{items_of, members_of}}
+use Rattle.lnt_report.specs.{Look.{Entry, fields, name_in, value_at}, Runs.IsGiven}
 use Rattle.sample_model.specs.Samples.{Measurement}
-use Rattle.lnt_report.specs.Runs.{IsGiven}
 use Rattle.lnt_report.specs.Numbers.{Reading, item_readings, value_readings, is_text_or_null, test_readings, test_ignored, named_readings, named_ignored, AreMeasured, none as nothing_measured}
-use Rattle.lnt_report.proofs.Lists.{trees_of_items, entries_of_members}
-use Rattle.lnt_report.specs.Gathering.{Gathers, Leaves, AreBeyond}
-use Rattle.lnt_report.specs.declared.fault.ReportFault.{ReportFault}
-use Rattle.lnt_report.specs.declared.gathered.Gathered.{Gathered}
+use Rattle.lnt_report.{proofs.Lists.{trees_of_items, entries_of_members}, specs.Gathering.{Gathers, Leaves, AreBeyond}}
+use Rattle.lnt_report.specs.declared.{fault.ReportFault.ReportFault, gathered.Gathered.Gathered}
 
 pub flat_next : {A B : Type 0} (f : B → List Reading) (g : A → B) (xs : List A) (i : ℕ) (x : A) (left : List Reading) → i < length xs → x ≡ get_or xs i x
     → flat_map f (map g (drop i xs)) ++ left ≡ f (g x) ++ (flat_map f (map g (drop (i + 1) xs)) ++ left)

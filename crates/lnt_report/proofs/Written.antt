@@ -1,30 +1,17 @@
 -- The tree that is written of a run is the run's, and breaks no rule.
 use Rattle.std.proofs.Common.{◌≡◌, ◌≢◌, ℤ, ℕ, ◌+◌, ◌≤◌, ◌<◌, ◌-◌, List, [], ◌∷◌, ◌++◌, Bool, true, false, ◌&&◌, map, length, get_or, drop, take, refl, sym, ap, ◌∙◌, subst, arith, None, Ok, nat_lt, nat_le, codes, All, append_assoc, append-nil}
-use Rattle.std.specs.List.{flat_map, sum_by}
-use Rattle.std.specs.Str.{bytes_eq, is_utf8}
-use Rattle.std.proofs.lemmas.Str.{is_utf8-from_IsUtf8}
-use Rattle.std.proofs.lemmas.Bool.{lt-ltb, le-leb, and_from}
-use Rattle.std.proofs.lemmas.List.{drop_more, drop_all, take_rest}
-use Rattle.std.proofs.lemmas.List.Sums.{sum_by-cons}
-use Rattle.std.proofs.lemmas.List.Elements.{All-head, All-tail}
+use Rattle.std.{specs.List.{flat_map, sum_by}, specs.Str.{bytes_eq, is_utf8}, proofs.lemmas.Str.is_utf8-from_IsUtf8}
+use Rattle.std.proofs.lemmas.{Bool.{lt-ltb, le-leb, and_from}, List.{drop_more, drop_all, take_rest}, List.Sums.sum_by-cons, List.Elements.{All-head, All-tail}}
 use Rattle.std.proofs.lemmas.Slice.Eq.{bytes_eq-Decides}
-use Rattle.json_text.specs.Tree.{nesting, items_nesting}
-use Rattle.json_text.specs.View.{items_of}
-use Rattle.line_text.specs.Names.{IsName}
-use Rattle.line_text.specs.Numbers.{NumbersAreSpelled}
+use Rattle.json_text.specs.{Tree.{nesting, items_nesting}, View.items_of}
+use Rattle.line_text.specs.{Names.IsName, Numbers.NumbersAreSpelled}
 use Rattle.metric_value.specs.Values.{value_text, ValueIsReadBack}
-use Rattle.metric_table.specs.Limits.{most}
-use Rattle.metric_table.specs.declared.limits.Limit.TheVariants.{RunSamples}
+use Rattle.metric_table.specs.{Limits.most, declared.limits.Limit.TheVariants.RunSamples}
 use Rattle.sample_model.specs.Samples.{Measurement, IsSample, AreSamples}
-use Rattle.lnt_report.specs.Look.{trees, is_name, has_metric_length}
-use Rattle.lnt_report.specs.Rules.{first_break, repeated_key, repeated_in_items, tests_break, test_break}
-use Rattle.lnt_report.specs.Numbers.{Reading, reading, test_readings, test_ignored, IsMeasured, AreMeasured, none, one}
-use Rattle.lnt_report.specs.Runs.{Report, IsGiven, IsRun}
-use Rattle.lnt_report.specs.Outcomes.{IsDue}
-use Rattle.lnt_report.specs.Quoted.{quoted}
-use Rattle.lnt_report.specs.Written.{compact, compact_items, more_items, test_tree, run_tree}
-use Rattle.lnt_report.proofs.ValueNumbers.{value-number, value-utf8}
-use Rattle.lnt_report.proofs.Compact.{IsFine, AreFine, ascii, compact-text, compact-utf8}
+use Rattle.lnt_report.specs.{Look.{trees, is_name, has_metric_length}, Rules.{first_break, repeated_key, repeated_in_items, tests_break, test_break}}
+use Rattle.lnt_report.specs.{Numbers.{Reading, reading, test_readings, test_ignored, IsMeasured, AreMeasured, none, one}, Runs.{Report, IsGiven, IsRun}}
+use Rattle.lnt_report.specs.{Outcomes.IsDue, Quoted.quoted, Written.{compact, compact_items, more_items, test_tree, run_tree}}
+use Rattle.lnt_report.proofs.{ValueNumbers.{value-number, value-utf8}, Compact.{IsFine, AreFine, ascii, compact-text, compact-utf8}}
 
 is_false : (b : Bool) → (b ≡ true → ⊥) → b ≡ false
 is_false true h = absurd (h refl)

@@ -1,12 +1,8 @@
 -- No public contract cites this. What the steps of reading a run say of it.
 use Rattle.std.specs.Prelude.{◌≡◌, ℕ, ◌⊎◌, List, Option, Some, None, Result, Ok, Err}
-use Rattle.json_text.specs.Tree.{Tree}
-use Rattle.json_text.specs.declared.reading.JsonFault.{JsonFault}
+use Rattle.json_text.specs.{Tree.Tree, declared.reading.JsonFault.JsonFault}
 use Rattle.json_text.specs.declared.reading.JsonFault.TheVariants as json
-use Rattle.lnt_report.specs.Rules.{Break, break}
-use Rattle.lnt_report.specs.Runs.{Report}
-use Rattle.lnt_report.specs.Outcomes.{IsDueOf}
-use Rattle.lnt_report.specs.declared.fault.ReportFault.{ReportFault}
+use Rattle.lnt_report.specs.{Rules.{Break, break}, Runs.Report, Outcomes.IsDueOf, declared.fault.ReportFault.ReportFault}
 use Rattle.lnt_report.specs.declared.fault.ReportFault.TheVariants.{NotText, NotJson, TooDeep, NotReport, NoMemory}
 
 -- what the check of a rule says: nothing where none is broken, else the break, unless memory ran out

@@ -1,12 +1,8 @@
 -- No public contract cites this. How far the samples of a run have been gathered.
 use Rattle.std.specs.Prelude.{◌⊎◌, ◌≡◌, ℕ, ◌+◌, ◌-◌, ◌^◌, ◌<◌, ◌≤◌, Bool, true, false, ℤ, List, [], ◌++◌, length, min, All, Result, MatchResult}
-use Rattle.metric_table.specs.Limits.{most}
-use Rattle.metric_table.specs.declared.limits.Limit.TheVariants.{RunSamples}
+use Rattle.metric_table.specs.{Limits.most, declared.limits.Limit.TheVariants.RunSamples}
 use Rattle.sample_model.specs.Samples.{Measurement}
-use Rattle.lnt_report.specs.Numbers.{Reading, AreMeasured, IsOut}
-use Rattle.lnt_report.specs.Runs.{IsGiven}
-use Rattle.lnt_report.specs.declared.gathered.Gathered.{Gathered}
-use Rattle.lnt_report.specs.declared.fault.ReportFault.{ReportFault}
+use Rattle.lnt_report.specs.{Numbers.{Reading, AreMeasured, IsOut}, Runs.IsGiven, declared.gathered.Gathered.Gathered, declared.fault.ReportFault.ReportFault}
 use Rattle.lnt_report.specs.declared.fault.ReportFault.TheVariants.{OutOfRange, NoMemory}
 
 -- these samples are beyond those that are kept, and `over` says whether there are any; there are none until as many

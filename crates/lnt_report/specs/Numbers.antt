@@ -4,8 +4,7 @@ use Rattle.std.specs.List.{flat_map, sum_by}
 use Rattle.json_text.specs.Tree.{Tree, null, number, text, list}
 use Rattle.metric_value.specs.Values.{IsValueOf, HasNoneInRange}
 use Rattle.sample_model.specs.Samples.{Measurement}
-use Rattle.lnt_report.specs.Look.{Entry, trees, fields, items_in, at, name_in, is_name_key, has_metric_length}
-use Rattle.lnt_report.specs.Rules.{tests_in}
+use Rattle.lnt_report.specs.{Look.{Entry, trees, fields, items_in, at, name_in, is_name_key, has_metric_length}, Rules.tests_in}
 
 -- a number of a test, by a metric, as it is spelled
 pub record Reading : Type 0 where

@@ -1,16 +1,10 @@
 -- Which answer bytes are due.
 use Rattle.std.specs.Prelude.{◌≡◌, ℕ, ◌<◌, ◌⊎◌, List, length, Some, None, Result, Ok, Err}
-use Rattle.json_text.specs.Tree.{Tree}
-use Rattle.json_text.specs.Places.{Reads, IsNotText, IsNotJson, IsTooDeep}
-use Rattle.metric_table.specs.Limits.{most}
-use Rattle.metric_table.specs.declared.limits.Limit.{Limit}
-use Rattle.metric_table.specs.declared.limits.Limit.TheVariants.{RunSamples}
+use Rattle.json_text.specs.{Tree.Tree, Places.{Reads, IsNotText, IsNotJson, IsTooDeep}}
+use Rattle.metric_table.specs.{Limits.most, declared.limits.Limit.Limit, declared.limits.Limit.TheVariants.RunSamples}
 use Rattle.sample_model.specs.Samples.{Measurement}
-use Rattle.lnt_report.specs.Rules.{break, first_break}
-use Rattle.lnt_report.specs.Numbers.{Reading, readings, AreMeasured, IsOut}
-use Rattle.lnt_report.specs.Runs.{Report, IsRun}
-use Rattle.lnt_report.specs.declared.fault.ReportFault.{ReportFault}
-use Rattle.lnt_report.specs.declared.fault.ReportFault.TheVariants.{NotText, NotJson, TooDeep, NotReport, OutOfRange, Full, NoMemory}
+use Rattle.lnt_report.specs.{Rules.{break, first_break}, Numbers.{Reading, readings, AreMeasured, IsOut}, Runs.{Report, IsRun}}
+use Rattle.lnt_report.specs.declared.fault.ReportFault.{ReportFault, TheVariants.{NotText, NotJson, TooDeep, NotReport, OutOfRange, Full, NoMemory}}
 
 -- each number is a sample, and there are more than a run may have
 pub record IsOver (rs : List Reading) (limit : Limit) : Type 0 where

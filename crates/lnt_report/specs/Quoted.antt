@@ -1,7 +1,5 @@
 -- Bytes as a text of JSON.
-use Rattle.std.specs.Prelude.{ℕ, ◌/◌, ◌%◌, ◌||◌, ◌==◌, false, nat_lt, List, [], ◌∷◌, ◌++◌, if◌then◌else◌}
-use Rattle.std.specs.Fmt.{digit_glyph}
-use Rattle.std.specs.List.{flat_map}
+use Rattle.std.specs.{Prelude.{ℕ, ◌/◌, ◌%◌, ◌||◌, ◌==◌, false, nat_lt, List, [], ◌∷◌, ◌++◌, if◌then◌else◌}, Fmt.digit_glyph, List.flat_map}
 use Rattle.json_text.specs.Bytes as byte
 
 -- a backslash, `u00` and two hex digits

@@ -1,8 +1,6 @@
 -- The rules of an LNT run, in their order, and the member at which one is broken.
 use Rattle.std.specs.Prelude.{◌≡◌, ℕ, ◌+◌, Bool, true, false, List, [], ◌∷◌, ◌++◌, Option, Some, None, is_some, decimal, codes, if◌then◌else◌}
-use Rattle.std.specs.Option.{option_map, option_or}
-use Rattle.std.specs.List.{list_any, list_all}
-use Rattle.std.specs.Str.{bytes_eq}
+use Rattle.std.specs.{Option.{option_map, option_or}, List.{list_any, list_all}, Str.bytes_eq}
 use Rattle.json_text.specs.Bytes as byte
 use Rattle.json_text.specs.Tree.{Tree, null, boolean, number, text, list, object, Items, no_items, item, Members, no_members, member}
 use Rattle.lnt_report.specs.Look.{Entry, trees, fields, items_in, value_at, at, is_object, is_list, text_in, name_in, is_text, is_name_key, has_metric_length}

@@ -1,12 +1,9 @@
 -- What contracts see of an LNT run, and which trees are one.
 use Rattle.std.specs.Prelude.{◌≡◌, ◌≢◌, ℕ, ◌-◌, ◌≤◌, ◌^◌, List, length, min, Some, codes}
 use Rattle.json_text.specs.Tree.{Tree}
-use Rattle.metric_table.specs.Limits.{most}
-use Rattle.metric_table.specs.declared.limits.Limit.TheVariants.{RunSamples}
+use Rattle.metric_table.specs.{Limits.most, declared.limits.Limit.TheVariants.RunSamples}
 use Rattle.sample_model.specs.Samples.{Measurement}
-use Rattle.lnt_report.specs.Look.{fields}
-use Rattle.lnt_report.specs.Rules.{machine_name, commit_name}
-use Rattle.lnt_report.specs.Numbers.{readings, ignored_in, AreMeasured}
+use Rattle.lnt_report.specs.{Look.fields, Rules.{machine_name, commit_name}, Numbers.{readings, ignored_in, AreMeasured}}
 
 -- the machine, the commit, the samples, and how many members gave none
 pub record Report : Type 0 where

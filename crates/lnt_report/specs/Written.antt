@@ -1,8 +1,7 @@
 -- The text that is written of a run: the compact text of its tree.
 use Rattle.std.specs.Prelude.{ℕ, List, [], ◌∷◌, ◌++◌, true, false, map, codes}
 use Rattle.json_text.specs.Bytes as byte
-use Rattle.json_text.specs.Tree.{Tree, null, boolean, number, text, list, object, Items, no_items, item, Members, no_members, member}
-use Rattle.json_text.specs.View.{items_of}
+use Rattle.json_text.specs.{Tree.{Tree, null, boolean, number, text, list, object, Items, no_items, item, Members, no_members, member}, View.items_of}
 use Rattle.metric_value.specs.Values.{value_text}
 use Rattle.sample_model.specs.Samples.{Measurement}
 use Rattle.lnt_report.specs.Quoted.{quoted}

@@ -1,11 +1,8 @@
 //! The numbers of a run's tests, gathered as samples in the order of the text.
-ghost use Rattle.std.specs.Prelude.{◌≡◌, ◌+◌, ◌<◌, ◌≤◌, ◌^◌, if◌then◌else◌, unsigned_abs, OnOk, [], ◌∷◌, ◌++◌, map, length, true, IfOk, MatchResult};
-ghost use Rattle.std.specs.List.{flat_map, sum_by};
-ghost use Rattle.metric_table.specs.Limits.{most};
-ghost use Rattle.metric_table.specs.declared.limits.Limit.TheVariants.{RunSamples};
+ghost use Rattle.std.specs.{Prelude.{◌≡◌, ◌+◌, ◌<◌, ◌≤◌, ◌^◌, if◌then◌else◌, unsigned_abs, OnOk, [], ◌∷◌, ◌++◌, map, length, true, IfOk, MatchResult}, List.{flat_map, sum_by}};
+ghost use Rattle.metric_table.specs.{Limits.most, declared.limits.Limit.TheVariants.RunSamples};
 ghost use Rattle.json_text.specs.View.{tree_of, entry_of};
-ghost use Rattle.lnt_report.specs.Numbers.{reading, item_readings, value_readings, is_metric, is_text_or_null, entry_readings, entry_ignored, test_readings, test_ignored};
-ghost use Rattle.lnt_report.specs.Gathering.{measurement, Gathers, Leaves, IsRefusal, IsNamed};
+ghost use Rattle.lnt_report.specs.{Numbers.{reading, item_readings, value_readings, is_metric, is_text_or_null, entry_readings, entry_ignored, test_readings, test_ignored}, Gathering.{measurement, Gathers, Leaves, IsRefusal, IsNamed}};
 
 use crate::NoMemory;
 use crate::fault::ReportFault;

@@ -1,6 +1,5 @@
 //! Members of a JSON object, looked up by their keys.
-ghost use Rattle.std.specs.Prelude.{◌≡◌, if◌then◌else◌, map, Some, None, true, false, IfSome, IfNone, IfOk, option_copied, is_some};
-ghost use Rattle.std.specs.Option.{option_map};
+ghost use Rattle.std.specs.{Prelude.{◌≡◌, if◌then◌else◌, map, Some, None, true, false, IfSome, IfNone, IfOk, option_copied, is_some}, Option.option_map};
 ghost use Rattle.json_text.specs.View.{tree_of, entry_of};
 ghost use Rattle.lnt_report.specs.Look.{value_at, fields, items_in, is_object, is_list, is_name, name_in, text_in, is_text};
 

@@ -1,6 +1,5 @@
 //! Bytes as a text of JSON.
-ghost use Rattle.std.specs.Prelude.{◌≡◌, ◌<◌, ◌++◌, OnOk, false};
-ghost use Rattle.std.specs.Fmt.{digit_glyph};
+ghost use Rattle.std.specs.{Prelude.{◌≡◌, ◌<◌, ◌++◌, OnOk, false}, Fmt.digit_glyph};
 ghost use Rattle.lnt_report.specs.Quoted.{escape, quoted};
 
 use crate::NoMemory;

@@ -1,14 +1,8 @@
 //! A run read: from the bytes over the tree to the run or the fault.
 ghost use Rattle.std.specs.Prelude.{◌≡◌, ◌⊎◌, ◌≤◌, Result, Err, map, length, None, true, false, All, IfOk, IfErr};
-ghost use Rattle.json_text.specs.Tree.{Tree, object};
-ghost use Rattle.json_text.specs.View.{tree_of, members_of};
-ghost use Rattle.json_text.specs.View.{entry_of};
-ghost use Rattle.metric_table.specs.Limits.{most};
-ghost use Rattle.metric_table.specs.declared.limits.Limit.TheVariants.{RunSamples};
-ghost use Rattle.lnt_report.specs.Rules.{machine_name, commit_name, first_break, IsSound};
-ghost use Rattle.lnt_report.specs.Runs.{Report, IsGiven};
-ghost use Rattle.lnt_report.specs.Checks.{IsAnswerOf, IsOfText};
-ghost use Rattle.lnt_report.specs.Outcomes.{IsDue, IsAnswer, OneAnswer};
+ghost use Rattle.json_text.specs.{Tree.{Tree, object}, View.{tree_of, members_of}, View.entry_of};
+ghost use Rattle.metric_table.specs.{Limits.most, declared.limits.Limit.TheVariants.RunSamples};
+ghost use Rattle.lnt_report.specs.{Rules.{machine_name, commit_name, first_break, IsSound}, Runs.{Report, IsGiven}, Checks.{IsAnswerOf, IsOfText}, Outcomes.{IsDue, IsAnswer, OneAnswer}};
 
 use crate::NoMemory;
 use crate::fault::ReportFault;

@@ -1,10 +1,7 @@
 //! The rules of an LNT run, checked in their order.
-ghost use Rattle.std.specs.Prelude.{◌≡◌, map, Some, decimal, codes, Err};
-ghost use Rattle.std.specs.List.{list_all};
-ghost use Rattle.std.specs.Option.{option_map};
+ghost use Rattle.std.specs.{Prelude.{◌≡◌, map, Some, decimal, codes, Err}, List.list_all, Option.option_map};
 ghost use Rattle.json_text.specs.View.{tree_of, entry_of};
-ghost use Rattle.lnt_report.specs.Rules.{break, under, is_number, may_stand, metric_break, metrics_break, test_break, tests_break, run_break, head_break, first_break, repeated_key};
-ghost use Rattle.lnt_report.specs.Checks.{Tells, IsBroken};
+ghost use Rattle.lnt_report.specs.{Rules.{break, under, is_number, may_stand, metric_break, metrics_break, test_break, tests_break, run_break, head_break, first_break, repeated_key}, Checks.{Tells, IsBroken}};
 
 use crate::NoMemory;
 use crate::fault::ReportFault;

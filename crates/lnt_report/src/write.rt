@@ -1,8 +1,7 @@
 //! A run written: the compact text of its tree.
 ghost use Rattle.std.specs.Prelude.{◌≡◌, ◌++◌, Ok, map, OnOk, IfOk};
 ghost use Rattle.json_text.specs.View.{items_of};
-ghost use Rattle.lnt_report.specs.Written.{compact, compact_items, test_tree, run_tree};
-ghost use Rattle.lnt_report.specs.Outcomes.{IsDue};
+ghost use Rattle.lnt_report.specs.{Written.{compact, compact_items, test_tree, run_tree}, Outcomes.IsDue};
 
 use crate::NoMemory;
 use crate::quoted::put_quoted;

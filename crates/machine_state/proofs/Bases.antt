@@ -1,31 +1,17 @@
 -- What the next segmentation of a series begins with, by what is kept and by what is home.
 use Rattle.std.proofs.Common.{◌≡◌, ℕ, zero, suc, ◌<◌, Bool, true, false, cond, List, take, refl, sym, ap, ap₂, subst, ◌∙◌, Option, Some, None, inl, inr, true≢false, arith}
-use Rattle.std.specs.Prelude.{is_some, nat_eq}
+use Rattle.std.{specs.Prelude.{is_some, nat_eq}, proofs.lemmas.Bool.{cases_Bool, ne_eqb}}
 use Rattle.std.specs.FinSet as set
-use Rattle.std.proofs.lemmas.Bool.{cases_Bool, ne_eqb}
-use Rattle.segment_model.specs.Segments.{Position}
-use Rattle.segment_model.specs.Values.{values_by_position}
+use Rattle.segment_model.specs.{Segments.Position, Values.values_by_position}
 use Rattle.pelt_core.specs.Seen.{table_of}
-use Rattle.history_model.specs.Allowed.{Legal}
-use Rattle.history_model.specs.Laws.{LastStands}
-use Rattle.history_model.specs.Positions.{positions}
-use Rattle.publication_index.specs.Standing.{IsKeptTable, table_for}
-use Rattle.machine_state.specs.declared.base.Base.{Base}
+use Rattle.history_model.specs.{Allowed.Legal, Laws.LastStands, Positions.positions, declared.entries.Entry.Entry, declared.publication.Publication.Publication}
+use Rattle.publication_index.specs.{Standing.{IsKeptTable, table_for}, Homes.homes, Kept.{home, kept, kept_at_home, series_of}}
+use Rattle.machine_state.specs.{declared.base.Base.Base, Made.{Segmentations, publication_from, setting_in, IsMadeFrom}, State.{BeginsWith, IsKept}}
 use Rattle.segment_cost.specs.declared.done.Done.{Done}
-use Rattle.history_model.specs.declared.entries.Entry.{Entry}
-use Rattle.history_model.specs.declared.publication.Publication.{Publication}
-use Rattle.history_model.specs.declared.setting.Setting.{Setting}
-use Rattle.history_model.specs.Entries.{entries_of}
-use Rattle.history_model.specs.Penalties.{setting_of}
-use Rattle.history_model.specs.Publications.{last_publication}
+use Rattle.history_model.specs.{declared.setting.Setting.Setting, Entries.entries_of, Penalties.setting_of, Publications.last_publication}
 use Rattle.history_model.specs.Runs.{Series, is_known}
-use Rattle.publication_index.specs.Homes.{homes}
-use Rattle.publication_index.specs.Kept.{home, kept, kept_at_home, series_of}
 use Rattle.publication_index.proofs.Homes.{contains-homes}
-use Rattle.track_model.specs.Tracks.{Track, is_setting, base_of, version_at, with_home, with_taken}
-use Rattle.machine_state.specs.Made.{Segmentations, publication_from, setting_in, IsMadeFrom}
-use Rattle.track_model.proofs.Settings.{setting-is}
-use Rattle.machine_state.specs.State.{BeginsWith, IsKept}
+use Rattle.track_model.{specs.Tracks.{Track, is_setting, base_of, version_at, with_home, with_taken}, proofs.Settings.setting-is}
 use Rattle.machine_state.proofs.Published.{nothing, something, of-series}
 
 same-either : (b : Bool) (n : ℕ) → cond b n n ≡ n

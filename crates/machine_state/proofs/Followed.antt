@@ -1,25 +1,15 @@
 -- What is followed of a machine: it takes each entry in that is allowed, and follows from the history after it.
 use Rattle.std.proofs.Common.{◌≡◌, ℕ, zero, suc, ◌+◌, ◌-◌, ◌≤◌, true, cond, List, [], ◌∷◌, ◌++◌, length, set, refl, sym, ap, ap₂, subst, ◌∙◌, Option, Some, None, arith, eq-eqb, ne_eqb, append-nil}
 use Rattle.std.specs.Prelude.{slice_get, option_to_list}
-use Rattle.bisect_core.specs.Bisections.{Bisection, bisection, IsRecorded}
-use Rattle.bisect_core.specs.Turns.{Turn, tested, given_up}
-use Rattle.regression_state.specs.declared.states.State.{State}
-use Rattle.regression_state.specs.declared.states.State.TheVariants.{Detected}
-use Rattle.history_model.specs.declared.entries.Entry.{Entry}
+use Rattle.bisect_core.specs.{Bisections.{Bisection, bisection, IsRecorded}, Turns.{Turn, tested, given_up}}
+use Rattle.regression_state.specs.declared.states.State.{State, TheVariants.Detected}
+use Rattle.history_model.specs.declared.{entries.Entry.Entry, events.JobEvent.TheVariants.{Begin, Answer, GiveUp}, events.Raised.Raised}
 use Rattle.history_model.specs.declared.entries.Entry.TheVariants as entry
-use Rattle.history_model.specs.declared.events.JobEvent.TheVariants.{Begin, Answer, GiveUp}
-use Rattle.history_model.specs.declared.events.Raised.{Raised}
-use Rattle.history_model.specs.declared.events.RegressionEvent.TheVariants.{Raise, Move}
-use Rattle.history_model.specs.Allowed.{Allowed, Legal}
-use Rattle.history_model.specs.Commits.{declarations, numbers_between}
+use Rattle.history_model.specs.{declared.events.RegressionEvent.TheVariants.{Raise, Move}, Allowed.{Allowed, Legal}, Commits.{declarations, numbers_between}}
 use Rattle.history_model.specs.Followed.{RegressionsGrow, StateIsMoved, StateStays, NewIsDetected, IsOfNoJob, JobsStay, JobIsBegun, JobGoesOn, NumbersAreTwo}
-use Rattle.history_model.specs.Jobs.{jobs, job_in, place_asked}
-use Rattle.history_model.specs.Regressions.{raised, regressions, moved, state_of, is_number}
-use Rattle.follow_index.specs.declared.regressions.Followed.{Followed}
-use Rattle.follow_index.specs.Followed.{followed, followed_from}
-use Rattle.follow_index.specs.Numbered.{followed_in, GoesOn}
-use Rattle.machine_state.specs.declared.following.Following.{Following}
-use Rattle.machine_state.specs.Following.{AreFollowed, IsFollowable, IsFollowed}
+use Rattle.history_model.specs.{Jobs.{jobs, job_in, place_asked}, Regressions.{raised, regressions, moved, state_of, is_number}}
+use Rattle.follow_index.specs.{declared.regressions.Followed.Followed, Followed.{followed, followed_from}, Numbered.{followed_in, GoesOn}}
+use Rattle.machine_state.specs.{declared.following.Following.Following, Following.{AreFollowed, IsFollowable, IsFollowed}}
 
 abbrev made : Raised → State → Followed
 made r s = record { raised = r; state = s }

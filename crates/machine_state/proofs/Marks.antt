@@ -1,14 +1,9 @@
 -- The stored runs after a retraction: the one of that name is marked.
 use Rattle.std.proofs.Common.{◌≡◌, ℕ, true, false, List, [], ◌∷◌, ◌++◌, map, refl, sym, ap, ◌∙◌, Option, inl, inr, cond}
-use Rattle.std.specs.Prelude.{Some, None, find, option_map, bytes_eq}
-use Rattle.std.specs.Option.{option_or}
-use Rattle.std.proofs.lemmas.Bool.{cases_Bool}
-use Rattle.std.proofs.lemmas.List.Folds.{find-append}
-use Rattle.std.proofs.lemmas.Slice.Eq.{bytes_eq-Decides}
-use Rattle.history_model.specs.declared.entries.Acceptance.{Acceptance}
-use Rattle.history_model.specs.declared.entries.Entry.{Entry}
-use Rattle.history_model.specs.Runs.{Retraction, accepted, takes_back, acceptances, retractions}
-use Rattle.history_model.proofs.Lists.{find-map, same-bytes}
+use Rattle.std.{specs.Prelude.{Some, None, find, option_map, bytes_eq}, specs.Option.option_or, proofs.lemmas.Bool.cases_Bool}
+use Rattle.std.proofs.lemmas.{List.Folds.find-append, Slice.Eq.bytes_eq-Decides}
+use Rattle.history_model.specs.declared.entries.{Acceptance.Acceptance, Entry.Entry}
+use Rattle.history_model.{specs.Runs.{Retraction, accepted, takes_back, acceptances, retractions}, proofs.Lists.{find-map, same-bytes}}
 use Rattle.sample_store.specs.Runs.{names, marked}
 use Rattle.machine_state.specs.Indexes.{stored, stored_runs}
 

@@ -1,9 +1,7 @@
 -- The number of a commit that is declared has a name.
 use Rattle.std.proofs.Common.{◌≡◌, ℕ, Bool, true, false, cond, List, [], ◌∷◌, refl, sym, ap, subst, ◌∙◌, Option, Some, None, inl, inr}
-use Rattle.std.specs.Prelude.{IsSome, find, option_map, unwrap_or}
-use Rattle.std.proofs.lemmas.Bool.{cases_Bool, eq-eqb}
-use Rattle.history_model.specs.declared.entries.Declaration.{Declaration}
-use Rattle.history_model.specs.declared.entries.Entry.{Entry}
+use Rattle.std.{specs.Prelude.{IsSome, find, option_map, unwrap_or}, proofs.lemmas.Bool.{cases_Bool, eq-eqb}}
+use Rattle.history_model.specs.declared.entries.{Declaration.Declaration, Entry.Entry}
 use Rattle.history_model.specs.Commits.{declarations, has_number, has_name, number_of, name_of}
 
 found-again : {A : Type 0} (p q : A → Bool) (xs : List A) (d : A) → find p xs ≡ Some d → q d ≡ true → IsSome (find q xs)

@@ -1,37 +1,22 @@
 -- The indexes after any entry that is allowed.
 use Rattle.std.proofs.Common.{◌≡◌, ℕ, ◌+◌, List, [], ◌∷◌, ◌++◌, length, refl, sym, ap, subst, ◌∙◌, Option, cond, arith}
-use Rattle.std.specs.Prelude.{option_to_list, option_map, find, None, Some}
-use Rattle.std.proofs.lemmas.List.{map-append, append-nil}
-use Rattle.history_model.specs.declared.entries.Declaration.{Declaration}
-use Rattle.history_model.specs.declared.entries.Entry.{Entry}
+use Rattle.std.{specs.Prelude.{option_to_list, option_map, find, None, Some}, proofs.lemmas.List.{map-append, append-nil}}
+use Rattle.history_model.specs.{declared.entries.Declaration.Declaration, declared.entries.Entry.Entry, Allowed.{Allowed, MayFollow, Legal}}
 use Rattle.history_model.specs.declared.entries.Entry.TheVariants as entry
-use Rattle.history_model.specs.Allowed.{Allowed, MayFollow, Legal}
 use Rattle.history_model.specs.Commits.{declaration}
 use Rattle.history_model.specs.Laws.{LegalGrows, PositionsAfterAccept, PositionsAfterRetract, PositionsUntouched, OnlyAcceptedAreRetracted}
 use Rattle.history_model.specs.Runs.{Series, known_series, Retraction, acceptance, acceptances, retraction, retractions, takes_back}
-use Rattle.history_model.proofs.Chosen.{chosen-push, chosen-skip}
+use Rattle.history_model.{proofs.Chosen.{chosen-push, chosen-skip}, specs.Penalties.{IsSetting, SettingIsSet, SettingStays}}
 use Rattle.sample_store.specs.declared.store.Stored.{Stored}
-use Rattle.history_model.specs.Penalties.{IsSetting, SettingIsSet, SettingStays}
-use Rattle.history_model.specs.Publications.{last_publication, cut_count}
+use Rattle.history_model.specs.{Publications.{last_publication, cut_count}, Laws.{PublicationIsLast, PublicationStays, VersionsStay, CutsGrow}}
 use Rattle.segment_cost.specs.declared.done.Done.{Done}
-use Rattle.publication_index.specs.Given.{given}
-use Rattle.publication_index.specs.Kept.{kept}
-use Rattle.machine_state.specs.Indexes.{Kept, Settings, stored, stored_runs, runs_after, seen_after, given_after}
-use Rattle.history_model.specs.Laws.{PublicationIsLast, PublicationStays, VersionsStay, CutsGrow}
-use Rattle.history_model.specs.Runs.{same_series}
-use Rattle.publication_index.specs.Kept.{series_of}
-use Rattle.machine_state.specs.Made.{entry_of}
-use Rattle.machine_state.specs.Made.{Segmentations, IsMadeFrom}
-use Rattle.history_model.specs.Followed.{RegressionsGrow, StateStays, JobsStay}
-use Rattle.machine_state.specs.declared.following.Following.{Following}
-use Rattle.machine_state.specs.Following.{AreFollowed}
-use Rattle.machine_state.proofs.Followed.{quiet}
-use Rattle.machine_state.specs.State.{IsTracked, IsKept, StandsFor}
-use Rattle.machine_state.proofs.Publishing.{setting-after, fits-after, just-kept}
-use Rattle.machine_state.proofs.Series.{tracked-after, no-more}
-use Rattle.series_index.specs.Seen.{seen}
-use Rattle.series_index.specs.declared.tracked.Tracked.{Tracked}
-use Rattle.machine_state.proofs.Marks.{all-marked}
+use Rattle.publication_index.specs.{Given.given, Kept.kept, Kept.series_of}
+use Rattle.machine_state.specs.{Indexes.{Kept, Settings, stored, stored_runs, runs_after, seen_after, given_after}, Made.entry_of}
+use Rattle.history_model.specs.{Runs.same_series, Followed.{RegressionsGrow, StateStays, JobsStay}}
+use Rattle.machine_state.specs.{Made.{Segmentations, IsMadeFrom}, declared.following.Following.Following, Following.AreFollowed}
+use Rattle.machine_state.{proofs.Followed.quiet, specs.State.{IsTracked, IsKept, StandsFor}, proofs.Publishing.{setting-after, fits-after, just-kept}}
+use Rattle.machine_state.proofs.{Series.{tracked-after, no-more}, Marks.all-marked}
+use Rattle.series_index.specs.{Seen.seen, declared.tracked.Tracked.Tracked}
 
 stored_runs-push : OnlyAcceptedAreRetracted → (h : List Entry) (e : Entry) → Legal h → MayFollow h e → stored_runs (h ++ e ∷ []) ≡ runs_after (length h + 1) e (stored_runs h)
 stored_runs-push only h (entry.Commit number name) legal may = rw (chosen-skip acceptance h (entry.Commit number name) refl, chosen-skip retraction h (entry.Commit number name) refl) refl

@@ -1,21 +1,14 @@
 -- What is kept of the last publication of a series, and what a form comes to by it.
 use Rattle.std.proofs.Common.{◌≡◌, Bool, true, false, List, refl, sym, ap, subst, Option, Some, None}
 use Rattle.segment_cost.specs.declared.done.Done.{Done}
-use Rattle.history_model.specs.declared.entries.Entry.{Entry}
-use Rattle.history_model.specs.declared.publication.Publication.{Publication}
-use Rattle.history_model.specs.Allowed.{Legal}
-use Rattle.history_model.specs.Laws.{LastStands}
-use Rattle.history_model.specs.Publications.{last_publication}
-use Rattle.history_model.specs.Runs.{Series, is_known}
+use Rattle.history_model.specs.{declared.entries.Entry.Entry, declared.publication.Publication.Publication, Allowed.Legal, Laws.LastStands}
+use Rattle.history_model.specs.{Publications.last_publication, Runs.{Series, is_known}}
 use Rattle.request_model.specs.declared.replies.Answer.TheVariants as answer
 use Rattle.request_model.specs.declared.replies.Refusal.{Refusal}
 use Rattle.request_model.specs.declared.replies.Refusal.TheVariants as refusal
 use Rattle.publication_index.specs.Kept.{series_of}
-use Rattle.track_model.specs.Outcomes.{Outcome, tells, refuses}
-use Rattle.track_model.specs.Publishing.{OfKnown, OfPublished}
-use Rattle.machine_state.specs.Made.{publication_from, IsMadeFrom}
-use Rattle.machine_state.specs.State.{HasNone, IsKept, IsLast}
-use Rattle.machine_state.proofs.Told.{known}
+use Rattle.track_model.specs.{Outcomes.{Outcome, tells, refuses}, Publishing.{OfKnown, OfPublished}}
+use Rattle.machine_state.{specs.Made.{publication_from, IsMadeFrom}, specs.State.{HasNone, IsKept, IsLast}, proofs.Told.known}
 
 pub nothing : (h : List Entry) (o : Option Publication) (d : Option Done) → IsKept h o d → d ≡ None → o ≡ None
 nothing h None d is none = refl

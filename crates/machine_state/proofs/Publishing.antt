@@ -1,27 +1,17 @@
 -- The settings and the publications of a state after an entry.
 use Rattle.std.proofs.Common.{◌≡◌, ℕ, ◌+◌, Bool, true, false, cond, List, [], ◌∷◌, ◌++◌, length, take, refl, sym, ap, subst, ◌∙◌, Option, Some, None, inl, inr, arith}
-use Rattle.std.specs.Prelude.{bytes_eq}
-use Rattle.std.proofs.lemmas.Bool.{cases_Bool}
-use Rattle.std.proofs.lemmas.List.{length-append}
-use Rattle.history_model.specs.declared.entries.Entry.{Entry}
+use Rattle.std.{specs.Prelude.bytes_eq, proofs.lemmas.Bool.cases_Bool, proofs.lemmas.List.length-append}
+use Rattle.history_model.specs.{declared.entries.Entry.Entry, declared.publication.Publication.Publication, declared.setting.Setting.Setting, Allowed.MayFollow}
 use Rattle.history_model.specs.declared.entries.Entry.TheVariants as entry
-use Rattle.history_model.specs.declared.publication.Publication.{Publication}
-use Rattle.history_model.specs.declared.setting.Setting.{Setting}
-use Rattle.history_model.specs.Allowed.{MayFollow}
 use Rattle.history_model.specs.Laws.{PublicationIsLast, PublicationStays, CutsGrow, VersionsStay}
-use Rattle.history_model.specs.Penalties.{setting_of, penalty_of, length_of, IsSetting, SettingIsSet, SettingStays}
-use Rattle.history_model.specs.Positions.{positions}
+use Rattle.history_model.specs.{Penalties.{setting_of, penalty_of, length_of, IsSetting, SettingIsSet, SettingStays}, Positions.positions}
 use Rattle.segment_model.specs.Segments.{Position}
-use Rattle.segment_cost.specs.Certificate.{StandsFor}
+use Rattle.segment_cost.specs.{Certificate.StandsFor, declared.done.Done.Done}
 use Rattle.history_model.specs.Publications.{publication_of, last_publication, cut_count, cuts_in, IsBaseAt, IsUpTo, MayPublish}
-use Rattle.machine_state.specs.Made.{entry_of}
+use Rattle.machine_state.specs.{Made.entry_of, Indexes.given_after, Made.{Segmentations, publication_from, IsMadeFrom, IsPlain}, State.IsKept}
 use Rattle.history_model.specs.Runs.{Series, is_known, same_series}
-use Rattle.segment_cost.specs.declared.done.Done.{Done}
 use Rattle.publication_index.specs.Kept.{kept, series_of}
 use Rattle.track_model.specs.Publishing.{redone_since}
-use Rattle.machine_state.specs.Indexes.{given_after}
-use Rattle.machine_state.specs.Made.{Segmentations, publication_from, IsMadeFrom, IsPlain}
-use Rattle.machine_state.specs.State.{IsKept}
 
 -- ---- settings
 pub setting-after : SettingIsSet → SettingStays → (h : List Entry) (e : Entry) (metric : List ℕ) → setting_of metric (h ++ e ∷ []) ≡ given_after e metric (setting_of metric h)

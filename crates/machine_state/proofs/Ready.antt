@@ -1,34 +1,22 @@
 -- The indexes of a history are ready for each entry that is allowed after it.
 use Rattle.std.proofs.Common.{◌≡◌, ℕ, ◌+◌, ◌<◌, ◌≤◌, false, true, List, [], ◌∷◌, ◌++◌, length, map, refl, sym, ap, ◌∙◌, cond, Option, arith, nat_lt}
-use Rattle.std.specs.Prelude.{Some, None, IsSome, find, option_map}
-use Rattle.std.proofs.lemmas.Bool.{lt-leb, le-ltb}
-use Rattle.std.proofs.lemmas.List.{length-append, length-map}
+use Rattle.std.{specs.Prelude.{Some, None, IsSome, find, option_map}, proofs.lemmas.Bool.{lt-leb, le-ltb}, proofs.lemmas.List.{length-append, length-map}}
 use Rattle.std.proofs.lemmas.List.Sums.{sum_by-cons, sum_by_push}
 use Rattle.metric_table.specs.Limits.{most}
 use Rattle.metric_table.specs.declared.limits.Limit.TheVariants as limit
-use Rattle.history_model.specs.declared.entries.Acceptance.{Acceptance}
-use Rattle.history_model.specs.declared.entries.Declaration.{Declaration}
-use Rattle.history_model.specs.declared.entries.Entry.{Entry}
+use Rattle.history_model.specs.declared.{entries.Acceptance.Acceptance, entries.Declaration.Declaration, entries.Entry.Entry, run.Run.Run}
 use Rattle.history_model.specs.declared.entries.Entry.TheVariants as entry
-use Rattle.history_model.specs.declared.run.Run.{Run}
-use Rattle.history_model.specs.Allowed.{Allowed}
-use Rattle.history_model.specs.Commits.{declaration, declarations, has_number, has_name}
-use Rattle.history_model.specs.Runs.{Retraction, acceptance, acceptances, accepted, retractions, takes_back, is_run, sample_count}
-use Rattle.history_model.proofs.Chosen.{chosen-push}
-use Rattle.history_model.proofs.Lists.{find-passes, same-bytes}
+use Rattle.history_model.specs.{Allowed.Allowed, Commits.{declaration, declarations, has_number, has_name}}
+use Rattle.history_model.{specs.Runs.{Retraction, acceptance, acceptances, accepted, retractions, takes_back, is_run, sample_count}, proofs.Chosen.chosen-push}
+use Rattle.history_model.{proofs.Lists.{find-passes, same-bytes}, specs.Followed.NumbersAreTwo}
 use Rattle.track_model.proofs.Rows.{option_map-none}
 use Rattle.order_index.specs.Judged as pair
 use Rattle.order_index.specs.declared.declared.Declared.TheVariants as declared
 use Rattle.sample_store.specs.Judged as run
-use Rattle.sample_store.specs.Runs.{names, samples_in}
+use Rattle.sample_store.specs.{Runs.{names, samples_in}, declared.store.Stored.Stored}
 use Rattle.sample_store.specs.declared.answers.Accepted.TheVariants as taken
-use Rattle.sample_store.specs.declared.store.Stored.{Stored}
-use Rattle.machine_state.specs.Indexes.{stored, stored_runs, IsReady}
-use Rattle.history_model.specs.Followed.{NumbersAreTwo}
-use Rattle.machine_state.specs.declared.following.Following.{Following}
-use Rattle.machine_state.specs.Following.{AreFollowed}
-use Rattle.machine_state.proofs.Followed.{followable}
-use Rattle.machine_state.proofs.Marks.{look-up}
+use Rattle.machine_state.specs.{Indexes.{stored, stored_runs, IsReady}, declared.following.Following.Following, Following.AreFollowed}
+use Rattle.machine_state.proofs.{Followed.followable, Marks.look-up}
 
 pair-new : (commits : List Declaration) (number : ℕ) (name : List ℕ) → find (has_number number) commits ≡ None → find (has_name name) commits ≡ None → length commits < most limit.Commits → pair.judged commits number name ≡ declared.New
 pair-new commits number name no_number no_name room =

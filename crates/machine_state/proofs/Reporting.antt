@@ -1,24 +1,16 @@
 -- The lines made from a state's series are those of its history.
-use Rattle.std.proofs.Common.{◌≡◌, ℕ, ℤ, List, length, take, refl, sym, ap, subst, ◌∙◌, Option, Some, None}
-use Rattle.std.proofs.lemmas.List.Elements.{All-weaker}
+use Rattle.std.proofs.{Common.{◌≡◌, ℕ, ℤ, List, length, take, refl, sym, ap, subst, ◌∙◌, Option, Some, None}, lemmas.List.Elements.All-weaker}
 use Rattle.segment_model.specs.Segments.{Position, values_of}
 use Rattle.segment_cost.specs.declared.done.Done.{Done}
 use Rattle.change_list.specs.Last.{IsLastCentre}
-use Rattle.history_model.specs.Allowed.{Legal}
-use Rattle.history_model.specs.Laws.{LastStands}
-use Rattle.history_model.specs.Positions.{positions}
-use Rattle.history_model.specs.Publications.{last_publication, published, spoken_of}
-use Rattle.history_model.specs.Runs.{Series}
-use Rattle.history_model.specs.declared.entries.Entry.{Entry}
-use Rattle.history_model.specs.declared.publication.Publication.{Publication}
+use Rattle.history_model.specs.{Allowed.Legal, Laws.LastStands, Positions.positions, Publications.{last_publication, published, spoken_of}, Runs.Series}
+use Rattle.history_model.specs.declared.{entries.Entry.Entry, publication.Publication.Publication}
 use Rattle.publication_index.specs.Kept.{kept, series_of}
 use Rattle.report_lines.specs.SeriesLines.{AreLines, IsLine, IsOfKept}
 use Rattle.report_model.specs.declared.items.SeriesLine.{SeriesLine}
 use Rattle.series_index.specs.Seen.{seen}
 use Rattle.track_model.specs.Reports.{AreSeriesLines, IsOfLast, IsSeriesLine, series_in}
-use Rattle.machine_state.specs.Indexes.{Kept}
-use Rattle.machine_state.specs.Made.{Segmentations}
-use Rattle.machine_state.specs.State.{IsKept, IsTracked}
+use Rattle.machine_state.specs.{Indexes.Kept, Made.Segmentations, State.{IsKept, IsTracked}}
 
 -- ---- series
 last-of : (h : List Entry) (s : Series) (last : Option Publication) (done : Option Done) (changes : Option ℕ) (centre : Option ℤ) → IsKept h last done

@@ -1,30 +1,19 @@
 -- The series of a state: ready for an entry that is allowed, and after it.
 use Rattle.std.proofs.Common.{◌≡◌, ℕ, ◌+◌, ◌<◌, ◌≤◌, Bool, true, false, cond, ◌||◌, List, [], ◌∷◌, ◌++◌, length, map, All, refl, sym, ap, ◌∙◌, subst, Option, Some, None, inl, inr, arith}
-use Rattle.std.specs.Prelude.{IsSome, unwrap_or, option_map}
-use Rattle.std.specs.List.{list_any}
-use Rattle.std.proofs.lemmas.Bool.{cases_Bool, ne_eqb}
-use Rattle.std.proofs.lemmas.List.{length-append}
-use Rattle.std.proofs.lemmas.List.Elements.{All-weaker}
-use Rattle.std.proofs.lemmas.List.Folds.{list_any-append}
-use Rattle.segment_model.specs.Segments.{Observation, Position, values_of}
-use Rattle.segment_model.specs.Limits.{IsSmall}
-use Rattle.segment_model.specs.Edits.{removed, has_commit}
+use Rattle.std.{specs.Prelude.{IsSome, unwrap_or, option_map}, specs.List.list_any, proofs.lemmas.Bool.{cases_Bool, ne_eqb}, proofs.lemmas.List.length-append}
+use Rattle.std.proofs.lemmas.List.{Elements.All-weaker, Folds.list_any-append}
+use Rattle.segment_model.specs.{Segments.{Observation, Position, values_of}, Limits.IsSmall, Edits.{removed, has_commit}}
 use Rattle.point_list.specs.Places.{CameBy}
-use Rattle.history_model.specs.declared.entries.Acceptance.{Acceptance}
-use Rattle.history_model.specs.declared.entries.Entry.{Entry}
+use Rattle.history_model.specs.{declared.entries.Acceptance.Acceptance, declared.entries.Entry.Entry, Allowed.{Allowed, Legal}}
 use Rattle.history_model.specs.declared.entries.Entry.TheVariants as entry
-use Rattle.history_model.specs.Allowed.{Allowed, Legal}
 use Rattle.history_model.specs.Laws.{with_all, PositionsAfterAccept, PositionsAfterRetract, PositionsUntouched, PositionsAreFresh, StepsArePast, SeriesHaveRoom, OnlyAcceptedAreRetracted}
 use Rattle.history_model.specs.Positions.{Brought, positions}
 use Rattle.sample_model.specs.Samples.{Measurement, IsSample}
 use Rattle.history_model.specs.Runs.{Series, is_of, acceptance, acceptances, accepted, retraction, retractions, retracted, known_series, series_of}
 use Rattle.history_model.proofs.Chosen.{chosen-push, chosen-skip}
 use Rattle.sample_store.specs.declared.store.Stored.{Stored}
-use Rattle.series_index.specs.Seen.{seen, with_sample, without, forgotten}
-use Rattle.series_index.specs.Taken.{of_series, with_samples}
-use Rattle.series_index.specs.declared.tracked.Tracked.{Tracked}
-use Rattle.machine_state.specs.Indexes.{Kept, stored, stored_runs, found_run, given_back, seen_after, TakesIn}
-use Rattle.machine_state.specs.State.{IsPast, IsTracked}
+use Rattle.series_index.specs.{Seen.{seen, with_sample, without, forgotten}, Taken.{of_series, with_samples}, declared.tracked.Tracked.Tracked}
+use Rattle.machine_state.specs.{Indexes.{Kept, stored, stored_runs, found_run, given_back, seen_after, TakesIn}, State.{IsPast, IsTracked}}
 use Rattle.machine_state.proofs.Marks.{look-up}
 use Rattle.series_index.proofs.Firsts.{or-false, known-with}
 

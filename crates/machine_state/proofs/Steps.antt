@@ -1,14 +1,8 @@
 -- How an outcome makes a step: an answer that adds nothing, or an entry.
-use Rattle.std.proofs.Common.{◌≡◌, ◌+◌, length, refl}
-use Rattle.std.specs.Prelude.{Some}
-use Rattle.history_model.specs.declared.entries.Author.{Author}
-use Rattle.history_model.specs.declared.entries.Entry.{Entry}
-use Rattle.history_model.specs.Entries.{entries_of}
-use Rattle.request_model.specs.declared.replies.Answer.{Answer}
-use Rattle.request_model.specs.declared.replies.Reply.{Reply}
-use Rattle.track_model.specs.Outcomes.{Outcome, tells}
-use Rattle.track_model.specs.Replies.{reply_of}
-use Rattle.track_model.specs.Tracks.{Track, IsStep, with_entry}
+use Rattle.std.{proofs.Common.{◌≡◌, ◌+◌, length, refl}, specs.Prelude.Some}
+use Rattle.history_model.specs.{declared.entries.Author.Author, declared.entries.Entry.Entry, Entries.entries_of}
+use Rattle.request_model.specs.declared.replies.{Answer.Answer, Reply.Reply}
+use Rattle.track_model.specs.{Outcomes.{Outcome, tells}, Replies.reply_of, Tracks.{Track, IsStep, with_entry}}
 
 module _ (old : Track) (author : Author) (o : Outcome) where
   pub told-step : (answer : Answer) (reply : Reply) → o ≡ tells answer → reply ≡ reply_of (entries_of old.history) (tells answer) → IsStep old author o old reply

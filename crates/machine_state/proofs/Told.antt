@@ -1,13 +1,9 @@
 -- What a form about a series comes to where nothing is done, and where something is.
 use Rattle.std.proofs.Common.{◌≡◌, ℕ, Bool, true, false, refl, sym, ap}
-use Rattle.history_model.specs.declared.entries.Author.{Author}
-use Rattle.history_model.specs.Entries.{entries_of}
-use Rattle.request_model.specs.declared.replies.Answer.{Answer}
-use Rattle.request_model.specs.declared.replies.Reply.{Reply}
+use Rattle.history_model.specs.{declared.entries.Author.Author, Entries.entries_of}
+use Rattle.request_model.specs.declared.replies.{Answer.Answer, Reply.Reply}
 use Rattle.request_model.specs.declared.replies.Refusal.TheVariants as refusal
-use Rattle.track_model.specs.Outcomes.{Outcome, tells, refuses}
-use Rattle.track_model.specs.Publishing.{OfKnown, OfFactor, OfMany}
-use Rattle.track_model.specs.Replies.{reply_of}
+use Rattle.track_model.specs.{Outcomes.{Outcome, tells, refuses}, Publishing.{OfKnown, OfFactor, OfMany}, Replies.reply_of}
 use Rattle.track_model.specs.Tracks.{Track, IsStep, IsTold, with_added}
 
 -- an outcome that tells something and adds nothing

@@ -1,11 +1,7 @@
 -- What a run more asks of the series of a history.
 use Rattle.std.specs.Prelude.{◌≡◌, ◌↔◌, ◌+◌, ◌<◌, ◌≤◌, false, IsTrue, List, filter, length}
-use Rattle.segment_model.specs.Segments.{values_of}
-use Rattle.segment_model.specs.Edits.{has_commit}
-use Rattle.history_model.specs.Positions.{positions}
-use Rattle.history_model.specs.declared.entries.Entry.{Entry}
-use Rattle.history_model.specs.declared.run.Run.{Run}
-use Rattle.history_model.specs.Runs.{Series, is_of, new_series}
+use Rattle.segment_model.specs.{Segments.values_of, Edits.has_commit}
+use Rattle.history_model.specs.{Positions.positions, declared.entries.Entry.Entry, declared.run.Run.Run, Runs.{Series, is_of, new_series}}
 use Rattle.series_index.specs.declared.demand.Demand.{Demand}
 
 -- how many series are new, and whether each that it has has room

@@ -1,22 +1,13 @@
 -- What is followed of a machine, as it follows from its history.
 use Rattle.std.specs.Prelude.{◌≡◌, ℕ, ◌≤◌, true, if◌then◌else◌, List, [], ◌∷◌, ◌++◌, length, Option, Some, None}
-use Rattle.bisect_core.specs.Bisections.{Bisection, bisection}
-use Rattle.bisect_core.specs.Turns.{tested, given_up}
-use Rattle.regression_state.specs.declared.states.State.{State}
-use Rattle.regression_state.specs.declared.states.State.TheVariants.{Detected}
-use Rattle.history_model.specs.declared.entries.Declaration.{Declaration}
-use Rattle.history_model.specs.declared.entries.Entry.{Entry}
+use Rattle.bisect_core.specs.{Bisections.{Bisection, bisection}, Turns.{tested, given_up}}
+use Rattle.regression_state.specs.declared.states.State.{State, TheVariants.Detected}
+use Rattle.history_model.specs.declared.{entries.Declaration.Declaration, entries.Entry.Entry, events.JobEvent.JobEvent}
 use Rattle.history_model.specs.declared.entries.Entry.TheVariants as entry
-use Rattle.history_model.specs.declared.events.JobEvent.{JobEvent}
-use Rattle.history_model.specs.declared.events.JobEvent.TheVariants.{Begin, Answer, GiveUp}
-use Rattle.history_model.specs.declared.events.RegressionEvent.{RegressionEvent}
-use Rattle.history_model.specs.declared.events.RegressionEvent.TheVariants.{Raise, Move}
-use Rattle.history_model.specs.Commits.{numbers_between}
-use Rattle.history_model.specs.Jobs.{jobs, job_in, place_asked}
+use Rattle.history_model.specs.declared.events.{JobEvent.TheVariants.{Begin, Answer, GiveUp}, RegressionEvent.RegressionEvent}
+use Rattle.history_model.specs.{declared.events.RegressionEvent.TheVariants.{Raise, Move}, Commits.numbers_between, Jobs.{jobs, job_in, place_asked}}
 use Rattle.history_model.specs.Regressions.{regressions, state_of, is_number}
-use Rattle.follow_index.specs.declared.regressions.Followed.{Followed}
-use Rattle.follow_index.specs.Followed.{followed}
-use Rattle.follow_index.specs.Numbered.{IsMovedTo, GoesOn}
+use Rattle.follow_index.specs.{declared.regressions.Followed.Followed, Followed.followed, Numbered.{IsMovedTo, GoesOn}}
 use Rattle.machine_state.specs.declared.following.Following.{Following}
 
 -- the regressions and the jobs are those of the history

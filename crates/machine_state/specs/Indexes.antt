@@ -1,27 +1,19 @@
 -- The indexes of a state, as they follow from its history.
-use Rattle.std.specs.Prelude.{◌≡◌, ℕ, bytes_eq, if◌then◌else◌, List, [], ◌∷◌, ◌++◌, All, length, map, option_map, find, Option, Some, None}
-use Rattle.std.specs.List.{list_any}
+use Rattle.std.specs.{Prelude.{◌≡◌, ℕ, bytes_eq, if◌then◌else◌, List, [], ◌∷◌, ◌++◌, All, length, map, option_map, find, Option, Some, None}, List.list_any}
 use Rattle.segment_model.specs.Limits.{IsSmall}
-use Rattle.history_model.specs.declared.entries.Acceptance.{Acceptance}
-use Rattle.history_model.specs.declared.entries.Declaration.{Declaration}
-use Rattle.history_model.specs.declared.entries.Entry.{Entry}
+use Rattle.history_model.specs.declared.{entries.Acceptance.Acceptance, entries.Declaration.Declaration, entries.Entry.Entry, setting.Setting.Setting}
 use Rattle.history_model.specs.declared.entries.Entry.TheVariants as entry
-use Rattle.history_model.specs.declared.setting.Setting.{Setting}
 use Rattle.sample_model.specs.Samples.{Measurement}
 use Rattle.history_model.specs.Runs.{Retraction, Series, acceptances, retractions, takes_back, is_of}
 use Rattle.order_index.specs.Judged as pair
 use Rattle.order_index.specs.declared.declared.Declared.TheVariants as declared
 use Rattle.sample_store.specs.Judged as run
-use Rattle.sample_store.specs.Runs.{names, marked}
+use Rattle.sample_store.specs.{Runs.{names, marked}, declared.store.Stored.Stored}
 use Rattle.sample_store.specs.declared.answers.Accepted.TheVariants as accepted
 use Rattle.sample_store.specs.declared.answers.Retracted.TheVariants as retracted
-use Rattle.sample_store.specs.declared.store.Stored.{Stored}
 use Rattle.publication_index.specs.Given.{given}
-use Rattle.series_index.specs.Seen.{seen, without, undone}
-use Rattle.series_index.specs.Taken.{of_series, with_samples, HasRoomFor}
-use Rattle.series_index.specs.declared.tracked.Tracked.{Tracked}
-use Rattle.machine_state.specs.declared.following.Following.{Following}
-use Rattle.machine_state.specs.Following.{IsFollowable}
+use Rattle.series_index.specs.{Seen.{seen, without, undone}, Taken.{of_series, with_samples, HasRoomFor}, declared.tracked.Tracked.Tracked}
+use Rattle.machine_state.specs.{declared.following.Following.Following, Following.IsFollowable}
 
 -- an accepted run, with the step of its retraction
 abbrev pub stored : List Retraction → Acceptance → Stored

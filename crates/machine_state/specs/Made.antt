@@ -1,17 +1,9 @@
 -- What a finished segmentation has to do with the history that it was made from.
 use Rattle.std.specs.Prelude.{◌≡◌, ℕ, ◌≤◌, true, List, length, take}
-use Rattle.segment_cost.specs.Certificate.{StandsFor}
-use Rattle.segment_cost.specs.declared.done.Done.{Done}
-use Rattle.history_model.specs.declared.entries.Entry.{Entry}
-use Rattle.history_model.specs.declared.entries.Entry.TheVariants.{Publish}
-use Rattle.history_model.specs.declared.publication.Publication.{Publication}
-use Rattle.history_model.specs.Penalties.{setting_of}
-use Rattle.history_model.specs.declared.setting.Setting.{Setting}
-use Rattle.history_model.specs.Positions.{positions}
-use Rattle.history_model.specs.Publications.{IsBaseAt}
-use Rattle.history_model.specs.Runs.{is_known}
-use Rattle.publication_index.specs.declared.held.Held.{Held}
-use Rattle.publication_index.specs.Kept.{series_of}
+use Rattle.segment_cost.specs.{Certificate.StandsFor, declared.done.Done.Done}
+use Rattle.history_model.specs.declared.{entries.Entry.Entry, entries.Entry.TheVariants.Publish, publication.Publication.Publication}
+use Rattle.history_model.specs.{Penalties.setting_of, declared.setting.Setting.Setting, Positions.positions, Publications.IsBaseAt, Runs.is_known}
+use Rattle.publication_index.specs.{declared.held.Held.Held, Kept.series_of}
 use Rattle.track_model.specs.Publishing.{redone_since}
 
 -- the finished segmentations as an index keeps them

@@ -1,32 +1,17 @@
 -- What the indexes of a state keep to.
 use Rattle.std.specs.Prelude.{◌≡◌, ◌≤◌, ◌<◌, ℕ, true, false, List, length, take, Option, Some, None, is_some}
-use Rattle.segment_model.specs.Segments.{Position}
-use Rattle.history_model.specs.declared.entries.Declaration.{Declaration}
-use Rattle.history_model.specs.declared.entries.Entry.{Entry}
-use Rattle.history_model.specs.Allowed.{Legal, KeepsLimits}
-use Rattle.history_model.specs.Commits.{declarations}
-use Rattle.history_model.specs.Positions.{positions}
-use Rattle.history_model.specs.Runs.{Series, is_known, known_series}
+use Rattle.segment_model.specs.{Segments.Position, Values.values_by_position}
+use Rattle.history_model.specs.{declared.entries.Declaration.Declaration, declared.entries.Entry.Entry, Allowed.{Legal, KeepsLimits}, Commits.declarations}
+use Rattle.history_model.specs.{Positions.positions, Runs.{Series, is_known, known_series}, declared.publication.Publication.Publication}
 use Rattle.sample_store.specs.declared.store.Stored.{Stored}
-use Rattle.series_index.specs.Seen.{seen}
-use Rattle.series_index.specs.declared.tracked.Tracked.{Tracked}
-use Rattle.history_model.specs.declared.publication.Publication.{Publication}
-use Rattle.history_model.specs.Penalties.{setting_of, penalty_of, length_of, IsSetting}
-use Rattle.history_model.specs.Publications.{last_publication, cut_count}
+use Rattle.series_index.specs.{Seen.seen, declared.tracked.Tracked.Tracked}
+use Rattle.history_model.specs.{Penalties.{setting_of, penalty_of, length_of, IsSetting}, Publications.{last_publication, cut_count}, Entries.entries_of}
 use Rattle.segment_cost.specs.declared.done.Done.{Done}
-use Rattle.publication_index.specs.Given.{given}
-use Rattle.publication_index.specs.Kept.{kept, series_of}
+use Rattle.publication_index.specs.{Given.given, Kept.{kept, series_of}}
 use Rattle.request_model.specs.declared.replies.Refusal.{Refusal}
-use Rattle.track_model.specs.Outcomes.{refuses}
-use Rattle.track_model.specs.Publishing.{OfKnown, OfPublished}
-use Rattle.history_model.specs.Entries.{entries_of}
+use Rattle.track_model.specs.{Outcomes.refuses, Publishing.{OfKnown, OfPublished}, Tracks.{Track, base_of}}
 use Rattle.pelt_core.specs.Seen.{table_of}
-use Rattle.segment_model.specs.Values.{values_by_position}
-use Rattle.track_model.specs.Tracks.{Track, base_of}
-use Rattle.machine_state.specs.declared.base.Base.{Base}
-use Rattle.machine_state.specs.declared.following.Following.{Following}
-use Rattle.machine_state.specs.Following.{AreFollowed}
-use Rattle.machine_state.specs.Indexes.{Kept, Settings, stored_runs}
+use Rattle.machine_state.specs.{declared.base.Base.Base, declared.following.Following.Following, Following.AreFollowed, Indexes.{Kept, Settings, stored_runs}}
 use Rattle.machine_state.specs.Made.{Segmentations, publication_from, IsMadeFrom}
 
 -- a step that came, if it is one

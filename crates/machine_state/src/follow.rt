@@ -1,15 +1,12 @@
 //! The indexes after an entry.
 ghost use Rattle.std.specs.Prelude.{◌≡◌, ℕ, List, ◌++◌, [], ◌∷◌, OnOk, OnErr, option_to_list, None};
-ghost use Rattle.history_model.specs.Commits.{declaration};
-ghost use Rattle.history_model.specs.Runs.{Series};
+ghost use Rattle.history_model.specs.{Commits.declaration, Runs.Series};
 ghost use Rattle.history_model.specs.declared.entries.Entry.TheVariants as entry;
 ghost use Rattle.publication_index.specs.Given.{given};
 ghost use Rattle.sample_store.specs.Judged as judge;
 ghost use Rattle.sample_store.specs.declared.answers.Accepted.TheVariants as accepted;
-ghost use Rattle.series_index.specs.Seen.{seen};
-ghost use Rattle.series_index.specs.Taken.{of_series, with_samples};
-ghost use Rattle.machine_state.specs.Following.{IsFollowed};
-ghost use Rattle.machine_state.specs.Indexes.{IsReady, TakesIn, runs_after, given_back, found_run, seen_after, given_after, AreSame};
+ghost use Rattle.series_index.specs.{Seen.seen, Taken.{of_series, with_samples}};
+ghost use Rattle.machine_state.specs.{Following.IsFollowed, Indexes.{IsReady, TakesIn, runs_after, given_back, found_run, seen_after, given_after, AreSame}};
 
 use crate::NoMemory;
 use crate::following::{Following, follow_job, follow_regression};

@@ -1,12 +1,8 @@
 //! What the indexes tell of commits, runs, regressions and bisections.
 ghost use Rattle.std.specs.Prelude.{◌≡◌, ◌≤◌, IfOk, is_some, length};
-ghost use Rattle.history_model.specs.Commits.{declarations, name_of, number_of};
-ghost use Rattle.history_model.specs.Entries.{entries_of};
-ghost use Rattle.history_model.specs.Jobs.{jobs};
-ghost use Rattle.history_model.specs.Runs.{accepted, acceptances, known_series, sample_count};
+ghost use Rattle.history_model.specs.{Commits.{declarations, name_of, number_of}, Entries.entries_of, Jobs.jobs, Runs.{accepted, acceptances, known_series, sample_count}};
 ghost use Rattle.follow_index.specs.Followed.{followed};
-ghost use Rattle.machine_state.specs.Asked.{Asks};
-ghost use Rattle.machine_state.specs.Indexes.{stored_runs};
+ghost use Rattle.machine_state.specs.{Asked.Asks, Indexes.stored_runs};
 
 use crate::NoMemory;
 use crate::state::MachineState;

@@ -1,13 +1,8 @@
 //! What the indexes tell of a series.
 ghost use Rattle.std.specs.Prelude.{◌≡◌, ◌↔◌, true, Contains, IfErr, IfOk, OnErr, OnOk, option_copied};
-ghost use Rattle.history_model.specs.Entries.{entries_of};
-ghost use Rattle.history_model.specs.Penalties.{setting_of, IsSetting};
-ghost use Rattle.history_model.specs.Publications.{last_publication};
-ghost use Rattle.history_model.specs.Runs.{Series, is_known};
-ghost use Rattle.track_model.specs.Reports.{AreSeriesLines};
-ghost use Rattle.track_model.specs.Tracks.{is_setting, with_taken};
-ghost use Rattle.machine_state.specs.Made.{setting_in};
-ghost use Rattle.machine_state.specs.State.{HasNone, IsBegun, IsFound, IsKept, IsLast};
+ghost use Rattle.history_model.specs.{Entries.entries_of, Penalties.{setting_of, IsSetting}, Publications.last_publication, Runs.{Series, is_known}};
+ghost use Rattle.track_model.specs.{Reports.AreSeriesLines, Tracks.{is_setting, with_taken}};
+ghost use Rattle.machine_state.specs.{Made.setting_in, State.{HasNone, IsBegun, IsFound, IsKept, IsLast}};
 
 use crate::NoMemory;
 use crate::base::Base;

@@ -2,9 +2,7 @@
 ghost use Rattle.std.specs.Prelude.{◌≡◌, ◌+◌, ◌≤◌, IfOk, OnOk, OnErr, length};
 ghost use Rattle.metric_table.specs.Limits.{most};
 ghost use Rattle.metric_table.specs.declared.limits.Limit.TheVariants as limit;
-ghost use Rattle.history_model.specs.Allowed.{Allowed};
-ghost use Rattle.history_model.specs.Entries.{entries_of};
-ghost use Rattle.history_model.specs.Publications.{cut_count};
+ghost use Rattle.history_model.specs.{Allowed.Allowed, Entries.entries_of, Publications.cut_count};
 ghost use Rattle.history_model.specs.declared.entries.Entry.TheVariants as entry;
 ghost use Rattle.publication_index.specs.Standing.{table_for};
 ghost use Rattle.track_model.specs.Tracks.{with_publication};

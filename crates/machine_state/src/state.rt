@@ -1,11 +1,7 @@
 //! The state of a machine: its entries, and how one is added.
 ghost use Rattle.std.specs.Prelude.{◌≡◌, ◌+◌, ◌-◌, ◌<◌, [], ◌∷◌, ◌++◌, IfOk, OnOk, OnErr, length, slice_get, option_copied, None};
-ghost use Rattle.history_model.specs.Entries.{entries_of};
-ghost use Rattle.history_model.specs.Allowed.{Allowed, KeepsLimits, Legal};
-ghost use Rattle.history_model.specs.Runs.{known_series};
-ghost use Rattle.track_model.specs.Outcomes.{tells};
-ghost use Rattle.track_model.specs.Replies.{reply_of};
-ghost use Rattle.track_model.specs.Tracks.{new_track, with_entry};
+ghost use Rattle.history_model.specs.{Entries.entries_of, Allowed.{Allowed, KeepsLimits, Legal}, Runs.known_series};
+ghost use Rattle.track_model.specs.{Outcomes.tells, Replies.reply_of, Tracks.{new_track, with_entry}};
 ghost use Rattle.machine_state.specs.Made.{IsPlain};
 
 use crate::NoMemory;
@@ -43,10 +39,9 @@ pub struct MachineState {
 
 impl Model for MachineState {
     ghost use Rattle.history_model.specs.Entries.{entries_of};
-    ghost use Rattle.track_model.specs.Tracks.{Track};
+    ghost use Rattle.track_model.specs.Tracks.{Track, coded_home};
     ghost use Rattle.std.specs.Coded.{codes};
     ghost use Rattle.publication_index.specs.Homes.{homes};
-    ghost use Rattle.track_model.specs.Tracks.{coded_home};
     ghost use Rattle.machine_state.specs.State.{StandsFor};
 
     ghost Value = { Track };

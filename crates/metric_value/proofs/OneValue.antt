@@ -1,10 +1,6 @@
 -- A text has one value by a metric, and what is written is read back.
-use Rattle.std.proofs.Common.{ℕ, ℤ, ◌≤◌, List, subst, arith}
-use Rattle.std.proofs.lemmas.Bool.Decides.{nat_tests}
-use Rattle.fixed_value.specs.declared.numeral.Numeral.{Numeral}
-use Rattle.fixed_value.specs.Numerals.{IsNumeralText, NumeralIsOne}
-use Rattle.fixed_value.specs.Scaled.{IsScaled, ScaledIsOne}
-use Rattle.fixed_value.specs.Fixed.{FixedIsReadBack}
+use Rattle.std.proofs.{Common.{ℕ, ℤ, ◌≤◌, List, subst, arith}, lemmas.Bool.Decides.nat_tests}
+use Rattle.fixed_value.specs.{declared.numeral.Numeral.Numeral, Numerals.{IsNumeralText, NumeralIsOne}, Scaled.{IsScaled, ScaledIsOne}, Fixed.FixedIsReadBack}
 use Rattle.metric_table.specs.Table.{row_of}
 use Rattle.metric_value.specs.Values.{IsValueOf, ValueIsOne, ValueIsReadBack}
 

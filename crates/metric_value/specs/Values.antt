@@ -1,9 +1,6 @@
 -- The value of a numeral's text by a metric, and the text that is written of a value.
 use Rattle.std.specs.Prelude.{◌≡◌, ℕ, ℤ, ◌≤◌, ◌<◌, ◌^◌, List, All, unsigned_abs}
-use Rattle.fixed_value.specs.declared.numeral.Numeral.{Numeral}
-use Rattle.fixed_value.specs.Fixed.{fixed_text, IsFixedByte}
-use Rattle.fixed_value.specs.Numerals.{IsNumeralText}
-use Rattle.fixed_value.specs.Scaled.{IsScaled}
+use Rattle.fixed_value.specs.{declared.numeral.Numeral.Numeral, Fixed.{fixed_text, IsFixedByte}, Numerals.IsNumeralText, Scaled.IsScaled}
 use Rattle.metric_table.specs.Table.{row_of}
 
 -- the text is a numeral, and this is its value by the metric: in units of the metric's last decimal, rounded to the

@@ -1,8 +1,7 @@
 //! A value by a metric, read and written.
 ghost use Rattle.std.specs.Prelude.{◌≡◌, ◌≤◌, ◌^◌, ◌++◌, ℤ, IfOk, OnOk, OnErr, unsigned_abs};
 ghost use Rattle.fixed_value.specs.Numerals.{HasNumeral};
-ghost use Rattle.metric_value.specs.Values.{value_text, IsValueOf, IsOutOfRange, HasNoneInRange, IsReadBackBy};
-ghost use Rattle.metric_value.specs.Values.{ValueIsOne, ValueIsReadBack};
+ghost use Rattle.metric_value.specs.Values.{value_text, IsValueOf, IsOutOfRange, HasNoneInRange, IsReadBackBy, ValueIsOne, ValueIsReadBack};
 
 use crate::NoMemory;
 use fixed_value::{Numeral, OutOfRange, fixed_law, numeral_law, put_fixed, scale, scaled_law};

@@ -1,15 +1,9 @@
 -- What is found of a name says where it stands, and what isn't found that it stands nowhere.
 use Rattle.std.proofs.Common.{◌≡◌, ◌≢◌, ◌↔◌, ℕ, zero, suc, ◌+◌, ◌<◌, ◌≤◌, Bool, true, false, cond, not, List, [], ◌∷◌, length, get_or, refl, sym, ap, subst, ◌∙◌, Some, None, inl, inr, arith, nat_lt}
-use Rattle.std.specs.Prelude.{IsTrue, bytes_eq, position, ◌++◌}
-use Rattle.std.specs.List.{position_or_len}
-use Rattle.std.specs.Ordering.{nat_cmp}
-use Rattle.std.specs.Cmp.Lexicographic.{slice_cmp}
-use Rattle.std.specs.BTreeMap.{BTreeMap, get, Updates}
-use Rattle.std.proofs.lemmas.Bool.{cases_Bool, cases_lt, lt-ltb, le-ltb}
-use Rattle.std.proofs.lemmas.Map.Text.{is_eq-slice_cmp}
+use Rattle.std.specs.{Prelude.{IsTrue, bytes_eq, position, ◌++◌}, List.position_or_len, Ordering.nat_cmp, Cmp.Lexicographic.slice_cmp}
+use Rattle.std.{specs.BTreeMap.{BTreeMap, get, Updates}, proofs.lemmas.Bool.{cases_Bool, cases_lt, lt-ltb, le-ltb}, proofs.lemmas.Map.Text.is_eq-slice_cmp}
 use Rattle.std.proofs.lemmas.Slice.Eq.{bytes_eq-Decides}
-use Rattle.name_index.specs.declared.places.Places.{Places}
-use Rattle.name_index.specs.Placed.{slot, hard_hash, IsAt, AreFound, AreDistinct, StandsAt}
+use Rattle.name_index.specs.{declared.places.Places.Places, Placed.{slot, hard_hash, IsAt, AreFound, AreDistinct, StandsAt}}
 
 -- a name of the list is found: in its slot, by its hash, or by itself
 pub nowhere : (names : List (List ℕ)) (p : Places) (name : List ℕ) → AreFound names p

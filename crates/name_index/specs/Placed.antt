@@ -1,9 +1,7 @@
 -- No public contract cites this. Where the names of a list are found.
-use Rattle.std.specs.Prelude.{◌≡◌, ◌≢◌, ◌⊎◌, ℕ, ◌+◌, ◌<◌, ◌%◌, List, [], length, get_or, Some, None}
+use Rattle.std.specs.{Prelude.{◌≡◌, ◌≢◌, ◌⊎◌, ℕ, ◌+◌, ◌<◌, ◌%◌, List, [], length, get_or, Some, None}, Ordering.nat_cmp, Cmp.Lexicographic.slice_cmp}
 use Rattle.std.specs.Hash.FoldHasher as fold
 use Rattle.std.specs.Hash.DefaultHasher as sip
-use Rattle.std.specs.Ordering.{nat_cmp}
-use Rattle.std.specs.Cmp.Lexicographic.{slice_cmp}
 use Rattle.std.specs.BTreeMap.{get}
 use Rattle.name_index.specs.declared.places.Places.{Places}
 

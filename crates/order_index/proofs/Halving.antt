@@ -1,15 +1,9 @@
 -- What is found by halving among declarations whose numbers rise.
 use Rattle.std.proofs.Common.{◌≡◌, ◌≤◌, ◌<◌, ℕ, zero, suc, Bool, true, false, cond, List, [], ◌∷◌, ◌++◌, filter, length, take, drop, find, Some, None, refl, sym, ap, ◌∙◌, subst, arith, inl, inr, ◌⊎◌, nat_eq, Less}
-use Rattle.std.specs.Prelude.{slice_get, is_some}
-use Rattle.std.specs.List.{list_any, AllByRecursion}
-use Rattle.std.specs.List.Sorted.{IsStrictlySortedBy}
-use Rattle.std.specs.Ordering.{nat_cmp}
-use Rattle.std.proofs.lemmas.Bool.{cases_Bool, false≢true, eqb-true, eq-eqb, ne_eqb, lt-ltb}
-use Rattle.std.proofs.lemmas.List.{take_all}
-use Rattle.history_model.specs.declared.entries.Declaration.{Declaration}
-use Rattle.history_model.specs.Commits.{has_number, name_in, numbers_between}
-use Rattle.order_index.specs.Between.{is_between}
-use Rattle.order_index.specs.Kept.{AreAbove, AreBelow, AreFrom, IsRising, numbers_of}
+use Rattle.std.specs.{Prelude.{slice_get, is_some}, List.{list_any, AllByRecursion}, List.Sorted.IsStrictlySortedBy, Ordering.nat_cmp}
+use Rattle.std.proofs.lemmas.{Bool.{cases_Bool, false≢true, eqb-true, eq-eqb, ne_eqb, lt-ltb}, List.take_all}
+use Rattle.history_model.specs.{declared.entries.Declaration.Declaration, Commits.{has_number, name_in, numbers_between}}
+use Rattle.order_index.specs.{Between.is_between, Kept.{AreAbove, AreBelow, AreFrom, IsRising, numbers_of}}
 use Rattle.order_index.proofs.BetweenKeys.{between-from, between-to, between-of}
 
 -- what holds of all holds of the one at a place

@@ -1,7 +1,6 @@
 -- The place of the first element that passes a test, and that element.
 use Rattle.std.proofs.Common.{◌≡◌, ℕ, suc, ◌+◌, Bool, true, false, cond, List, [], ◌∷◌, ◌++◌, length, refl, sym, ap, ◌∙◌, Option, Some, None, find, arith}
-use Rattle.std.specs.Prelude.{is_some, slice_get}
-use Rattle.std.specs.List.{position_from}
+use Rattle.std.specs.{Prelude.{is_some, slice_get}, List.position_from}
 
 -- at the place there is the element
 pub placed-is : {A : Type 0} (p : A → Bool) (from : ℕ) (xs : List A) (i : ℕ) → position_from p from xs ≡ Some i

@@ -1,10 +1,7 @@
 -- No public contract cites this. What an index of commits keeps.
-use Rattle.std.specs.Prelude.{◌≡◌, ℕ, ◌<◌, ◌≤◌, List, [], ◌∷◌, map, Option, Some, None}
-use Rattle.std.specs.List.{position_from, AllByRecursion}
-use Rattle.std.specs.Ordering.{nat_cmp}
+use Rattle.std.specs.{Prelude.{◌≡◌, ℕ, ◌<◌, ◌≤◌, List, [], ◌∷◌, map, Option, Some, None}, List.{position_from, AllByRecursion}, Ordering.nat_cmp}
 use Rattle.std.specs.BTreeMap.{BTreeMap, get as at_number}
-use Rattle.history_model.specs.declared.entries.Declaration.{Declaration}
-use Rattle.history_model.specs.Commits.{has_number}
+use Rattle.history_model.specs.{declared.entries.Declaration.Declaration, Commits.has_number}
 use Rattle.order_index.specs.Judged.{AreApart}
 
 -- their names, in the order of declaration

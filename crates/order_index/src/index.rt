@@ -1,8 +1,7 @@
 //! The index of commits: look-ups, declarations, and the numbers in a range.
 ghost use Rattle.std.specs.Prelude.{◌≡◌, ◌≢◌, ◌++◌, ◌∷◌, [], OnOk, OnErr, IfOk, length, find, option_copied, None};
 ghost use Rattle.history_model.specs.Commits.{has_number, has_name, number_in, name_in, numbers_between};
-ghost use Rattle.order_index.specs.Judged.{judged, AreApart};
-ghost use Rattle.order_index.specs.Kept.{AreFound};
+ghost use Rattle.order_index.specs.{Judged.{judged, AreApart}, Kept.AreFound};
 
 use crate::NoMemory;
 use crate::declared::Declared;

@@ -1,10 +1,7 @@
 //! Look-ups by number through a map from numbers to places, for declarations whose numbers don't rise.
-ghost use Rattle.std.specs.Prelude.{◌≡◌, ◌≤◌, IsTrue, IfOk, None, filter, find, option_copied, slice_get};
-ghost use Rattle.std.specs.Ordering.{nat_cmp};
-ghost use Rattle.std.specs.BTreeMap.{keys, IsOrdered, get as at_number};
+ghost use Rattle.std.specs.{Prelude.{◌≡◌, ◌≤◌, IsTrue, IfOk, None, filter, find, option_copied, slice_get}, Ordering.nat_cmp, BTreeMap.{keys, IsOrdered, get as at_number}};
 ghost use Rattle.history_model.specs.Commits.{has_number};
-ghost use Rattle.order_index.specs.Between.{is_between};
-ghost use Rattle.order_index.specs.Kept.{ArePlaced, IsRising};
+ghost use Rattle.order_index.specs.{Between.is_between, Kept.{ArePlaced, IsRising}};
 
 use crate::NoMemory;
 use history_model::Declaration;

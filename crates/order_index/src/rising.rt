@@ -1,8 +1,7 @@
 //! Look-ups by number among declarations whose numbers rise: no map is needed, since a number's place is found by halving.
 ghost use Rattle.std.specs.Prelude.{◌≡◌, ◌≤◌, IsTrue, IfOk, filter, find, length, option_copied, take, drop};
 ghost use Rattle.history_model.specs.Commits.{has_number};
-ghost use Rattle.order_index.specs.Between.{is_between};
-ghost use Rattle.order_index.specs.Kept.{AreBelow, AreFrom, IsRising, numbers_of};
+ghost use Rattle.order_index.specs.{Between.is_between, Kept.{AreBelow, AreFrom, IsRising, numbers_of}};
 
 use crate::NoMemory;
 use history_model::Declaration;

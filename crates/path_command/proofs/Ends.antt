@@ -1,12 +1,10 @@
 -- How a path ends, from what its parts promise.
-use Rattle.std.proofs.Common.{◌≡◌, ◌≤◌, ◌<◌, ◌^◌, ℤ, pos, ◌≤ℤ◌, FitsSigned, unsigned_abs, List, refl, subst, arith}
-use Rattle.std.specs.Int.{w128}
+use Rattle.std.{proofs.Common.{◌≡◌, ◌≤◌, ◌<◌, ◌^◌, ℤ, pos, ◌≤ℤ◌, FitsSigned, unsigned_abs, List, refl, subst, arith}, specs.Int.w128}
 use Rattle.std.proofs.lemmas.Int.{ints, fits_signed_from_abs}
 use Rattle.track_outside.specs.declared.sink.Sink as sink
 use Rattle.track_outside.specs.Calls.{IsUntouched}
 use Rattle.segment_model.specs.Segments.{Position}
-use Rattle.penalty_path.specs.declared.stretch.Stretch.{Stretch}
-use Rattle.penalty_path.specs.Paths.{IsPath, IsRange}
+use Rattle.penalty_path.specs.{declared.stretch.Stretch.Stretch, Paths.{IsPath, IsRange}}
 
 -- a sink that nothing was done to
 pub untouched : {O : Type 0} (g : sink.Ghosts O) (out : O) → IsUntouched g out out

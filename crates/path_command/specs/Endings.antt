@@ -1,17 +1,12 @@
 -- How a path ends, on its objects.
-use Rattle.std.specs.Io.KnownBytes.{IsAtEnd}
-use Rattle.std.specs.Prelude.{◌≡◌, ℕ, ℤ, ◌+◌, ◌^◌, ◌≤◌, List, Option}
+use Rattle.std.specs.{Io.KnownBytes.IsAtEnd, Prelude.{◌≡◌, ℕ, ℤ, ◌+◌, ◌^◌, ◌≤◌, List, Option}}
 use Rattle.track_outside.specs.Calls.{Took, FailedIn, IsUntouched, GaveAtMost}
 use Rattle.track_outside.specs.declared.source.Source as source
 use Rattle.track_outside.specs.declared.sink.Sink as sink
 use Rattle.segment_model.specs.Segments.{Position}
-use Rattle.cut_lines.specs.Reading.{AreInputPointsWithin}
-use Rattle.cut_lines.specs.Stops.{StopsWithin}
-use Rattle.penalty_path.specs.declared.stretch.Stretch.{Stretch}
-use Rattle.penalty_path.specs.Paths.{IsPath}
-use Rattle.penalty_path.specs.Text.{path_text}
-use Rattle.path_command.specs.declared.end.PathEnd.{PathEnd}
-use Rattle.path_command.specs.declared.end.PathEnd.TheVariants.{Done, Stopped, WriteFault}
+use Rattle.cut_lines.specs.{Reading.AreInputPointsWithin, Stops.StopsWithin}
+use Rattle.penalty_path.specs.{declared.stretch.Stretch.Stretch, Paths.IsPath, Text.path_text}
+use Rattle.path_command.specs.declared.end.PathEnd.{PathEnd, TheVariants.{Done, Stopped, WriteFault}}
 
 -- why a path ends so, as far as its input tells; of the output's fault nothing is said
 abbrev pub HasCause : {I : Type 0} → source.Ghosts I → I → I → PathEnd → Type 0

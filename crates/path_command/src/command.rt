@@ -1,7 +1,6 @@
 //! The command, from its input to its output.
 ghost use Rattle.std.specs.Prelude.{◌≡◌, IfOk};
-ghost use Rattle.penalty_path.specs.Paths.{IsRange};
-ghost use Rattle.penalty_path.specs.Text.{path_text};
+ghost use Rattle.penalty_path.specs.{Paths.IsRange, Text.path_text};
 ghost use Rattle.path_command.specs.Endings.{EndsInput, EndsPath};
 
 use crate::end::PathEnd;

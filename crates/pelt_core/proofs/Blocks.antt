@@ -1,15 +1,9 @@
 -- The bounds of the blocks of candidates.
 use Rattle.std.proofs.Common.{◌≡◌, ◌≢◌, ℕ, ℤ, zero, suc, ◌+◌, ◌*◌, ◌^◌, ◌<◌, ◌≤◌, List, [], ◌∷◌, ◌++◌, length, set, slice_index, inl, inr, refl, sym, ap, ◌∙◌, pos, neg_ℤ, ◌+ℤ◌, ◌≤ℤ◌, get_or-set_same, get_or-set_other, FitsSigned, arith}
-use Rattle.std.proofs.Math.ListN.{length-set}
-use Rattle.std.specs.Int.{w128}
-use Rattle.std.proofs.lemmas.Int.{ints}
-use Rattle.std.proofs.lemmas.Bool.{cases_lt, cases_eq}
+use Rattle.std.{proofs.Math.ListN.length-set, specs.Int.w128, proofs.lemmas.Int.ints, proofs.lemmas.Bool.{cases_lt, cases_eq}}
 use Rattle.std.proofs.lemmas.List.{length-append, get_or_append_left, get_or_push}
-use Rattle.segment_model.specs.Cuts.{Agree, Merges}
-use Rattle.segment_model.specs.Tables.{int_at, IsCandidate, IsFirstLeast}
-use Rattle.pelt_core.specs.declared.bounds.Bound.{Bound}
-use Rattle.pelt_core.specs.declared.bounds.Found.{Found}
-use Rattle.pelt_core.specs.Candidates.{total_from}
+use Rattle.segment_model.specs.{Cuts.{Agree, Merges}, Tables.{int_at, IsCandidate, IsFirstLeast}}
+use Rattle.pelt_core.specs.{declared.bounds.Bound.Bound, declared.bounds.Found.Found, Candidates.total_from}
 use Rattle.pelt_core.specs.Bounds.{bound_at, IsBound, HaveBounds, HaveMore, IsFirst, IsBelowBlock, IsLowered, IsMoved, AreInRange}
 
 abbrev pub no_bound : Bound

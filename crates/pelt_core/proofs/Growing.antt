@@ -1,18 +1,11 @@
 -- The row of the last of some positions: the rows before it, and what they come to with it.
 use Rattle.std.proofs.Common.{◌≡◌, ◌≢◌, ℕ, ℤ, Bool, true, false, List, [], ◌∷◌, ◌++◌, ◌+◌, ◌-◌, ◌*◌, ◌<◌, ◌≤◌, length, slice_index, filter, inl, inr, refl, ap, ◌∙◌, ◌+ℤ◌, arith}
-use Rattle.std.proofs.lemmas.Int.{ints}
-use Rattle.std.proofs.lemmas.Bool.{cases_lt, cases_Bool}
-use Rattle.std.proofs.lemmas.List.{length-append}
-use Rattle.segment_model.specs.Cuts.{Merges}
-use Rattle.segment_model.specs.Tables.{int_at, IsCandidate, IsTable, IsFirstLeast}
-use Rattle.segment_model.specs.Laws.{TotalsAreInRange, TableGrows, MarkMayBegin, NotDearWhereSettled}
-use Rattle.segment_model.specs.Values.{cost_between}
-use Rattle.pelt_core.specs.declared.bounds.Bound.{Bound}
-use Rattle.pelt_core.specs.declared.bounds.Found.{Found}
-use Rattle.pelt_core.specs.declared.rows.Rows.{Rows}
+use Rattle.std.proofs.lemmas.{Int.ints, Bool.{cases_lt, cases_Bool}, List.length-append}
+use Rattle.segment_model.specs.{Cuts.Merges, Tables.{int_at, IsCandidate, IsTable, IsFirstLeast}}
+use Rattle.segment_model.specs.{Laws.{TotalsAreInRange, TableGrows, MarkMayBegin, NotDearWhereSettled}, Values.cost_between}
+use Rattle.pelt_core.specs.declared.{bounds.Bound.Bound, bounds.Found.Found, rows.Rows.Rows}
 use Rattle.pelt_core.specs.Candidates.{stays, open_places, AreTotals, AreCandidates, AreLookedAt, IsNear}
-use Rattle.pelt_core.specs.Bounds.{bound_at, HaveBounds, IsMade, IsLowered, AreInRange}
-use Rattle.pelt_core.specs.Rows.{CanGrow, HasOneMore, IsAdmitted}
+use Rattle.pelt_core.specs.{Bounds.{bound_at, HaveBounds, IsMade, IsLowered, AreInRange}, Rows.{CanGrow, HasOneMore, IsAdmitted}}
 use Rattle.pelt_core.proofs.Blocks.{apart-same, bounds-agree, bounds-from, bounds-reset, bounds-push, bounds-by, least-made}
 use Rattle.pelt_core.proofs.Growth.{candidates-below, candidates-are, candidates-few, candidates-some, totals, totals-next, marks, kept-are, dropped-are, next-is, none-next, open-few, open-candidates, places-below}
 

@@ -1,13 +1,10 @@
 -- The pruned table with one place more.
 use Rattle.std.proofs.Common.{◌≡◌, ◌≢◌, ℕ, ℤ, zero, suc, ◌+◌, ◌-◌, ◌^◌, ◌<◌, ◌≤◌, Bool, ◌&&◌, List, [], ◌∷◌, ◌++◌, length, take, get_or, slice_index, filter, ◌⊎◌, inl, inr, refl, sym, ap, ◌∙◌, pos, neg_ℤ, ◌+ℤ◌, ◌≤ℤ◌, ◌<ℤ◌, arith}
-use Rattle.std.proofs.lemmas.Int.{ints}
-use Rattle.std.proofs.lemmas.Bool.{cases_lt, cases_eq}
-use Rattle.std.proofs.lemmas.List.{length-append, get_or_append_left, get_or_push, get_or_read, get_or-take}
+use Rattle.std.proofs.lemmas.{Int.ints, Bool.{cases_lt, cases_eq}, List.{length-append, get_or_append_left, get_or_push, get_or_read, get_or-take}}
 use Rattle.segment_model.specs.Cuts.{Merges}
 use Rattle.segment_model.specs.Tables.{int_at, MayBegin, IsCandidate, IsUnmarkedBehind, IsOpenAt, IsSettled, IsTable, IsFirstLeast, IsMarkedAt, AreMarkedAt}
 use Rattle.segment_model.specs.Laws.{TotalsAreInRange, OpenIsFirstLeast, MarkMayBegin, NotDearWhereSettled}
-use Rattle.pelt_core.specs.Candidates.{begins, stays, open_places, AreTotals, total_from, AreLookedAt, IsAmong, IsNear}
-use Rattle.pelt_core.specs.Bounds.{AreInRange}
+use Rattle.pelt_core.specs.{Candidates.{begins, stays, open_places, AreTotals, total_from, AreLookedAt, IsAmong, IsNear}, Bounds.AreInRange}
 use Rattle.pelt_core.proofs.Open.{IsUnmarkedTo, chosen-in, chosen-find, chosen-rising, chosen-few, chosen-next, chosen-skip, chosen-same, chosen-filter, stays-alike, stays-more, open-when, open-is, begins-not}
 
 module _ (cost : ℕ → ℕ → ℤ) (n : ℕ) (b : ℤ) (len g : ℕ) (least : List ℤ) (back pruned : List ℕ) (cs : List ℕ)

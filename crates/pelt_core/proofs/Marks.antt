@@ -1,6 +1,5 @@
 -- Which places were looked at, and their marks.
-use Rattle.std.proofs.Common.{◌≡◌, ◌≢◌, ℕ, ℤ, ◌<◌, List, length, slice_index, ◌⊎◌, inl, inr, refl, sym, ◌∙◌, arith}
-use Rattle.std.proofs.lemmas.Bool.{cases_eq}
+use Rattle.std.proofs.{Common.{◌≡◌, ◌≢◌, ℕ, ℤ, ◌<◌, List, length, slice_index, ◌⊎◌, inl, inr, refl, sym, ◌∙◌, arith}, lemmas.Bool.cases_eq}
 use Rattle.segment_model.specs.Tables.{IsMarkedAt}
 use Rattle.pelt_core.specs.Candidates.{AreLookedAt}
 

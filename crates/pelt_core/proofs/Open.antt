@@ -1,7 +1,6 @@
 -- The places that are chosen, and those that are open.
 use Rattle.std.proofs.Common.{◌≡◌, ℕ, zero, suc, ◌+◌, ◌<◌, ◌≤◌, Bool, true, false, ◌&&◌, List, [], ◌∷◌, ◌++◌, length, get_or, slice_index, filter, ◌⊎◌, inl, inr, refl, sym, ap, ◌∙◌, true≢false, arith}
-use Rattle.std.proofs.lemmas.Bool.{cases_lt, cases_eq, cases_Bool, lt-ltb, le-ltb, eq-eqb, ne_eqb}
-use Rattle.std.proofs.lemmas.List.Elements.{filter-append}
+use Rattle.std.proofs.lemmas.{Bool.{cases_lt, cases_eq, cases_Bool, lt-ltb, le-ltb, eq-eqb, ne_eqb}, List.Elements.filter-append}
 use Rattle.std.proofs.lemmas.List.{length-append, get_or_append_left, append-nil}
 use Rattle.segment_model.specs.Tables.{MayBegin}
 use Rattle.pelt_core.specs.Candidates.{chosen_below, begins, stays}

@@ -1,10 +1,7 @@
 -- The search for the first least of the candidates.
 use Rattle.std.proofs.Common.{◌≡◌, ◌≢◌, ℕ, ℤ, ◌+◌, ◌*◌, ◌^◌, ◌<◌, ◌≤◌, List, length, slice_index, ◌⊎◌, inl, inr, sym, ◌∙◌, pos, neg_ℤ, ◌≤ℤ◌, ◌<ℤ◌, arith}
-use Rattle.std.proofs.lemmas.Int.{ints, by_lt_z}
-use Rattle.std.proofs.lemmas.Bool.{cases_lt, cases_eq}
-use Rattle.pelt_core.specs.declared.bounds.Found.{Found}
-use Rattle.pelt_core.specs.Candidates.{total_from}
-use Rattle.pelt_core.specs.Bounds.{IsNoLater, IsFirst, AreLooked}
+use Rattle.std.proofs.lemmas.{Int.{ints, by_lt_z}, Bool.{cases_lt, cases_eq}}
+use Rattle.pelt_core.specs.{declared.bounds.Found.Found, Candidates.total_from, Bounds.{IsNoLater, IsFirst, AreLooked}}
 
 -- no later than more at a later index
 pub no-later : (found : Found) (x y : ℤ) (i j : ℕ) → IsNoLater found x i → x ≤ℤ y → i ≤ j → IsNoLater found y j

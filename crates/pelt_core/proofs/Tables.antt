@@ -1,20 +1,11 @@
 -- Pruned tables of positions: of none, before one more, and of the first ones.
 use Rattle.std.proofs.Common.{◌≡◌, ℕ, ℤ, ◌+◌, ◌-◌, ◌^◌, ◌≤◌, List, [], ◌∷◌, ◌++◌, length, take, drop, refl, sym, ap, subst, ◌∙◌, pos, ◌≤ℤ◌, arith}
-use Rattle.std.proofs.lemmas.Int.{ints}
-use Rattle.std.proofs.lemmas.List.{length-append, length-take, take-append-drop}
-use Rattle.segment_model.specs.Cuts.{Agree, IsBest, total}
-use Rattle.segment_model.specs.Laws.{AgreeingCostsHaveOneTable, BestOfNoneIsEmpty}
+use Rattle.std.proofs.lemmas.{Int.ints, List.{length-append, length-take, take-append-drop}}
+use Rattle.segment_model.specs.{Cuts.{Agree, IsBest, total}, Laws.{AgreeingCostsHaveOneTable, BestOfNoneIsEmpty}}
 use Rattle.segment_model.specs.Values.{AreWithinLimits, values_between, cost_between, MergesValues, CostsInRange, FrontHasSameValues, FrontIsWithinLimits, SegmentsMerge, SegmentsAreInRange}
-use Rattle.segment_cost.specs.declared.cert.Cert.{Cert}
-use Rattle.segment_cost.specs.Certificate.{IsCertificate}
-use Rattle.pelt_core.specs.declared.rows.Rows.{Rows}
-use Rattle.pelt_core.specs.declared.table.Best.{Best}
-use Rattle.pelt_core.specs.Best.{IsBestOf}
-use Rattle.pelt_core.specs.Seen.{Tabled}
-use Rattle.pelt_core.specs.Rows.{ArePruned, IsPrunedTable, HasRoomMade}
-use Rattle.pelt_core.specs.Bounds.{AreInRange}
-use Rattle.pelt_core.proofs.Growth.{table-by, candidates-by}
-use Rattle.pelt_core.proofs.Blocks.{bounds-by, bounds-more, bounds-agree}
+use Rattle.segment_cost.specs.{declared.cert.Cert.Cert, Certificate.IsCertificate}
+use Rattle.pelt_core.specs.{declared.rows.Rows.Rows, declared.table.Best.Best, Best.IsBestOf, Seen.Tabled, Rows.{ArePruned, IsPrunedTable, HasRoomMade}}
+use Rattle.pelt_core.{specs.Bounds.AreInRange, proofs.Growth.{table-by, candidates-by}, proofs.Blocks.{bounds-by, bounds-more, bounds-agree}}
 
 -- no values cost nothing
 pub nothing-costs : (f : List ℤ → ℤ) → MergesValues f → CostsInRange f → f [] ≡ pos 0

@@ -1,10 +1,7 @@
 -- No public contract cites this. Lower bounds of what the candidates of each block make.
 use Rattle.std.specs.Prelude.{◌≡◌, ◌≢◌, ℕ, ℤ, ◌+◌, ◌*◌, ◌^◌, ◌<◌, ◌≤◌, List, length, slice_index, slice_index_or, ◌⊎◌, pos, neg_ℤ, ◌+ℤ◌, ◌≤ℤ◌, ◌<ℤ◌}
 use Rattle.segment_model.specs.Values.{AreWithinLimits}
-use Rattle.pelt_core.specs.declared.bounds.Bound.{Bound}
-use Rattle.pelt_core.specs.declared.bounds.Found.{Found}
-use Rattle.pelt_core.specs.declared.bounds.Rise.{Rise}
-use Rattle.pelt_core.specs.Candidates.{total_from}
+use Rattle.pelt_core.specs.{declared.bounds.Bound.Bound, declared.bounds.Found.Found, declared.bounds.Rise.Rise, Candidates.total_from}
 
 -- the bound of block k
 abbrev pub bound_at : List Bound → ℕ → Bound

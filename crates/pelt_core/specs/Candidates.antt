@@ -1,7 +1,6 @@
 -- No public contract cites this. The places that may still be a last cut.
 use Rattle.std.specs.Prelude.{◌≡◌, ℕ, ℤ, Bool, ◌&&◌, ◌||◌, not, nat_lt, zero, suc, ◌+◌, ◌^◌, ◌<◌, ◌≤◌, List, [], ◌∷◌, ◌++◌, length, slice_index, ◌==◌, if◌then◌else◌, ◌⊎◌, pos, neg_ℤ, ◌+ℤ◌, ◌≤ℤ◌}
-use Rattle.segment_model.specs.Tables.{int_at, IsMarkedAt}
-use Rattle.segment_model.specs.Values.{AreWithinLimits}
+use Rattle.segment_model.specs.{Tables.{int_at, IsMarkedAt}, Values.AreWithinLimits}
 
 -- the numbers below n that are chosen, in rising order
 abbrev pub chosen_below : (ℕ → Bool) → ℕ → List ℕ

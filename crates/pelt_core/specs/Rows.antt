@@ -1,12 +1,8 @@
 -- No public contract cites this. What a pruned table keeps: three tables in full, and as candidates the places from
 -- which the next last segment may begin, but for those that were pruned long enough ago.
 use Rattle.std.specs.Prelude.{◌≡◌, ◌≢◌, ℕ, ℤ, ◌+◌, ◌-◌, ◌*◌, ◌^◌, ◌<◌, ◌≤◌, Bool, true, false, List, [], ◌∷◌, ◌++◌, length, slice_index, filter, pos, ◌+ℤ◌, ◌≤ℤ◌, vec_len, vec_capacity}
-use Rattle.segment_model.specs.Limits.{IsLength}
-use Rattle.segment_model.specs.Tables.{int_at, IsTable}
-use Rattle.segment_model.specs.Values.{AreWithinLimits, cost_between}
-use Rattle.pelt_core.specs.declared.bounds.Found.{Found}
-use Rattle.pelt_core.specs.declared.rows.Rows.{Rows}
-use Rattle.pelt_core.specs.Candidates.{stays, open_places}
+use Rattle.segment_model.specs.{Limits.IsLength, Tables.{int_at, IsTable}, Values.{AreWithinLimits, cost_between}}
+use Rattle.pelt_core.specs.{declared.bounds.Found.Found, declared.rows.Rows.Rows, Candidates.{stays, open_places}}
 use Rattle.pelt_core.specs.Bounds.{bound_at, HaveBounds, HaveMore, IsLowered}
 
 -- the tables of the first n places, and their candidates with bounds: the last segment of n + 1 positions begins at n + 1 - len

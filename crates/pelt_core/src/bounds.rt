@@ -8,8 +8,7 @@
 //! move seldom, since each move loses what two neighbours cost less than their union.
 ghost use Rattle.std.specs.Prelude.{◌≡◌, ◌≢◌, ℕ, ◌+◌, ◌*◌, ◌^◌, ◌<◌, ◌≤◌, length, pos, neg_ℤ, ◌≤ℤ◌, ◌<ℤ◌, ◌↔◌, ◌⊎◌, IsTrue, OnOk};
 ghost use Rattle.segment_model.specs.Values.{AreWithinLimits, cost_between};
-ghost use Rattle.pelt_core.specs.Candidates.{AreCandidates};
-ghost use Rattle.pelt_core.specs.Bounds.{bound_at, HaveBounds, IsFirst, AreLooked, IsBelowBlock, IsLowered, IsMoved, IsRise, MayRise, IsNoLater, HaveMore};
+ghost use Rattle.pelt_core.specs.{Candidates.AreCandidates, Bounds.{bound_at, HaveBounds, IsFirst, AreLooked, IsBelowBlock, IsLowered, IsMoved, IsRise, MayRise, IsNoLater, HaveMore}};
 
 use crate::candidates::last_total;
 use segment_cost::{Cost, NoMemory};

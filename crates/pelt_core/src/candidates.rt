@@ -1,7 +1,6 @@
 //! The places that may still be a last cut: which of them makes the least total, and which of them are dear.
 ghost use Rattle.std.specs.Prelude.{◌≡◌, ◌≢◌, ℕ, ◌+◌, ◌*◌, ◌^◌, ◌<◌, ◌≤◌, length, pos, neg_ℤ, ◌≤ℤ◌, ◌<ℤ◌, filter, ◌&&◌, ◌↔◌, IsTrue, ◌||◌, slice_index, vec_capacity};
-ghost use Rattle.segment_model.specs.Tables.{int_at, MayBegin, IsMarkedAt, IsUnmarkedBehind};
-ghost use Rattle.segment_model.specs.Values.{cost_between};
+ghost use Rattle.segment_model.specs.{Tables.{int_at, MayBegin, IsMarkedAt, IsUnmarkedBehind}, Values.cost_between};
 ghost use Rattle.pelt_core.specs.Candidates.{begins, stays, open_places, total_from, HaveTotals, AreCandidates, AreLookedAt, IsAmong};
 
 use segment_cost::Cost;

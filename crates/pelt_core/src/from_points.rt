@@ -1,7 +1,6 @@
 //! The best segmentation of points, by a pruned table.
 ghost use Rattle.std.specs.Prelude.{◌^◌, length, pos, ◌≤ℤ◌, IfOk};
-ghost use Rattle.segment_model.specs.Limits.{IsLength};
-ghost use Rattle.segment_model.specs.Values.{cost_between, values_by_position};
+ghost use Rattle.segment_model.specs.{Limits.IsLength, Values.{cost_between, values_by_position}};
 ghost use Rattle.segment_cost.specs.Certificate.{IsCertificate, StandsFor};
 
 use crate::table::Table;

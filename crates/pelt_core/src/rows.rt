@@ -1,7 +1,6 @@
 //! The rows of a pruned table, one for each place, and the places that may still be a last cut.
 ghost use Rattle.std.specs.Prelude.{◌≡◌, ℕ, ℤ, ◌+◌, ◌*◌, ◌^◌, ◌<◌, ◌≤◌, length, pos, ◌≤ℤ◌, OnOk, IfOk, vec_len, vec_capacity};
-ghost use Rattle.segment_model.specs.Tables.{int_at, IsFirstLeast};
-ghost use Rattle.segment_model.specs.Values.{cost_between};
+ghost use Rattle.segment_model.specs.{Tables.{int_at, IsFirstLeast}, Values.cost_between};
 ghost use Rattle.pelt_core.specs.Bounds.{AreInRange};
 
 use crate::bounds::{
@@ -38,11 +37,8 @@ pub struct Rows {
 
 impl Rows {
     ghost use Rattle.std.specs.Prelude.{slice_index};
-    ghost use Rattle.pelt_core.specs.Bounds.{HaveBounds, IsMade};
-    ghost use Rattle.segment_model.specs.Limits.{IsLength};
-    ghost use Rattle.segment_model.specs.Tables.{IsCandidate};
-    ghost use Rattle.pelt_core.specs.Candidates.{AreTotals, AreCandidates, AreLookedAt, IsNear};
-    ghost use Rattle.pelt_core.specs.Rows.{ArePruned, HaveRoom, CanGrow, AddsRow, HasRoomMade, SameButMarks, IsSwept, AreRenewed, IsAdmitted};
+    ghost use Rattle.pelt_core.specs.{Bounds.{HaveBounds, IsMade}, Candidates.{AreTotals, AreCandidates, AreLookedAt, IsNear}, Rows.{ArePruned, HaveRoom, CanGrow, AddsRow, HasRoomMade, SameButMarks, IsSwept, AreRenewed, IsAdmitted}};
+    ghost use Rattle.segment_model.specs.{Limits.IsLength, Tables.IsCandidate};
 
     // The rows of no positions.
     pub fn start(alloc: Global, penalty: i128, len: u8) -> Result<Rows, NoMemory>

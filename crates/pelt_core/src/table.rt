@@ -27,8 +27,7 @@ pub struct Table<C: Cost> {
 }
 
 impl<C: Cost> Model for Table<C> {
-    ghost use Rattle.pelt_core.specs.Seen.{Tabled};
-    ghost use Rattle.pelt_core.specs.Rows.{IsPrunedTable};
+    ghost use Rattle.pelt_core.specs.{Seen.Tabled, Rows.IsPrunedTable};
 
     ghost Value = { Tabled };
 
@@ -42,8 +41,7 @@ impl<C: Cost> Model for Table<C> {
 }
 
 impl<C: Cost + Drop> Table<C> {
-    ghost use Rattle.pelt_core.specs.Seen.{table_of};
-    ghost use Rattle.pelt_core.specs.Best.{IsBestOf};
+    ghost use Rattle.pelt_core.specs.{Seen.table_of, Best.IsBestOf};
     ghost use Rattle.segment_model.specs.Limits.{IsLength};
     ghost use Rattle.segment_cost.specs.Certificate.{IsCertificate};
 

@@ -1,15 +1,9 @@
 -- What the numbers of a certificate come to.
-use Rattle.std.proofs.Common.{ℕ, ℤ, zero, suc, ◌^◌, ◌≤◌, List, [], ◌∷◌, length, pos, ◌*ℤ◌, ◌≤ℤ◌, arith}
-use Rattle.std.proofs.lemmas.Int.{ints}
-use Rattle.segment_model.specs.Segments.{Position}
-use Rattle.segment_model.specs.Limits.{WithinLimits}
-use Rattle.segment_model.specs.Cuts.{RisesBetween, total_between}
-use Rattle.segment_model.specs.Laws.{CostIsInRange}
+use Rattle.std.proofs.{Common.{ℕ, ℤ, zero, suc, ◌^◌, ◌≤◌, List, [], ◌∷◌, length, pos, ◌*ℤ◌, ◌≤ℤ◌, arith}, lemmas.Int.ints}
+use Rattle.segment_model.specs.{Segments.Position, Limits.WithinLimits, Cuts.{RisesBetween, total_between}, Laws.CostIsInRange}
 use Rattle.segment_model.proofs.CutLists.{places-rise}
-use Rattle.segment_cost.specs.Certificate.{StandsFor}
-use Rattle.segment_cost.specs.declared.cert.Cert.{Cert}
-use Rattle.penalty_path.specs.Growing.{IsBounded}
-use Rattle.penalty_path.proofs.Penalties.{spread}
+use Rattle.segment_cost.specs.{Certificate.StandsFor, declared.cert.Cert.Cert}
+use Rattle.penalty_path.{specs.Growing.IsBounded, proofs.Penalties.spread}
 
 costs-not_below : (cost : ℕ → ℕ → ℤ) (n : ℕ) → ((s t : ℕ) → s ≤ t → t ≤ n → (pos 0 ≤ℤ cost s t) × (cost s t ≤ℤ pos (10 ^ 37))) → (low : ℕ) (cuts : List ℕ)
     → low ≤ n → RisesBetween low n cuts → pos 0 ≤ℤ total_between cost (pos 0) low n cuts

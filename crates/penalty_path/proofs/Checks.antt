@@ -1,18 +1,10 @@
 -- What the check of a path comes to.
 use Rattle.std.proofs.Common.{◌≡◌, ℕ, ℤ, ◌^◌, ◌==◌, ◌<◌, inl, inr, List, [], ◌∷◌, length, Bool, true, false, IsTrue, sym, ap, subst, ◌∙◌, pos, ◌+ℤ◌, ◌≤ℤ◌, ◌<ℤ◌, FitsSigned, arith}
-use Rattle.std.specs.Int.{w128}
-use Rattle.std.proofs.lemmas.Int.{ints}
-use Rattle.std.proofs.lemmas.Bool.{cases_eq, eq-eqb, ne_eqb}
-use Rattle.segment_model.specs.Segments.{Position}
-use Rattle.segment_model.specs.Limits.{IsLength}
-use Rattle.segment_cost.specs.Certificate.{StandsFor}
-use Rattle.segment_cost.specs.declared.cert.Cert.{Cert}
-use Rattle.penalty_path.specs.declared.stretch.Stretch.{Stretch}
-use Rattle.penalty_path.specs.Paths.{IsRange, AreBest, IsStretch}
-use Rattle.penalty_path.specs.Steps.{IsJoined, IsStep}
-use Rattle.penalty_path.specs.Known.{Known}
-use Rattle.penalty_path.proofs.Known.{best-stands}
-use Rattle.penalty_path.proofs.Runs.{Runs, first-within}
+use Rattle.std.{specs.Int.w128, proofs.lemmas.Int.ints, proofs.lemmas.Bool.{cases_eq, eq-eqb, ne_eqb}}
+use Rattle.segment_model.specs.{Segments.Position, Limits.IsLength}
+use Rattle.segment_cost.specs.{Certificate.StandsFor, declared.cert.Cert.Cert}
+use Rattle.penalty_path.specs.{declared.stretch.Stretch.Stretch, Paths.{IsRange, AreBest, IsStretch}, Steps.{IsJoined, IsStep}, Known.Known}
+use Rattle.penalty_path.proofs.{Known.best-stands, Runs.{Runs, first-within}}
 
 pub apart : IsTrue false → ⊥
 apart e = cc

@@ -1,17 +1,10 @@
 -- Where the totals of two cut lists cross, and that one of the lists ends there.
 use Rattle.std.proofs.Common.{◌≡◌, ℕ, ℤ, zero, suc, ◌+◌, ◌*◌, ◌<◌, ◌≤◌, List, length, inl, inr, ap, subst, pos, negsuc, ◌+ℤ◌, ◌-ℤ◌, ◌*ℤ◌, ◌≤ℤ◌, ◌<ℤ◌, arith}
-use Rattle.std.specs.Int.{int_div_euclid}
-use Rattle.std.proofs.lemmas.Int.{ints}
-use Rattle.std.proofs.Math.Nat.{mul-le-mul_left}
+use Rattle.std.{specs.Int.int_div_euclid, proofs.lemmas.Int.ints, proofs.Math.Nat.mul-le-mul_left}
 use borrow.Author.Differences.{up, down, le_out}
 use Rattle.segment_model.specs.Segments.{Position}
-use Rattle.segment_cost.specs.Certificate.{StandsFor}
-use Rattle.segment_cost.specs.declared.cert.Cert.{Cert}
-use Rattle.penalty_path.specs.Paths.{AreBest}
-use Rattle.penalty_path.specs.Crossing.{Crosses, Parts, Turn}
-use Rattle.penalty_path.specs.Known.{Known}
-use Rattle.penalty_path.proofs.Known.{best-stands}
-use Rattle.penalty_path.proofs.Penalties.{scale-sub}
+use Rattle.segment_cost.specs.{Certificate.StandsFor, declared.cert.Cert.Cert}
+use Rattle.penalty_path.{specs.Paths.AreBest, specs.Crossing.{Crosses, Parts, Turn}, specs.Known.Known, proofs.Known.best-stands, proofs.Penalties.scale-sub}
 
 scale-parts : (m k d : ℕ) (x : ℤ) → m ≡ k + d → pos m *ℤ x ≡ pos k *ℤ x +ℤ pos d *ℤ x
 scale-parts m k d x e = omega (arith, ints, ap (λ (n : ℕ). n * up x) e, ap (λ (n : ℕ). n * down x) e)

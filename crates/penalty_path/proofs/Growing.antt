@@ -1,17 +1,9 @@
 -- A path with its last stretch up to a greater penalty, and with a stretch more.
-use Rattle.std.proofs.Common.{◌≡◌, ◌≢◌, ℤ, List, [], ◌∷◌, ◌++◌, length, ◌<◌, inl, inr, refl, sym, subst, pos, ◌+ℤ◌, ◌≤ℤ◌, ◌<ℤ◌, arith}
-use Rattle.std.proofs.lemmas.Int.{ints}
+use Rattle.std.proofs.{Common.{◌≡◌, ◌≢◌, ℤ, List, [], ◌∷◌, ◌++◌, length, ◌<◌, inl, inr, refl, sym, subst, pos, ◌+ℤ◌, ◌≤ℤ◌, ◌<ℤ◌, arith}, lemmas.Int.ints}
 use Rattle.segment_model.specs.Segments.{Position}
-use Rattle.segment_cost.specs.Certificate.{StandsFor}
-use Rattle.segment_cost.specs.declared.cert.Cert.{Cert}
-use Rattle.penalty_path.specs.declared.stretch.Stretch.{Stretch}
-use Rattle.penalty_path.specs.Paths.{IsStretch, IsPath}
-use Rattle.penalty_path.specs.Growing.{single, extended}
-use Rattle.penalty_path.specs.Known.{Known}
-use Rattle.penalty_path.proofs.Runs.{Runs, runs-of, path-of}
-use Rattle.penalty_path.proofs.Whole.{same-cuts}
-use Rattle.penalty_path.proofs.Checks.{of-standing}
-use Rattle.penalty_path.proofs.Known.{best-stands}
+use Rattle.segment_cost.specs.{Certificate.StandsFor, declared.cert.Cert.Cert}
+use Rattle.penalty_path.specs.{declared.stretch.Stretch.Stretch, Paths.{IsStretch, IsPath}, Growing.{single, extended}, Known.Known}
+use Rattle.penalty_path.proofs.{Runs.{Runs, runs-of, path-of}, Whole.same-cuts, Checks.of-standing, Known.best-stands}
 use Rattle.std.proofs.lemmas.Bool.{cases_eq}
 
 module _ (points : List Position) (known : Known points) where

@@ -1,15 +1,8 @@
 -- The laws of best cut lists, for the points of a series.
-use Rattle.std.proofs.Common.{ℕ, ℤ, List, length, sym, ◌∙◌, arith}
-use Rattle.std.proofs.lemmas.Int.{ints}
-use Rattle.segment_model.specs.Segments.{Position}
-use Rattle.segment_model.specs.Computed.{cost_of}
-use Rattle.segment_model.specs.Laws.{CostIsComputed, CostIsUnique, AgreeingCostsHaveOneBest, BestIsUnique}
-use Rattle.segment_cost.specs.Certificate.{StandsFor, OneCertificate}
-use Rattle.segment_cost.specs.declared.cert.Cert.{Cert}
-use Rattle.penalty_path.specs.Laws.{CutsFall, CountIsList, BetweenIsSame}
-use Rattle.penalty_path.specs.Paths.{AreBest}
-use Rattle.penalty_path.specs.Known.{Known}
-use Rattle.penalty_path.proofs.Penalties.{spread, scale-sub}
+use Rattle.std.proofs.{Common.{ℕ, ℤ, List, length, sym, ◌∙◌, arith}, lemmas.Int.ints}
+use Rattle.segment_model.specs.{Segments.Position, Computed.cost_of, Laws.{CostIsComputed, CostIsUnique, AgreeingCostsHaveOneBest, BestIsUnique}}
+use Rattle.segment_cost.specs.{Certificate.{StandsFor, OneCertificate}, declared.cert.Cert.Cert}
+use Rattle.penalty_path.{specs.Laws.{CutsFall, CountIsList, BetweenIsSame}, specs.Paths.AreBest, specs.Known.Known, proofs.Penalties.{spread, scale-sub}}
 
 -- a certificate's cuts are the best
 pub best-stands : (points : List Position) (b : ℤ) (cert : Cert) → StandsFor points b 1 cert → AreBest points b cert.cuts

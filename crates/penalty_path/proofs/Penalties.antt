@@ -1,12 +1,7 @@
 -- Best cut lists at several penalties, over any cost of segments.
 use Rattle.std.proofs.Common.{◌≡◌, ℕ, ℤ, zero, suc, ◌*◌, ◌≤◌, List, [], ◌∷◌, length, reverse, inl, inr, sym, ap, ◌∙◌, pos, nat_abs, ◌+ℤ◌, ◌-ℤ◌, ◌*ℤ◌, ◌≤ℤ◌, arith}
-use Rattle.std.proofs.lemmas.Int.{ints}
-use Rattle.std.proofs.lemmas.Bool.{cases_lt}
-use Rattle.std.proofs.lemmas.List.{reverse-reverse, append_cancel_right}
-use Rattle.std.proofs.Math.Nat.{mul-le-mul_right}
-use Rattle.segment_model.specs.Cuts.{total_between, total, backward, IsBest}
-use Rattle.segment_model.specs.Laws.{BestExists, BestIsUnique}
-use Rattle.segment_model.proofs.BestCuts.{not_after-both}
+use Rattle.std.proofs.{lemmas.Int.ints, lemmas.Bool.cases_lt, lemmas.List.{reverse-reverse, append_cancel_right}, Math.Nat.mul-le-mul_right}
+use Rattle.segment_model.{specs.Cuts.{total_between, total, backward, IsBest}, specs.Laws.{BestExists, BestIsUnique}, proofs.BestCuts.not_after-both}
 use Rattle.penalty_path.specs.Laws.{CutsFall, CountIsList, BetweenIsSame}
 
 -- the costs of a cut list's segments, without penalties

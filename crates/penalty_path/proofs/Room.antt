@@ -1,15 +1,9 @@
 -- How many tables may still be made for the lists that are known: three for each, of which two are for its ends.
 use Rattle.std.proofs.Common.{◌≡◌, ◌≢◌, ℕ, ℤ, ◌+◌, ◌-◌, ◌*◌, ◌<◌, ◌≤◌, ◌⊎◌, List, [], ◌∷◌, length, inl, inr, refl, sym, ap, ◌∙◌, pos, ◌+ℤ◌, ◌-ℤ◌, ◌≤ℤ◌, ◌<ℤ◌, arith}
-use Rattle.std.proofs.lemmas.Int.{ints}
-use Rattle.std.proofs.lemmas.Bool.{cases_eq}
+use Rattle.std.proofs.lemmas.{Int.ints, Bool.cases_eq}
 use Rattle.segment_model.specs.Segments.{Position}
-use Rattle.segment_cost.specs.Certificate.{StandsFor}
-use Rattle.segment_cost.specs.declared.cert.Cert.{Cert}
-use Rattle.penalty_path.specs.Paths.{AreBest}
-use Rattle.penalty_path.specs.Crossing.{Parts, Turn}
-use Rattle.penalty_path.specs.Known.{Known}
-use Rattle.penalty_path.proofs.Known.{best-stands}
-use Rattle.penalty_path.proofs.Ahead.{Ahead}
+use Rattle.segment_cost.specs.{Certificate.StandsFor, declared.cert.Cert.Cert}
+use Rattle.penalty_path.{specs.Paths.AreBest, specs.Crossing.{Parts, Turn}, specs.Known.Known, proofs.Known.best-stands, proofs.Ahead.Ahead}
 use Rattle.penalty_path.proofs.Crossing.{turns}
 
 -- a list's last penalty may still cost a table, or is known

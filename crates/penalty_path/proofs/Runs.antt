@@ -1,9 +1,7 @@
 -- Paths, one stretch after the other.
-use Rattle.std.proofs.Common.{◌≡◌, ◌≢◌, ℕ, ℤ, zero, suc, ◌+◌, ◌-◌, ◌<◌, List, [], ◌∷◌, length, get_or, pos, ◌+ℤ◌, ◌≤ℤ◌, arith}
-use Rattle.std.proofs.lemmas.Int.{ints}
+use Rattle.std.proofs.{Common.{◌≡◌, ◌≢◌, ℕ, ℤ, zero, suc, ◌+◌, ◌-◌, ◌<◌, List, [], ◌∷◌, length, get_or, pos, ◌+ℤ◌, ◌≤ℤ◌, arith}, lemmas.Int.ints}
 use Rattle.segment_model.specs.Segments.{Position}
-use Rattle.penalty_path.specs.declared.stretch.Stretch.{Stretch}
-use Rattle.penalty_path.specs.Paths.{IsStretch, Follows, IsPath}
+use Rattle.penalty_path.specs.{declared.stretch.Stretch.Stretch, Paths.{IsStretch, Follows, IsPath}}
 
 -- the path from the first stretch on
 abbrev pub Runs : List Position → ℤ → ℤ → List Stretch → Type 0

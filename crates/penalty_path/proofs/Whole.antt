@@ -1,15 +1,9 @@
 -- Points have one path, and a short one.
 use Rattle.std.proofs.Common.{◌≡◌, ◌≢◌, ℕ, ℤ, zero, suc, ◌+◌, ◌<◌, ◌≤◌, max, List, [], ◌∷◌, length, inl, inr, sym, ap, ◌∙◌, pos, ◌+ℤ◌, ◌≤ℤ◌, ◌<ℤ◌, arith}
-use Rattle.std.proofs.lemmas.Int.{ints, by_lt_z}
-use Rattle.std.proofs.lemmas.Bool.{cases_eq}
-use Rattle.segment_model.specs.Segments.{Position}
-use Rattle.segment_model.specs.Cuts.{RisesBetween, IsCutList}
-use Rattle.segment_model.proofs.CutLists.{places-rise}
+use Rattle.std.proofs.lemmas.{Int.{ints, by_lt_z}, Bool.cases_eq}
+use Rattle.segment_model.{specs.Segments.Position, specs.Cuts.{RisesBetween, IsCutList}, proofs.CutLists.places-rise}
 use Rattle.segment_cost.specs.declared.cert.Cert.{Cert}
-use Rattle.penalty_path.specs.declared.stretch.Stretch.{Stretch}
-use Rattle.penalty_path.specs.Paths.{AreBest, IsStretch, IsPath}
-use Rattle.penalty_path.specs.Known.{Known}
-use Rattle.penalty_path.proofs.Known.{best-stands}
+use Rattle.penalty_path.{specs.declared.stretch.Stretch.Stretch, specs.Paths.{AreBest, IsStretch, IsPath}, specs.Known.Known, proofs.Known.best-stands}
 use Rattle.penalty_path.proofs.Runs.{Runs, runs-of, runs-from, first-within}
 
 rises-few : (low high : ℕ) (cuts : List ℕ) → low < high → RisesBetween low high cuts → low + length cuts < high

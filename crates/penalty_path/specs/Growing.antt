@@ -1,8 +1,7 @@
 -- No public contract cites this. A path as it grows.
 use Rattle.std.specs.Prelude.{◌^◌, List, [], ◌∷◌, ◌++◌, length, pos, ◌*ℤ◌, ◌≤ℤ◌}
 use Rattle.segment_cost.specs.declared.cert.Cert.{Cert}
-use Rattle.penalty_path.specs.declared.stretch.Stretch.{Stretch}
-use Rattle.penalty_path.specs.declared.found.Grown.{Grown}
+use Rattle.penalty_path.specs.declared.{stretch.Stretch.Stretch, found.Grown.Grown}
 
 -- the stretch of one certificate's penalty
 abbrev pub single : Cert → Stretch

@@ -1,10 +1,8 @@
 -- No public contract cites this. What is known of the best cut lists of some points at all penalties.
 use Rattle.std.specs.Prelude.{◌≡◌, ℕ, ℤ, ◌≤◌, List, length, ◌≤ℤ◌}
 use Rattle.segment_model.specs.Segments.{Position}
-use Rattle.segment_cost.specs.Certificate.{StandsFor}
-use Rattle.segment_cost.specs.declared.cert.Cert.{Cert}
-use Rattle.penalty_path.specs.Paths.{AreBest}
-use Rattle.penalty_path.specs.Crossing.{total_at}
+use Rattle.segment_cost.specs.{Certificate.StandsFor, declared.cert.Cert.Cert}
+use Rattle.penalty_path.specs.{Paths.AreBest, Crossing.total_at}
 
 -- the laws of best cut lists, for these points
 pub record Known (points : List Position) : Type 0 where

@@ -1,9 +1,7 @@
 -- What holds of best cut lists at several penalties, for one least length of segments, and of paths.
 use Rattle.std.specs.Prelude.{◌≡◌, ℕ, ℤ, ◌≤◌, max, List, length, ◌≤ℤ◌}
-use Rattle.segment_model.specs.Segments.{Position}
-use Rattle.segment_model.specs.Cuts.{IsBest}
-use Rattle.penalty_path.specs.declared.stretch.Stretch.{Stretch}
-use Rattle.penalty_path.specs.Paths.{IsPath}
+use Rattle.segment_model.specs.{Segments.Position, Cuts.IsBest}
+use Rattle.penalty_path.specs.{declared.stretch.Stretch.Stretch, Paths.IsPath}
 
 -- the number of cuts never rises with the penalty
 abbrev pub CutsFall : Type 0

@@ -1,7 +1,6 @@
 -- The path of some points over a range of penalties: the best cut list at each of them, in stretches of one list.
 use Rattle.std.specs.Prelude.{◌≡◌, ◌≢◌, ℕ, ℤ, ◌+◌, ◌-◌, ◌^◌, ◌<◌, List, length, get_or, pos, ◌+ℤ◌, ◌≤ℤ◌}
-use Rattle.segment_model.specs.Segments.{Position, IsCost}
-use Rattle.segment_model.specs.Cuts.{IsBest}
+use Rattle.segment_model.specs.{Segments.{Position, IsCost}, Cuts.IsBest}
 use Rattle.segment_cost.specs.Certificate.{StandsFor}
 use Rattle.penalty_path.specs.declared.stretch.Stretch.{Stretch}
 

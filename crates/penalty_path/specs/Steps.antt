@@ -1,8 +1,7 @@
 -- No public contract cites this. A stretch of a path, and those behind it.
 use Rattle.std.specs.Prelude.{◌≡◌, ◌≢◌, ℤ, List, [], ◌∷◌, ◌<ℤ◌}
 use Rattle.segment_model.specs.Segments.{Position}
-use Rattle.penalty_path.specs.declared.stretch.Stretch.{Stretch}
-use Rattle.penalty_path.specs.Paths.{IsStretch}
+use Rattle.penalty_path.specs.{declared.stretch.Stretch.Stretch, Paths.IsStretch}
 
 -- what follows a stretch: nothing, where it ends the range; else a stretch with other cuts
 abbrev pub IsJoined : ℤ → Stretch → List Stretch → Type 0

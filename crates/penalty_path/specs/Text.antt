@@ -1,6 +1,5 @@
 -- The text of a path.
-use Rattle.std.specs.Prelude.{ℕ, ℤ, List, [], ◌∷◌, ◌++◌, length, flat_map, codes, decimal, if◌then◌else◌, int_lt}
-use Rattle.std.specs.Fmt.{signed_decimal}
+use Rattle.std.specs.{Prelude.{ℕ, ℤ, List, [], ◌∷◌, ◌++◌, length, flat_map, codes, decimal, if◌then◌else◌, int_lt}, Fmt.signed_decimal}
 use Rattle.cost_certificate.specs.Text.{row, text_of}
 use Rattle.penalty_path.specs.declared.stretch.Stretch.{Stretch}
 

@@ -1,8 +1,7 @@
 //! Whether stretches are the path of some points.
 ghost use Rattle.std.specs.Prelude.{◌≡◌, ◌↔◌, ◌^◌, ◌≤◌, IsTrue, length, pos, ◌≤ℤ◌, ◌<ℤ◌};
 ghost use Rattle.segment_model.specs.Values.{values_by_position};
-ghost use Rattle.penalty_path.specs.Paths.{IsRange, IsStretch, IsPath};
-ghost use Rattle.penalty_path.specs.Steps.{IsStep, IsJoined};
+ghost use Rattle.penalty_path.specs.{Paths.{IsRange, IsStretch, IsPath}, Steps.{IsStep, IsJoined}};
 
 use crate::laws::points_law;
 use crate::stretch::{Stretch, Stretches};

@@ -1,10 +1,7 @@
 //! The path of some points.
 ghost use Rattle.std.specs.Prelude.{◌≡◌, ℤ, ◌+◌, ◌-◌, ◌*◌, ◌^◌, ◌<◌, ◌≤◌, [], ◌∷◌, ◌++◌, max, length, pos, ◌+ℤ◌, ◌*ℤ◌, ◌≤ℤ◌, ◌<ℤ◌, ◌↔◌, IsTrue, OnOk, IfOk};
-ghost use Rattle.segment_cost.specs.Certificate.{StandsFor};
-ghost use Rattle.segment_cost.specs.declared.cert.Cert.{Cert};
-ghost use Rattle.penalty_path.specs.Paths.{IsRange, IsPath};
-ghost use Rattle.penalty_path.specs.Growing.{IsBounded, extended, single, stretches_of};
-ghost use Rattle.penalty_path.specs.Crossing.{Crosses, Parts};
+ghost use Rattle.segment_cost.specs.{Certificate.StandsFor, declared.cert.Cert.Cert};
+ghost use Rattle.penalty_path.specs.{Paths.{IsRange, IsPath}, Growing.{IsBounded, extended, single, stretches_of}, Crossing.{Crosses, Parts}};
 
 use crate::checked::{are_equal, same_cuts};
 use crate::laws::{path_law, points_law};

@@ -1,29 +1,17 @@
 -- Private: no public contract cites this. What a request comes to behind a walk, as a reply by the journal.
 use Rattle.std.proofs.Common.{◌≡◌, ◌≢◌, inl, inr, ℕ, ◌^◌, ◌+◌, ◌<◌, ◌≤◌, false, List, [], ◌∷◌, ◌++◌, length, drop, Option, Some, None, refl, sym, ap, subst, ◌∙◌, arith, length-append}
-use Rattle.std.specs.Prelude.{slice_get}
-use Rattle.std.proofs.lemmas.Option.{slice_get_past}
-use Rattle.history_model.specs.declared.entries.Author.{Author}
+use Rattle.std.{specs.Prelude.slice_get, proofs.lemmas.Option.slice_get_past}
+use Rattle.history_model.specs.declared.entries.{Author.Author, Entry.Entry, Placed.Placed}
 use Rattle.history_model.specs.declared.entries.Author.TheVariants as author
-use Rattle.history_model.specs.declared.entries.Entry.{Entry}
-use Rattle.history_model.specs.declared.entries.Placed.{Placed}
-use Rattle.request_model.specs.declared.requests.Request.{Request}
-use Rattle.request_model.specs.declared.replies.Reply.{Reply}
+use Rattle.request_model.specs.declared.{requests.Request.Request, replies.Reply.Reply}
 use Rattle.reply_text.specs.Replies.{text_of}
-use Rattle.track_model.specs.Counts.{is_segment}
-use Rattle.track_model.specs.Outcomes.{Outcome}
-use Rattle.track_model.specs.Replies.{reply_of}
-use Rattle.track_model.specs.Tracks.{ComesTo, Track, with_added}
-use Rattle.play_model.specs.Laws.{RepliesNameEntries}
-use Rattle.play_model.specs.Replies.{Adds, ComesBehind, ComesToBeside, Tells, first_of, stands_alone}
+use Rattle.track_model.specs.{Counts.is_segment, Outcomes.Outcome, Replies.reply_of, Tracks.{ComesTo, Track, with_added}}
+use Rattle.play_model.specs.{Laws.RepliesNameEntries, Replies.{Adds, ComesBehind, ComesToBeside, Tells, first_of, stands_alone}}
 use Rattle.play_model.proofs.Replies.{added-step, told-step}
-use Rattle.reply_laws.specs.Kinds.{Names, tells_by_letter, tells_none}
-use Rattle.reply_laws.specs.Laws.{OneAdds, OneBeside, OneTells, PlainBeside, RepliesAreNamed}
+use Rattle.reply_laws.specs.{Kinds.{Names, tells_by_letter, tells_none}, Laws.{OneAdds, OneBeside, OneTells, PlainBeside, RepliesAreNamed}}
 use Rattle.journal_walk.specs.Walks.{Walked, added}
 use Rattle.audit_model.proofs.Exchanges.{at_end}
-use Rattle.play_audit.specs.Places.{IsBehind}
-use Rattle.play_audit.specs.Replies.{HasNone, IsNext}
-use Rattle.play_audit.specs.Texts.{BeginsWith}
-use Rattle.play_audit.proofs.Fronts.{one_name, names_more}
+use Rattle.play_audit.{specs.Places.IsBehind, specs.Replies.{HasNone, IsNext}, specs.Texts.BeginsWith, proofs.Fronts.{one_name, names_more}}
 use Rattle.play_audit.proofs.Walking.{first_behind}
 
 -- ---- what was added

@@ -1,37 +1,20 @@
 -- Private: no public contract cites this. Items that name no machine's history.
 use Rattle.std.proofs.Common.{◌≡◌, ◌≢◌, inl, ℕ, zero, suc, Bool, true, false, List, [], ◌∷◌, ◌++◌, Option, Result, Ok, Err, Some, None, refl, sym, ap, subst, ◌∙◌}
-use Rattle.std.specs.Prelude.{slice_get, if◌then◌else◌, IfOk, IfSome, IfNone}
-use Rattle.std.specs.List.{AllByRecursion}
+use Rattle.std.specs.{Prelude.{slice_get, if◌then◌else◌, IfOk, IfSome, IfNone}, List.AllByRecursion}
 use Rattle.request_words.specs.Bodies.{Item}
-use Rattle.request_model.specs.declared.replies.Reply.{Reply}
-use Rattle.request_model.specs.declared.replies.Refusal.{Refusal}
-use Rattle.request_model.specs.declared.requests.Request.{Request}
+use Rattle.request_model.specs.{declared.replies.Reply.Reply, declared.replies.Refusal.Refusal, declared.requests.Request.Request, Requests.machine_of}
 use Rattle.request_model.specs.declared.requests.Request.TheVariants as request
 use Rattle.reply_text.specs.Replies.{text_of}
-use Rattle.track_model.specs.Tracks.{Track}
-use Rattle.track_model.specs.Outcomes.{Outcome, refuses}
-use Rattle.track_model.specs.Replies.{apart}
-use Rattle.request_model.specs.Requests.{machine_of}
+use Rattle.track_model.specs.{Tracks.Track, Outcomes.{Outcome, refuses}, Replies.apart}
 use Rattle.history_model.specs.declared.entries.Author.TheVariants as author
-use Rattle.history_model.specs.declared.entries.Author.{Author}
-use Rattle.history_model.specs.declared.entries.Entry.{Entry}
-use Rattle.history_model.specs.declared.entries.Placed.{Placed}
+use Rattle.history_model.specs.declared.entries.{Author.Author, Entry.Entry, Placed.Placed}
 use Rattle.request_model.specs.declared.replies.Refusal.TheVariants as refusal
 use Rattle.journal_reader.specs.Journals.{Journal, IsOther}
 use Rattle.play_model.specs.Replies.{Adds, ComesToBeside, IsReplyWhere, first_of, is_of_history, stands_alone, why_apart}
-use Rattle.play_fits.specs.Journals.{history_in, machines_of}
-use Rattle.play_fits.specs.Scripts.{Exchange, known_after, names_history}
-use Rattle.audit_model.specs.Heard.{kept_count}
-use Rattle.audit_model.specs.Hearing.{Gives, HearsNone}
-use Rattle.audit_model.specs.Verdicts.{track_of}
-use Rattle.audit_model.proofs.Exchanges.{known_else}
+use Rattle.play_fits.{specs.Journals.{history_in, machines_of}, specs.Scripts.{Exchange, known_after, names_history}, proofs.Lists.mapped-back}
+use Rattle.audit_model.{specs.Heard.kept_count, specs.Hearing.{Gives, HearsNone}, specs.Verdicts.track_of, proofs.Exchanges.known_else}
 use Rattle.audit_model.proofs.Machines.{alone, undeclared}
-use Rattle.play_fits.proofs.Lists.{mapped-back}
-use Rattle.play_audit.specs.Texts.{BeginsWith}
-use Rattle.play_audit.specs.Known.{AreKnown, tracks_of}
-use Rattle.play_audit.specs.Marks.{AreRows, IsAddedBy}
-use Rattle.play_audit.specs.Heard.{exchange, HearsItem}
-use Rattle.play_audit.specs.declared.place.Place.{Place}
+use Rattle.play_audit.specs.{Texts.BeginsWith, Known.{AreKnown, tracks_of}, Marks.{AreRows, IsAddedBy}, Heard.{exchange, HearsItem}, declared.place.Place.Place}
 use Rattle.play_audit.proofs.Knowing.{none_other}
 
 -- the item has this reply alone, which tells of no machine

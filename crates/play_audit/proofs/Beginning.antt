@@ -1,12 +1,9 @@
 -- Private: no public contract cites this. A script's way whose walk begins where it is wanted.
-use Rattle.std.proofs.Common.{◌≡◌, ℕ, ◌≤◌, true, false, List, length, Option, Some, None, refl, sym, subst, arith}
-use Rattle.std.specs.Prelude.{is_some}
+use Rattle.std.{proofs.Common.{◌≡◌, ℕ, ◌≤◌, true, false, List, length, Option, Some, None, refl, sym, subst, arith}, specs.Prelude.is_some}
 use Rattle.history_model.specs.declared.entries.Placed.{Placed}
 use Rattle.track_model.specs.Tracks.{new_track}
-use Rattle.journal_walk.specs.Laws.{BeginsAlong}
-use Rattle.journal_walk.specs.Walks.{Walked}
-use Rattle.play_audit.specs.Places.{IsBy, IsPlace, IsWay, Walks}
-use Rattle.play_audit.specs.declared.place.Place.{Place}
+use Rattle.journal_walk.specs.{Laws.BeginsAlong, Walks.Walked}
+use Rattle.play_audit.specs.{Places.{IsBy, IsPlace, IsWay, Walks}, declared.place.Place.Place}
 
 -- it knows no more entries than there are
 known_within : (machine : List ℕ) (history : List Placed) (count : ℕ) (o : Option Walked) → IsWay machine history count o → count ≤ length history

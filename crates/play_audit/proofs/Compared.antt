@@ -1,10 +1,8 @@
 -- Private: no public contract cites this. A transcript that was compared with the one reply that may stand next in it.
-use Rattle.std.proofs.Common.{◌≡◌, ◌≢◌, ℕ, List, ◌++◌, length, drop, Option, Some, None, Ok, Err, sym, ap, ◌∙◌}
-use Rattle.std.specs.Prelude.{IfNone, IfOk, IfSome, Result}
+use Rattle.std.{proofs.Common.{◌≡◌, ◌≢◌, ℕ, List, ◌++◌, length, drop, Option, Some, None, Ok, Err, sym, ap, ◌∙◌}, specs.Prelude.{IfNone, IfOk, IfSome, Result}}
 use Rattle.request_model.specs.declared.replies.Reply.{Reply}
 use Rattle.reply_text.specs.Replies.{text_of}
-use Rattle.play_audit.specs.Replies.{HasNone, IsCompared, IsNext}
-use Rattle.play_audit.specs.Texts.{BeginsWith}
+use Rattle.play_audit.specs.{Replies.{HasNone, IsCompared, IsNext}, Texts.BeginsWith}
 
 begins_of : (transcript text : List ℕ) (r : Reply) (len : ℕ) → text ≡ text_of r → len ≡ length text → transcript ≡ text ++ drop len transcript → BeginsWith transcript r len
 begins_of transcript text r len is size split = record {

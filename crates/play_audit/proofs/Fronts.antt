@@ -1,10 +1,7 @@
 -- Private: no public contract cites this. Bytes in front of others, and what a transcript names first.
 use Rattle.std.proofs.Common.{◌≡◌, ◌≢◌, ℕ, ◌^◌, ◌+◌, ◌<◌, List, ◌∷◌, ◌++◌, All, length, take, drop, decimal, sym, ap, ◌∙◌, arith, append_assoc, length-append}
-use Rattle.std.proofs.Math.Seq.{take-append_seam}
-use Rattle.std.proofs.lemmas.List.{take-append-drop}
-use Rattle.std.proofs.lemmas.Fmt.{decimal_injective}
-use Rattle.journal_lines.proofs.Lacking.{Lacks, lacks_decimal, parted}
-use Rattle.journal_lines.proofs.Words.{first_is, no_words}
+use Rattle.std.proofs.{Math.Seq.take-append_seam, lemmas.List.take-append-drop, lemmas.Fmt.decimal_injective}
+use Rattle.journal_lines.proofs.{Lacking.{Lacks, lacks_decimal, parted}, Words.{first_is, no_words}}
 use Rattle.reply_laws.specs.Kinds.{Names}
 
 pub front_there : (bytes front : List ℕ) → take (length front) bytes ≡ front → bytes ≡ front ++ drop (length front) bytes

@@ -1,20 +1,14 @@
 -- Private: no public contract cites this. A script, heard item by item.
 use Rattle.std.proofs.Common.{◌≡◌, ℕ, zero, suc, ◌+◌, ◌<◌, ◌≤◌, Bool, List, [], ◌∷◌, ◌++◌, length, drop, Some, refl, sym, ap, subst, ◌∙◌, arith, length-append}
-use Rattle.std.specs.Prelude.{slice_get}
+use Rattle.std.{specs.Prelude.slice_get, proofs.Common.length-drop, proofs.Math.ListN.drop_of_length-le}
 use Rattle.request_words.specs.Bodies.{Item}
 use Rattle.reply_text.specs.Replies.{text_of}
 use Rattle.journal_reader.specs.Journals.{Journal}
 use Rattle.play_fits.specs.Scripts.{Exchange}
-use Rattle.audit_model.specs.Hearing.{HasHeard, HearsNext, HearsNone}
-use Rattle.play_audit.specs.Known.{AreKnown, tracks_of}
-use Rattle.play_audit.specs.Marks.{AreRows, MarksAll}
-use Rattle.play_audit.specs.Heard.{exchange, HearsAll, HearsItem, RefusesAt}
-use Rattle.std.proofs.Common.{length-drop}
-use Rattle.std.proofs.Math.ListN.{drop_of_length-le}
-use Rattle.audit_model.specs.Heard.{IsRefusedAt}
+use Rattle.audit_model.specs.{Hearing.{HasHeard, HearsNext, HearsNone}, Heard.IsRefusedAt}
+use Rattle.play_audit.specs.{Known.{AreKnown, tracks_of}, Marks.{AreRows, MarksAll}, Heard.{exchange, HearsAll, HearsItem, RefusesAt}}
 use Rattle.audit_model.proofs.Hears.{heard_more, heard_none, refused_next, refused_past}
-use Rattle.play_audit.proofs.Marking.{more_marked, none_marked}
-use Rattle.play_audit.specs.declared.place.Place.{Place}
+use Rattle.play_audit.{proofs.Marking.{more_marked, none_marked}, specs.declared.place.Place.Place}
 
 -- so many first items of a script were heard, up to a place of its transcript
 pub record HasGone (js : List Journal) (i : ℕ) (items : List Item) (transcript : List ℕ) (n at : ℕ) (places : List Place) (old now : List (List Bool)) : Type 0 where

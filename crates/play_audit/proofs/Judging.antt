@@ -1,31 +1,19 @@
 -- Private: no public contract cites this. Scripts, heard one after another.
 use Rattle.std.proofs.Common.{◌≡◌, inl, inr, ℕ, zero, suc, ◌+◌, ◌-◌, ◌<◌, ◌≤◌, Bool, true, false, List, [], ◌∷◌, ◌++◌, length, take, Some, refl, sym, ap, subst, ◌∙◌, arith}
-use Rattle.std.specs.Prelude.{slice_get, slice_index_or, sum_by}
-use Rattle.std.proofs.lemmas.Bool.{cases_Bool}
-use Rattle.std.proofs.lemmas.List.{take_all}
+use Rattle.std.{specs.Prelude.{slice_get, slice_index_or, sum_by}, proofs.lemmas.Bool.cases_Bool, proofs.lemmas.List.take_all}
 use Rattle.std.proofs.lemmas.Option.{slice_get_within}
 use Rattle.history_model.specs.declared.entries.Author.TheVariants as author
 use Rattle.history_model.specs.declared.entries.Placed.{Placed}
 use Rattle.track_model.specs.Tracks.{Track}
 use Rattle.request_words.specs.Bodies.{Item}
-use Rattle.request_reader.specs.Reading.{OneReading}
-use Rattle.request_reader.specs.Scripts.{IsScript, end}
+use Rattle.request_reader.specs.{Reading.OneReading, Scripts.{IsScript, end}}
 use Rattle.journal_reader.specs.Journals.{Journal}
-use Rattle.play_fits.specs.Journals.{history_in, machines_of}
-use Rattle.play_fits.specs.Scripts.{Exchange, IsAdded}
-use Rattle.audit_model.specs.Heard.{AreAsked, IsTold, IsUnaskedAt, kept_count}
-use Rattle.audit_model.specs.Verdicts.{Asks, AskTogether}
-use Rattle.audit_model.specs.declared.heard.Heard.{Heard}
-use Rattle.audit_model.proofs.Exchanges.{take_next}
-use Rattle.audit_model.proofs.Hears.{told_all}
-use Rattle.audit_model.proofs.Machines.{AreOthers, history_at}
-use Rattle.play_audit.specs.Known.{AreSound, tracks_of}
-use Rattle.play_audit.specs.Marks.{AreRows, IsAddedIn, IsFirstOpen, MarksAll, MarksThese, NoneMarked, NoneOpen, mark_at}
-use Rattle.play_audit.specs.Heard.{HearsAll, IsRefusedBy, IsShownBy, RefusesAt}
-use Rattle.play_audit.proofs.Knowing.{tracks_other}
-use Rattle.play_audit.proofs.Listed.{lt-or-le, same_at}
-use Rattle.play_audit.proofs.Named.{added_step, same-or}
-use Rattle.play_audit.proofs.Scripts.{one_script}
+use Rattle.play_fits.specs.{Journals.{history_in, machines_of}, Scripts.{Exchange, IsAdded}}
+use Rattle.audit_model.specs.{Heard.{AreAsked, IsTold, IsUnaskedAt, kept_count}, Verdicts.{Asks, AskTogether}, declared.heard.Heard.Heard}
+use Rattle.audit_model.proofs.{Exchanges.take_next, Hears.told_all, Machines.{AreOthers, history_at}}
+use Rattle.play_audit.specs.{Known.{AreSound, tracks_of}, Marks.{AreRows, IsAddedIn, IsFirstOpen, MarksAll, MarksThese, NoneMarked, NoneOpen, mark_at}}
+use Rattle.play_audit.{specs.Heard.{HearsAll, IsRefusedBy, IsShownBy, RefusesAt}, proofs.Knowing.tracks_other, proofs.Listed.{lt-or-le, same_at}}
+use Rattle.play_audit.proofs.{Named.{added_step, same-or}, Scripts.one_script}
 
 -- ---- one of many is changed
 

@@ -1,18 +1,10 @@
 -- Private: no public contract cites this. A script's ways along the journals.
 use Rattle.std.proofs.Common.{◌≡◌, inl, inr, ℕ, ◌+◌, ◌≤◌, List, [], ◌∷◌, ◌++◌, length, Some, None, refl, sym, ap, subst, ◌∙◌, arith}
-use Rattle.std.specs.Prelude.{Bool, slice_get}
-use Rattle.journal_reader.specs.Journals.{Journal}
-use Rattle.std.proofs.lemmas.Option.{slice_get_within}
-use Rattle.std.specs.List.{AllByRecursion}
-use Rattle.std.proofs.Common.{filter, length-append}
-use Rattle.journal_reader.specs.Journals.{AreDifferent, IsOther}
-use Rattle.audit_model.specs.Heard.{is_of_store, kept_count}
-use Rattle.audit_model.specs.Verdicts.{track_of}
-use Rattle.audit_model.proofs.Exchanges.{snoc_at}
+use Rattle.std.{specs.Prelude.{Bool, slice_get}, proofs.lemmas.Option.slice_get_within, specs.List.AllByRecursion, proofs.Common.{filter, length-append}}
+use Rattle.journal_reader.specs.Journals.{Journal, AreDifferent, IsOther}
+use Rattle.audit_model.{specs.Heard.{is_of_store, kept_count}, specs.Verdicts.track_of, proofs.Exchanges.snoc_at}
 use Rattle.audit_model.proofs.Machines.{AreOthers, IsOtherTrack, kept_at}
-use Rattle.play_audit.specs.Known.{AreKnown, AreSound, IsKnown, tracks_of}
-use Rattle.play_audit.proofs.Listed.{same_at, track_at}
-use Rattle.play_audit.proofs.Marking.{filter_short}
+use Rattle.play_audit.{specs.Known.{AreKnown, AreSound, IsKnown, tracks_of}, proofs.Listed.{same_at, track_at}, proofs.Marking.filter_short}
 use Rattle.play_audit.specs.declared.place.Place.{Place}
 
 -- along the first journals, so many

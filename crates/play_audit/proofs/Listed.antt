@@ -1,15 +1,10 @@
 -- Private: no public contract cites this. Lists by their places.
 use Rattle.std.proofs.Common.{◌≡◌, ◌⊎◌, inl, inr, ℕ, zero, suc, ◌+◌, ◌<◌, ◌≤◌, Bool, List, [], ◌∷◌, ◌++◌, length, map, take, get_or, set, Some, Vec, Global, refl, sym, ap, ◌∙◌, arith}
-use Rattle.std.specs.Prelude.{slice_get, sum_by}
+use Rattle.std.{specs.Prelude.{slice_get, sum_by}, proofs.lemmas.List.Sums.{sum_by-append, sum_by-cons, sum_by-take-le}, proofs.lemmas.Option.slice_get_read}
 use Rattle.std.proofs.lemmas.List as lists
-use Rattle.std.proofs.lemmas.List.Sums.{sum_by-append, sum_by-cons, sum_by-take-le}
-use Rattle.std.proofs.lemmas.Option.{slice_get_read}
-use Rattle.journal_reader.specs.Journals.{Journal}
-use Rattle.audit_model.specs.Verdicts.{track_of}
-use Rattle.audit_model.proofs.Exchanges.{take_next}
-use Rattle.journal_reader.proofs.Lists.{map_at}
-use Rattle.play_audit.specs.Known.{tracks_of}
-use Rattle.play_audit.specs.Marks.{rows_of}
+use Rattle.journal_reader.{specs.Journals.Journal, proofs.Lists.map_at}
+use Rattle.audit_model.{specs.Verdicts.track_of, proofs.Exchanges.take_next}
+use Rattle.play_audit.specs.{Known.tracks_of, Marks.rows_of}
 
 pub read_at : {A : Type 0} (xs : List A) (n : ℕ) (x : A) → n < length xs → x ≡ get_or xs n x → slice_get xs n ≡ Some x
 read_at xs n x below is = slice_get_read xs (length xs) n x refl below is

@@ -1,20 +1,14 @@
 -- Private: no public contract cites this. Marks on the entries that exchanges added.
 use Rattle.std.proofs.Common.{◌≡◌, ◌⊎◌, inl, inr, ℕ, suc, ◌+◌, ◌<◌, ◌≤◌, Bool, true, false, List, [], ◌∷◌, ◌++◌, length, filter, take, get_or, replicate, Some, refl, sym, ap, subst, ◌∙◌, arith, length-append}
-use Rattle.std.specs.Prelude.{slice_get, if◌then◌else◌}
-use Rattle.std.proofs.lemmas.Bool.{cases_Bool}
+use Rattle.std.{specs.Prelude.{slice_get, if◌then◌else◌}, proofs.lemmas.Bool.cases_Bool, proofs.lemmas.Option.slice_get_within}
 use Rattle.track_model.specs.Tracks.{Track}
 use Rattle.history_model.specs.declared.entries.Placed.{Placed}
-use Rattle.audit_model.specs.Heard.{is_of_store}
-use Rattle.audit_model.proofs.Exchanges.{at_end, at_front, snoc_at, take_front, take_next}
-use Rattle.audit_model.specs.Heard.{kept_count}
-use Rattle.play_fits.specs.Journals.{history_in}
-use Rattle.play_fits.specs.Scripts.{Exchange, known_after}
+use Rattle.audit_model.{specs.Heard.is_of_store, proofs.Exchanges.{at_end, at_front, snoc_at, take_front, take_next}, specs.Heard.kept_count}
+use Rattle.play_fits.specs.{Journals.history_in, Scripts.{Exchange, known_after}}
 use Rattle.play_model.specs.Replies.{Adds}
 use Rattle.std.proofs.lemmas.List as lists
-use Rattle.std.proofs.lemmas.Option.{slice_get_within}
-use Rattle.play_audit.specs.Marks.{AreRows, IsAddedBy, IsAddedIn, IsOpenIn, MarksAll, MarksOne, NoneMarked, mark_at}
+use Rattle.play_audit.{specs.Marks.{AreRows, IsAddedBy, IsAddedIn, IsOpenIn, MarksAll, MarksOne, NoneMarked, mark_at}, proofs.Listed.{lt-or-le, same_at}}
 use Rattle.std.proofs.Math.Seq.{get_or-append_seam}
-use Rattle.play_audit.proofs.Listed.{lt-or-le, same_at}
 use Rattle.history_model.specs.declared.entries.Author.TheVariants as author
 
 -- how many entries a store kept, one further

@@ -1,40 +1,19 @@
 -- Private: no public contract cites this. A request about one of the machines.
 use Rattle.std.proofs.Common.{◌≡◌, ◌⊎◌, inl, inr, ℕ, zero, suc, ◌+◌, ◌-◌, ◌<◌, Bool, true, false, List, [], ◌∷◌, ◌++◌, length, set, get_or, Option, Result, Ok, Err, Some, None, refl, sym, ap, subst, ◌∙◌, arith}
-use Rattle.std.specs.Prelude.{slice_get, IfOk, IfSome, IfNone}
+use Rattle.std.{specs.Prelude.{slice_get, IfOk, IfSome, IfNone}, proofs.lemmas.Option.slice_get_within, proofs.Common.take}
 use Rattle.std.proofs.lemmas.List as lists
-use Rattle.std.proofs.lemmas.Option.{slice_get_within}
-use Rattle.request_model.specs.declared.replies.Reply.{Reply}
-use Rattle.request_model.specs.declared.requests.Request.{Request}
-use Rattle.track_model.specs.Tracks.{Track}
-use Rattle.request_model.specs.Requests.{machine_of}
+use Rattle.request_model.specs.{declared.replies.Reply.Reply, declared.requests.Request.Request, Requests.machine_of}
+use Rattle.track_model.specs.{Tracks.Track, Outcomes.Outcome, Replies.reply_of}
 use Rattle.history_model.specs.declared.entries.Author.TheVariants as author
-use Rattle.history_model.specs.declared.entries.Placed.{Placed}
+use Rattle.history_model.specs.declared.entries.{Placed.Placed, Author.Author, Entry.Entry}
 use Rattle.journal_reader.specs.Journals.{Journal, AreDifferent}
-use Rattle.play_model.specs.Replies.{Adds, IsReplyOn, IsReplyWhere, is_of_history, stands_alone}
-use Rattle.play_fits.specs.Journals.{history_in, machines_of}
-use Rattle.play_fits.specs.Scripts.{Exchange, known_after}
-use Rattle.audit_model.specs.Heard.{kept_count}
-use Rattle.audit_model.specs.Hearing.{Gives, HearsNone}
-use Rattle.audit_model.specs.Verdicts.{track_of}
-use Rattle.audit_model.proofs.Exchanges.{known_about, known_else}
+use Rattle.play_model.specs.Replies.{Adds, IsReplyOn, IsReplyWhere, is_of_history, stands_alone, first_of}
+use Rattle.play_fits.{specs.Journals.{history_in, machines_of}, specs.Scripts.{Exchange, known_after}, proofs.Lists.mapped-back}
+use Rattle.audit_model.{specs.Heard.kept_count, specs.Hearing.{Gives, HearsNone}, specs.Verdicts.track_of, proofs.Exchanges.{known_about, known_else}}
 use Rattle.audit_model.proofs.Machines.{declared, history_at, undeclared}
-use Rattle.play_audit.specs.Known.{AreKnown, AreSound, IsKnown, tracks_of}
-use Rattle.play_audit.specs.Marks.{AreRows, IsAddedBy, MarksOne, mark_at}
-use Rattle.play_audit.specs.Heard.{exchange, HearsItem}
-use Rattle.play_audit.specs.Places.{IsPlace}
-use Rattle.play_audit.specs.Replies.{IsHeardNext, IsUnheard}
-use Rattle.play_audit.specs.declared.place.Place.{Place}
-use Rattle.play_audit.proofs.Knowing.{tracks_other}
-use Rattle.play_audit.proofs.Listed.{same_at, track_at}
-use Rattle.play_audit.proofs.Apart.{other_at}
-use Rattle.play_audit.proofs.Walking.{entries_length}
-use Rattle.std.proofs.Common.{take}
-use Rattle.history_model.specs.declared.entries.Author.{Author}
-use Rattle.history_model.specs.declared.entries.Entry.{Entry}
-use Rattle.track_model.specs.Outcomes.{Outcome}
-use Rattle.track_model.specs.Replies.{reply_of}
-use Rattle.play_model.specs.Replies.{first_of}
-use Rattle.play_fits.proofs.Lists.{mapped-back}
+use Rattle.play_audit.specs.{Known.{AreKnown, AreSound, IsKnown, tracks_of}, Marks.{AreRows, IsAddedBy, MarksOne, mark_at}, Heard.{exchange, HearsItem}}
+use Rattle.play_audit.{specs.Places.IsPlace, specs.Replies.{IsHeardNext, IsUnheard}, specs.declared.place.Place.Place, proofs.Knowing.tracks_other}
+use Rattle.play_audit.proofs.{Listed.{same_at, track_at}, Apart.other_at, Walking.entries_length}
 
 -- ---- places of different machines
 

@@ -1,60 +1,28 @@
 -- Private: no public contract cites this. Files have one verdict.
 use Rattle.std.proofs.Common.{◌≡◌, ◌⊎◌, inl, inr, ℕ, zero, suc, ◌^◌, ◌+◌, ◌-◌, ◌<◌, ◌≤◌, Bool, true, false, List, [], ◌∷◌, ◌++◌, length, map, take, drop, Some, Ok, Err, refl, sym, ap, subst, ◌∙◌, arith, append_assoc, append-nil}
-use Rattle.std.specs.Prelude.{slice_get, bytes_eq, if◌then◌else◌, ◌||◌, Contains, sum_by}
-use Rattle.std.specs.List.{AllByRecursion}
-use Rattle.std.proofs.lemmas.Bool.{cases_Bool, cases_order}
-use Rattle.std.proofs.lemmas.Grind.{flat_map-append}
-use Rattle.std.proofs.lemmas.List.{take-append-drop, take_all, take-take}
-use Rattle.history_model.specs.declared.entries.Author.{Author}
+use Rattle.std.specs.{Prelude.{slice_get, bytes_eq, if◌then◌else◌, ◌||◌, Contains, sum_by}, List.AllByRecursion}
+use Rattle.std.proofs.lemmas.{Bool.{cases_Bool, cases_order}, Grind.flat_map-append, List.{take-append-drop, take_all, take-take}}
+use Rattle.history_model.specs.{declared.entries.Author.Author, declared.entries.Entry.Entry, declared.entries.Placed.Placed, Laws.CutsGrow, Runs.Series}
 use Rattle.history_model.specs.declared.entries.Author.TheVariants as author
-use Rattle.history_model.specs.declared.entries.Entry.{Entry}
-use Rattle.history_model.specs.declared.entries.Placed.{Placed}
-use Rattle.history_model.specs.Laws.{CutsGrow}
-use Rattle.history_model.specs.Runs.{Series}
-use Rattle.request_model.specs.declared.requests.Request.{Request}
+use Rattle.request_model.specs.{declared.requests.Request.Request, declared.replies.Refusal.Refusal, declared.replies.Reply.Reply, Requests.machine_of}
 use Rattle.request_model.specs.declared.requests.Request.TheVariants as request
-use Rattle.request_model.specs.declared.replies.Refusal.{Refusal}
-use Rattle.request_model.specs.declared.replies.Reply.{Reply}
 use Rattle.request_words.specs.Bodies.{Item}
-use Rattle.request_reader.specs.Reading.{OneReading as OneScript}
-use Rattle.request_reader.specs.Scripts.{IsScript, cut_off, end}
+use Rattle.request_reader.specs.{Reading.OneReading as OneScript, Scripts.{IsScript, cut_off, end}}
 use Rattle.reply_text.specs.Replies.{text_of}
-use Rattle.track_model.specs.Counts.{is_segment}
-use Rattle.track_model.specs.Outcomes.{refuses}
-use Rattle.track_model.specs.Replies.{reply_of}
-use Rattle.request_model.specs.Requests.{machine_of}
-use Rattle.track_model.specs.Tracks.{Track}
-use Rattle.play_model.specs.Laws.{RepliesNameEntries}
-use Rattle.play_model.specs.Replies.{Adds, IsReplyOn, IsReplyWhere, Tells, first_of, is_of_history}
-use Rattle.play_model.proofs.Replies.{told-step}
-use Rattle.play_fits.specs.Journals.{history_in, machines_of}
-use Rattle.play_fits.specs.Scripts.{Exchange, IsAdded, items_of, known_after, replies_text}
-use Rattle.reply_laws.specs.Kinds.{Names, adds_none, asks_only}
-use Rattle.reply_laws.specs.Laws.{KindsAreTold, OneAdds, OneTells, RepliesAreNamed}
-use Rattle.journal_lines.specs.Authors.{Crew, IsOneOf, MayAdd}
-use Rattle.journal_lines.proofs.Lacking.{behind_same}
-use Rattle.journal_reader.specs.Journals.{Journal, IsJournal, WasKept, crew_with}
-use Rattle.journal_reader.specs.Laws.{NoneRefused, OneReading, OneRefusal}
-use Rattle.journal_reader.proofs.Lists.{all_at, map_take, some_at}
-use Rattle.journal_reader.proofs.Unique.{fits}
-use Rattle.audit_model.specs.Heard.{AreGiven, AreHeard, BeginsWell, IsRefusedAt, IsTold, IsUnasked, IsUnaskedAt, kept_count}
-use Rattle.audit_model.specs.Hearing.{Gives}
-use Rattle.audit_model.specs.Verdicts.{AreOf, AreShown, Asks, AskTogether, IsRefusedRequest, IsUnaskedLine, IsVerdict, track_of}
-use Rattle.audit_model.specs.declared.heard.Heard.{Heard}
-use Rattle.audit_model.specs.declared.verdict.Verdict.{Verdict}
+use Rattle.track_model.specs.{Counts.is_segment, Outcomes.refuses, Replies.reply_of, Tracks.Track}
+use Rattle.play_model.{specs.Laws.RepliesNameEntries, specs.Replies.{Adds, IsReplyOn, IsReplyWhere, Tells, first_of, is_of_history}, proofs.Replies.told-step}
+use Rattle.play_fits.specs.{Journals.{history_in, machines_of}, Scripts.{Exchange, IsAdded, items_of, known_after, replies_text}}
+use Rattle.reply_laws.specs.{Kinds.{Names, adds_none, asks_only}, Laws.{KindsAreTold, OneAdds, OneTells, RepliesAreNamed}}
+use Rattle.journal_lines.{specs.Authors.{Crew, IsOneOf, MayAdd}, proofs.Lacking.behind_same}
+use Rattle.journal_reader.specs.{Journals.{Journal, IsJournal, WasKept, crew_with}, Laws.{NoneRefused, OneReading, OneRefusal}}
+use Rattle.journal_reader.proofs.{Lists.{all_at, map_take, some_at}, Unique.fits}
+use Rattle.audit_model.specs.{Heard.{AreGiven, AreHeard, BeginsWell, IsRefusedAt, IsTold, IsUnasked, IsUnaskedAt, kept_count}, Hearing.Gives}
+use Rattle.audit_model.specs.{Verdicts.{AreOf, AreShown, Asks, AskTogether, IsRefusedRequest, IsUnaskedLine, IsVerdict, track_of}, declared.heard.Heard.Heard}
+use Rattle.audit_model.{specs.declared.verdict.Verdict.Verdict, proofs.Exchanges.{given_front, given_last}, proofs.Machines.{AreOthers, history_at}}
 use Rattle.audit_model.specs.declared.verdict.Verdict.TheVariants as verdict
-use Rattle.audit_model.proofs.Exchanges.{given_front, given_last}
-use Rattle.audit_model.proofs.Machines.{AreOthers, history_at}
 use Rattle.play_fits.proofs.Lists.{mapped-back}
-use Rattle.play_audit.specs.Known.{tracks_of}
-use Rattle.play_audit.specs.Laws.{OneCutOff, OneVerdict}
-use Rattle.play_audit.specs.Segments.{IsReason}
-use Rattle.play_audit.proofs.Answering.{same_steps, told_names}
-use Rattle.play_audit.proofs.Fronts.{names_more}
-use Rattle.play_audit.proofs.Knowing.{tracks_other}
-use Rattle.play_audit.proofs.Listed.{same_at}
-use Rattle.play_audit.proofs.Reasons.{one_reason, tells_reason}
-use Rattle.play_audit.proofs.Scripts.{one_script}
+use Rattle.play_audit.{specs.Known.tracks_of, specs.Laws.{OneCutOff, OneVerdict}, specs.Segments.IsReason, proofs.Answering.{same_steps, told_names}}
+use Rattle.play_audit.proofs.{Fronts.names_more, Knowing.tracks_other, Listed.same_at, Reasons.{one_reason, tells_reason}, Scripts.one_script}
 use Rattle.play_audit.proofs.Telling.{kind_of_adds, kind_of_tells}
 
 -- what one verdict stands on

@@ -1,12 +1,9 @@
 -- Private: no public contract cites this. The first entry that isn't marked.
 use Rattle.std.proofs.Common.{◌≡◌, inl, inr, ℕ, ◌+◌, ◌<◌, ◌≤◌, Bool, List, [], ◌∷◌, length, take, get_or, Some, refl, sym, ap, subst, ◌∙◌, arith}
-use Rattle.std.specs.Prelude.{slice_get, sum_by}
+use Rattle.std.{specs.Prelude.{slice_get, sum_by}, proofs.lemmas.List.Sums.sum_by-cons, proofs.lemmas.Option.slice_get_within}
 use Rattle.history_model.specs.declared.entries.Placed.{Placed}
 use Rattle.track_model.specs.Tracks.{Track}
-use Rattle.play_audit.specs.Known.{lines_in}
-use Rattle.std.proofs.lemmas.List.Sums.{sum_by-cons}
-use Rattle.std.proofs.lemmas.Option.{slice_get_within}
-use Rattle.play_audit.specs.Marks.{IsFirstIn, IsFirstOpen, IsOpen, IsOpenIn, NoneIn, NoneOpen}
+use Rattle.play_audit.specs.{Known.lines_in, Marks.{IsFirstIn, IsFirstOpen, IsOpen, IsOpenIn, NoneIn, NoneOpen}}
 use Rattle.play_audit.proofs.Listed.{lt-or-le, same_at, sum_longer, sum_most, sum_next}
 
 -- the first journals, so many with so many lines, have no such entry

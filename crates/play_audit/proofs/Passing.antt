@@ -1,26 +1,14 @@
 -- Private: no public contract cites this. How many cuts the segmentations of a journal's versions have.
 use Rattle.std.proofs.Common.{◌≡◌, inl, inr, ℕ, ℤ, ◌<◌, ◌≤◌, Bool, true, false, List, [], ◌∷◌, ◌++◌, length, map, filter, take, refl, sym, ap, subst, ◌∙◌, arith}
-use Rattle.std.specs.Prelude.{◌||◌, nat_lt, if◌then◌else◌}
-use Rattle.std.specs.List.{list_any}
-use Rattle.std.proofs.lemmas.Bool.{cases_Bool, cases_lt, lt-ltb}
+use Rattle.std.{specs.Prelude.{◌||◌, nat_lt, if◌then◌else◌}, specs.List.list_any, proofs.lemmas.Bool.{cases_Bool, cases_lt, lt-ltb}}
 use Rattle.sample_model.specs.Samples.{Measurement}
-use Rattle.segment_model.specs.Segments.{Position}
-use Rattle.segment_model.specs.Brought.{Brought, positions_of}
-use Rattle.segment_model.specs.Cuts.{IsCutList}
-use Rattle.segment_cost.specs.Certificate.{OneCertificate, StandsFor}
-use Rattle.segment_cost.specs.declared.cert.Cert.{Cert}
-use Rattle.history_model.specs.declared.entries.Acceptance.{Acceptance}
-use Rattle.history_model.specs.declared.entries.Entry.{Entry}
-use Rattle.history_model.specs.declared.entries.Placed.{Placed}
-use Rattle.history_model.specs.Penalties.{penalty_of, length_of}
-use Rattle.history_model.specs.Positions.{brought, brought_by, positions}
-use Rattle.history_model.specs.Runs.{Series, acceptances, is_known, is_of}
+use Rattle.segment_model.specs.{Segments.Position, Brought.{Brought, positions_of}, Cuts.IsCutList}
+use Rattle.segment_cost.specs.{Certificate.{OneCertificate, StandsFor}, declared.cert.Cert.Cert}
+use Rattle.history_model.specs.declared.entries.{Acceptance.Acceptance, Entry.Entry, Placed.Placed}
+use Rattle.history_model.specs.{Penalties.{penalty_of, length_of}, Positions.{brought, brought_by, positions}, Runs.{Series, acceptances, is_known, is_of}}
 use Rattle.history_model.specs.Entries.{entries_of}
-use Rattle.journal_walk.specs.Laws.{StaysAlong}
-use Rattle.journal_walk.specs.Walks.{Walked, AreCutsNow, GoesOn, IsAlong, IsStuck, added}
-use Rattle.play_audit.specs.Places.{IsBy, IsSound}
-use Rattle.play_audit.proofs.Walking.{goes_by, grown_length, not_stuck}
-use Rattle.play_audit.specs.Segments.{HasFewCuts, PassesCuts}
+use Rattle.journal_walk.specs.{Laws.StaysAlong, Walks.{Walked, AreCutsNow, GoesOn, IsAlong, IsStuck, added}}
+use Rattle.play_audit.{specs.Places.{IsBy, IsSound}, proofs.Walking.{goes_by, grown_length, not_stuck}, specs.Segments.{HasFewCuts, PassesCuts}}
 use Rattle.play_model.specs.Replies.{first_of}
 
 -- ---- a series that isn't known has no positions

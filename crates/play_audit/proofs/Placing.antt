@@ -1,23 +1,14 @@
 -- Private: no public contract cites this. A script's way along a journal, one reply further.
 use Rattle.std.proofs.Common.{◌≡◌, ℕ, zero, suc, ◌+◌, ◌-◌, ◌^◌, false, ◌<◌, ◌≤◌, List, [], ◌∷◌, get_or, length, Option, Some, None, Ok, Err, refl, sym, ap, subst, ◌∙◌, arith}
-use Rattle.std.specs.List.{AllByRecursion}
-use Rattle.std.proofs.lemmas.Option.{get_or_from_slice_get}
-use Rattle.std.specs.Prelude.{slice_get, IfOk, IfSome, Result}
-use Rattle.history_model.specs.declared.entries.Author.{Author}
-use Rattle.history_model.specs.declared.entries.Placed.{Placed}
-use Rattle.request_model.specs.declared.requests.Request.{Request}
-use Rattle.request_model.specs.declared.requests.Request.TheVariants.{Segment}
-use Rattle.request_model.specs.Requests.{machine_of}
-use Rattle.journal_walk.specs.Laws.{StaysAlong}
-use Rattle.journal_walk.specs.Walks.{Walked, GoesOn, coming}
-use Rattle.play_model.specs.Replies.{Adds, Tells, stands_alone}
+use Rattle.std.{specs.List.AllByRecursion, proofs.lemmas.Option.get_or_from_slice_get, specs.Prelude.{slice_get, IfOk, IfSome, Result}}
+use Rattle.history_model.specs.declared.entries.{Author.Author, Placed.Placed}
+use Rattle.request_model.specs.{declared.requests.Request.Request, declared.requests.Request.TheVariants.Segment, Requests.machine_of}
+use Rattle.journal_walk.specs.{Laws.StaysAlong, Walks.{Walked, GoesOn, coming}}
+use Rattle.play_model.{specs.Replies.{Adds, Tells, stands_alone}, proofs.Replies.added-step}
 use Rattle.request_model.specs.declared.replies.Reply.{Reply}
 use Rattle.journal_lines.specs.Lines.{HasLine}
-use Rattle.play_model.proofs.Replies.{added-step}
 use Rattle.journal_reader.proofs.Lists.{some_at}
-use Rattle.play_audit.specs.Places.{IsBehind, IsBy, IsSound, Knows, MayAsk}
-use Rattle.play_audit.specs.Replies.{IsCompared}
-use Rattle.play_audit.proofs.Walking.{grown_length}
+use Rattle.play_audit.{specs.Places.{IsBehind, IsBy, IsSound, Knows, MayAsk}, specs.Replies.IsCompared, proofs.Walking.grown_length}
 
 -- a walk may go on to what is named
 pub may_go : (machine : List ℕ) (history : List Placed) (known step : ℕ) (w : Walked) → IsBy machine history known w → known ≤ step → step ≤ length history

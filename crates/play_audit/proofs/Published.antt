@@ -1,36 +1,18 @@
 -- Private: no public contract cites this. A segmentation that a journal published next.
 use Rattle.std.proofs.Common.{◌≡◌, ◌≢◌, inl, inr, ℕ, ◌^◌, ◌+◌, ◌<◌, ◌≤◌, List, ◌++◌, length, take, Option, Some, None, Ok, Err, refl, sym, ap, subst, ◌∙◌, arith}
-use Rattle.std.specs.Prelude.{slice_get, IfNone, IfOk, IfSome, Result}
-use Rattle.std.proofs.lemmas.List.{length-take, length-take-le, length-map, take-take}
-use Rattle.history_model.specs.declared.entries.Author.{Author}
-use Rattle.history_model.specs.declared.entries.Entry.{Entry}
+use Rattle.std.{specs.Prelude.{slice_get, IfNone, IfOk, IfSome, Result}, proofs.lemmas.List.{length-take, length-take-le, length-map, take-take}}
+use Rattle.history_model.specs.declared.{entries.Author.Author, entries.Entry.Entry, entries.Placed.Placed, publication.Publication.Publication}
 use Rattle.history_model.specs.declared.entries.Entry.TheVariants as entry
-use Rattle.history_model.specs.declared.entries.Placed.{Placed}
-use Rattle.history_model.specs.declared.publication.Publication.{Publication}
-use Rattle.history_model.specs.Entries.{entries_of}
-use Rattle.history_model.specs.Publications.{last_publication, published}
-use Rattle.history_model.specs.Runs.{Series, is_known}
-use Rattle.request_model.specs.declared.requests.Request.TheVariants.{Segment}
-use Rattle.request_model.specs.declared.replies.Reply.{Reply}
+use Rattle.history_model.specs.{Entries.entries_of, Publications.{last_publication, published}, Runs.{Series, is_known}}
+use Rattle.request_model.specs.declared.{requests.Request.TheVariants.Segment, replies.Reply.Reply}
 use Rattle.reply_text.specs.Replies.{text_of}
-use Rattle.track_model.specs.Outcomes.{Outcome}
-use Rattle.track_model.specs.Publishing.{SegmentComesFrom, later, publication}
-use Rattle.track_model.specs.Replies.{reply_of}
+use Rattle.track_model.specs.{Outcomes.Outcome, Publishing.{SegmentComesFrom, later, publication}, Replies.reply_of}
 use Rattle.journal_lines.specs.Authors.{IsPublication}
-use Rattle.play_model.specs.Laws.{RepliesNameEntries}
-use Rattle.play_model.specs.Replies.{Adds, first_of}
-use Rattle.play_model.proofs.Replies.{added-step}
-use Rattle.reply_laws.specs.Laws.{OneAdds, RepliesAreNamed}
-use Rattle.reply_laws.proofs.OneReply.{IsPublishing, publishing}
+use Rattle.play_model.{specs.Laws.RepliesNameEntries, specs.Replies.{Adds, first_of}, proofs.Replies.added-step}
+use Rattle.reply_laws.{specs.Laws.{OneAdds, RepliesAreNamed}, proofs.OneReply.{IsPublishing, publishing}}
 use Rattle.journal_walk.specs.Walks.{Walked, GoesOn, IsAlong, IsPublishedNext, PublishesNothing, added, coming}
-use Rattle.play_audit.specs.Places.{IsSound}
-use Rattle.play_audit.specs.Replies.{HasNone, IsCompared, IsNext}
-use Rattle.play_audit.specs.Segments.{Publishes}
-use Rattle.play_audit.specs.Texts.{BeginsWith}
-use Rattle.play_audit.proofs.Answering.{adds_next, adds_no_text}
-use Rattle.play_audit.proofs.Compared.{compared}
-use Rattle.play_audit.proofs.Replying.{entry_of, step_added}
-use Rattle.play_audit.proofs.Walking.{next_allowed, take_entries}
+use Rattle.play_audit.specs.{Places.IsSound, Replies.{HasNone, IsCompared, IsNext}, Segments.Publishes, Texts.BeginsWith}
+use Rattle.play_audit.proofs.{Answering.{adds_next, adds_no_text}, Compared.compared, Replying.{entry_of, step_added}, Walking.{next_allowed, take_entries}}
 
 first-length : (j : List Placed) (count : ℕ) → count ≤ length j → length (first_of count j) ≡ count
 first-length j count le = length-map (take count j) (λ (p : Placed). p.entry) ∙ length-take-le count j le

@@ -1,12 +1,9 @@
 -- Private: no public contract cites this. What a script asks, one item more.
 use Rattle.std.proofs.Common.{◌≡◌, inl, inr, ℕ, ◌+◌, ◌-◌, ◌<◌, ◌≤◌, Bool, true, false, List, [], ◌++◌, length, refl, sym, ap, subst, ◌∙◌, arith, append_assoc, length-append}
-use Rattle.std.specs.Prelude.{if◌then◌else◌}
-use Rattle.std.proofs.lemmas.Bool.{cases_Bool}
+use Rattle.std.{specs.Prelude.if◌then◌else◌, proofs.lemmas.Bool.cases_Bool}
 use Rattle.request_words.specs.Bodies.{Item}
-use Rattle.request_reader.specs.Next.{TakesWhole, TakesLast}
-use Rattle.request_reader.specs.Reading.{PiecesComeFirst, PiecesJoin}
-use Rattle.request_reader.specs.Scripts.{ArePieces, IsScript, Reads, ReadsLeft, cut_off, end, input_limit}
-use Rattle.request_reader.specs.Unread.{Unread, nothing_read}
+use Rattle.request_reader.specs.{Next.{TakesWhole, TakesLast}, Reading.{PiecesComeFirst, PiecesJoin}}
+use Rattle.request_reader.specs.{Scripts.{ArePieces, IsScript, Reads, ReadsLeft, cut_off, end, input_limit}, Unread.{Unread, nothing_read}}
 use Rattle.play_audit.specs.Items.{Reading, Finishes, GoesOn, IsOf, IsCutOff}
 
 pub still_of : PiecesJoin → (old new : Reading) (more : List Item) → new.items ≡ old.items ++ more

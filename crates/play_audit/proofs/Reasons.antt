@@ -1,30 +1,15 @@
 -- Private: no public contract cites this. Why a request for a segmentation publishes nothing, as a reply by the journal.
 use Rattle.std.proofs.Common.{◌≡◌, inl, inr, ℕ, ◌+◌, ◌<◌, ◌≤◌, Bool, true, false, List, [], ◌∷◌, ◌++◌, get_or, length, take, Option, Some, None, decimal, refl, sym, ap, subst, ◌∙◌, arith, append_assoc}
-use Rattle.std.specs.Prelude.{nat_lt, if◌then◌else◌}
-use Rattle.std.proofs.lemmas.Bool.{cases_Bool, cases_lt, lt-ltb, le-ltb, ltb-true}
+use Rattle.std.{specs.Prelude.{nat_lt, if◌then◌else◌}, proofs.lemmas.Bool.{cases_Bool, cases_lt, lt-ltb, le-ltb, ltb-true}}
 use Rattle.std.proofs.lemmas.List.{length-take-le, length-map, length-append}
-use Rattle.metric_table.specs.Limits.{most}
-use Rattle.metric_table.specs.declared.limits.Limit.{Limit}
-use Rattle.metric_table.specs.declared.limits.Limit.TheVariants.{Cuts, Steps}
-use Rattle.history_model.specs.declared.entries.Entry.{Entry}
-use Rattle.history_model.specs.declared.entries.Entry.TheVariants.{Publish}
-use Rattle.history_model.specs.declared.entries.Placed.{Placed}
-use Rattle.history_model.specs.declared.publication.Publication.{Publication}
-use Rattle.history_model.specs.Allowed.{first_passed}
-use Rattle.history_model.specs.Publications.{cut_count, last_publication}
-use Rattle.history_model.specs.Laws.{CutsGrow}
-use Rattle.history_model.specs.Runs.{Series, is_known}
-use Rattle.request_model.specs.Lines.{line_of, spaced}
-use Rattle.request_model.specs.declared.requests.Request.TheVariants.{Segment}
-use Rattle.request_model.specs.declared.replies.Answer.{Answer}
-use Rattle.request_model.specs.declared.replies.Answer.TheVariants.{Refused}
-use Rattle.request_model.specs.declared.replies.Refusal.{Refusal}
-use Rattle.request_model.specs.declared.replies.Refusal.TheVariants.{Full, Stale, UnknownSeries}
-use Rattle.request_model.specs.declared.replies.Reply.{Reply}
+use Rattle.metric_table.specs.{Limits.most, declared.limits.Limit.Limit, declared.limits.Limit.TheVariants.{Cuts, Steps}}
+use Rattle.history_model.specs.declared.{entries.Entry.Entry, entries.Entry.TheVariants.Publish, entries.Placed.Placed, publication.Publication.Publication}
+use Rattle.history_model.specs.{Allowed.first_passed, Publications.{cut_count, last_publication}, Laws.CutsGrow, Runs.{Series, is_known}}
+use Rattle.request_model.specs.{Lines.{line_of, spaced}, declared.requests.Request.TheVariants.Segment, declared.replies.Answer.Answer}
+use Rattle.request_model.specs.declared.replies.{Answer.TheVariants.Refused, Refusal.Refusal, Refusal.TheVariants.{Full, Stale, UnknownSeries}, Reply.Reply}
 use Rattle.reply_text.specs.Replies.{at, refusal_words, text_of}
 use Rattle.track_model.specs.Outcomes.{Outcome, added_unless, refuses}
-use Rattle.track_model.specs.Publishing.{IsPublishedFrom, OfKnown, OfLatest, later, publication, publish, redone_since, segmented}
-use Rattle.track_model.specs.Replies.{reply_of}
+use Rattle.track_model.specs.{Publishing.{IsPublishedFrom, OfKnown, OfLatest, later, publication, publish, redone_since, segmented}, Replies.reply_of}
 use Rattle.play_model.specs.Replies.{Tells, first_of}
 use Rattle.journal_lines.proofs.Lacking.{behind_same}
 use Rattle.play_audit.specs.Segments.{IsFullBehind, IsReason}

@@ -1,38 +1,22 @@
 -- Private: no public contract cites this. The refusal of a segmentation that stands next in a transcript, behind a walk.
 use Rattle.std.proofs.Common.{◌≡◌, ◌≢◌, inl, inr, ℕ, ◌^◌, ◌+◌, ◌<◌, ◌≤◌, Bool, true, false, List, ◌++◌, length, drop, Option, Some, None, Ok, Err, refl, sym, ap, subst, ◌∙◌, arith}
-use Rattle.std.specs.Prelude.{max, nat_lt, if◌then◌else◌, IfNone, IfOk, IfSome, Result}
-use Rattle.std.proofs.lemmas.Bool.{cases_Bool, cases_lt, lt-ltb, le-ltb, ltb-true}
-use Rattle.metric_table.specs.Limits.{most}
-use Rattle.metric_table.specs.declared.limits.Limit.{Limit}
-use Rattle.metric_table.specs.declared.limits.Limit.TheVariants.{Cuts, Steps}
+use Rattle.std.{specs.Prelude.{max, nat_lt, if◌then◌else◌, IfNone, IfOk, IfSome, Result}, proofs.lemmas.Bool.{cases_Bool, cases_lt, lt-ltb, le-ltb, ltb-true}}
+use Rattle.metric_table.specs.{Limits.most, declared.limits.Limit.Limit, declared.limits.Limit.TheVariants.{Cuts, Steps}}
 use Rattle.segment_cost.specs.Certificate.{StandsFor}
 use Rattle.history_model.specs.declared.entries.Author.TheVariants as author
-use Rattle.history_model.specs.declared.entries.Entry.{Entry}
-use Rattle.history_model.specs.declared.entries.Entry.TheVariants.{Publish}
-use Rattle.history_model.specs.declared.publication.Publication.{Publication}
-use Rattle.history_model.specs.Laws.{CutsGrow}
-use Rattle.history_model.specs.Penalties.{penalty_of, length_of}
-use Rattle.history_model.specs.Positions.{positions}
-use Rattle.history_model.specs.Publications.{cut_count, last_publication}
+use Rattle.history_model.specs.declared.{entries.Entry.Entry, entries.Entry.TheVariants.Publish, publication.Publication.Publication}
+use Rattle.history_model.specs.{Laws.CutsGrow, Penalties.{penalty_of, length_of}, Positions.positions, Publications.{cut_count, last_publication}}
 use Rattle.history_model.specs.Runs.{Series, is_known}
-use Rattle.request_model.specs.declared.requests.Request.TheVariants.{Segment}
-use Rattle.request_model.specs.declared.replies.Refusal.{Refusal}
-use Rattle.request_model.specs.declared.replies.Refusal.TheVariants.{Full, Stale, UnknownSeries}
-use Rattle.request_model.specs.declared.replies.Reply.{Reply}
+use Rattle.request_model.specs.declared.{requests.Request.TheVariants.Segment, replies.Refusal.Refusal}
+use Rattle.request_model.specs.declared.replies.{Refusal.TheVariants.{Full, Stale, UnknownSeries}, Reply.Reply}
 use Rattle.reply_text.specs.Replies.{text_of}
-use Rattle.track_model.specs.Outcomes.{refuses}
-use Rattle.track_model.specs.Publishing.{later, publication}
-use Rattle.track_model.specs.Replies.{reply_of}
-use Rattle.play_model.specs.Laws.{RepliesNameEntries}
-use Rattle.play_model.specs.Replies.{Tells, first_of}
-use Rattle.play_model.proofs.Replies.{told-step}
+use Rattle.track_model.specs.{Outcomes.refuses, Publishing.{later, publication}, Replies.reply_of}
+use Rattle.play_model.{specs.Laws.RepliesNameEntries, specs.Replies.{Tells, first_of}, proofs.Replies.told-step}
 use Rattle.reply_laws.specs.Laws.{RepliesAreNamed}
 use Rattle.journal_walk.specs.Walks.{Walked, AreCutsNow, IsAlong, added}
 use Rattle.play_audit.specs.Replies.{HasNone, IsCompared, IsNext}
-use Rattle.play_audit.specs.Segments.{HasFewCuts, IsFullBehind, IsFullNext, IsKnownAt, IsLastVersion, IsNotFull, IsReason, PassesCuts}
-use Rattle.play_audit.specs.Texts.{BeginsWith}
-use Rattle.play_audit.proofs.Answering.{same_steps}
-use Rattle.play_audit.proofs.Compared.{compared}
+use Rattle.play_audit.specs.{Segments.{HasFewCuts, IsFullBehind, IsFullNext, IsKnownAt, IsLastVersion, IsNotFull, IsReason, PassesCuts}, Texts.BeginsWith}
+use Rattle.play_audit.proofs.{Answering.same_steps, Compared.compared}
 use Rattle.play_audit.proofs.Reasons.{cuts_first, cuts_only, first_length, one_reason, reason_tells, steps_first, steps_only, tells_reason}
 use Rattle.play_audit.proofs.Walking.{entries_length}
 

@@ -1,30 +1,18 @@
 -- Private: no public contract cites this. A reply behind the entries of a walk, by what its request came to there.
 use Rattle.std.proofs.Common.{◌≡◌, ◌≢◌, ℕ, ◌^◌, ◌+◌, ◌<◌, ◌≤◌, false, List, [], ◌∷◌, ◌++◌, length, drop, Option, Some, None, Ok, refl, sym, ap, ◌∙◌, arith}
-use Rattle.std.specs.Prelude.{slice_get, IfNone, IfSome}
-use Rattle.std.proofs.lemmas.List.{map-append}
-use Rattle.history_model.specs.declared.entries.Author.{Author}
+use Rattle.std.{specs.Prelude.{slice_get, IfNone, IfSome}, proofs.lemmas.List.map-append}
+use Rattle.history_model.specs.{declared.entries.Author.Author, declared.entries.Entry.Entry, declared.entries.Placed.Placed, Entries.entries_of}
 use Rattle.history_model.specs.declared.entries.Author.TheVariants as author
-use Rattle.history_model.specs.declared.entries.Entry.{Entry}
-use Rattle.history_model.specs.declared.entries.Placed.{Placed}
-use Rattle.history_model.specs.Entries.{entries_of}
-use Rattle.request_model.specs.declared.requests.Request.{Request}
-use Rattle.request_model.specs.declared.replies.Reply.{Reply}
+use Rattle.request_model.specs.declared.{requests.Request.Request, replies.Reply.Reply}
 use Rattle.reply_text.specs.Replies.{text_of}
-use Rattle.track_model.specs.Counts.{is_segment}
-use Rattle.track_model.specs.Outcomes.{Outcome}
-use Rattle.track_model.specs.Replies.{reply_of}
-use Rattle.track_model.specs.Tracks.{ComesTo, IsStep, Track, with_added}
-use Rattle.play_model.specs.Laws.{RepliesNameEntries}
-use Rattle.play_model.specs.Replies.{Adds, Tells, stands_alone}
+use Rattle.track_model.specs.{Counts.is_segment, Outcomes.Outcome, Replies.reply_of, Tracks.{ComesTo, IsStep, Track, with_added}}
+use Rattle.play_model.specs.{Laws.RepliesNameEntries, Replies.{Adds, Tells, stands_alone}}
 use Rattle.reply_laws.specs.Laws.{OneAdds, OneBeside, OneTells, PlainBeside, RepliesAreNamed}
 use Rattle.journal_walk.specs.Walks.{Walked, GoesOn, IsAlong, added, coming}
 use Rattle.audit_model.proofs.Exchanges.{at_end}
-use Rattle.play_audit.specs.Places.{IsBehind}
-use Rattle.play_audit.specs.Replies.{HasNone, IsCompared, IsNext}
-use Rattle.play_audit.specs.Texts.{BeginsWith, HasEntry}
+use Rattle.play_audit.specs.{Places.IsBehind, Replies.{HasNone, IsCompared, IsNext}, Texts.{BeginsWith, HasEntry}}
 use Rattle.play_audit.proofs.Answering.{none_added, one_added, plain_tells, plain_adds, tells_same, adds_same, tells_next, tells_no_text, adds_next, adds_no_text}
-use Rattle.play_audit.proofs.Compared.{compared_front}
-use Rattle.play_audit.proofs.Walking.{entries_length}
+use Rattle.play_audit.proofs.{Compared.compared_front, Walking.entries_length}
 
 -- a walk is behind its own entries
 pub here_behind : (w : Walked) → IsAlong w → IsBehind w.track.machine w.history (length w.track.history) w

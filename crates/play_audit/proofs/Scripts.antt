@@ -1,18 +1,13 @@
 -- Private: no public contract cites this. What scripts ask, script by script.
 use Rattle.std.proofs.Common.{◌≡◌, inl, inr, ℕ, zero, suc, ◌+◌, ◌-◌, ◌<◌, ◌≤◌, Bool, true, false, List, [], ◌∷◌, ◌++◌, length, take, drop, Some, Vec, Global, refl, sym, ap, subst, ◌∙◌, arith, length-append}
-use Rattle.std.specs.Prelude.{slice_get}
+use Rattle.std.{specs.Prelude.slice_get, proofs.lemmas.Option.slice_get_within}
 use Rattle.std.proofs.lemmas.List as lists
-use Rattle.std.proofs.lemmas.Option.{slice_get_within}
-use Rattle.request_words.specs.Bodies.{Item}
+use Rattle.request_words.specs.{Bodies.Item, Items.Gives}
 use Rattle.request_reader.specs.Reading.{OneReading}
 use Rattle.request_reader.specs.Scripts.{ArePiecesOf, Ending, Ends, IsScript, Piece, Reads, cut_off, end, inside, input_limit, last, long, more, text_of}
-use Rattle.request_words.specs.Items.{Gives}
-use Rattle.audit_model.specs.declared.heard.Heard.{Heard}
-use Rattle.audit_model.specs.Verdicts.{IsCutOff, NoneCutOff}
-use Rattle.audit_model.proofs.Exchanges.{snoc_at}
+use Rattle.audit_model.{specs.declared.heard.Heard.Heard, specs.Verdicts.{IsCutOff, NoneCutOff}, proofs.Exchanges.snoc_at}
 use Rattle.journal_reader.proofs.Lists.{some_at}
-use Rattle.play_audit.specs.Heard.{AskThese}
-use Rattle.play_audit.proofs.Listed.{same_at}
+use Rattle.play_audit.{specs.Heard.AskThese, proofs.Listed.same_at}
 
 -- what is left of a list
 pub left_some : {A : Type 0} (xs : List A) (n : ℕ) (x : A) (rest : List A) → x ∷ rest ≡ drop n xs → (slice_get xs n ≡ Some x) × (rest ≡ drop (n + 1) xs)

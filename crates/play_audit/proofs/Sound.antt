@@ -1,8 +1,6 @@
 -- Private: no public contract cites this. Journals, read from their text.
 use Rattle.std.proofs.Common.{◌≡◌, ℕ, zero, suc, ◌+◌, ◌≤◌, List, [], ◌∷◌, ◌++◌, length, Some, refl, subst, arith, length-append}
-use Rattle.std.specs.Prelude.{slice_get, codes, decimal}
-use Rattle.std.specs.List.{AllByRecursion}
-use Rattle.std.proofs.lemmas.List.Sums.{sum_by-cons}
+use Rattle.std.{specs.Prelude.{slice_get, codes, decimal}, specs.List.AllByRecursion, proofs.lemmas.List.Sums.sum_by-cons}
 use Rattle.line_text.specs.Names.{spelling}
 use Rattle.history_model.specs.declared.entries.Placed.{Placed}
 use Rattle.track_entry.specs.Texts.{entry_text}
@@ -10,8 +8,7 @@ use Rattle.track_model.specs.Tracks.{Track}
 use Rattle.journal_lines.specs.Texts.{author_word, head_line, entry_line, lines_from, text_of, texts_of}
 use Rattle.journal_reader.specs.Journals.{Journal, IsJournal, IsTextOf}
 use Rattle.audit_model.specs.Verdicts.{track_of}
-use Rattle.play_audit.specs.Known.{AreSound, lines_in, tracks_of}
-use Rattle.play_audit.specs.Places.{IsSound}
+use Rattle.play_audit.specs.{Known.{AreSound, lines_in, tracks_of}, Places.IsSound}
 
 sound-each : (n : ℕ) (js : List Journal) → AllByRecursion (IsJournal n) js → (a : ℕ) (j : Journal) → slice_get js a ≡ Some j → IsSound j.history
 sound-each n [] each zero j is = absurd (cc)

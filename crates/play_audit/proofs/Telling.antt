@@ -1,18 +1,12 @@
 -- Private: no public contract cites this. A reply that stands next in a transcript, by the kind that its text tells.
 use Rattle.std.proofs.Common.{◌≡◌, ◌⊎◌, inl, inr, ℕ, ◌^◌, ◌-◌, ◌<◌, Bool, true, false, List, ◌++◌, length, drop, set, Option, Some, None, Ok, Err, refl, sym, ap, subst, ◌∙◌, arith}
 use Rattle.std.specs.Prelude.{◌||◌, is_none, IfNone, IfOk, IfSome, Result}
-use Rattle.history_model.specs.declared.entries.Author.{Author}
-use Rattle.history_model.specs.declared.entries.Placed.{Placed}
-use Rattle.request_model.specs.declared.requests.Request.{Request}
-use Rattle.request_model.specs.declared.replies.Reply.{Reply}
+use Rattle.history_model.specs.declared.entries.{Author.Author, Placed.Placed}
+use Rattle.request_model.specs.declared.{requests.Request.Request, replies.Reply.Reply}
 use Rattle.reply_text.specs.Replies.{text_of}
-use Rattle.play_model.specs.Laws.{RepliesNameEntries}
-use Rattle.play_model.specs.Replies.{Adds, IsReplyOn, Tells, first_of}
-use Rattle.reply_laws.specs.Kinds.{Names, adds_none, asks_only, tells_by_letter, tells_none}
-use Rattle.reply_laws.specs.Laws.{KindsAreTold, RepliesAreNamed}
-use Rattle.play_audit.specs.Replies.{HasNone, IsHeardNext, IsNext, IsUnheard}
-use Rattle.play_audit.proofs.Answering.{told_names}
-use Rattle.play_audit.proofs.Fronts.{names_more}
+use Rattle.play_model.specs.{Laws.RepliesNameEntries, Replies.{Adds, IsReplyOn, Tells, first_of}}
+use Rattle.reply_laws.specs.{Kinds.{Names, adds_none, asks_only, tells_by_letter, tells_none}, Laws.{KindsAreTold, RepliesAreNamed}}
+use Rattle.play_audit.{specs.Replies.{HasNone, IsHeardNext, IsNext, IsUnheard}, proofs.Answering.told_names, proofs.Fronts.names_more}
 
 none-of : {A : Type 0} (o : Option A) (x : A) → o ≡ Some x → is_none o ≡ false
 none-of None x is = absurd (cc)

@@ -1,14 +1,9 @@
 -- Private: no public contract cites this. A walk along a sound journal.
 use Rattle.std.proofs.Common.{◌≡◌, inl, inr, ℕ, zero, suc, ◌+◌, ◌<◌, List, [], ◌∷◌, ◌++◌, length, take, Some, None, refl, sym, ap, subst, ◌∙◌, arith, append_assoc, append-nil, length-append}
-use Rattle.std.specs.Prelude.{slice_get}
-use Rattle.std.proofs.lemmas.List.{length-map}
-use Rattle.history_model.specs.declared.entries.Entry.{Entry}
-use Rattle.history_model.specs.declared.entries.Placed.{Placed}
-use Rattle.history_model.specs.Allowed.{Allowed, AllowedAfter, Legal}
-use Rattle.history_model.specs.Entries.{entries_of}
+use Rattle.std.{specs.Prelude.slice_get, proofs.lemmas.List.length-map}
+use Rattle.history_model.specs.{declared.entries.Entry.Entry, declared.entries.Placed.Placed, Allowed.{Allowed, AllowedAfter, Legal}, Entries.entries_of}
 use Rattle.play_model.specs.Replies.{first_of}
-use Rattle.journal_walk.specs.Laws.{StaysAlong}
-use Rattle.journal_walk.specs.Walks.{Walked, GoesOn, IsAlong, IsStuck, added, coming}
+use Rattle.journal_walk.specs.{Laws.StaysAlong, Walks.{Walked, GoesOn, IsAlong, IsStuck, added, coming}}
 use Rattle.journal_reader.proofs.Lists.{some_at}
 use Rattle.play_audit.specs.Places.{IsBehind, IsBy}
 

@@ -1,9 +1,7 @@
 -- What an audit answers.
 use Rattle.std.specs.Prelude.{◌≡◌, ◌<◌, ◌≤◌, ◌^◌, ℕ, All, List, length, Err, IfOk, OnOk, Result}
-use Rattle.audit_model.specs.declared.heard.Heard.{Heard}
-use Rattle.audit_model.specs.declared.verdict.AuditStop.{AuditStop}
+use Rattle.audit_model.specs.declared.{heard.Heard.Heard, verdict.AuditStop.AuditStop, verdict.Verdict.Verdict}
 use Rattle.audit_model.specs.declared.verdict.AuditStop.TheVariants as stop
-use Rattle.audit_model.specs.declared.verdict.Verdict.{Verdict}
 use Rattle.audit_model.specs.Verdicts.{IsCutOff, IsVerdict, NoneCutOff}
 
 -- one script or more, eight at most, none of them longer than a gigabyte

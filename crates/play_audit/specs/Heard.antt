@@ -8,15 +8,10 @@ use Rattle.reply_text.specs.Replies.{text_of}
 use Rattle.track_model.specs.Tracks.{Track}
 use Rattle.journal_reader.specs.Journals.{Journal}
 use Rattle.play_fits.specs.Scripts.{Exchange}
-use Rattle.audit_model.specs.Heard.{IsRefusedAt, IsTold, IsUnaskedAt, AreHeard}
-use Rattle.audit_model.specs.Hearing.{HasHeard, HearsNext, HearsNone}
-use Rattle.audit_model.specs.Verdicts.{AskTogether}
-use Rattle.audit_model.specs.declared.heard.Heard.{Heard}
-use Rattle.audit_model.specs.declared.verdict.Verdict.{Verdict}
+use Rattle.audit_model.specs.{Heard.{IsRefusedAt, IsTold, IsUnaskedAt, AreHeard}, Hearing.{HasHeard, HearsNext, HearsNone}, Verdicts.AskTogether}
+use Rattle.audit_model.specs.declared.{heard.Heard.Heard, verdict.Verdict.Verdict}
 use Rattle.audit_model.specs.declared.verdict.Verdict.TheVariants as verdict
-use Rattle.play_audit.specs.declared.place.Place.{Place}
-use Rattle.play_audit.specs.Known.{AreKnown, AreSound, tracks_of}
-use Rattle.play_audit.specs.Marks.{AreRows, MarksAll, MarksOne}
+use Rattle.play_audit.specs.{declared.place.Place.Place, Known.{AreKnown, AreSound, tracks_of}, Marks.{AreRows, MarksAll, MarksOne}}
 
 -- the exchange that a reply makes of an item
 abbrev pub exchange : Item → Reply → Exchange

@@ -1,8 +1,7 @@
 -- No public contract cites this. What a script asks, read item by item.
 use Rattle.std.specs.Prelude.{◌≡◌, ℕ, ◌<◌, ◌≤◌, false, List, ◌++◌, length}
 use Rattle.request_words.specs.Bodies.{Item}
-use Rattle.request_reader.specs.Scripts.{ArePieces, IsScript, cut_off, end, input_limit}
-use Rattle.request_reader.specs.Unread.{Unread}
+use Rattle.request_reader.specs.{Scripts.{ArePieces, IsScript, cut_off, end, input_limit}, Unread.Unread}
 
 -- what was read of a script and not used, what is left of it, and the items so far
 pub record Reading : Type 0 where

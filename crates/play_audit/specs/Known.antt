@@ -3,10 +3,8 @@ use Rattle.std.specs.Prelude.{◌≡◌, ◌+◌, ℕ, List, length, map, slice_
 use Rattle.track_model.specs.Tracks.{Track}
 use Rattle.journal_reader.specs.Journals.{Journal, AreDifferent}
 use Rattle.play_fits.specs.Scripts.{Exchange, known_after}
-use Rattle.audit_model.specs.Heard.{kept_count}
-use Rattle.audit_model.specs.Verdicts.{track_of}
-use Rattle.play_audit.specs.Places.{IsPlace, IsSound}
-use Rattle.play_audit.specs.declared.place.Place.{Place}
+use Rattle.audit_model.specs.{Heard.kept_count, Verdicts.track_of}
+use Rattle.play_audit.specs.{Places.{IsPlace, IsSound}, declared.place.Place.Place}
 
 abbrev pub tracks_of : List Journal → List Track
 tracks_of js = map track_of js

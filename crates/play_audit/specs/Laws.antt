@@ -1,8 +1,6 @@
 -- What holds of all files of shared runs.
 use Rattle.std.specs.Prelude.{◌≡◌, ℕ, List}
-use Rattle.audit_model.specs.Verdicts.{IsCutOff, IsVerdict}
-use Rattle.audit_model.specs.declared.heard.Heard.{Heard}
-use Rattle.audit_model.specs.declared.verdict.Verdict.{Verdict}
+use Rattle.audit_model.specs.{Verdicts.{IsCutOff, IsVerdict}, declared.heard.Heard.Heard, declared.verdict.Verdict.Verdict}
 
 -- files have one verdict at most
 abbrev pub OneVerdict : Type 0

@@ -1,14 +1,11 @@
 -- No public contract cites this. Marks on the entries of journals, which were asked for.
-use Rattle.std.specs.Prelude.{◌≡◌, ◌⊎◌, ◌+◌, ◌<◌, ℕ, Bool, true, false, List, [], length, get_or, map, slice_get, Some, Ok, Vec}
-use Rattle.std.specs.declared.alloc.Global.{Global}
+use Rattle.std.specs.{Prelude.{◌≡◌, ◌⊎◌, ◌+◌, ◌<◌, ℕ, Bool, true, false, List, [], length, get_or, map, slice_get, Some, Ok, Vec}, declared.alloc.Global.Global}
 use Rattle.history_model.specs.declared.entries.Author.TheVariants as author
 use Rattle.history_model.specs.declared.entries.Placed.{Placed}
-use Rattle.request_model.specs.declared.requests.Request.{Request}
-use Rattle.request_model.specs.Requests.{machine_of}
+use Rattle.request_model.specs.{declared.requests.Request.Request, Requests.machine_of}
 use Rattle.track_model.specs.Tracks.{Track}
 use Rattle.play_model.specs.Replies.{Adds}
-use Rattle.play_fits.specs.Journals.{history_in}
-use Rattle.play_fits.specs.Scripts.{Exchange, IsAdded, known_after}
+use Rattle.play_fits.specs.{Journals.history_in, Scripts.{Exchange, IsAdded, known_after}}
 use Rattle.audit_model.specs.Heard.{kept_count, line_at}
 
 -- a row of marks for each journal

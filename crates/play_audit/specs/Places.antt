@@ -1,13 +1,9 @@
 -- No public contract cites this. A script's way along the journal of a machine.
-use Rattle.std.specs.Prelude.{◌≡◌, ◌<◌, ◌≤◌, ◌^◌, ℕ, false, List, length, Option, Some, None}
-use Rattle.std.specs.List.{AllByRecursion}
-use Rattle.history_model.specs.declared.entries.Placed.{Placed}
-use Rattle.history_model.specs.Allowed.{Legal}
-use Rattle.history_model.specs.Entries.{entries_of}
+use Rattle.std.specs.{Prelude.{◌≡◌, ◌<◌, ◌≤◌, ◌^◌, ℕ, false, List, length, Option, Some, None}, List.AllByRecursion}
+use Rattle.history_model.specs.{declared.entries.Placed.Placed, Allowed.Legal, Entries.entries_of}
 use Rattle.journal_lines.specs.Lines.{HasLine}
 use Rattle.play_model.specs.Replies.{stands_alone}
-use Rattle.request_model.specs.declared.requests.Request.{Request}
-use Rattle.request_model.specs.Requests.{machine_of}
+use Rattle.request_model.specs.{declared.requests.Request.Request, Requests.machine_of}
 use Rattle.journal_walk.specs.Walks.{Walked, IsAlong}
 use Rattle.play_audit.specs.declared.place.Place.{Place}
 

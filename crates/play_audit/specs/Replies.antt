@@ -1,9 +1,7 @@
 -- No public contract cites this. What a transcript has next, by the journal of a machine.
 use Rattle.std.specs.Prelude.{◌≡◌, ◌≢◌, ◌⊎◌, ℕ, ◌-◌, Bool, true, List, ◌++◌, set, IfNone, IfOk, IfSome, Option, Result}
-use Rattle.history_model.specs.declared.entries.Author.{Author}
-use Rattle.history_model.specs.declared.entries.Placed.{Placed}
-use Rattle.request_model.specs.declared.requests.Request.{Request}
-use Rattle.request_model.specs.declared.replies.Reply.{Reply}
+use Rattle.history_model.specs.declared.entries.{Author.Author, Placed.Placed}
+use Rattle.request_model.specs.declared.{requests.Request.Request, replies.Reply.Reply}
 use Rattle.reply_text.specs.Replies.{text_of}
 use Rattle.play_model.specs.Replies.{Adds, IsReplyOn}
 use Rattle.play_audit.specs.Texts.{BeginsWith}

@@ -1,27 +1,15 @@
 -- No public contract cites this. Segmentations that a journal may have published, or not.
 use Rattle.std.specs.Prelude.{◌≡◌, ◌≢◌, ◌⊎◌, ℕ, ◌≤◌, ◌<◌, true, false, List, [], ◌∷◌, ◌++◌, length, Option, Some, None}
-use Rattle.metric_table.specs.declared.limits.Limit.{Limit}
-use Rattle.metric_table.specs.declared.limits.Limit.TheVariants.{Cuts, Steps}
-use Rattle.segment_cost.specs.Certificate.{StandsFor}
-use Rattle.segment_cost.specs.declared.cert.Cert.{Cert}
-use Rattle.history_model.specs.declared.entries.Entry.{Entry}
-use Rattle.history_model.specs.declared.entries.Entry.TheVariants.{Publish}
-use Rattle.history_model.specs.declared.entries.Placed.{Placed}
-use Rattle.history_model.specs.declared.publication.Publication.{Publication}
-use Rattle.history_model.specs.Penalties.{penalty_of, length_of}
-use Rattle.history_model.specs.Positions.{positions}
-use Rattle.history_model.specs.Allowed.{first_passed}
-use Rattle.history_model.specs.Publications.{IsBaseAt, last_publication}
+use Rattle.metric_table.specs.declared.limits.Limit.{Limit, TheVariants.{Cuts, Steps}}
+use Rattle.segment_cost.specs.{Certificate.StandsFor, declared.cert.Cert.Cert}
+use Rattle.history_model.specs.declared.{entries.Entry.Entry, entries.Entry.TheVariants.Publish, entries.Placed.Placed, publication.Publication.Publication}
+use Rattle.history_model.specs.{Penalties.{penalty_of, length_of}, Positions.positions, Allowed.first_passed, Publications.{IsBaseAt, last_publication}}
 use Rattle.history_model.specs.Runs.{Series, is_known}
-use Rattle.request_model.specs.declared.replies.Refusal.{Refusal}
-use Rattle.request_model.specs.declared.replies.Refusal.TheVariants.{Full, Stale, UnknownSeries}
+use Rattle.request_model.specs.declared.replies.Refusal.{Refusal, TheVariants.{Full, Stale, UnknownSeries}}
 use Rattle.journal_walk.specs.Walks.{Walked, added}
 use Rattle.reply_text.specs.Replies.{text_of}
-use Rattle.track_model.specs.Outcomes.{refuses}
-use Rattle.track_model.specs.Publishing.{later, publication}
-use Rattle.track_model.specs.Replies.{reply_of}
-use Rattle.play_audit.specs.Places.{Knows}
-use Rattle.play_audit.specs.Texts.{BeginsWith}
+use Rattle.track_model.specs.{Outcomes.refuses, Publishing.{later, publication}, Replies.reply_of}
+use Rattle.play_audit.specs.{Places.Knows, Texts.BeginsWith}
 use Rattle.play_model.specs.Replies.{first_of}
 
 -- the entry publishes the series at a version that is no older than this

@@ -1,13 +1,9 @@
 -- No public contract cites this. A transcript that begins with a reply, and replies behind a walk.
 use Rattle.std.specs.Prelude.{◌≡◌, ℕ, List, ◌++◌, drop, length, slice_get, Some}
-use Rattle.history_model.specs.declared.entries.Author.TheVariants.{Kept}
-use Rattle.history_model.specs.declared.entries.Entry.{Entry}
-use Rattle.history_model.specs.declared.entries.Placed.{Placed}
-use Rattle.request_model.specs.declared.requests.Request.{Request}
-use Rattle.request_model.specs.declared.replies.Reply.{Reply}
+use Rattle.history_model.specs.declared.entries.{Author.TheVariants.Kept, Entry.Entry, Placed.Placed}
+use Rattle.request_model.specs.declared.{requests.Request.Request, replies.Reply.Reply}
 use Rattle.reply_text.specs.Replies.{text_of}
-use Rattle.track_model.specs.Outcomes.{Outcome}
-use Rattle.track_model.specs.Tracks.{ComesTo, IsStep}
+use Rattle.track_model.specs.{Outcomes.Outcome, Tracks.{ComesTo, IsStep}}
 use Rattle.journal_walk.specs.Walks.{Walked, added}
 
 -- the reply's text, of this length, stands in front

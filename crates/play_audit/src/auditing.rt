@@ -1,12 +1,9 @@
 //! The audit.
 ghost use Rattle.std.specs.Prelude.{◌≡◌, ◌+◌, ◌<◌, ◌≤◌, ◌^◌, ℕ, All, Err, IfOk, OnOk, length, sum_by};
-ghost use Rattle.audit_model.specs.Verdicts.{IsCutOff, IsVerdict, NoneCutOff};
-ghost use Rattle.audit_model.specs.declared.heard.Heard.{Heard as AHeard};
+ghost use Rattle.audit_model.specs.{Verdicts.{IsCutOff, IsVerdict, NoneCutOff}, declared.heard.Heard.Heard as AHeard};
 ghost use Rattle.audit_model.specs.declared.verdict.AuditStop.TheVariants as stop;
 ghost use Rattle.track_model.specs.Tracks.{Track};
-ghost use Rattle.play_audit.specs.Known.{AreSound, lines_in, tracks_of};
-ghost use Rattle.play_audit.specs.Audits.{Audits, MayBeAudited};
-ghost use Rattle.play_audit.specs.Heard.{AskThese, IsVerdictBy};
+ghost use Rattle.play_audit.specs.{Known.{AreSound, lines_in, tracks_of}, Audits.{Audits, MayBeAudited}, Heard.{AskThese, IsVerdictBy}};
 
 use crate::NoMemory;
 use crate::hearing::{Told, hear};

@@ -5,9 +5,7 @@ ghost use Rattle.play_model.specs.Replies.{Adds, Tells};
 ghost use Rattle.track_entry.specs.Texts.{IsEntry};
 ghost use Rattle.track_model.specs.Counts.{is_segment};
 ghost use Rattle.request_model.specs.Requests.{machine_of};
-ghost use Rattle.play_audit.specs.Places.{MayAsk};
-ghost use Rattle.play_audit.specs.Replies.{IsCompared};
-ghost use Rattle.play_audit.specs.Texts.{HasEntry, IsAnswered};
+ghost use Rattle.play_audit.specs.{Places.MayAsk, Replies.IsCompared, Texts.{HasEntry, IsAnswered}};
 
 use crate::NoMemory;
 use crate::same::is_entry;

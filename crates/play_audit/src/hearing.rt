@@ -1,13 +1,10 @@
 //! A script, heard with its transcript.
-ghost use Rattle.std.specs.Prelude.{◌≡◌, ◌≢◌, ℕ, true, false, [], filter, length, slice_get, IfOk, IfSome, IfNone, Ok, Some, if◌then◌else◌};
-ghost use Rattle.std.specs.List.{AllByRecursion};
+ghost use Rattle.std.specs.{Prelude.{◌≡◌, ◌≢◌, ℕ, true, false, [], filter, length, slice_get, IfOk, IfSome, IfNone, Ok, Some, if◌then◌else◌}, List.AllByRecursion};
 ghost use Rattle.journal_reader.specs.Journals.{IsOther, Journal as Read};
 ghost use Rattle.play_model.specs.Replies.{stands_alone};
 ghost use Rattle.audit_model.specs.Heard.{is_of_store};
 ghost use Rattle.play_audit.specs.declared.hearing.Told.TheVariants as told;
-ghost use Rattle.play_audit.specs.Known.{AreKnown, AreSound, tracks_of};
-ghost use Rattle.play_audit.specs.Marks.{AreRows, rows_of};
-ghost use Rattle.play_audit.specs.Heard.{CanHear, Hears, HearsAll, RefusesAt};
+ghost use Rattle.play_audit.specs.{Known.{AreKnown, AreSound, tracks_of}, Marks.{AreRows, rows_of}, Heard.{CanHear, Hears, HearsAll, RefusesAt}};
 
 use crate::NoMemory;
 use crate::items::Item;

@@ -1,8 +1,7 @@
 //! Which entries of the journals were asked for.
 ghost use Rattle.std.specs.Prelude.{◌≡◌, ◌+◌, ◌<◌, ◌^◌, ℕ, true, false, length, replicate, IfOk, IfSome, IfNone};
 ghost use Rattle.history_model.specs.declared.entries.Author.TheVariants as made_by;
-ghost use Rattle.play_audit.specs.Known.{lines_in, tracks_of};
-ghost use Rattle.play_audit.specs.Marks.{AreRows, IsFirstIn, IsFirstOpen, NoneIn, NoneMarked, NoneOpen, rows_of};
+ghost use Rattle.play_audit.specs.{Known.{lines_in, tracks_of}, Marks.{AreRows, IsFirstIn, IsFirstOpen, NoneIn, NoneMarked, NoneOpen, rows_of}};
 
 use crate::NoMemory;
 use history_model::{Author, Placed};

@@ -6,8 +6,7 @@ ghost use Rattle.request_model.specs.Requests.{machine_of};
 ghost use Rattle.journal_walk.specs.Walks.{GoesOn, coming};
 ghost use Rattle.reply_laws.specs.Kinds.{Names, asks_only, tells_by_letter};
 ghost use Rattle.track_entry.specs.Texts.{IsEntry};
-ghost use Rattle.play_audit.specs.Places.{IsBehind, IsBy, IsPlace, IsSound, Knows, MayAsk, Walks};
-ghost use Rattle.play_audit.specs.Replies.{IsCompared, IsHeardNext, IsUnheard};
+ghost use Rattle.play_audit.specs.{Places.{IsBehind, IsBy, IsPlace, IsSound, Knows, MayAsk, Walks}, Replies.{IsCompared, IsHeardNext, IsUnheard}};
 
 use crate::NoMemory;
 use crate::behind::{added_behind, told_behind};

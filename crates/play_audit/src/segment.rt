@@ -1,19 +1,15 @@
 //! Replies to requests for segmentations, compared with a transcript.
 ghost use Rattle.std.specs.Prelude.{◌≡◌, ◌≢◌, ℕ, ◌≤◌, ◌<◌, ◌+◌, ◌-◌, ◌↔◌, true, false, List, ◌++◌, Some, length, IfOk, IfSome, IfNone, IsTrue};
-ghost use Rattle.history_model.specs.Publications.{cut_count, last_publication};
-ghost use Rattle.history_model.specs.Runs.{is_known as known_in};
+ghost use Rattle.history_model.specs.{Publications.{cut_count, last_publication}, Runs.is_known as known_in};
 ghost use Rattle.journal_walk.specs.Walks.{GoesOn, IsAlong, added, coming};
 ghost use Rattle.play_model.specs.Replies.{Adds, Tells};
 ghost use Rattle.request_model.specs.declared.requests.Request.TheVariants.{Segment};
-ghost use Rattle.play_audit.specs.Places.{IsSound, Knows};
-ghost use Rattle.play_audit.specs.Replies.{IsCompared};
+ghost use Rattle.play_audit.specs.{Places.{IsSound, Knows}, Replies.IsCompared};
 ghost use Rattle.metric_table.specs.Limits.{most};
 ghost use Rattle.metric_table.specs.declared.limits.Limit.TheVariants as limit;
 ghost use Rattle.reply_text.specs.Replies.{text_of};
-ghost use Rattle.track_model.specs.Outcomes.{refuses};
-ghost use Rattle.track_model.specs.Replies.{reply_of};
-ghost use Rattle.play_audit.specs.Segments.{HasFewCuts, IsFullNext, IsKnownAt, IsLastVersion, IsNotFull, PassesCuts, Publishes};
-ghost use Rattle.play_audit.specs.Texts.{BeginsWith};
+ghost use Rattle.track_model.specs.{Outcomes.refuses, Replies.reply_of};
+ghost use Rattle.play_audit.specs.{Segments.{HasFewCuts, IsFullNext, IsKnownAt, IsLastVersion, IsNotFull, PassesCuts, Publishes}, Texts.BeginsWith};
 
 use crate::NoMemory;
 use crate::place::go_to;

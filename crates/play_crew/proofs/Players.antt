@@ -1,17 +1,12 @@
 -- Private: no public contract cites this. What was answered at a seat was answered at the same seat.
-use Rattle.std.proofs.Common.{◌≡◌, ◌≤◌, ℕ, inl, inr, true, List, [], ◌∷◌, ◌++◌, Option, Ok, Err, refl, sym, subst, ◌∙◌}
-use Rattle.std.specs.Prelude.{Result}
+use Rattle.std.{proofs.Common.{◌≡◌, ◌≤◌, ℕ, inl, inr, true, List, [], ◌∷◌, ◌++◌, Option, Ok, Err, refl, sym, subst, ◌∙◌}, specs.Prelude.Result}
 use Rattle.track_outside.specs.declared.source.Source as source
 use Rattle.track_outside.specs.declared.sink.Sink as sink
 use Rattle.request_model.specs.declared.replies.Reply.{Reply}
 use Rattle.request_words.specs.Bodies.{Item}
-use Rattle.script_loop.specs.Folds.{AnswersItem, AreAnswers}
-use Rattle.script_loop.specs.Paced.{IsLeft, Paced}
-use Rattle.script_loop.specs.declared.stop.Stop.{Stop}
+use Rattle.script_loop.specs.{Folds.{AnswersItem, AreAnswers}, Paced.{IsLeft, Paced}, declared.stop.Stop.Stop}
 use Rattle.script_loop.specs.declared.stop.Stop.TheVariants as stop
-use Rattle.play_seats.specs.Played.{IsPlayed}
-use Rattle.play_seats.specs.Sights.{Home, Sight}
-use Rattle.play_seats.specs.Seats.{AnswersAt, FailsAt, Seat, Stays, post_of}
+use Rattle.play_seats.specs.{Played.IsPlayed, Sights.{Home, Sight}, Seats.{AnswersAt, FailsAt, Seat, Stays, post_of}}
 use Rattle.play_crew.specs.Players.{IsSameSeat, Plays, SplitsMore}
 
 same-self : (s : Seat) → IsSameSeat s s

@@ -1,17 +1,11 @@
 -- Scripts that are played at a room.
-use Rattle.std.specs.Prelude.{◌≡◌, ℕ, ◌+◌, ◌≤◌, List, [], ◌∷◌, ◌++◌, length, Result, Ok}
-use Rattle.std.specs.List.{AllByRecursion}
+use Rattle.std.specs.{Prelude.{◌≡◌, ℕ, ◌+◌, ◌≤◌, List, [], ◌∷◌, ◌++◌, length, Result, Ok}, List.AllByRecursion}
 use Rattle.track_outside.specs.declared.source.Source as source
 use Rattle.track_outside.specs.declared.sink.Sink as sink
 use Rattle.request_words.specs.Bodies.{Item}
 use Rattle.script_files.specs.declared.open.OpenScript.{OpenScript}
-use Rattle.script_loop.specs.Endings.{HasRead, HasWritten}
-use Rattle.script_loop.specs.declared.stop.Stop.{Stop}
-use Rattle.play_seats.specs.Played.{IsEmpty, IsPlayed}
-use Rattle.play_seats.specs.Rooms.{AreSame, IsPassOf}
-use Rattle.play_seats.specs.Sights.{Home, Sight}
-use Rattle.play_seats.specs.Fitting.{seat_at}
-use Rattle.play_seats.specs.Seats.{Seat, post_of}
+use Rattle.script_loop.specs.{Endings.{HasRead, HasWritten}, declared.stop.Stop.Stop}
+use Rattle.play_seats.specs.{Played.{IsEmpty, IsPlayed}, Rooms.{AreSame, IsPassOf}, Sights.{Home, Sight}, Fitting.seat_at, Seats.{Seat, post_of}}
 use Rattle.play_seats.specs.Shared.{SplitsAll}
 
 -- a script as it is played: its number, its seat, its input and its transcript, and how it ended

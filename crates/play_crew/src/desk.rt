@@ -77,8 +77,7 @@ impl<'a, R: Wait> Desk for RoomDesk<'a, R> {
 }
 
 impl<'a, R: Wait> Beside for RoomDesk<'a, R> {
-    ghost use Rattle.play_seats.specs.Seats.{post_of};
-    ghost use Rattle.play_seats.proofs.Seats.{asks-told, waits-at};
+    ghost use Rattle.play_seats.{specs.Seats.post_of, proofs.Seats.{asks-told, waits-at}};
 
     ghost post = { post_of };
 

@@ -1,9 +1,6 @@
 //! Players that have returned.
-ghost use Rattle.std.specs.Prelude.{◌≡◌, ◌≤◌, ◌+◌, ◌++◌, length, map, vec_capacity};
-ghost use Rattle.std.specs.List.{AllByRecursion};
-ghost use Rattle.std.specs.Vec.Iter.{into_iter_items};
-ghost use Rattle.play_seats.specs.Rooms.{IsFirst, IsPassOf};
-ghost use Rattle.play_seats.specs.Shared.{JoinsAll};
+ghost use Rattle.std.specs.{Prelude.{◌≡◌, ◌≤◌, ◌+◌, ◌++◌, length, map, vec_capacity}, List.AllByRecursion, Vec.Iter.into_iter_items};
+ghost use Rattle.play_seats.specs.{Rooms.{IsFirst, IsPassOf}, Shared.JoinsAll};
 ghost use Rattle.play_crew.specs.Players.{IsOfRoom, end_of, open_of, pass_of};
 
 use crate::player::Player;

@@ -1,10 +1,6 @@
 //! Passes for scripts, and scripts with their passes.
-ghost use Rattle.std.specs.Prelude.{◌≡◌, ◌≤◌, ◌+◌, ◌++◌, [], length, vec_capacity, IfOk, OnOk};
-ghost use Rattle.std.specs.List.{AllByRecursion};
-ghost use Rattle.std.specs.Vec.Iter.{into_iter_items};
-ghost use Rattle.play_seats.specs.Rooms.{IsFirst, IsPassOf};
-ghost use Rattle.play_seats.specs.Seats.{IsSeated};
-ghost use Rattle.play_seats.specs.Shared.{SplitsAll};
+ghost use Rattle.std.specs.{Prelude.{◌≡◌, ◌≤◌, ◌+◌, ◌++◌, [], length, vec_capacity, IfOk, OnOk}, List.AllByRecursion, Vec.Iter.into_iter_items};
+ghost use Rattle.play_seats.specs.{Rooms.{IsFirst, IsPassOf}, Seats.IsSeated, Shared.SplitsAll};
 ghost use Rattle.play_crew.specs.Players.{SplitsMore, players_from};
 
 use crate::NoMemory;

@@ -1,18 +1,13 @@
 -- Private: no public contract cites this. What a shared run comes to at its end.
-use Rattle.std.proofs.Common.{◌≡◌, ◌≢◌, ◌+◌, ℕ, List, [], ◌∷◌, ◌++◌, sym, ap, subst, ◌∙◌, Some, append_assoc}
-use Rattle.std.specs.Prelude.{slice_get}
+use Rattle.std.{proofs.Common.{◌≡◌, ◌≢◌, ◌+◌, ℕ, List, [], ◌∷◌, ◌++◌, sym, ap, subst, ◌∙◌, Some, append_assoc}, specs.Prelude.slice_get}
 use Rattle.std.proofs.Math.Path.{fun_ext}
 use Rattle.history_lock.specs.declared.view.Marked.{Marked}
-use Rattle.history_model.specs.declared.entries.Author.{Author}
+use Rattle.history_model.specs.declared.entries.{Author.Author, Placed.Placed}
 use Rattle.history_model.specs.declared.entries.Author.TheVariants as author
-use Rattle.history_model.specs.declared.entries.Placed.{Placed}
 use Rattle.track_model.specs.Tracks.{Track}
-use Rattle.play_fits.specs.Journals.{machines_of, history_in, IsJournalOf, AreJournalsOf}
-use Rattle.play_fits.specs.Workers.{Crew, MayAdd}
-use Rattle.play_fits.specs.Whole.{Joined, AreAll, AreByCrew, FitsIn, journals_of, longer}
-use Rattle.play_fits.specs.Fits.{Play, crew_of, kept_in, Fits}
-use Rattle.play_fits.specs.Ends.{IsOfWorker, IsLate, IsEndOf, AreEndsOf, HasPlayed, Ends}
-use Rattle.play_fits.proofs.Lists.{all-places, all-append}
+use Rattle.play_fits.specs.{Journals.{machines_of, history_in, IsJournalOf, AreJournalsOf}, Workers.{Crew, MayAdd}}
+use Rattle.play_fits.specs.{Whole.{Joined, AreAll, AreByCrew, FitsIn, journals_of, longer}, Fits.{Play, crew_of, kept_in, Fits}}
+use Rattle.play_fits.{specs.Ends.{IsOfWorker, IsLate, IsEndOf, AreEndsOf, HasPlayed, Ends}, proofs.Lists.{all-places, all-append}}
 use Rattle.play_fits.proofs.Whole.{seen-parts-fit, all-by-crew, parts-stay}
 
 -- ---- journals

@@ -1,7 +1,6 @@
 -- Private: no public contract cites this. What two passes have seen, joined.
 use Rattle.std.proofs.Common.{ℕ, inl, inr, List, [], ◌∷◌, ◌++◌, sym, ap, subst, ◌∙◌, Option, Some, None, append_assoc, append-nil}
-use Rattle.history_lock.specs.Marks.{AreByOthers, Follows, IsLongerOf, IsNoneOf, IsOtherMark}
-use Rattle.history_lock.specs.declared.view.Marked.{Marked}
+use Rattle.history_lock.specs.{Marks.{AreByOthers, Follows, IsLongerOf, IsNoneOf, IsOtherMark}, declared.view.Marked.Marked}
 use Rattle.history_model.specs.declared.entries.Placed.{Placed}
 use Rattle.play_fits.specs.Whole.{IsJoined}
 

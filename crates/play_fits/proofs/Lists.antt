@@ -1,8 +1,6 @@
 -- Private: no public contract cites this. First entries of a longer list, and tests.
 use Rattle.std.proofs.Common.{◌≡◌, ◌<◌, ◌≤◌, ◌+◌, ◌-◌, ℕ, zero, suc, Bool, true, false, List, [], ◌∷◌, ◌++◌, length, map, refl, Some, arith}
-use Rattle.std.specs.List.{AllByRecursion}
-use Rattle.std.specs.Prelude.{slice_get, bytes_eq, ◌&&◌, ◌||◌}
-use Rattle.std.proofs.lemmas.Slice.Eq.{bytes_eq-Decides}
+use Rattle.std.{specs.List.AllByRecursion, specs.Prelude.{slice_get, bytes_eq, ◌&&◌, ◌||◌}, proofs.lemmas.Slice.Eq.bytes_eq-Decides}
 use native.Mathlib.Numerals.{unary_clauses}
 
 -- what stands within the first of two lists

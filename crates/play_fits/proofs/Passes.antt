@@ -1,18 +1,11 @@
 -- Private: no public contract cites this. The answers to a script's items are its part in what its pass has seen.
 use Rattle.std.proofs.Common.{◌≡◌, ◌≤◌, ◌<◌, ◌+◌, ℕ, zero, suc, Bool, true, false, List, [], ◌∷◌, ◌++◌, length, map, refl, sym, ap, subst, ◌∙◌, inl, inr, Some, arith}
-use Rattle.std.specs.Prelude.{not, filter, take, slice_get, bytes_eq, if◌then◌else◌, Ok, Err}
-use Rattle.std.specs.List.{list_any}
-use Rattle.std.proofs.lemmas.List.{append-nil, append_assoc, length-append, length-map, map-append}
-use Rattle.std.proofs.lemmas.Option.{slice_get_within}
-use Rattle.std.proofs.lemmas.Bool.{cases_order}
-use Rattle.history_lock.specs.Marks.{entries, marked}
-use Rattle.history_lock.specs.declared.view.Marked.{Marked}
-use Rattle.history_model.specs.declared.entries.Author.{Author}
-use Rattle.history_model.specs.declared.entries.Placed.{Placed}
-use Rattle.request_model.specs.declared.requests.Request.{Request}
-use Rattle.request_model.specs.declared.replies.Reply.{Reply}
+use Rattle.std.specs.{Prelude.{not, filter, take, slice_get, bytes_eq, if◌then◌else◌, Ok, Err}, List.list_any}
+use Rattle.std.proofs.lemmas.{List.{append-nil, append_assoc, length-append, length-map, map-append}, Option.slice_get_within, Bool.cases_order}
+use Rattle.history_lock.specs.{Marks.{entries, marked}, declared.view.Marked.Marked}
+use Rattle.history_model.specs.declared.entries.{Author.Author, Placed.Placed}
+use Rattle.request_model.specs.{declared.requests.Request.Request, declared.replies.Reply.Reply, Requests.machine_of}
 use Rattle.request_words.specs.Bodies.{Item}
-use Rattle.request_model.specs.Requests.{machine_of}
 use Rattle.play_model.specs.Replies.{is_of_history, IsReplyOn, IsReplyWhere, Adds, stands_alone}
 use Rattle.play_fits.specs.Scripts.{Exchange, is_about, names_history, last_from, known_after, IsAnswer, AreAnswered, IsAdded}
 use Rattle.play_fits.specs.Passes.{Waits, Sight, journal_of, count_of, IsMadeBy, SeesMore, AsksItem, AsksAll, IsSeenPart}

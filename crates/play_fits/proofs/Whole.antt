@@ -1,23 +1,15 @@
 -- Private: no public contract cites this. What the parts of passes that were joined come to in the whole histories.
 use Rattle.std.proofs.Common.{◌≡◌, ◌≢◌, ◌≤◌, ◌+◌, ◌-◌, ℕ, zero, suc, Bool, true, false, List, [], ◌∷◌, ◌++◌, length, refl, sym, ap, subst, ◌∙◌, Option, Some, None, arith}
-use Rattle.std.specs.Prelude.{Ok, Err, take, slice_get, Contains}
-use Rattle.std.proofs.lemmas.List.{length-map, map-append}
-use Rattle.history_lock.specs.Marks.{AreByOthers, IsOtherMark, entries, marked, unmarked}
-use Rattle.history_lock.specs.declared.view.Marked.{Marked}
-use Rattle.history_model.specs.declared.entries.Author.{Author}
+use Rattle.std.{specs.Prelude.{Ok, Err, take, slice_get, Contains}, proofs.lemmas.List.{length-map, map-append}}
+use Rattle.history_lock.specs.{Marks.{AreByOthers, IsOtherMark, entries, marked, unmarked}, declared.view.Marked.Marked}
+use Rattle.history_model.specs.declared.entries.{Author.Author, Placed.Placed}
 use Rattle.history_model.specs.declared.entries.Author.TheVariants as author
-use Rattle.history_model.specs.declared.entries.Placed.{Placed}
-use Rattle.play_fits.specs.Passes.{Sight, journal_of, count_of, IsMadeBy, SeesMore, IsSeenPart}
-use Rattle.request_model.specs.declared.replies.Reply.{Reply}
+use Rattle.play_fits.specs.{Passes.{Sight, journal_of, count_of, IsMadeBy, SeesMore, IsSeenPart}, Scripts.{IsAnswer, Exchange, known_after, IsAdded}}
+use Rattle.request_model.specs.{declared.replies.Reply.Reply, Requests.machine_of}
 use Rattle.request_words.specs.Bodies.{Item}
-use Rattle.request_model.specs.Requests.{machine_of}
-use Rattle.play_model.specs.Replies.{Adds, is_of_history, IsReplyWhere}
-use Rattle.play_model.proofs.Replies.{replies-stay, adds-stay}
-use Rattle.play_fits.specs.Scripts.{IsAnswer, Exchange, known_after, IsAdded}
-use Rattle.play_fits.specs.Workers.{Crew, MayAdd}
-use Rattle.play_fits.specs.Whole.{longer, Joined, GoesOn, IsMadeByOne, AreAll, journals_of, count_in, FitsIn, AreByCrew}
-use Rattle.play_fits.proofs.Lists.{stays-before, stands-behind, behind-stands, mapped-back, all-places}
-use Rattle.play_fits.proofs.Passes.{answer-later, adds-later, by-order}
+use Rattle.play_model.{specs.Replies.{Adds, is_of_history, IsReplyWhere}, proofs.Replies.{replies-stay, adds-stay}}
+use Rattle.play_fits.specs.{Workers.{Crew, MayAdd}, Whole.{longer, Joined, GoesOn, IsMadeByOne, AreAll, journals_of, count_in, FitsIn, AreByCrew}}
+use Rattle.play_fits.proofs.{Lists.{stays-before, stands-behind, behind-stands, mapped-back, all-places}, Passes.{answer-later, adds-later, by-order}}
 
 -- ---- marks
 

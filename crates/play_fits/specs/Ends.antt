@@ -1,18 +1,11 @@
 -- The end of a shared run: the passes were joined into a whole first pass, and main did the rest.
 use Rattle.std.specs.Prelude.{◌≡◌, ℕ, ◌+◌, List, [], ◌∷◌, Contains, slice_get, Some}
 use Rattle.history_lock.specs.declared.view.Marked.{Marked}
-use Rattle.history_model.specs.declared.entries.Author.{Author}
+use Rattle.history_model.specs.{declared.entries.Author.Author, declared.entries.Placed.Placed, Allowed.Legal, Entries.entries_of}
 use Rattle.history_model.specs.declared.entries.Author.TheVariants as author
-use Rattle.history_model.specs.declared.entries.Placed.{Placed}
-use Rattle.history_model.specs.Allowed.{Legal}
-use Rattle.history_model.specs.Entries.{entries_of}
 use Rattle.track_model.specs.Tracks.{Track}
-use Rattle.play_fits.specs.Journals.{machines_of, history_in}
-use Rattle.play_fits.specs.Passes.{Sight, count_of, IsSeenPart}
-use Rattle.play_fits.specs.Scripts.{Exchange, IsWritten}
-use Rattle.play_fits.specs.Workers.{Crew, MayAdd}
-use Rattle.play_fits.specs.Whole.{Joined, AreAll, journals_of, longer}
-use Rattle.play_fits.specs.Fits.{Play, Played, crew_of, kept_in, Bisected, Fits}
+use Rattle.play_fits.specs.{Journals.{machines_of, history_in}, Passes.{Sight, count_of, IsSeenPart}, Scripts.{Exchange, IsWritten}, Workers.{Crew, MayAdd}}
+use Rattle.play_fits.specs.{Whole.{Joined, AreAll, journals_of, longer}, Fits.{Play, Played, crew_of, kept_in, Bisected, Fits}}
 
 -- an entry that no script made
 abbrev pub IsOfWorker : Author → Type 0

@@ -2,9 +2,7 @@
 use Rattle.std.specs.Prelude.{◌≡◌, ℕ, ◌+◌, Bool, List, length, slice_get, Option, Some}
 use Rattle.history_model.specs.declared.entries.Author.TheVariants.{Script}
 use Rattle.track_model.specs.Tracks.{Track}
-use Rattle.play_fits.specs.Journals.{machines_of, history_in, AreJournalsOf}
-use Rattle.play_fits.specs.Scripts.{IsPart}
-use Rattle.play_fits.specs.Workers.{Crew, Asked, IsBisector}
+use Rattle.play_fits.specs.{Journals.{machines_of, history_in, AreJournalsOf}, Scripts.IsPart, Workers.{Crew, Asked, IsBisector}}
 
 -- a script: its bytes and its transcript, where they are told, and whether it was answered in full
 pub record Played : Type 0 where

@@ -1,9 +1,6 @@
 -- The journals of a shared run: the machines with their whole histories, in order of declaration.
-use Rattle.std.specs.Prelude.{◌≡◌, ℕ, List, [], ◌∷◌, ◌++◌, map, bytes_eq, if◌then◌else◌}
-use Rattle.std.specs.List.{AllByRecursion}
-use Rattle.history_model.specs.declared.entries.Placed.{Placed}
-use Rattle.history_model.specs.Allowed.{Legal}
-use Rattle.history_model.specs.Entries.{entries_of}
+use Rattle.std.specs.{Prelude.{◌≡◌, ℕ, List, [], ◌∷◌, ◌++◌, map, bytes_eq, if◌then◌else◌}, List.AllByRecursion}
+use Rattle.history_model.specs.{declared.entries.Placed.Placed, Allowed.Legal, Entries.entries_of}
 use Rattle.track_model.specs.Tracks.{Track}
 use Rattle.play_fits.specs.Workers.{Crew, MayAdd}
 

@@ -1,8 +1,7 @@
 -- What holds of one script's part.
 use Rattle.std.specs.Prelude.{ℕ, List}
 use Rattle.history_model.specs.declared.entries.Author.{Author}
-use Rattle.play_fits.specs.Passes.{Sight, AsksAll, IsSeenPart, Waits}
-use Rattle.play_fits.specs.Scripts.{Exchange}
+use Rattle.play_fits.specs.{Passes.{Sight, AsksAll, IsSeenPart, Waits}, Scripts.Exchange}
 
 -- the answers to a script's items are its part in what its pass has seen
 abbrev pub AnswersArePart : Type 0

@@ -1,15 +1,10 @@
 -- One script's part as its own pass of the machines' locks sees it: each request, and all of them.
 use Rattle.std.specs.Prelude.{◌≡◌, ℕ, ◌+◌, ◌≤◌, List, [], ◌∷◌, ◌++◌, length, slice_get, Some, Ok, Err}
-use Rattle.history_lock.specs.Marks.{entries, marked}
-use Rattle.history_lock.specs.declared.view.Marked.{Marked}
-use Rattle.history_model.specs.declared.entries.Author.{Author}
-use Rattle.history_model.specs.declared.entries.Placed.{Placed}
-use Rattle.request_model.specs.declared.requests.Request.{Request}
-use Rattle.request_model.specs.declared.replies.Reply.{Reply}
+use Rattle.history_lock.specs.{Marks.{entries, marked}, declared.view.Marked.Marked}
+use Rattle.history_model.specs.declared.entries.{Author.Author, Placed.Placed}
+use Rattle.request_model.specs.{declared.requests.Request.Request, declared.replies.Reply.Reply, Requests.machine_of}
 use Rattle.request_words.specs.Bodies.{Item}
-use Rattle.track_model.specs.Outcomes.{refuses}
-use Rattle.track_model.specs.Replies.{apart}
-use Rattle.request_model.specs.Requests.{machine_of}
+use Rattle.track_model.specs.{Outcomes.refuses, Replies.apart}
 use Rattle.play_model.specs.Replies.{IsReply, Adds}
 use Rattle.play_fits.specs.Scripts.{Exchange, IsAdded, AreAnswered}
 

@@ -1,6 +1,5 @@
 -- What the workers leave at the end of a shared run: no series stale and no job open, but where a limit keeps them.
-use Rattle.std.specs.Prelude.{ℕ, ◌≤◌, List}
-use Rattle.std.specs.List.{AllByRecursion}
+use Rattle.std.specs.{Prelude.{ℕ, ◌≤◌, List}, List.AllByRecursion}
 use Rattle.history_model.specs.Entries.{entries_of}
 use Rattle.track_model.specs.Tracks.{Track}
 use Rattle.worker_model.specs.Quiet.{JobsAreQuiet, SeriesAreQuiet}

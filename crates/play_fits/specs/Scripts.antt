@@ -1,17 +1,12 @@
 -- One script's part in a shared run: what it asked, what it was answered, and what it added.
 use Rattle.std.specs.Prelude.{◌≡◌, ℕ, ◌+◌, ◌≤◌, Bool, true, false, List, [], ◌∷◌, ◌++◌, length, map, filter, take, slice_get, Contains, Option, Some, IfSome, Ok, Err}
 use Rattle.std.specs.List.{flat_map}
-use Rattle.history_model.specs.declared.entries.Author.{Author}
-use Rattle.history_model.specs.declared.entries.Entry.{Entry}
-use Rattle.history_model.specs.declared.entries.Placed.{Placed}
-use Rattle.request_model.specs.declared.requests.Request.{Request}
-use Rattle.request_model.specs.declared.replies.Reply.{Reply}
+use Rattle.history_model.specs.declared.entries.{Author.Author, Entry.Entry, Placed.Placed}
+use Rattle.request_model.specs.{declared.requests.Request.Request, declared.replies.Reply.Reply, Requests.machine_of}
 use Rattle.request_words.specs.Bodies.{Item}
 use Rattle.request_reader.specs.Scripts.{Ending, IsScript, AsksFirst}
 use Rattle.reply_text.specs.Replies.{text_of}
-use Rattle.track_model.specs.Outcomes.{refuses}
-use Rattle.track_model.specs.Replies.{apart}
-use Rattle.request_model.specs.Requests.{machine_of}
+use Rattle.track_model.specs.{Outcomes.refuses, Replies.apart}
 use Rattle.play_model.specs.Replies.{is_of_history, IsReply, Adds}
 
 -- a request of a script, or why it couldn't be read, with the reply

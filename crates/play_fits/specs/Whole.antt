@@ -1,15 +1,10 @@
 -- The passes of a shared run, joined into a whole first pass: what each saw and made, in the whole
 -- history of each machine.
-use Rattle.std.specs.Prelude.{◌≡◌, ◌≢◌, ℕ, List, [], ◌∷◌, ◌++◌, Contains, length, slice_get, Some}
-use Rattle.std.specs.List.{AllByRecursion}
-use Rattle.history_lock.specs.Marks.{AreByOthers, Follows, IsLongerOf, IsNoneOf, entries, unmarked}
-use Rattle.history_lock.specs.declared.view.Marked.{Marked}
-use Rattle.history_model.specs.declared.entries.Author.{Author}
+use Rattle.std.specs.{Prelude.{◌≡◌, ◌≢◌, ℕ, List, [], ◌∷◌, ◌++◌, Contains, length, slice_get, Some}, List.AllByRecursion}
+use Rattle.history_lock.specs.{Marks.{AreByOthers, Follows, IsLongerOf, IsNoneOf, entries, unmarked}, declared.view.Marked.Marked}
+use Rattle.history_model.specs.declared.entries.{Author.Author, Placed.Placed}
 use Rattle.history_model.specs.declared.entries.Author.TheVariants as author
-use Rattle.history_model.specs.declared.entries.Placed.{Placed}
-use Rattle.play_fits.specs.Passes.{Sight, IsMadeBy, count_of, IsSeenPart}
-use Rattle.play_fits.specs.Scripts.{Exchange, AreAnswered, AreItsOwn}
-use Rattle.play_fits.specs.Workers.{Crew, MayAdd}
+use Rattle.play_fits.specs.{Passes.{Sight, IsMadeBy, count_of, IsSeenPart}, Scripts.{Exchange, AreAnswered, AreItsOwn}, Workers.{Crew, MayAdd}}
 
 -- a pass that was joined: whose entries it made, and what it has seen at last
 pub record Joined : Type 0 where

@@ -2,10 +2,8 @@
 -- the entries of its worker.
 use Rattle.std.specs.Prelude.{◌≡◌, ℕ, ◌+◌, ◌-◌, ◌^◌, ◌<◌, ◌≤◌, Bool, false, ◌==◌, ◌&&◌, List, [], ◌∷◌, ◌++◌, length, map, filter, min, sum_by, bytes_eq, All, Contains, option_to_list, if◌then◌else◌, Option, Some, None, IfSome}
 use Rattle.track_outside.specs.Asked.{Ask}
-use Rattle.history_model.specs.declared.entries.Author.{Author}
+use Rattle.history_model.specs.declared.entries.{Author.Author, Entry.Entry, Placed.Placed}
 use Rattle.history_model.specs.declared.entries.Author.TheVariants as author
-use Rattle.history_model.specs.declared.entries.Entry.{Entry}
-use Rattle.history_model.specs.declared.entries.Placed.{Placed}
 pub use Rattle.journal_lines.specs.Authors.{IsPublication, IsSettled, IsOneOf, Crew, MayAdd}
 use Rattle.worker_model.specs.Findings.{AsksCommit, Finding, finding_of, gives_up}
 use Rattle.play_model.specs.Replies.{first_of}

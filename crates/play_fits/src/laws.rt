@@ -1,7 +1,5 @@
 //! Laws of the definitions, as public functions that do nothing: their contracts are what they are for.
-ghost use Rattle.play_fits.specs.Ends.{EndsFit};
-ghost use Rattle.play_fits.specs.Laws.{AnswersArePart, PartsWait};
-ghost use Rattle.play_fits.specs.Whole.{JoinsKeep, SeenPartsFit, AllAreByCrew, PartsStay};
+ghost use Rattle.play_fits.specs.{Ends.EndsFit, Laws.{AnswersArePart, PartsWait}, Whole.{JoinsKeep, SeenPartsFit, AllAreByCrew, PartsStay}};
 
 /// What a script's pass has seen of its requests and replies is the script's part in what it has seen; and where all passes
 /// were joined into the first one, and this is whole, it is the script's part in the journals, in which there is nothing

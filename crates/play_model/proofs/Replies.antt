@@ -1,19 +1,10 @@
 -- Private: no public contract cites this. What holds of all replies beside others.
-use Rattle.std.proofs.Common.{◌≡◌, ◌≤◌, ◌<◌, ◌+◌, ℕ, List, ◌++◌, length, refl, sym, ap, ◌∙◌, inl, inr, Some, None, arith}
-use Rattle.std.specs.Prelude.{take, slice_get}
-use Rattle.std.proofs.lemmas.List.{take-append-le, length-take-le, length-append, length-map}
-use Rattle.std.proofs.lemmas.Option.{slice_get_within}
-use Rattle.history_model.specs.declared.entries.Author.{Author}
-use Rattle.history_model.specs.declared.entries.Entry.{Entry}
-use Rattle.history_model.specs.declared.entries.Placed.{Placed}
-use Rattle.history_model.specs.Entries.{entries_of}
-use Rattle.request_model.specs.declared.requests.Request.{Request}
-use Rattle.request_model.specs.declared.replies.Reply.{Reply}
-use Rattle.track_model.specs.Outcomes.{Outcome}
-use Rattle.track_model.specs.Replies.{reply_of}
-use Rattle.play_model.specs.Replies.{first_of, ComesBehind, Adds, Tells, IsReplyOn}
-use Rattle.play_model.specs.Laws.{NamesEntries}
-use Rattle.play_model.proofs.Lists.{item-stays}
+use Rattle.std.{proofs.Common.{◌≡◌, ◌≤◌, ◌<◌, ◌+◌, ℕ, List, ◌++◌, length, refl, sym, ap, ◌∙◌, inl, inr, Some, None, arith}, specs.Prelude.{take, slice_get}}
+use Rattle.std.proofs.lemmas.{List.{take-append-le, length-take-le, length-append, length-map}, Option.slice_get_within}
+use Rattle.history_model.specs.{declared.entries.Author.Author, declared.entries.Entry.Entry, declared.entries.Placed.Placed, Entries.entries_of}
+use Rattle.request_model.specs.declared.{requests.Request.Request, replies.Reply.Reply}
+use Rattle.track_model.specs.{Outcomes.Outcome, Replies.reply_of}
+use Rattle.play_model.{specs.Replies.{first_of, ComesBehind, Adds, Tells, IsReplyOn}, specs.Laws.NamesEntries, proofs.Lists.item-stays}
 
 -- ---- first entries
 

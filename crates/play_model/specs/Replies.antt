@@ -3,20 +3,11 @@
 -- so many of its first entries before the request.
 use Rattle.std.specs.Prelude.{◌≡◌, ℕ, ◌≤◌, ◌⊎◌, Bool, true, false, not, ◌&&◌, if◌then◌else◌, List, length, take, slice_get, bytes_eq, Some, None}
 use Rattle.std.specs.List.{list_any}
-use Rattle.history_model.specs.declared.entries.Author.{Author}
-use Rattle.history_model.specs.declared.entries.Entry.{Entry}
-use Rattle.history_model.specs.declared.entries.Placed.{Placed}
-use Rattle.history_model.specs.Entries.{entries_of}
-use Rattle.request_model.specs.declared.requests.Request.{Request}
+use Rattle.history_model.specs.{declared.entries.Author.Author, declared.entries.Entry.Entry, declared.entries.Placed.Placed, Entries.entries_of}
+use Rattle.request_model.specs.{declared.requests.Request.Request, declared.replies.Refusal.Refusal, declared.replies.Reply.Reply, Requests.machine_of}
 use Rattle.request_model.specs.declared.requests.Request.TheVariants as request
-use Rattle.request_model.specs.declared.replies.Refusal.{Refusal}
 use Rattle.request_model.specs.declared.replies.Refusal.TheVariants as refusal
-use Rattle.request_model.specs.declared.replies.Reply.{Reply}
-use Rattle.track_model.specs.Outcomes.{Outcome, refuses}
-use Rattle.track_model.specs.Publishing.{SegmentComesFrom}
-use Rattle.track_model.specs.Replies.{reply_of, apart}
-use Rattle.request_model.specs.Requests.{machine_of}
-use Rattle.track_model.specs.Tracks.{ComesTo}
+use Rattle.track_model.specs.{Outcomes.{Outcome, refuses}, Publishing.SegmentComesFrom, Replies.{reply_of, apart}, Tracks.ComesTo}
 
 -- the first entries of a journal, so many, without their authors
 abbrev pub first_of : ℕ → List Placed → List Entry

@@ -1,32 +1,22 @@
 -- Private: no public contract cites this. What a script comes to at a desk whose requests are asked beside others.
 use Rattle.std.proofs.Common.{◌≡◌, ℕ, inl, inr, Bool, true, false, List, [], ◌∷◌, ◌++◌, length, map, take, Option, None, Some, Ok, Err, refl, sym, ap, subst, ◌∙◌, arith}
-use Rattle.std.specs.Prelude.{Result, IfSome, option_to_list}
-use Rattle.std.specs.Io.KnownBytes.{append_known}
-use Rattle.std.specs.List.{flat_map}
+use Rattle.std.specs.{Prelude.{Result, IfSome, option_to_list}, Io.KnownBytes.append_known, List.flat_map}
 use Rattle.std.proofs.lemmas.List.{length-map, map-append}
 use Rattle.track_outside.specs.declared.source.Source as source
 use Rattle.track_outside.specs.declared.sink.Sink as sink
 use Rattle.track_outside.specs.Calls.{Took}
 use Rattle.history_model.specs.declared.entries.Author.{Author}
-use Rattle.request_model.specs.declared.requests.Request.{Request}
-use Rattle.request_model.specs.declared.replies.Reply.{Reply}
+use Rattle.request_model.specs.declared.{requests.Request.Request, replies.Reply.Reply}
 use Rattle.request_words.specs.Bodies.{Item}
 use Rattle.request_reader.specs.Scripts.{AsksFirst, IsScript, Ending, end, cut_off, unfinished}
 use Rattle.reply_text.specs.Replies.{text_of}
-use Rattle.track_model.specs.Outcomes.{refuses}
-use Rattle.track_model.specs.Replies.{apart}
-use Rattle.script_loop.specs.Folds.{AreAnswers, AnswersItem}
-use Rattle.script_loop.specs.Outputs.{IsOutput}
-use Rattle.script_loop.specs.Endings.{GaveOpen}
-use Rattle.script_loop.specs.Paced.{IsLeft, IsEach, Paced}
-use Rattle.script_loop.proofs.Opened.{open_first}
-use Rattle.script_loop.specs.declared.stop.Stop.{Stop}
+use Rattle.track_model.specs.{Outcomes.refuses, Replies.apart}
+use Rattle.script_loop.specs.{Folds.{AreAnswers, AnswersItem}, Outputs.IsOutput, Endings.GaveOpen, Paced.{IsLeft, IsEach, Paced}}
+use Rattle.script_loop.{proofs.Opened.open_first, specs.declared.stop.Stop.Stop}
 use Rattle.script_loop.specs.declared.stop.Stop.TheVariants as stop
-use Rattle.play_fits.specs.Passes.{Sight, AsksItem, AsksAll, IsSeenPart}
-use Rattle.play_fits.specs.Scripts.{Exchange, items_of, replies_text, IsWritten}
+use Rattle.play_fits.specs.{Passes.{Sight, AsksItem, AsksAll, IsSeenPart}, Scripts.{Exchange, items_of, replies_text, IsWritten}}
 use Rattle.play_fits.specs.Laws.{AnswersArePart, PartsWait}
-use Rattle.play_script.specs.Posts.{Post, IsSamePost, AsksTold, WaitsAt, AnswersAtPost, FailsAtPost}
-use Rattle.play_script.specs.Played.{in_full, IsPlayed, IsEmpty}
+use Rattle.play_script.specs.{Posts.{Post, IsSamePost, AsksTold, WaitsAt, AnswersAtPost, FailsAtPost}, Played.{in_full, IsPlayed, IsEmpty}}
 
 -- ---- posts
 same-post : (p : Post) → IsSamePost p p

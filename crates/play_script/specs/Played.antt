@@ -1,9 +1,7 @@
 -- A script that was played: its part in what its pass has seen, and its bytes.
 use Rattle.std.specs.Prelude.{◌≡◌, ℕ, Bool, true, false, List, [], Option, Result, Ok, Err, IfSome}
-use Rattle.script_loop.specs.declared.stop.Stop.{Stop}
-use Rattle.script_loop.specs.declared.stop.Stop.TheVariants.{ReadFault, WriteFault, CutOff, InputTooLong, NoMemory}
-use Rattle.play_fits.specs.Passes.{IsSeenPart}
-use Rattle.play_fits.specs.Scripts.{Exchange, IsWritten}
+use Rattle.script_loop.specs.declared.stop.Stop.{Stop, TheVariants.{ReadFault, WriteFault, CutOff, InputTooLong, NoMemory}}
+use Rattle.play_fits.specs.{Passes.IsSeenPart, Scripts.{Exchange, IsWritten}}
 use Rattle.play_script.specs.Posts.{Post, IsSamePost}
 
 -- a script that ended so was answered in full, up to its ending

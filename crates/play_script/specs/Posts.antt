@@ -1,8 +1,7 @@
 -- A desk whose requests are asked beside others, and what it stands on.
 use Rattle.std.specs.Prelude.{◌≡◌, ℕ, List, Option, Some}
 use Rattle.history_model.specs.declared.entries.Author.{Author}
-use Rattle.request_model.specs.declared.requests.Request.{Request}
-use Rattle.request_model.specs.declared.replies.Reply.{Reply}
+use Rattle.request_model.specs.declared.{requests.Request.Request, replies.Reply.Reply}
 use Rattle.play_fits.specs.Passes.{Sight, Asks, Waits}
 
 -- whose requests they are, of which machines, and what was seen of these

@@ -1,40 +1,22 @@
 -- Private: no public contract cites this. A shared run of scripts alone fits.
 use Rattle.std.proofs.Common.{◌≡◌, ◌≢◌, ◌<◌, ◌≤◌, ◌+◌, ℕ, zero, suc, inl, inr, Bool, true, false, List, [], ◌∷◌, ◌++◌, length, map, refl, sym, ap, subst, ◌∙◌, Some, None, arith, append-nil, ne_eqb}
-use Rattle.std.specs.Prelude.{◌⊎◌, slice_get, Contains, bytes_eq, if◌then◌else◌, take, fold, IfSome, sum_by}
-use Rattle.std.specs.List.{AllByRecursion, AllZip}
-use Rattle.std.proofs.lemmas.Bool.{cases_lt}
-use Rattle.std.proofs.lemmas.List.{length-map}
-use Rattle.history_lock.specs.Marks.{AreBy, entries, marked, unmarked}
-use Rattle.history_lock.specs.declared.view.Marked.{Marked}
-use Rattle.history_model.specs.Allowed.{Legal}
-use Rattle.history_model.specs.Entries.{entries_of}
-use Rattle.history_model.specs.declared.entries.Author.{Author}
+use Rattle.std.specs.{Prelude.{◌⊎◌, slice_get, Contains, bytes_eq, if◌then◌else◌, take, fold, IfSome, sum_by}, List.{AllByRecursion, AllZip}}
+use Rattle.std.proofs.lemmas.{Bool.cases_lt, List.length-map, Slice.Eq.bytes_eq-Decides}
+use Rattle.history_lock.specs.{Marks.{AreBy, entries, marked, unmarked}, declared.view.Marked.Marked}
+use Rattle.history_model.specs.{Allowed.Legal, Entries.entries_of, declared.entries.Author.Author, declared.entries.Entry.Entry, declared.entries.Placed.Placed}
 use Rattle.history_model.specs.declared.entries.Author.TheVariants as author
-use Rattle.history_model.specs.declared.entries.Entry.{Entry}
-use Rattle.history_model.specs.declared.entries.Placed.{Placed}
 use Rattle.track_model.specs.Tracks.{Track}
-use Rattle.track_room.specs.Asked.{names_of}
-use Rattle.track_room.specs.Rooms.{IsPassOf}
-use Rattle.track_room.specs.Sights.{EndsWhole, Home, Sight, own_marks}
+use Rattle.track_room.specs.{Asked.names_of, Rooms.IsPassOf, Sights.{EndsWhole, Home, Sight, own_marks}}
 use Rattle.play_model.proofs.Replies.{added-step}
-use Rattle.play_fits.specs.Ends.{AreEndsOf, HasPlayed}
-use Rattle.play_fits.specs.Fits.{Fits, Play, Played, crew_of}
-use Rattle.play_fits.specs.Journals.{machines_of, history_in}
-use Rattle.play_fits.specs.Passes.{IsMadeBy, IsSeenPart, count_of}
-use Rattle.play_fits.specs.Scripts.{IsAdded, IsWritten, known_after}
-use Rattle.play_fits.proofs.Ends.{ends-fit}
-use Rattle.play_fits.proofs.Whole.{all-by-crew}
-use Rattle.std.proofs.lemmas.Slice.Eq.{bytes_eq-Decides}
-use Rattle.play_fits.specs.Whole.{AreAll, AreByCrew, Joined, journals_of}
+use Rattle.play_fits.specs.{Ends.{AreEndsOf, HasPlayed}, Fits.{Fits, Play, Played, crew_of}, Journals.{machines_of, history_in}}
+use Rattle.play_fits.{specs.Passes.{IsMadeBy, IsSeenPart, count_of}, specs.Scripts.{IsAdded, IsWritten, known_after}, proofs.Ends.ends-fit}
+use Rattle.play_fits.{proofs.Whole.all-by-crew, specs.Whole.{AreAll, AreByCrew, Joined, journals_of}}
 use Rattle.play_fits.specs.Workers.{Asked, AreAsksOf, Crew, IsBisector, IsOneOf, MayAdd, findings_behind, give_ups, all_give_ups, is_bisector}
 use Rattle.play_fits.proofs.Lists.{all-append, stays-before}
-use Rattle.play_seats.specs.Gathered.{OwnsMade, joined_of}
-use Rattle.play_seats.specs.Seats.{Seat, seen_in, sight_of}
+use Rattle.play_seats.specs.{Gathered.{OwnsMade, joined_of}, Seats.{Seat, seen_in, sight_of}, Shared.{AreKeptAs, EndsShared, HasSeenKept, onto}}
 use Rattle.play_seats.specs.Seats as seats
-use Rattle.play_seats.specs.Shared.{AreKeptAs, EndsShared, HasSeenKept, onto}
 use Rattle.play_seats.specs.Fitting.{ArePlayedFrom, IsPlayedAt, IsUnasked, RunsScripts}
-use Rattle.play_seats.proofs.Gathered.{all-at, at-contains, contains-at, gathered-all, kept-in, mapped-at}
-use Rattle.play_seats.proofs.Shared.{sharing-ends}
+use Rattle.play_seats.proofs.{Gathered.{all-at, at-contains, contains-at, gathered-all, kept-in, mapped-at}, Shared.sharing-ends}
 
 -- ---- lists, the last first
 pub all-onto : {A : Type 0} (P : A → Type 0) (xs behind : List A) → AllByRecursion P xs → AllByRecursion P behind → AllByRecursion P (onto xs behind)

@@ -1,23 +1,15 @@
 -- Private: no public contract cites this. From places to names: the passes that were joined are all that made entries.
 use Rattle.std.proofs.Common.{◌≡◌, ◌<◌, ℕ, zero, suc, inl, inr, Bool, true, false, List, [], ◌∷◌, ◌++◌, length, map, get_or, refl, sym, ap, subst, ◌∙◌, Some, arith}
-use Rattle.std.specs.Prelude.{◌⊎◌, slice_get, Contains, bytes_eq, if◌then◌else◌}
-use Rattle.std.specs.List.{AllByRecursion}
+use Rattle.std.specs.{Prelude.{◌⊎◌, slice_get, Contains, bytes_eq, if◌then◌else◌}, List.AllByRecursion}
 use Rattle.std.proofs.lemmas.Option.{slice_get_within, get_or_from_slice_get}
-use Rattle.history_lock.specs.Marks.{AreBy, Follows, unmarked}
-use Rattle.history_lock.specs.declared.view.Marked.{Marked}
+use Rattle.history_lock.specs.{Marks.{AreBy, Follows, unmarked}, declared.view.Marked.Marked}
 use Rattle.history_model.specs.declared.entries.Author.TheVariants as author
 use Rattle.history_model.specs.declared.entries.Placed.{Placed}
 use Rattle.track_model.specs.Tracks.{Track}
-use Rattle.track_room.specs.Asked.{names_of}
-use Rattle.track_room.specs.Rooms.{IsPassOf}
-use Rattle.track_room.specs.Sights.{Home, Sight, own_marks}
-use Rattle.play_fits.specs.Journals.{machines_of, history_in}
-use Rattle.play_fits.specs.Whole.{AreAll, GoesOn, IsMadeByOne, Joined}
-use Rattle.play_fits.specs.Workers.{Crew}
-use Rattle.play_seats.specs.Joining.{IsBehind, IsMadeByPart, Joining, Part, part_of}
-use Rattle.play_seats.specs.Seats.{Seat, seen_in, mark_in}
-use Rattle.play_seats.specs.Gathered.{parts_at, OwnsMade, AreKept, Gathered, joined_of}
-use Rattle.play_seats.proofs.Joining.{joining-ends}
+use Rattle.track_room.specs.{Asked.names_of, Rooms.IsPassOf, Sights.{Home, Sight, own_marks}}
+use Rattle.play_fits.specs.{Journals.{machines_of, history_in}, Whole.{AreAll, GoesOn, IsMadeByOne, Joined}, Workers.Crew}
+use Rattle.play_seats.specs.{Joining.{IsBehind, IsMadeByPart, Joining, Part, part_of}, Seats.{Seat, seen_in, mark_in}}
+use Rattle.play_seats.{specs.Gathered.{parts_at, OwnsMade, AreKept, Gathered, joined_of}, proofs.Joining.joining-ends}
 
 -- ---- lists
 pub contains-at : {A : Type 0} (xs : List A) (x : A) → Contains xs x → (k : ℕ) × (slice_get xs k ≡ Some x)

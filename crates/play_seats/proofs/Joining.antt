@@ -1,15 +1,11 @@
 -- Private: no public contract cites this. What the first pass of a machine's lock knows while others are joined into it.
 use Rattle.std.proofs.Common.{◌≡◌, ◌<◌, ℕ, suc, inl, inr, List, [], ◌∷◌, ◌++◌, refl, sym, ap, subst, ◌∙◌, Option, Some, None, arith, append_assoc, append-nil}
-use Rattle.std.specs.Prelude.{◌⊎◌, slice_get}
-use Rattle.std.specs.List.{AllByRecursion}
-use Rattle.std.proofs.lemmas.Bool.{cases_order}
-use Rattle.history_lock.specs.Marks.{AreBy, AreByOthers, IsLongerOf, IsNoneOf, IsOtherMark, entries, marked, unmarked}
-use Rattle.history_lock.specs.declared.view.Marked.{Marked}
+use Rattle.std.{specs.Prelude.{◌⊎◌, slice_get}, specs.List.AllByRecursion, proofs.lemmas.Bool.cases_order}
+use Rattle.history_lock.specs.{Marks.{AreBy, AreByOthers, IsLongerOf, IsNoneOf, IsOtherMark, entries, marked, unmarked}, declared.view.Marked.Marked}
 use Rattle.history_model.specs.declared.entries.Placed.{Placed}
 use Rattle.track_model.specs.Tracks.{Track}
 use Rattle.track_room.specs.Sights.{Sight, IsFirstOf, Joins, own_marks, splitting}
-use Rattle.play_fits.specs.Whole.{IsJoined}
-use Rattle.play_fits.proofs.Joins.{joins-keep, others-append, others-than}
+use Rattle.play_fits.{specs.Whole.IsJoined, proofs.Joins.{joins-keep, others-append, others-than}}
 use Rattle.play_seats.specs.Joining.{Part, part_of, marks_of, IsBehind, Joining, IsMadeByPart}
 
 -- ---- a new lock

@@ -1,24 +1,15 @@
 -- Private: no public contract cites this. A request to a room is asked beside others.
 use Rattle.std.proofs.Common.{◌≡◌, ◌≤◌, ◌<◌, ◌+◌, ◌-◌, ℕ, zero, suc, inl, inr, Bool, true, false, List, [], ◌∷◌, ◌++◌, length, map, refl, sym, ap, subst, ◌∙◌, Option, Some, arith, append_assoc, append-nil, length-append}
-use Rattle.std.specs.Prelude.{slice_get, slice_set, bytes_eq, if◌then◌else◌}
-use Rattle.std.specs.List.{AllByRecursion}
-use Rattle.std.proofs.lemmas.Option.{slice_get_within}
-use Rattle.std.proofs.lemmas.Slice.Eq.{bytes_eq-Decides}
-use Rattle.history_lock.specs.Marks.{AreByOthers, IsOtherMark, entries, marked}
-use Rattle.history_lock.specs.declared.view.Marked.{Marked}
-use Rattle.history_model.specs.declared.entries.Author.{Author}
-use Rattle.history_model.specs.declared.entries.Placed.{Placed}
-use Rattle.request_model.specs.declared.requests.Request.{Request}
-use Rattle.request_model.specs.declared.replies.Reply.{Reply}
-use Rattle.request_model.specs.Requests.{machine_of}
+use Rattle.std.{specs.Prelude.{slice_get, slice_set, bytes_eq, if◌then◌else◌}, specs.List.AllByRecursion, proofs.lemmas.Option.slice_get_within}
+use Rattle.std.{proofs.lemmas.Slice.Eq.bytes_eq-Decides, specs.List.AllZip}
+use Rattle.history_lock.specs.{Marks.{AreByOthers, IsOtherMark, entries, marked}, declared.view.Marked.Marked}
+use Rattle.history_model.specs.declared.entries.{Author.Author, Placed.Placed}
+use Rattle.request_model.specs.{declared.requests.Request.Request, declared.replies.Reply.Reply, Requests.machine_of}
 use Rattle.play_model.specs.Replies.{is_of_history, IsReplyOn, IsReplyWhere, Adds}
 use Rattle.play_fits.specs.Passes as passes
-use Rattle.play_fits.proofs.Lists.{same-bytes, stands-behind, stays-before}
-use Rattle.play_fits.proofs.Passes.{by-order}
-use Rattle.play_fits.proofs.Whole.{other-at as other-mark}
+use Rattle.play_fits.proofs.{Lists.{same-bytes, stands-behind, stays-before}, Passes.by-order, Whole.other-at as other-mark}
 use Rattle.track_room.specs.Sights.{Home, Sight, SeesMore, AddsOne, own_marks, seeing, track_of}
 use Rattle.track_room.specs.Asked.{IsAnswered, IsReplied, ChangesAt, AsksBy, Asks, names_of}
-use Rattle.std.specs.List.{AllZip}
 use Rattle.play_script.specs.Posts.{IsSamePost, AsksTold, WaitsAt}
 use Rattle.play_seats.specs.Seats as seats
 use Rattle.play_seats.specs.Seats.{seen_in, mark_in, sight_of, IsSeated, Seat, post_of, Stays, AnswersAt, FailsAt}

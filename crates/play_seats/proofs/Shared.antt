@@ -1,25 +1,16 @@
 -- Private: no public contract cites this. The first pass of a room, from its beginning to where all passes are joined.
 use Rattle.std.proofs.Common.{◌≡◌, ◌<◌, ℕ, zero, suc, List, [], ◌∷◌, ◌++◌, length, map, get_or, refl, sym, ap, subst, ◌∙◌, Some, Bool, true, false, arith, append_assoc, append-nil}
-use Rattle.std.specs.Prelude.{slice_get, bytes_eq, if◌then◌else◌}
-use Rattle.std.specs.List.{AllByRecursion, AllZip}
-use Rattle.std.proofs.lemmas.List.{length-map}
+use Rattle.std.{specs.Prelude.{slice_get, bytes_eq, if◌then◌else◌}, specs.List.{AllByRecursion, AllZip}, proofs.lemmas.List.length-map}
 use Rattle.std.proofs.lemmas.Option.{slice_get_within, get_or_from_slice_get}
-use Rattle.history_lock.specs.Marks.{unmarked}
-use Rattle.history_lock.specs.declared.view.Marked.{Marked}
+use Rattle.history_lock.specs.{Marks.unmarked, declared.view.Marked.Marked}
 use Rattle.history_model.specs.declared.entries.Placed.{Placed}
 use Rattle.track_model.specs.Tracks.{Track}
-use Rattle.track_room.specs.Asked.{names_of}
-use Rattle.track_room.specs.Rooms.{AreSame, IsPassOf}
-use Rattle.track_room.specs.Sights.{Home, Sight, IsFirstOf, split_off, splitting}
-use Rattle.track_room.specs.Whole.{AreOut}
+use Rattle.track_room.specs.{Asked.names_of, Rooms.{AreSame, IsPassOf}, Sights.{Home, Sight, IsFirstOf, split_off, splitting}, Whole.AreOut}
 use Rattle.track_room.proofs.Outs.{none-is-out, none-out-is-whole, split-goes-out, work-stays-out, join-comes-back}
 use Rattle.play_fits.specs.Journals.{machines_of, history_in}
-use Rattle.play_seats.specs.Gathered.{AreJoining, parts_at}
-use Rattle.play_seats.specs.Joining.{Joining, part_of}
-use Rattle.play_seats.specs.Seats.{Seat, seen_in}
+use Rattle.play_seats.specs.{Gathered.{AreJoining, parts_at}, Joining.{Joining, part_of}, Seats.{Seat, seen_in}}
 use Rattle.play_seats.specs.Shared.{SplitsAll, JoinsAll, IsShared, EndsShared, AreKeptAs, HasSeenKept, onto, pass_of}
-use Rattle.play_seats.proofs.Joining.{joining-starts, joining-splits, joining-goes-on, all-unmarked}
-use Rattle.play_seats.proofs.Gathered.{mapped-from}
+use Rattle.play_seats.proofs.{Joining.{joining-starts, joining-splits, joining-goes-on, all-unmarked}, Gathered.mapped-from}
 
 -- ---- lists
 onto-append : {A : Type 0} (xs behind : List A) → onto xs behind ≡ onto xs [] ++ behind

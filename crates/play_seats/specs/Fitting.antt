@@ -1,19 +1,12 @@
 -- A shared run of scripts alone, from the room's first pass to the machines that it leaves.
-use Rattle.std.specs.Prelude.{◌≡◌, ◌⊎◌, ◌≤◌, ◌+◌, ℕ, List, [], ◌∷◌, Some, None, Result}
-use Rattle.std.specs.List.{AllByRecursion, AllZip}
-use Rattle.history_model.specs.Allowed.{Legal}
-use Rattle.history_model.specs.Entries.{entries_of}
-use Rattle.history_model.specs.declared.entries.Author.TheVariants.{Script}
+use Rattle.std.specs.{Prelude.{◌≡◌, ◌⊎◌, ◌≤◌, ◌+◌, ℕ, List, [], ◌∷◌, Some, None, Result}, List.{AllByRecursion, AllZip}}
+use Rattle.history_model.specs.{Allowed.Legal, Entries.entries_of, declared.entries.Author.TheVariants.Script}
 use Rattle.track_model.specs.Tracks.{Track}
-use Rattle.track_room.specs.Rooms.{IsPassOf}
-use Rattle.track_room.specs.Sights.{EndsWhole, Home, Sight}
+use Rattle.track_room.specs.{Rooms.IsPassOf, Sights.{EndsWhole, Home, Sight}}
 use Rattle.script_loop.specs.declared.stop.Stop.{Stop}
-use Rattle.play_fits.specs.Fits.{Fits, Play, Played}
-use Rattle.play_fits.specs.Workers.{Asked}
+use Rattle.play_fits.specs.{Fits.{Fits, Play, Played}, Workers.Asked}
 use Rattle.play_script.specs.Played.{IsPlayed, in_full}
-use Rattle.play_seats.specs.Gathered.{AreKept}
-use Rattle.play_seats.specs.Seats.{AreDifferent, Seat, post_of}
-use Rattle.play_seats.specs.Shared.{IsShared}
+use Rattle.play_seats.specs.{Gathered.AreKept, Seats.{AreDifferent, Seat, post_of}, Shared.IsShared}
 
 -- the seat of a script of this number before it is played
 abbrev pub seat_at : List Home → ℕ → List Sight → Seat

@@ -1,20 +1,13 @@
 -- The first pass of a room when all others were joined into it: what each of these saw and made is in the histories, and
 -- behind what was kept nothing else is.
-use Rattle.std.specs.Prelude.{◌≡◌, ℕ, List, map, slice_get, slice_index_or, Contains, Some}
-use Rattle.std.specs.List.{AllByRecursion}
+use Rattle.std.specs.{Prelude.{◌≡◌, ℕ, List, map, slice_get, slice_index_or, Contains, Some}, List.AllByRecursion}
 use Rattle.history_lock.specs.Marks.{AreBy}
 use Rattle.history_model.specs.declared.entries.Author.TheVariants as author
 use Rattle.history_model.specs.declared.entries.Placed.{Placed}
 use Rattle.track_model.specs.Tracks.{Track}
-use Rattle.track_room.specs.Asked.{names_of}
-use Rattle.track_room.specs.Rooms.{IsPassOf}
-use Rattle.track_room.specs.Sights.{Home, Sight, own_marks}
-use Rattle.play_fits.specs.Journals.{machines_of, history_in}
-use Rattle.play_fits.specs.Passes.{IsMadeBy}
-use Rattle.play_fits.specs.Whole.{AreAll, Joined}
-use Rattle.play_fits.specs.Workers.{Crew, MayAdd}
-use Rattle.play_seats.specs.Joining.{Joining, Part, part_of}
-use Rattle.play_seats.specs.Seats.{Seat, seen_in, sight_of}
+use Rattle.track_room.specs.{Asked.names_of, Rooms.IsPassOf, Sights.{Home, Sight, own_marks}}
+use Rattle.play_fits.specs.{Journals.{machines_of, history_in}, Passes.IsMadeBy, Whole.{AreAll, Joined}, Workers.{Crew, MayAdd}}
+use Rattle.play_seats.specs.{Joining.{Joining, Part, part_of}, Seats.{Seat, seen_in, sight_of}}
 
 -- what the seats' passes know of the machine at a place
 abbrev pub parts_at : ℕ → Sight → List Seat → List Part

@@ -1,8 +1,6 @@
 -- The first pass of a machine's lock while others are joined into it: what it knows of them.
-use Rattle.std.specs.Prelude.{◌≡◌, ℕ, List, [], ◌∷◌, ◌++◌, map, slice_get, Some}
-use Rattle.std.specs.List.{AllByRecursion}
-use Rattle.history_lock.specs.Marks.{AreBy, AreByOthers, Follows, unmarked}
-use Rattle.history_lock.specs.declared.view.Marked.{Marked}
+use Rattle.std.specs.{Prelude.{◌≡◌, ℕ, List, [], ◌∷◌, ◌++◌, map, slice_get, Some}, List.AllByRecursion}
+use Rattle.history_lock.specs.{Marks.{AreBy, AreByOthers, Follows, unmarked}, declared.view.Marked.Marked}
 use Rattle.history_model.specs.declared.entries.Placed.{Placed}
 use Rattle.track_model.specs.Tracks.{Track}
 use Rattle.track_room.specs.Sights.{Sight, IsFirstOf, Joins, own_marks, splitting}

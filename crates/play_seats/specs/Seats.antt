@@ -1,16 +1,11 @@
 -- A script's place at a room, and what it stands on: what its pass has seen of each machine, by name.
-use Rattle.std.specs.Prelude.{◌≡◌, ℕ, false, List, [], ◌∷◌, map, bytes_eq, if◌then◌else◌, Option, Some}
-use Rattle.std.specs.List.{AllByRecursion, AllZip}
+use Rattle.std.specs.{Prelude.{◌≡◌, ℕ, false, List, [], ◌∷◌, map, bytes_eq, if◌then◌else◌, Option, Some}, List.{AllByRecursion, AllZip}}
 use Rattle.history_lock.specs.declared.view.Marked.{Marked}
-use Rattle.history_model.specs.declared.entries.Author.{Author}
-use Rattle.history_model.specs.declared.entries.Placed.{Placed}
-use Rattle.request_model.specs.declared.requests.Request.{Request}
-use Rattle.request_model.specs.declared.replies.Reply.{Reply}
+use Rattle.history_model.specs.declared.entries.{Author.Author, Placed.Placed}
+use Rattle.request_model.specs.declared.{requests.Request.Request, replies.Reply.Reply}
 use Rattle.play_fits.specs.Passes as passes
 use Rattle.play_script.specs.Posts.{Post}
-use Rattle.track_room.specs.Sights.{Home, Sight, SeesMore}
-use Rattle.track_room.specs.Asked.{Asks, names_of}
-use Rattle.track_room.specs.Rooms.{AreSame}
+use Rattle.track_room.specs.{Sights.{Home, Sight, SeesMore}, Asked.{Asks, names_of}, Rooms.AreSame}
 
 -- what was seen of the machine of this name, and the mark of the pass's entries there; nothing of one
 -- that isn't among them

@@ -1,14 +1,10 @@
 -- Passes that are split from a room's first pass, are used apart, and are joined into it again.
-use Rattle.std.specs.Prelude.{◌≡◌, ℕ, List, [], ◌∷◌, map}
-use Rattle.std.specs.List.{AllByRecursion, AllZip}
+use Rattle.std.specs.{Prelude.{◌≡◌, ℕ, List, [], ◌∷◌, map}, List.{AllByRecursion, AllZip}}
 use Rattle.history_lock.specs.Marks.{unmarked}
 use Rattle.track_model.specs.Tracks.{Track}
-use Rattle.track_room.specs.Asked.{names_of}
-use Rattle.track_room.specs.Rooms.{AreSame, IsPassOf, IsWhole, JoinsEach}
-use Rattle.track_room.specs.Sights.{Home, Sight, IsFirstOf, split_off, splitting}
+use Rattle.track_room.specs.{Asked.names_of, Rooms.{AreSame, IsPassOf, IsWhole, JoinsEach}, Sights.{Home, Sight, IsFirstOf, split_off, splitting}}
 use Rattle.play_fits.specs.Journals.{machines_of, history_in}
-use Rattle.play_seats.specs.Gathered.{AreJoining}
-use Rattle.play_seats.specs.Seats.{Seat, seen_in}
+use Rattle.play_seats.specs.{Gathered.AreJoining, Seats.{Seat, seen_in}}
 
 -- these passes were split off, one after another
 abbrev pub SplitsAll : (old : List Sight) → List (List Sight) → (new : List Sight) → Type 0

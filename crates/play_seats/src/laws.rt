@@ -1,8 +1,5 @@
 //! Laws of the definitions, as public functions that do nothing: their contracts are what they are for.
-ghost use Rattle.play_seats.specs.Gathered.{GatheredAreAll};
-ghost use Rattle.play_seats.specs.Shared.{SharingEnds};
-ghost use Rattle.play_seats.specs.Fitting.{RunOfScriptsFits};
-ghost use Rattle.play_seats.specs.Joining.{JoiningStarts, JoiningSplits, JoiningGoesOn, JoiningEnds};
+ghost use Rattle.play_seats.specs.{Gathered.GatheredAreAll, Shared.SharingEnds, Fitting.RunOfScriptsFits, Joining.{JoiningStarts, JoiningSplits, JoiningGoesOn, JoiningEnds}};
 
 /// What the first pass of a machine's lock knows from the lock's beginning on, through splits and joins: at the end, where it
 /// is whole, each entry behind the kept ones was made by one of the passes that were joined into it.

@@ -1,11 +1,8 @@
 -- A gap in the cells in use, closed from either side.
-use Rattle.std.proofs.Common.{◌≡◌, ℕ, List, ◌++◌, length, take, drop, ◌+◌, ◌-◌, ◌≤◌, ℤ, ◌∙◌, sym, ap, ap₂, arith}
-use Rattle.std.specs.List.{copy_within}
-use Rattle.std.proofs.lemmas.List.{drop-take, take-take, length-drop, drop-append-le, append_assoc, drop-drop}
-use Rattle.std.proofs.lemmas.List.Edits.{take-paste}
+use Rattle.std.{proofs.Common.{◌≡◌, ℕ, List, ◌++◌, length, take, drop, ◌+◌, ◌-◌, ◌≤◌, ℤ, ◌∙◌, sym, ap, ap₂, arith}, specs.List.copy_within}
+use Rattle.std.proofs.lemmas.List.{drop-take, take-take, length-drop, drop-append-le, append_assoc, drop-drop, Edits.take-paste}
 use Rattle.std.proofs.Math.Seq.{take-append-add, drop-append_seam}
-use Rattle.point_list.proofs.Samples.{length-front}
-use Rattle.point_list.specs.Stored.{without}
+use Rattle.point_list.{proofs.Samples.length-front, specs.Stored.without}
 
 -- the list without a gap, by the cells themselves
 rest : (cells : List ℤ) (first end low high : ℕ) → low ≤ high → first + high ≤ end → end ≤ length cells

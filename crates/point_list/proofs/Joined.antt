@@ -1,14 +1,9 @@
 -- Blocks of positions: where a position stands in them, when two are the same, and what keeps them.
 use Rattle.std.proofs.Common.{◌≡◌, ℕ, ℤ, zero, suc, ◌+◌, ◌-◌, ◌*◌, ◌<◌, ◌≤◌, true, false, cond, ◌&&◌, List, [], ◌∷◌, ◌++◌, length, map, take, drop, get_or, refl, sym, ap, ap₂, subst, ◌∙◌, arith}
-use Rattle.std.specs.Cmp.Rules.{signed_items}
-use Rattle.std.proofs.lemmas.Bool.{le-ltb, eq-eqb, ne_eqb}
+use Rattle.std.{specs.Cmp.Rules.signed_items, proofs.lemmas.Bool.{le-ltb, eq-eqb, ne_eqb}}
 use Rattle.std.proofs.lemmas.List.{append-nil, append_assoc, length-append, length-map, length-drop, length-take-le, drop-drop, take_all, get_or-append-add, get_or_append_left}
-use Rattle.segment_model.specs.Segments.{Observation, Position, values_of, position_values}
-use Rattle.segment_model.specs.Edits.{inserted, removed, same_position}
-use Rattle.point_list.specs.Places.{common}
-use Rattle.point_list.specs.Blocks.{heads_of, joined, AreFull, IsFront}
-use Rattle.point_list.proofs.CommonFirst.{same-values}
-use Rattle.point_list.proofs.Places.{AreFilled}
+use Rattle.segment_model.specs.{Segments.{Observation, Position, values_of, position_values}, Edits.{inserted, removed, same_position}}
+use Rattle.point_list.{specs.Places.common, specs.Blocks.{heads_of, joined, AreFull, IsFront}, proofs.CommonFirst.same-values, proofs.Places.AreFilled}
 
 -- ---- one position more
 pub heads-push : (points : List Position) (p : Position) → heads_of (points ++ p ∷ []) ≡ heads_of points ++ p.commit ∷ length p.samples ∷ []

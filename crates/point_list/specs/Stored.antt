@@ -1,6 +1,5 @@
 -- No public contract cites this. A position's values in cells, and after these as many cells of steps.
-use Rattle.std.specs.Prelude.{◌≡◌, ℕ, ℤ, ◌/◌, ◌*◌, ◌<◌, ◌≤◌, List, [], ◌∷◌, ◌++◌, length, map, take, drop}
-use Rattle.std.specs.Int.{w64, cast_unsigned}
+use Rattle.std.specs.{Prelude.{◌≡◌, ℕ, ℤ, ◌/◌, ◌*◌, ◌<◌, ◌≤◌, List, [], ◌∷◌, ◌++◌, length, map, take, drop}, Int.{w64, cast_unsigned}}
 use Rattle.std.specs.List.Sorted.{IsNonDecreasingBy}
 use Rattle.segment_model.specs.Segments.{Observation}
 

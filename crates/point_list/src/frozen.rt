@@ -1,8 +1,6 @@
 //! Positions that don't change any more, with several owners.
-ghost use Rattle.std.specs.Prelude.{◌≡◌, ◌+◌, ◌<◌, [], length, map, IfOk, slice_index, slice_index_or};
-ghost use Rattle.std.specs.Arc.{arc_value};
-ghost use Rattle.segment_model.specs.Segments.{Position, segment};
-ghost use Rattle.segment_model.specs.Limits.{WithinLimits, commits_of};
+ghost use Rattle.std.specs.{Prelude.{◌≡◌, ◌+◌, ◌<◌, [], length, map, IfOk, slice_index, slice_index_or}, Arc.arc_value};
+ghost use Rattle.segment_model.specs.{Segments.{Position, segment}, Limits.{WithinLimits, commits_of}};
 ghost use Rattle.point_list.specs.Blocks.{IsFront};
 
 use crate::NoMemory;
@@ -22,8 +20,7 @@ pub struct Row {
 }
 
 impl Model for Row {
-    ghost use Rattle.std.specs.Prelude.{◌≤◌, List, ◌++◌, length};
-    ghost use Rattle.std.specs.Arc.{arc_value};
+    ghost use Rattle.std.specs.{Prelude.{◌≤◌, List, ◌++◌, length}, Arc.arc_value};
     ghost use Rattle.segment_model.specs.Segments.{Position};
     ghost use Rattle.point_list.specs.Blocks.{AreFull, joined};
 
@@ -75,10 +72,8 @@ pub struct FrozenPoints {
 }
 
 impl Model for FrozenPoints {
-    ghost use Rattle.std.specs.Prelude.{List};
-    ghost use Rattle.std.specs.Arc.{arc_value};
-    ghost use Rattle.segment_model.specs.Segments.{Position};
-    ghost use Rattle.segment_model.specs.Limits.{WithinLimits};
+    ghost use Rattle.std.specs.{Prelude.List, Arc.arc_value};
+    ghost use Rattle.segment_model.specs.{Segments.Position, Limits.WithinLimits};
 
     ghost Value = { List Position };
 

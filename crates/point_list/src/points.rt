@@ -1,13 +1,7 @@
 //! The list of positions: values put in and taken out.
-ghost use Rattle.std.specs.Prelude.{◌≡◌, ◌+◌, ◌*◌, ◌<◌, ◌≤◌, ◌↔◌, ℕ, List, [], length, OnOk, OnErr, IfOk, slice_index, Err, false, true, get_or, nat_lt, All};
-ghost use Rattle.std.specs.List.Sorted.{IsStrictlyIncreasing};
-ghost use Rattle.segment_model.specs.Segments.{Position, segment, values_of};
-ghost use Rattle.segment_model.specs.Limits.{commits_of, HasValue, HasStepsInOrder, WithinLimits};
-ghost use Rattle.segment_model.specs.Edits.{inserted, removed, has_commit};
-ghost use Rattle.point_list.specs.Places.{MayCome};
-ghost use Rattle.point_list.specs.Searches.{StandsAt};
-ghost use Rattle.point_list.specs.Blocks.{IsFront};
-ghost use Rattle.std.specs.Arc.{arc_value};
+ghost use Rattle.std.specs.{Prelude.{◌≡◌, ◌+◌, ◌*◌, ◌<◌, ◌≤◌, ◌↔◌, ℕ, List, [], length, OnOk, OnErr, IfOk, slice_index, Err, false, true, get_or, nat_lt, All}, List.Sorted.IsStrictlyIncreasing, Arc.arc_value};
+ghost use Rattle.segment_model.specs.{Segments.{Position, segment, values_of}, Limits.{commits_of, HasValue, HasStepsInOrder, WithinLimits}, Edits.{inserted, removed, has_commit}};
+ghost use Rattle.point_list.specs.{Places.MayCome, Searches.StandsAt, Blocks.IsFront};
 
 use crate::NoMemory;
 use crate::blocks::{Block, FULL};
@@ -37,10 +31,8 @@ pub struct Points {
 }
 
 impl Model for Points {
-    ghost use Rattle.std.specs.Prelude.{◌≡◌, List, length};
-    ghost use Rattle.segment_model.specs.Segments.{Position, values_of};
-    ghost use Rattle.segment_model.specs.Limits.{WithinLimits};
-    ghost use Rattle.std.specs.Arc.{arc_value};
+    ghost use Rattle.std.specs.{Prelude.{◌≡◌, List, length}, Arc.arc_value};
+    ghost use Rattle.segment_model.specs.{Segments.{Position, values_of}, Limits.WithinLimits};
     ghost use Rattle.point_list.specs.Blocks.{IsFront};
 
     ghost Value = { List Position };

@@ -1,8 +1,6 @@
 //! The positions in order, kept in the order in which they came.
 ghost use Rattle.std.specs.Prelude.{◌≡◌, ◌+◌, ◌<◌, ◌≤◌, [], length, map, OnOk, OnErr, IfOk, slice_index_or, slice_set, filter, insert, remove, All};
-ghost use Rattle.segment_model.specs.Segments.{Position};
-ghost use Rattle.segment_model.specs.Limits.{HasStepsInOrder};
-ghost use Rattle.segment_model.specs.Edits.{with_value, by_another};
+ghost use Rattle.segment_model.specs.{Segments.Position, Limits.HasStepsInOrder, Edits.{with_value, by_another}};
 ghost use Rattle.point_list.specs.Slots.{renamed};
 
 use crate::NoMemory;

@@ -1,9 +1,7 @@
 //! How far two lists of positions agree.
-ghost use Rattle.std.specs.Prelude.{◌≡◌, ◌+◌, ◌*◌, ◌≤◌, List, ◌++◌, drop, length};
-ghost use Rattle.std.specs.Arc.{arc_value};
+ghost use Rattle.std.specs.{Prelude.{◌≡◌, ◌+◌, ◌*◌, ◌≤◌, List, ◌++◌, drop, length}, Arc.arc_value};
 ghost use Rattle.segment_model.specs.Segments.{Position};
-ghost use Rattle.point_list.specs.Blocks.{AreFull, joined};
-ghost use Rattle.point_list.specs.Places.{common};
+ghost use Rattle.point_list.specs.{Blocks.{AreFull, joined}, Places.common};
 
 use crate::blocks::{Block, FULL};
 use crate::frozen::{FrozenPoints, Row};

@@ -1,10 +1,6 @@
 //! One position, as it is stored.
-ghost use Rattle.std.specs.Prelude.{◌≡◌, ◌+◌, ◌-◌, ℕ, ℤ, [], ◌∷◌, ◌++◌, length, OnOk, OnErr, IfOk, filter, take, drop, ◌≤◌, ◌<◌, slice_index_or};
-ghost use Rattle.std.specs.Int.{w64, cast_unsigned};
-ghost use Rattle.std.specs.List.Sorted.{IsNonDecreasingBy};
-ghost use Rattle.segment_model.specs.Segments.{position_values};
-ghost use Rattle.segment_model.specs.Limits.{HasStepsInOrder};
-ghost use Rattle.segment_model.specs.Edits.{with_value, position_of, by_another, same_position};
+ghost use Rattle.std.specs.{Prelude.{◌≡◌, ◌+◌, ◌-◌, ℕ, ℤ, [], ◌∷◌, ◌++◌, length, OnOk, OnErr, IfOk, filter, take, drop, ◌≤◌, ◌<◌, slice_index_or}, Int.{w64, cast_unsigned}, List.Sorted.IsNonDecreasingBy};
+ghost use Rattle.segment_model.specs.{Segments.position_values, Limits.HasStepsInOrder, Edits.{with_value, position_of, by_another, same_position}};
 ghost use Rattle.point_list.specs.Stored.{HasHalves, AreInOrder, as_steps, samples_of, samples_before, samples_in, without};
 
 use crate::NoMemory;

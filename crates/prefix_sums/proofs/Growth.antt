@@ -1,15 +1,10 @@
 -- Prefix sums with a position more, and of the first positions.
 use Rattle.std.proofs.Common.{◌≡◌, ℕ, ℤ, zero, suc, ◌+◌, ◌-◌, ◌≤◌, List, [], ◌∷◌, ◌++◌, length, slice_index_or, take, drop, All, refl, sym, ap, ◌∙◌, inl, inr, pos, ◌-ℤ◌, arith}
-use Rattle.std.proofs.lemmas.Bool.{cases_lt}
-use Rattle.std.proofs.lemmas.List.{length-append, length-take, take-append-drop, get_or_append_left, get_or_push, get_or-take}
+use Rattle.std.proofs.lemmas.{Bool.cases_lt, List.{length-append, length-take, take-append-drop, get_or_append_left, get_or_push, get_or-take}}
 use Rattle.std.proofs.lemmas.List.Elements.{All-tail}
-use Rattle.segment_model.specs.Limits.{IsSmall}
-use Rattle.segment_model.specs.Laws.{SumsAdd, SmallSumsAreInRange}
+use Rattle.segment_model.specs.{Limits.IsSmall, Laws.{SumsAdd, SmallSumsAreInRange}}
 use Rattle.segment_model.specs.Values.{values_between, AreWithinLimits, ValuesHaveParts, ValuesAreWithinLimits, FrontHasSameValues, FrontIsWithinLimits, NextValuesFollow}
-use Rattle.prefix_sums.specs.declared.sums.Sums.{Sums}
-use Rattle.prefix_sums.specs.Sums.{AreSums, IsInRange}
-use Rattle.prefix_sums.specs.Prefixes.{ArePrefixSums}
-use Rattle.prefix_sums.proofs.Ranges.{range-of, sums-between}
+use Rattle.prefix_sums.{specs.declared.sums.Sums.Sums, specs.Sums.{AreSums, IsInRange}, specs.Prefixes.ArePrefixSums, proofs.Ranges.{range-of, sums-between}}
 
 -- some sums, of some values
 abbrev pub Are : List ℤ → Sums → Type 0

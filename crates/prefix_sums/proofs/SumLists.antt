@@ -1,8 +1,6 @@
 -- Counts and sums that are stored apart: with one more, the first ones, and one of them.
 use Rattle.std.proofs.Common.{◌≡◌, ℕ, zero, suc, ◌<◌, List, [], ◌∷◌, ◌++◌, length, take, get_or, refl, ap, ap₂, arith}
-use Rattle.prefix_sums.specs.declared.sums.Sums.{Sums}
-use Rattle.prefix_sums.specs.declared.sum_list.Totals.{Totals}
-use Rattle.prefix_sums.specs.Lists.{sums_in}
+use Rattle.prefix_sums.specs.{declared.sums.Sums.Sums, declared.sum_list.Totals.Totals, Lists.sums_in}
 
 pub sums-push : (counts : List ℕ) (totals : List Totals) (n : ℕ) (t : Totals) → length counts ≡ length totals
     → sums_in (counts ++ n ∷ []) (totals ++ t ∷ []) ≡ sums_in counts totals ++ record { count = n; sum = t.sum; squares = t.squares } ∷ []

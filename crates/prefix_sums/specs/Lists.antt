@@ -1,7 +1,6 @@
 -- No public contract cites this. Counts and sums that are stored apart.
 use Rattle.std.specs.Prelude.{ℕ, List, [], ◌∷◌}
-use Rattle.prefix_sums.specs.declared.sums.Sums.{Sums}
-use Rattle.prefix_sums.specs.declared.sum_list.Totals.{Totals}
+use Rattle.prefix_sums.specs.declared.{sums.Sums.Sums, sum_list.Totals.Totals}
 
 -- sums, and how many more there is room for
 pub record Listed : Type 0 where

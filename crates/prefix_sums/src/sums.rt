@@ -1,7 +1,6 @@
 //! The sums of some values.
 ghost use Rattle.std.specs.Prelude.{◌≡◌, ◌+◌, ◌<◌, ◌≤◌, length, ◌+ℤ◌, ◌*ℤ◌, All};
-ghost use Rattle.segment_model.specs.Limits.{IsSmall};
-ghost use Rattle.segment_model.specs.Computed.{sum_of, squares_of};
+ghost use Rattle.segment_model.specs.{Limits.IsSmall, Computed.{sum_of, squares_of}};
 ghost use Rattle.prefix_sums.specs.Sums.{IsInRange};
 
 use segment_model::sums_law;

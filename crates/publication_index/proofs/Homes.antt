@@ -1,25 +1,13 @@
 -- The set of the series whose tables are home.
 use Rattle.std.proofs.Common.{◌≡◌, ℕ, Bool, true, false, cond, ◌&&◌, ◌||◌, List, [], ◌∷◌, refl, sym, ap, ap₂, ◌∙◌, Option, Some, None, inl, inr, true≢false}
-use Rattle.std.specs.Prelude.{is_some, unwrap_or, not, bytes_eq}
-use Rattle.std.proofs.lemmas.Map.Text.{is_eq-slice_cmp}
-use Rattle.std.proofs.lemmas.Slice.Eq.{bytes_eq-Decides}
+use Rattle.std.{specs.Prelude.{is_some, unwrap_or, not, bytes_eq}, proofs.lemmas.Map.Text.is_eq-slice_cmp, proofs.lemmas.Slice.Eq.bytes_eq-Decides}
 use Rattle.pelt_core.specs.Seen.{Tabled}
-use Rattle.std.specs.declared.cmp.Ordering.{Ordering}
-use Rattle.std.specs.declared.cmp.Ordering.TheVariants.{Less, Equal, Greater}
-use Rattle.std.specs.Ordering.{nat_cmp, is_eq, ordering_then, eq_by_cmp}
-use Rattle.std.specs.Cmp.Lexicographic.{slice_cmp}
-use Rattle.std.specs.Cmp.{IsTotalOrder}
+use Rattle.std.specs.declared.cmp.Ordering.{Ordering, TheVariants.{Less, Equal, Greater}}
+use Rattle.std.specs.{Ordering.{nat_cmp, is_eq, ordering_then, eq_by_cmp}, Cmp.Lexicographic.slice_cmp, Cmp.IsTotalOrder, List.list_any, Map.lookup}
 use Rattle.std.specs.FinSet as set
-use Rattle.std.specs.List.{list_any}
-use Rattle.std.specs.Map.{lookup}
-use Rattle.std.proofs.lemmas.Bool.{cases_Bool}
-use Rattle.std.proofs.lemmas.List.Folds.{list_any-append}
-use Rattle.std.proofs.lemmas.Cmp.{then_total, on_total, nat_list_cmp_total}
-use Rattle.history_model.specs.Runs.{Series, same_series}
-use Rattle.history_model.specs.SeriesOrder.{series_cmp}
-use Rattle.publication_index.specs.declared.held.Held.{Held}
-use Rattle.publication_index.specs.Kept.{is_same, held_of, table_in, home}
-use Rattle.publication_index.specs.Homes.{of_test, held_series, homes}
+use Rattle.std.proofs.lemmas.{Bool.cases_Bool, List.Folds.list_any-append, Cmp.{then_total, on_total, nat_list_cmp_total}}
+use Rattle.history_model.specs.{Runs.{Series, same_series}, SeriesOrder.series_cmp}
+use Rattle.publication_index.specs.{declared.held.Held.Held, Kept.{is_same, held_of, table_in, home}, Homes.{of_test, held_series, homes}}
 
 pub series-total : IsTotalOrder series_cmp
 series-total = then_total (on_total (λ (s : Series). s.test) nat_list_cmp_total) (on_total (λ (s : Series). s.metric) nat_list_cmp_total)

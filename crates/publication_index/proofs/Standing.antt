@@ -1,11 +1,8 @@
 -- What a type says of the table that it keeps.
-use Rattle.std.proofs.Common.{◌≡◌, ℕ, ℤ, List, Option, Some, None, sym, ap, ap₂, subst, ◌∙◌}
-use Rattle.std.proofs.Math.Logic.{∥∥₁_elim}
+use Rattle.std.{proofs.Common.{◌≡◌, ℕ, ℤ, List, Option, Some, None, sym, ap, ap₂, subst, ◌∙◌}, proofs.Math.Logic.∥∥₁_elim, specs.Prelude.IfSome}
 use denote.Struct.Props.{props}
-use Rattle.std.specs.Prelude.{IfSome}
 use Rattle.segment_model.specs.Values.{values_by_position}
-use Rattle.pelt_core.specs.Done.{Done}
-use Rattle.pelt_core.specs.Seen.{Tabled, table_of}
+use Rattle.pelt_core.specs.{Done.Done, Seen.{Tabled, table_of}}
 use Rattle.publication_index.specs.Standing.{IsTableFor, IsKeptTable}
 
 -- a table of these positions, this penalty and this length

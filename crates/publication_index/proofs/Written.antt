@@ -1,17 +1,9 @@
 -- What one write to a map makes of what is held by name.
 use Rattle.std.proofs.Common.{◌≡◌, ℕ, Bool, true, false, cond, ◌&&◌, List, [], refl, sym, ap, ◌∙◌, Option, Some, inl, inr}
-use Rattle.std.specs.Prelude.{unwrap_or, bytes_eq}
-use Rattle.std.specs.BTreeMap.{BTreeMap, WritesThrough}
-use Rattle.std.specs.Cmp.Lexicographic.{slice_cmp}
-use Rattle.std.specs.Map.{lookup}
-use Rattle.std.specs.Ordering.{nat_cmp}
-use Rattle.std.proofs.lemmas.Bool.{cases_Bool}
-use Rattle.std.proofs.lemmas.Map.Text.{is_eq-slice_cmp}
-use Rattle.std.proofs.lemmas.Slice.Eq.{bytes_eq-Decides}
-use Rattle.history_model.proofs.Cases.{some-is}
-use Rattle.history_model.specs.Runs.{Series}
-use Rattle.publication_index.specs.declared.held.Held.{Held}
-use Rattle.publication_index.specs.Kept.{is_same, held_of, held}
+use Rattle.std.specs.{Prelude.{unwrap_or, bytes_eq}, BTreeMap.{BTreeMap, WritesThrough}, Cmp.Lexicographic.slice_cmp, Map.lookup, Ordering.nat_cmp}
+use Rattle.std.proofs.lemmas.{Bool.cases_Bool, Map.Text.is_eq-slice_cmp, Slice.Eq.bytes_eq-Decides}
+use Rattle.history_model.{proofs.Cases.some-is, specs.Runs.Series}
+use Rattle.publication_index.specs.{declared.held.Held.Held, Kept.{is_same, held_of, held}}
 
 abbrev pub Metrics : Type 0
 Metrics = List (List ℕ × Held)

@@ -1,8 +1,6 @@
 -- The setting that an index gives a metric: the last one that was set, else that of a metric for which none was.
-use Rattle.std.specs.Prelude.{ℕ, List, unwrap_or}
-use Rattle.std.specs.Map.{lookup}
-use Rattle.history_model.specs.declared.setting.Setting.{Setting}
-use Rattle.history_model.specs.Penalties.{default_setting}
+use Rattle.std.specs.{Prelude.{ℕ, List, unwrap_or}, Map.lookup}
+use Rattle.history_model.specs.{declared.setting.Setting.Setting, Penalties.default_setting}
 use Rattle.publication_index.specs.Kept.{is_same}
 
 abbrev pub given : List ℕ → List (List ℕ × Setting) → Setting

@@ -1,10 +1,8 @@
 -- The series whose tables are home, as a set.
 use Rattle.std.specs.Prelude.{ℕ, List, flat_map, map, is_some}
 use Rattle.std.specs.FinSet as set
-use Rattle.history_model.specs.Runs.{Series}
-use Rattle.history_model.specs.SeriesOrder.{series_cmp}
-use Rattle.publication_index.specs.declared.held.Held.{Held}
-use Rattle.publication_index.specs.Kept.{home}
+use Rattle.history_model.specs.{Runs.Series, SeriesOrder.series_cmp}
+use Rattle.publication_index.specs.{declared.held.Held.Held, Kept.home}
 
 -- the series of which something is held
 abbrev pub of_test : List ℕ × List (List ℕ × Held) → List Series

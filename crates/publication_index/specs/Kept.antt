@@ -1,11 +1,8 @@
 -- What an index keeps of a series: the last finished segmentation that was put in, with its table where that is home.
-use Rattle.std.specs.Prelude.{ℕ, Bool, if◌then◌else◌, List, [], unwrap_or, is_some, Option, Some, None}
-use Rattle.std.specs.Ordering.{nat_cmp, is_eq}
-use Rattle.std.specs.Cmp.Lexicographic.{slice_cmp}
-use Rattle.std.specs.Map.{lookup}
+use Rattle.std.specs.{Prelude.{ℕ, Bool, if◌then◌else◌, List, [], unwrap_or, is_some, Option, Some, None}, Ordering.{nat_cmp, is_eq}}
+use Rattle.std.specs.{Cmp.Lexicographic.slice_cmp, Map.lookup}
 use Rattle.history_model.specs.Runs.{Series}
-use Rattle.pelt_core.specs.Done.{Done}
-use Rattle.pelt_core.specs.Seen.{Tabled}
+use Rattle.pelt_core.specs.{Done.Done, Seen.Tabled}
 use Rattle.publication_index.specs.declared.held.Held.{Held}
 
 -- whether two names are equal, by their order

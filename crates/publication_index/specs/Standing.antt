@@ -1,8 +1,7 @@
 -- When a table that is kept is that of a finished segmentation.
 use Rattle.std.specs.Prelude.{◌≡◌, IfSome, Option, Some, None}
 use Rattle.segment_model.specs.Values.{values_by_position}
-use Rattle.pelt_core.specs.Done.{Done}
-use Rattle.pelt_core.specs.Seen.{Tabled, table_of}
+use Rattle.pelt_core.specs.{Done.Done, Seen.{Tabled, table_of}}
 
 -- the table of the segmentation's points, at its penalty and its least length
 abbrev pub table_for : Done → Tabled

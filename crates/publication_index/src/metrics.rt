@@ -1,7 +1,6 @@
 //! The finished segmentations of one test, by metric.
 ghost use Rattle.std.specs.Prelude.{◌≡◌, ℕ, List, [], bytes_eq, if◌then◌else◌, OnOk, OnErr, option_copied, Some, None, IfSome};
-ghost use Rattle.publication_index.specs.Kept.{done_in, held_of, table_in};
-ghost use Rattle.publication_index.specs.Standing.{IsKeptTable, table_for};
+ghost use Rattle.publication_index.specs.{Kept.{done_in, held_of, table_in}, Standing.{IsKeptTable, table_for}};
 
 use crate::NoMemory;
 use crate::held::Held;

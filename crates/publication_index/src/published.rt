@@ -2,9 +2,7 @@
 ghost use Rattle.std.specs.Prelude.{◌≡◌, [], if◌then◌else◌, OnOk, OnErr, option_copied, Some, IfSome};
 ghost use Rattle.std.specs.FinSet as set;
 ghost use Rattle.history_model.specs.Runs.{Series, same_series};
-ghost use Rattle.publication_index.specs.Homes.{homes};
-ghost use Rattle.publication_index.specs.Kept.{held, home, kept, kept_at_home, series_of};
-ghost use Rattle.publication_index.specs.Standing.{IsKeptTable, table_for};
+ghost use Rattle.publication_index.specs.{Homes.homes, Kept.{held, home, kept, kept_at_home, series_of}, Standing.{IsKeptTable, table_for}};
 
 use crate::NoMemory;
 use crate::held::Held;

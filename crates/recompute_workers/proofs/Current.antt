@@ -1,12 +1,8 @@
 -- Private: no public contract cites this. A series that isn't stale is current.
-use Rattle.std.proofs.Common.{◌≡◌, inl, inr, Bool, true, false, List, refl, sym, ap, ◌∙◌, Option, Some, None, ◌&&◌, ◌⊎◌}
-use Rattle.std.proofs.lemmas.Bool.{cases_lt, lt-ltb}
-use Rattle.history_model.specs.declared.entries.Entry.{Entry}
-use Rattle.history_model.specs.declared.publication.Publication.{Publication}
-use Rattle.history_model.specs.Publications.{last_publication}
+use Rattle.std.proofs.{Common.{◌≡◌, inl, inr, Bool, true, false, List, refl, sym, ap, ◌∙◌, Option, Some, None, ◌&&◌, ◌⊎◌}, lemmas.Bool.{cases_lt, lt-ltb}}
+use Rattle.history_model.specs.{declared.entries.Entry.Entry, declared.publication.Publication.Publication, Publications.last_publication}
 use Rattle.history_model.specs.Runs.{Series, is_known}
-use Rattle.touch_model.specs.Stale.{is_behind, is_stale}
-use Rattle.touch_model.specs.Touches.{last_touch}
+use Rattle.touch_model.specs.{Stale.{is_behind, is_stale}, Touches.last_touch}
 use Rattle.worker_model.specs.Quiet.{HasAllSteps, IsCurrent, WouldPassCuts}
 use Rattle.recompute_workers.specs.Quiet.{IsQuiet}
 

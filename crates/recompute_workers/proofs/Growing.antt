@@ -1,26 +1,14 @@
 -- What a publication more makes of what was added, of what is known, and of what is quiet.
-use Rattle.history_model.proofs.Chosen.{entries-push}
-use Rattle.std.proofs.Common.{◌≡◌, inl, inr, List, [], ◌∷◌, ◌++◌, sym, ap, subst, ◌∙◌, refl}
-use Rattle.std.specs.Prelude.{All}
-use Rattle.std.proofs.lemmas.List.{append_assoc}
+use Rattle.history_model.{proofs.Chosen.entries-push, specs.declared.entries.Author.Author, specs.declared.entries.Entry.Entry}
+use Rattle.std.{proofs.Common.{◌≡◌, inl, inr, List, [], ◌∷◌, ◌++◌, sym, ap, subst, ◌∙◌, refl}, specs.Prelude.All, proofs.lemmas.List.append_assoc}
 use Rattle.std.proofs.lemmas.List.Elements.{All-push}
-use Rattle.history_model.specs.declared.entries.Author.{Author}
-use Rattle.history_model.specs.declared.entries.Entry.{Entry}
-use Rattle.history_model.specs.declared.entries.Entry.TheVariants.{Publish}
-use Rattle.history_model.specs.declared.entries.Placed.{Placed}
-use Rattle.history_model.specs.declared.publication.Publication.{Publication}
-use Rattle.history_model.specs.Allowed.{Allowed, Legal}
-use Rattle.history_model.specs.Entries.{entries_of}
-use Rattle.history_model.specs.Laws.{AcceptancesGrow, CutsGrow, RetractionsGrow}
-use Rattle.history_model.specs.Penalties.{SettingStays}
+use Rattle.history_model.specs.declared.{entries.Entry.TheVariants.Publish, entries.Placed.Placed, publication.Publication.Publication}
+use Rattle.history_model.specs.{Allowed.{Allowed, Legal}, Entries.entries_of, Laws.{AcceptancesGrow, CutsGrow, RetractionsGrow}, Penalties.SettingStays}
 use Rattle.history_model.specs.Runs.{Series, is_known}
 use Rattle.touch_model.specs.Laws.{KnownGrows, LatestStays, TouchesGrow}
 use Rattle.track_model.specs.Tracks.{Track, with_entry}
-use Rattle.track_room.specs.Work.{bare}
-use Rattle.recompute_workers.specs.Quiet.{IsQuiet}
-use Rattle.recompute_workers.specs.Recomputing.{AddsOne, AddsPublications, IsPublicationBy}
-use Rattle.track_room.proofs.Handed.{last-allowed}
-use Rattle.recompute_workers.proofs.Quieting.{quiet-stays, same-known}
+use Rattle.track_room.{specs.Work.bare, proofs.Handed.last-allowed}
+use Rattle.recompute_workers.{specs.Quiet.IsQuiet, specs.Recomputing.{AddsOne, AddsPublications, IsPublicationBy}, proofs.Quieting.{quiet-stays, same-known}}
 
 pub adds-more : (author : Author) (a b c : Track) → AddsPublications author a b → AddsOne author b c → AddsPublications author a c
 adds-more author a b c adds (inl is) = record {

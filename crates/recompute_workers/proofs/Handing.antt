@@ -1,44 +1,23 @@
 -- A series is quiet once it was published, or refused by a limit.
 use Rattle.std.proofs.Common.{◌≡◌, ℕ, ◌+◌, ◌≤◌, ◌<◌, Bool, true, false, cond, ◌&&◌, List, [], ◌∷◌, ◌++◌, length, refl, sym, ap, subst, ◌∙◌, ◌⊎◌, inl, inr, Option, Some, None, arith}
-use Rattle.std.specs.Prelude.{bytes_eq, nat_lt}
-use Rattle.std.proofs.lemmas.Bool.{cases_Bool}
-use Rattle.std.proofs.lemmas.Bool.Decides.{nat_tests}
-use Rattle.std.proofs.lemmas.List.{length-append}
+use Rattle.std.{specs.Prelude.{bytes_eq, nat_lt}, proofs.lemmas.Bool.cases_Bool, proofs.lemmas.Bool.Decides.nat_tests, proofs.lemmas.List.length-append}
 use Rattle.std.proofs.lemmas.Slice.Eq.{bytes_eq-Decides}
-use Rattle.metric_table.specs.Limits.{most}
-use Rattle.metric_table.specs.declared.limits.Limit.{Limit}
+use Rattle.metric_table.specs.{Limits.most, declared.limits.Limit.Limit}
 use Rattle.metric_table.specs.declared.limits.Limit.TheVariants as limit
 use Rattle.segment_model.specs.Segments.{Position}
-use Rattle.segment_cost.specs.Certificate.{StandsFor}
-use Rattle.segment_cost.specs.declared.done.Done.{Done}
-use Rattle.history_model.specs.declared.entries.Author.{Author}
-use Rattle.history_model.specs.declared.entries.Entry.{Entry}
-use Rattle.history_model.specs.declared.entries.Entry.TheVariants.{Publish}
-use Rattle.history_model.specs.declared.publication.Publication.{Publication}
-use Rattle.history_model.specs.Allowed.{KeepsLimits, Legal, count_of, first_passed}
-use Rattle.history_model.specs.Entries.{entries_of}
-use Rattle.history_model.specs.Laws.{CutsGrow, LastStands, PublicationIsLast}
-use Rattle.history_model.specs.Penalties.{setting_of, penalty_of, length_of}
-use Rattle.history_model.specs.declared.setting.Setting.{Setting}
-use Rattle.track_model.proofs.Settings.{same-setting}
-use Rattle.history_model.specs.Positions.{positions}
-use Rattle.history_model.specs.Publications.{AreBest, cut_count, last_publication}
-use Rattle.history_model.specs.Runs.{Series, is_known}
+use Rattle.segment_cost.specs.{Certificate.StandsFor, declared.done.Done.Done}
+use Rattle.history_model.specs.declared.{entries.Author.Author, entries.Entry.Entry, entries.Entry.TheVariants.Publish, publication.Publication.Publication}
+use Rattle.history_model.specs.{Allowed.{KeepsLimits, Legal, count_of, first_passed}, Entries.entries_of, Laws.{CutsGrow, LastStands, PublicationIsLast}}
+use Rattle.history_model.specs.{Penalties.{setting_of, penalty_of, length_of}, declared.setting.Setting.Setting, Positions.positions}
+use Rattle.track_model.{proofs.Settings.same-setting, specs.Tracks.{Track, with_entry}}
+use Rattle.history_model.specs.{Publications.{AreBest, cut_count, last_publication}, Runs.{Series, is_known}}
 use Rattle.publication_index.specs.Kept.{series_of}
-use Rattle.touch_model.specs.Laws.{TouchesArePast, TouchesGrow}
-use Rattle.touch_model.specs.Stale.{is_behind}
-use Rattle.touch_model.specs.Touches.{last_touch}
-use Rattle.track_model.specs.Tracks.{Track, with_entry}
-use Rattle.track_room.specs.Publications.{IsAdded, IsPublished, IsTaken, later, passed}
-use Rattle.track_room.specs.Snapshots.{IsRedone, IsTakenAt}
-use Rattle.track_room.specs.Published.{Published}
+use Rattle.touch_model.specs.{Laws.{TouchesArePast, TouchesGrow}, Stale.is_behind, Touches.last_touch}
+use Rattle.track_room.specs.{Publications.{IsAdded, IsPublished, IsTaken, later, passed}, Snapshots.{IsRedone, IsTakenAt}, Published.Published, Redone.Redone}
 use Rattle.track_room.specs.Published.TheVariants as published
-use Rattle.track_room.specs.Redone.{Redone}
-use Rattle.track_room.specs.Snapshot.{Snapshot}
+use Rattle.track_room.specs.{Snapshot.Snapshot, Work.bare}
 use Rattle.machine_state.specs.Made.{entry_of, publication_from}
-use Rattle.track_room.specs.Work.{bare}
-use Rattle.recompute_workers.specs.Quiet.{IsQuiet}
-use Rattle.recompute_workers.specs.Recomputing.{AddsOne}
+use Rattle.recompute_workers.specs.{Quiet.IsQuiet, Recomputing.AddsOne}
 
 -- ---- what was told
 added-of : (l : Option Limit) (old : Track) (author : Author) (done : Done) (told : Published) (new : Track) → IsAdded l old author done told new

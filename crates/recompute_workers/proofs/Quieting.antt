@@ -1,23 +1,13 @@
 -- What is quiet stays so where a publication is added.
 use Rattle.std.proofs.Common.{◌≡◌, ℕ, ◌+◌, ◌≤◌, Bool, true, false, ◌&&◌, ◌||◌, List, [], ◌∷◌, ◌++◌, length, refl, sym, ap, ap₂, subst, ◌∙◌, inl, inr, arith}
-use Rattle.std.proofs.lemmas.Bool.{cases_Bool}
-use Rattle.std.proofs.lemmas.List.{append-nil, length-append}
+use Rattle.std.proofs.lemmas.{Bool.cases_Bool, List.{append-nil, length-append}}
 use Rattle.metric_table.specs.declared.limits.Limit.TheVariants as limit
 use Rattle.segment_model.specs.Segments.{Position}
-use Rattle.history_model.specs.declared.entries.Acceptance.{Acceptance}
-use Rattle.history_model.specs.declared.entries.Entry.{Entry}
-use Rattle.history_model.specs.declared.entries.Entry.TheVariants.{Publish}
-use Rattle.history_model.specs.declared.publication.Publication.{Publication}
-use Rattle.history_model.specs.Allowed.{Allowed}
-use Rattle.history_model.specs.Laws.{AcceptancesGrow, CutsGrow, RetractionsGrow}
-use Rattle.history_model.specs.Penalties.{SettingStays, penalty_of, length_of}
-use Rattle.history_model.specs.declared.setting.Setting.{Setting}
-use Rattle.history_model.specs.Positions.{brought, positions, positions_of}
-use Rattle.history_model.specs.Publications.{AreBest, last_publication}
-use Rattle.history_model.specs.Runs.{Retraction, Series, acceptances, is_known, live_of, retractions}
-use Rattle.touch_model.specs.Laws.{KnownGrows, LatestStays, TouchesGrow}
-use Rattle.touch_model.specs.Stale.{is_behind, is_stale}
-use Rattle.touch_model.specs.Touches.{last_touch}
+use Rattle.history_model.specs.declared.entries.{Acceptance.Acceptance, Entry.Entry, Entry.TheVariants.Publish}
+use Rattle.history_model.specs.{declared.publication.Publication.Publication, Allowed.Allowed, Laws.{AcceptancesGrow, CutsGrow, RetractionsGrow}}
+use Rattle.history_model.specs.{Penalties.{SettingStays, penalty_of, length_of}, declared.setting.Setting.Setting, Positions.{brought, positions, positions_of}}
+use Rattle.history_model.specs.{Publications.{AreBest, last_publication}, Runs.{Retraction, Series, acceptances, is_known, live_of, retractions}}
+use Rattle.touch_model.specs.{Laws.{KnownGrows, LatestStays, TouchesGrow}, Stale.{is_behind, is_stale}, Touches.last_touch}
 use Rattle.worker_model.specs.Quiet.{HasAllSteps, WouldPassCuts}
 use Rattle.recompute_workers.specs.Quiet.{IsQuiet}
 

@@ -1,27 +1,17 @@
 -- What a worker's pass has seen, call after call.
 use Rattle.std.proofs.Common.{◌≡◌, ◌⊎◌, inl, inr, ℕ, zero, suc, ◌+◌, List, [], ◌∷◌, ◌++◌, length, take, refl, sym, ap, subst, ◌∙◌, Option, Some, None, arith}
-use Rattle.std.specs.Prelude.{slice_get, slice_set}
-use Rattle.std.specs.List.{AllByRecursion, AllZip}
+use Rattle.std.specs.{Prelude.{slice_get, slice_set}, List.{AllByRecursion, AllZip}}
 use Rattle.std.proofs.lemmas.List.{append-nil, append_assoc, length-append, map-append}
 use Rattle.metric_table.specs.declared.limits.Limit.{Limit}
 use Rattle.segment_cost.specs.declared.done.Done.{Done}
-use Rattle.history_lock.specs.declared.view.Marked.{Marked}
-use Rattle.history_lock.specs.Marks.{AreByOthers, entries, marked}
-use Rattle.history_model.specs.declared.entries.Author.{Author}
-use Rattle.history_model.specs.declared.entries.Placed.{Placed}
-use Rattle.history_model.specs.Entries.{entries_of}
-use Rattle.history_model.specs.Publications.{last_publication}
+use Rattle.history_lock.specs.{declared.view.Marked.Marked, Marks.{AreByOthers, entries, marked}}
+use Rattle.history_model.specs.{declared.entries.Author.Author, declared.entries.Placed.Placed, Entries.entries_of, Publications.last_publication}
 use Rattle.publication_index.specs.Kept.{series_of}
 use Rattle.track_model.specs.Tracks.{Track, with_entry}
-use Rattle.track_room.specs.Work.{bare}
-use Rattle.track_room.specs.Asked.{ChangesAt}
-use Rattle.track_room.specs.Sights.{AddsOneAtMost, SeesMore, Sight, Visits, own_marks, seeing, track_of}
-use Rattle.track_room.specs.Taking.{Publishes}
-use Rattle.track_room.specs.Publications.{IsAdded, IsTaken, later, passed}
-use Rattle.track_room.specs.Published.{Published}
+use Rattle.track_room.specs.{Work.bare, Asked.ChangesAt, Sights.{AddsOneAtMost, SeesMore, Sight, Visits, own_marks, seeing, track_of}, Taking.Publishes}
+use Rattle.track_room.specs.{Publications.{IsAdded, IsTaken, later, passed}, Published.Published}
 use Rattle.machine_state.specs.Made.{entry_of, publication_from}
-use Rattle.recompute_workers.specs.Recomputing.{IsPublicationBy}
-use Rattle.recompute_workers.specs.Works.{IsByWorker, Works}
+use Rattle.recompute_workers.specs.{Recomputing.IsPublicationBy, Works.{IsByWorker, Works}}
 
 pub works-none : (author : Author) (s : Sight) → Works author s s
 works-none author s = ([], tt, ap (λ (log : List (Marked Placed)). seeing s log) (sym (append-nil s.seen)))

@@ -1,8 +1,7 @@
 -- No public contract cites this. Which series main may leave: one that isn't stale, or of which a publication has no
 -- room.
 use Rattle.std.specs.Prelude.{◌≡◌, ◌⊎◌, false, List}
-use Rattle.history_model.specs.declared.entries.Entry.{Entry}
-use Rattle.history_model.specs.Runs.{Series}
+use Rattle.history_model.specs.{declared.entries.Entry.Entry, Runs.Series}
 use Rattle.touch_model.specs.Stale.{is_stale}
 use Rattle.worker_model.specs.Quiet.{HasAllSteps, WouldPassCuts}
 

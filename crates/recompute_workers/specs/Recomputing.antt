@@ -1,9 +1,6 @@
 -- What a worker that recomputes adds to a machine.
 use Rattle.std.specs.Prelude.{◌≡◌, ◌⊎◌, List, ◌++◌, All}
-use Rattle.history_model.specs.declared.entries.Author.{Author}
-use Rattle.history_model.specs.declared.entries.Entry.TheVariants.{Publish}
-use Rattle.history_model.specs.declared.entries.Placed.{Placed}
-use Rattle.history_model.specs.declared.publication.Publication.{Publication}
+use Rattle.history_model.specs.declared.{entries.Author.Author, entries.Entry.TheVariants.Publish, entries.Placed.Placed, publication.Publication.Publication}
 use Rattle.track_model.specs.Tracks.{Track, with_entry}
 use Rattle.track_room.specs.Work.{bare}
 

@@ -1,7 +1,6 @@
 -- No public contract cites this. What publications leave as it is.
 use Rattle.std.specs.Prelude.{◌≡◌, List}
-use Rattle.history_model.specs.declared.entries.Entry.{Entry}
-use Rattle.history_model.specs.Runs.{Series, is_known}
+use Rattle.history_model.specs.{declared.entries.Entry.Entry, Runs.{Series, is_known}}
 
 -- the same series are known
 abbrev pub SameKnown : List Entry → List Entry → Type 0

@@ -1,10 +1,7 @@
 -- What the pass of a worker that recomputes has seen more of a machine: entries of others, and its own publications.
-use Rattle.std.specs.Prelude.{◌≡◌, ◌⊎◌, List, ◌++◌, Some}
-use Rattle.std.specs.List.{AllByRecursion}
-use Rattle.history_lock.specs.declared.view.Marked.{Marked}
-use Rattle.history_lock.specs.Marks.{IsOtherMark}
-use Rattle.history_model.specs.declared.entries.Author.{Author}
-use Rattle.history_model.specs.declared.entries.Placed.{Placed}
+use Rattle.std.specs.{Prelude.{◌≡◌, ◌⊎◌, List, ◌++◌, Some}, List.AllByRecursion}
+use Rattle.history_lock.specs.{declared.view.Marked.Marked, Marks.IsOtherMark}
+use Rattle.history_model.specs.declared.entries.{Author.Author, Placed.Placed}
 use Rattle.recompute_workers.specs.Recomputing.{IsPublicationBy}
 use Rattle.track_room.specs.Sights.{Sight, own_marks, seeing}
 

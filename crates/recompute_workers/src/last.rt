@@ -2,8 +2,7 @@
 ghost use Rattle.std.specs.Prelude.{OnOk};
 ghost use Rattle.history_model.specs.declared.entries.Author.TheVariants as author;
 ghost use Rattle.worker_model.specs.Quiet.{SeriesAreQuiet};
-ghost use Rattle.recompute_workers.specs.Quiet.{IsQuiet};
-ghost use Rattle.recompute_workers.specs.Recomputing.{AddsOne, AddsPublications};
+ghost use Rattle.recompute_workers.specs.{Quiet.IsQuiet, Recomputing.{AddsOne, AddsPublications}};
 ghost use Rattle.track_room.specs.Work.{IsUntaken, history_of};
 
 use crate::NoMemory;

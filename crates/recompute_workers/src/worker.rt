@@ -1,8 +1,7 @@
 //! A worker that recomputes beside running scripts.
 ghost use Rattle.std.specs.List.{AllZip};
 ghost use Rattle.history_model.specs.declared.entries.Author.TheVariants as author;
-ghost use Rattle.track_room.specs.Rooms.{IsPassOf};
-ghost use Rattle.track_room.specs.Taking.{IsTaken, OfSeen};
+ghost use Rattle.track_room.specs.{Rooms.IsPassOf, Taking.{IsTaken, OfSeen}};
 ghost use Rattle.recompute_workers.specs.Works.{Works};
 
 use crate::NoMemory;

@@ -1,7 +1,6 @@
 -- The states of a regression, their words, and the table of moves between them.
 use Rattle.std.specs.Prelude.{ℕ, Bool, true, false, List, codes}
-use Rattle.regression_state.specs.declared.states.State.{State}
-use Rattle.regression_state.specs.declared.states.State.TheVariants.{Detected, Staged, Active, NotToBeFixed, Ignored, Verify, Fixed}
+use Rattle.regression_state.specs.declared.states.State.{State, TheVariants.{Detected, Staged, Active, NotToBeFixed, Ignored, Verify, Fixed}}
 
 -- whether a regression may move from one state to another: the table of moves, from each state to the states named
 abbrev pub is_move : State → State → Bool

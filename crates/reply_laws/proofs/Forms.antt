@@ -1,39 +1,27 @@
 -- Private: no public contract cites this. What each form comes to adds an entry exactly where its form and answer say so.
 use Rattle.std.proofs.Common.{◌≡◌, inl, inr, ℕ, ℤ, pos, ◌*◌, ◌+◌, Bool, true, false, not, List, [], ◌∷◌, length, Option, Some, None, refl, sym, subst}
-use Rattle.std.specs.Prelude.{codes, is_none, nat_lt, max, find, option_map, bytes_eq, unwrap_or, ◌==◌}
-use Rattle.std.proofs.lemmas.Bool.{cases_Bool}
+use Rattle.std.{specs.Prelude.{codes, is_none, nat_lt, max, find, option_map, bytes_eq, unwrap_or, ◌==◌}, proofs.lemmas.Bool.cases_Bool}
 use Rattle.metric_table.specs.declared.limits.Limit.TheVariants.{Commits, Cuts, Jobs, Steps}
 use Rattle.sample_model.specs.Samples.{Measurement}
 use Rattle.bisect_core.specs.Bisections.{is_open, asked_by}
-use Rattle.regression_state.specs.declared.states.State.{State}
-use Rattle.regression_state.specs.Moves.{is_move}
-use Rattle.history_model.specs.declared.entries.Acceptance.{Acceptance}
-use Rattle.history_model.specs.declared.entries.Declaration.{Declaration}
-use Rattle.history_model.specs.declared.entries.Entry.{Entry}
+use Rattle.regression_state.specs.{declared.states.State.State, Moves.is_move}
+use Rattle.history_model.specs.declared.entries.{Acceptance.Acceptance, Declaration.Declaration, Entry.Entry}
 use Rattle.history_model.specs.declared.entries.Entry.TheVariants as entry
 use Rattle.history_model.specs.declared.events.JobEvent.TheVariants as event
 use Rattle.history_model.specs.declared.events.RegressionEvent.TheVariants as change
-use Rattle.history_model.specs.declared.publication.Publication.{Publication}
-use Rattle.history_model.specs.declared.run.Run.{Run}
-use Rattle.history_model.specs.Allowed.{run_limits}
-use Rattle.history_model.specs.Commits.{declarations, has_number, has_name, number_of}
-use Rattle.history_model.specs.Penalties.{length_of}
-use Rattle.history_model.specs.Positions.{positions}
-use Rattle.history_model.specs.Publications.{last_publication}
-use Rattle.history_model.specs.Regressions.{regressions, state_of, is_number}
+use Rattle.history_model.specs.{declared.publication.Publication.Publication, declared.run.Run.Run, Allowed.run_limits}
+use Rattle.history_model.specs.{Commits.{declarations, has_number, has_name, number_of}, Penalties.length_of, Positions.positions}
+use Rattle.history_model.specs.{Publications.last_publication, Regressions.{regressions, state_of, is_number}}
 use Rattle.history_model.specs.Runs.{Retraction, Series, accepted, is_known, retracted, same_run}
-use Rattle.request_model.specs.declared.requests.Request.{Request}
+use Rattle.request_model.specs.declared.{requests.Request.Request, replies.Answer.Answer, replies.Refusal.Refusal}
 use Rattle.request_model.specs.declared.requests.Request.TheVariants as request
-use Rattle.request_model.specs.declared.replies.Answer.{Answer}
 use Rattle.request_model.specs.declared.replies.Answer.TheVariants as answer
-use Rattle.request_model.specs.declared.replies.Refusal.{Refusal}
 use Rattle.request_model.specs.declared.replies.Refusal.TheVariants as refusal
 use Rattle.track_model.specs.Following as following
 use Rattle.track_model.specs.Forms as forms
 use Rattle.track_model.specs.Outcomes.{Outcome, tells, refuses, refusal_if, first, unless}
 use Rattle.track_model.specs.Publishing.{OfKnown, OfPublished, OfLatest, OfFactor, OfMany, IsPublishedFrom, IsCalibrated, TellsChanges, TellsCertificate, later, publication, publish, redone_since, segmented, is_factor}
-use Rattle.reply_laws.specs.Kinds.{adds_none, tells_none}
-use Rattle.reply_laws.specs.Laws.{KindsAreTold}
+use Rattle.reply_laws.specs.{Kinds.{adds_none, tells_none}, Laws.KindsAreTold}
 use Rattle.reply_laws.proofs.Plain.{Plain, AreTold, told-first, told-if, told-map, plain-unless, plain-within, told-begun, told-said, plain-job}
 
 -- ---- relations between an outcome and what it comes from

@@ -1,13 +1,10 @@
 -- Private: no public contract cites this. The text of a reply by its step and the first byte of its answer.
 use Rattle.std.proofs.Common.{◌≡◌, ℕ, List, [], ◌∷◌, ◌++◌, decimal, refl, ap, ◌∙◌, append_assoc}
-use Rattle.request_model.specs.Lines.{line_of, spaced}
-use Rattle.request_model.specs.declared.replies.Answer.{Answer}
+use Rattle.request_model.specs.{Lines.{line_of, spaced}, declared.replies.Answer.Answer, declared.replies.Refusal.Refusal}
 use Rattle.request_model.specs.declared.replies.Answer.TheVariants as answer
-use Rattle.request_model.specs.declared.replies.Refusal.{Refusal}
 use Rattle.request_model.specs.declared.replies.Refusal.TheVariants as refusal
 use Rattle.reply_text.specs.Replies.{at, answer_words, refusal_words, text_behind}
-use Rattle.reply_laws.specs.Kinds.{Names, tells_none, tells_by_letter}
-use Rattle.reply_laws.specs.Laws.{RepliesAreNamed}
+use Rattle.reply_laws.specs.{Kinds.{Names, tells_none, tells_by_letter}, Laws.RepliesAreNamed}
 
 -- words, the first of which begins with this byte
 record Begins (words : List (List ℕ)) (letter : ℕ) : Type 0 where

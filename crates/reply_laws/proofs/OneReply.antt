@@ -1,32 +1,18 @@
 -- Private: no public contract cites this. One reply at most names a step of a journal.
 use Rattle.std.proofs.Common.{◌≡◌, ℕ, ◌+◌, ◌≤◌, Bool, true, false, List, [], ◌∷◌, length, take, Option, Some, None, refl, sym, ap, subst, ◌∙◌, arith}
-use Rattle.std.specs.Prelude.{slice_get}
-use Rattle.std.proofs.lemmas.List.{length-take-le, length-map}
-use Rattle.segment_cost.specs.Certificate.{OneCertificate, StandsFor}
-use Rattle.segment_cost.specs.declared.cert.Cert.{Cert}
-use Rattle.metric_table.specs.declared.limits.Limit.{Limit}
-use Rattle.metric_table.specs.declared.limits.Limit.TheVariants.{Cuts, Steps}
-use Rattle.history_model.specs.declared.entries.Author.{Author}
-use Rattle.history_model.specs.declared.entries.Entry.{Entry}
+use Rattle.std.{specs.Prelude.slice_get, proofs.lemmas.List.{length-take-le, length-map}}
+use Rattle.segment_cost.specs.{Certificate.{OneCertificate, StandsFor}, declared.cert.Cert.Cert}
+use Rattle.metric_table.specs.declared.limits.Limit.{Limit, TheVariants.{Cuts, Steps}}
+use Rattle.history_model.specs.declared.{entries.Author.Author, entries.Entry.Entry, entries.Placed.Placed, publication.Publication.Publication}
 use Rattle.history_model.specs.declared.entries.Entry.TheVariants as entry
-use Rattle.history_model.specs.declared.entries.Placed.{Placed}
-use Rattle.history_model.specs.declared.publication.Publication.{Publication}
-use Rattle.history_model.specs.Allowed.{first_passed}
-use Rattle.history_model.specs.Penalties.{penalty_of, length_of}
-use Rattle.history_model.specs.Positions.{positions}
-use Rattle.history_model.specs.Publications.{last_publication}
+use Rattle.history_model.specs.{Allowed.first_passed, Penalties.{penalty_of, length_of}, Positions.positions, Publications.last_publication}
 use Rattle.history_model.specs.Runs.{Series, is_known}
-use Rattle.request_model.specs.declared.requests.Request.{Request}
+use Rattle.request_model.specs.declared.{requests.Request.Request, replies.Answer.Answer}
 use Rattle.request_model.specs.declared.requests.Request.TheVariants as request
-use Rattle.request_model.specs.declared.replies.Answer.{Answer}
 use Rattle.request_model.specs.declared.replies.Refusal.TheVariants as refusal
-use Rattle.track_model.specs.Counts.{is_segment}
-use Rattle.track_model.specs.Laws.{OneOutcome}
-use Rattle.track_model.specs.Outcomes.{Outcome, refuses, added_unless}
-use Rattle.track_model.specs.Publishing.{OfKnown, OfLatest, IsPublishedFrom, later, publication, publish, redone_since, segmented}
-use Rattle.track_model.specs.Replies.{reply_of}
-use Rattle.play_model.specs.Replies.{first_of, ComesToBeside, Adds, Tells}
-use Rattle.play_model.proofs.Replies.{added-step, told-step}
+use Rattle.track_model.specs.{Counts.is_segment, Laws.OneOutcome, Outcomes.{Outcome, refuses, added_unless}}
+use Rattle.track_model.specs.{Publishing.{OfKnown, OfLatest, IsPublishedFrom, later, publication, publish, redone_since, segmented}, Replies.reply_of}
+use Rattle.play_model.{specs.Replies.{first_of, ComesToBeside, Adds, Tells}, proofs.Replies.{added-step, told-step}}
 use Rattle.reply_laws.specs.Laws.{OneAdds, OneTells, PlainBeside}
 
 -- ---- requests that segment nothing

@@ -1,21 +1,14 @@
 -- Private: no public contract cites this. Outcomes that add an entry exactly where their answer says so.
 use Rattle.std.proofs.Common.{◌≡◌, ℕ, zero, suc, ◌+◌, ◌<◌, ◌⊎◌, inl, inr, Bool, true, false, List, [], ◌∷◌, ◌++◌, length, Option, Some, None, refl, sym, ap, subst, ◌∙◌, arith, length-append}
-use Rattle.std.specs.Prelude.{is_none, slice_get, option_map}
-use Rattle.std.proofs.lemmas.Option.{slice_get_within}
+use Rattle.std.{specs.Prelude.{is_none, slice_get, option_map}, proofs.lemmas.Option.slice_get_within}
 use Rattle.metric_table.specs.declared.limits.Limit.{Limit}
 use Rattle.bisect_core.specs.Bisections.{Bisection}
-use Rattle.history_model.specs.declared.entries.Entry.{Entry}
+use Rattle.history_model.specs.{declared.entries.Entry.Entry, declared.events.JobEvent.JobEvent, Allowed.first_passed}
 use Rattle.history_model.specs.declared.entries.Entry.TheVariants as entry
-use Rattle.history_model.specs.declared.events.JobEvent.{JobEvent}
 use Rattle.history_model.specs.declared.events.JobEvent.TheVariants as event
-use Rattle.history_model.specs.Allowed.{first_passed}
-use Rattle.history_model.specs.Jobs.{Begun, begun, begins, standing_from, jobs, job_in}
-use Rattle.history_model.proofs.Chosen.{chosen-push, chosen-skip}
-use Rattle.request_model.specs.declared.replies.Answer.{Answer}
-use Rattle.request_model.specs.declared.replies.Refusal.{Refusal}
-use Rattle.request_model.specs.declared.replies.Refusal.TheVariants.{UnknownJob}
-use Rattle.track_model.specs.Following.{job_answer, told_if, of_job}
-use Rattle.track_model.specs.Outcomes.{Outcome, tells, refuses, refusal_if, first, unless, added_unless, adds_within}
+use Rattle.history_model.{specs.Jobs.{Begun, begun, begins, standing_from, jobs, job_in}, proofs.Chosen.{chosen-push, chosen-skip}}
+use Rattle.request_model.specs.declared.replies.{Answer.Answer, Refusal.Refusal, Refusal.TheVariants.UnknownJob}
+use Rattle.track_model.specs.{Following.{job_answer, told_if, of_job}, Outcomes.{Outcome, tells, refuses, refusal_if, first, unless, added_unless, adds_within}}
 use Rattle.reply_laws.specs.Kinds.{tells_none}
 
 abbrev pub Plain : Outcome → Type 0

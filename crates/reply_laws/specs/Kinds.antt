@@ -1,8 +1,7 @@
 -- Whether a request added an entry, by its form and by its answer, and where the text of a reply tells it.
 use Rattle.std.specs.Prelude.{◌≡◌, ℕ, Bool, true, false, ◌||◌, ◌==◌, List, ◌∷◌, ◌++◌, decimal}
-use Rattle.request_model.specs.declared.requests.Request.{Request}
+use Rattle.request_model.specs.declared.{requests.Request.Request, replies.Answer.Answer}
 use Rattle.request_model.specs.declared.requests.Request.TheVariants as request
-use Rattle.request_model.specs.declared.replies.Answer.{Answer}
 use Rattle.request_model.specs.declared.replies.Answer.TheVariants as answer
 
 -- the request adds nothing, whatever its answer

@@ -1,14 +1,9 @@
 -- What holds of all replies beside others.
 use Rattle.std.specs.Prelude.{◌≡◌, ℕ, false, is_none, List}
-use Rattle.history_model.specs.declared.entries.Author.{Author}
-use Rattle.history_model.specs.declared.entries.Entry.{Entry}
-use Rattle.history_model.specs.declared.entries.Placed.{Placed}
-use Rattle.request_model.specs.declared.requests.Request.{Request}
-use Rattle.request_model.specs.declared.replies.Reply.{Reply}
+use Rattle.history_model.specs.declared.entries.{Author.Author, Entry.Entry, Placed.Placed}
+use Rattle.request_model.specs.declared.{requests.Request.Request, replies.Reply.Reply}
 use Rattle.reply_text.specs.Replies.{text_of}
-use Rattle.track_model.specs.Counts.{is_segment}
-use Rattle.track_model.specs.Outcomes.{Outcome}
-use Rattle.track_model.specs.Tracks.{ComesTo}
+use Rattle.track_model.specs.{Counts.is_segment, Outcomes.Outcome, Tracks.ComesTo}
 use Rattle.play_model.specs.Replies.{ComesToBeside, Adds, Tells, stands_alone}
 use Rattle.reply_laws.specs.Kinds.{adds_none, tells_none, tells_by_letter, Names}
 

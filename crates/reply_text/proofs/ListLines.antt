@@ -1,8 +1,6 @@
 -- The lines of a list, one after another.
 use Rattle.std.proofs.Common.{◌≡◌, ℕ, ◌+◌, ◌<◌, ◌≤◌, List, [], ◌∷◌, ◌++◌, map, length, get_or, take, sym, ap, ◌∙◌, append_assoc, append-nil}
-use Rattle.std.specs.List.{flat_map}
-use Rattle.std.proofs.lemmas.List.{map-append, take_more, take_all}
-use Rattle.std.proofs.lemmas.Grind.{flat_map-append}
+use Rattle.std.{specs.List.flat_map, proofs.lemmas.List.{map-append, take_more, take_all}, proofs.lemmas.Grind.flat_map-append}
 use Rattle.request_model.specs.Lines.{line_of}
 
 abbrev pub lines : {A : Type 0} → (A → List (List ℕ)) → List A → List ℕ

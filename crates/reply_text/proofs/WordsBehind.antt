@@ -1,6 +1,5 @@
 -- Words behind words, and what begins with them.
-use Rattle.std.proofs.Common.{◌≡◌, ℕ, List, [], ◌∷◌, ◌++◌, Result, sym, ap, ◌∙◌, append_assoc, append-nil}
-use Rattle.std.proofs.lemmas.Grind.{flat_map-append}
+use Rattle.std.proofs.{Common.{◌≡◌, ℕ, List, [], ◌∷◌, ◌++◌, Result, sym, ap, ◌∙◌, append_assoc, append-nil}, lemmas.Grind.flat_map-append}
 use Rattle.std.proofs.lemmas.Result.{MatchResult-weaker}
 use Rattle.request_model.specs.Lines.{spaced}
 use Rattle.reply_text.specs.Puts.{Begins, Puts}

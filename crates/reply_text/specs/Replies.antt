@@ -1,26 +1,17 @@
 -- The text of a reply: lines of words.
-use Rattle.std.specs.Prelude.{nat_lt, ℕ, ◌+◌, List, [], ◌∷◌, ◌++◌, length, map, decimal, codes, if◌then◌else◌}
-use Rattle.std.specs.Fmt.{signed_decimal}
-use Rattle.std.specs.List.{flat_map}
+use Rattle.std.specs.{Prelude.{nat_lt, ℕ, ◌+◌, List, [], ◌∷◌, ◌++◌, length, map, decimal, codes, if◌then◌else◌}, Fmt.signed_decimal, List.flat_map}
 use Rattle.line_text.specs.Names.{spelling}
 use Rattle.metric_table.specs.Limits.{word}
 use Rattle.metric_value.specs.Values.{value_text}
 use Rattle.cost_certificate.specs.Text as certificate
 use Rattle.regression_state.specs.Moves as state
-use Rattle.report_model.specs.Outcomes.{outcome_text}
-use Rattle.report_model.specs.declared.pages.Pages.{Pages}
-use Rattle.report_pages.specs.Text.{pages_text}
-use Rattle.report_pages.specs.Json.{pages_json}
-use Rattle.request_model.specs.Lines.{line_of}
-use Rattle.request_model.specs.declared.changes.NamedChange.{NamedChange}
-use Rattle.request_model.specs.declared.replies.Answer.{Answer}
+use Rattle.report_model.specs.{Outcomes.outcome_text, declared.pages.Pages.Pages}
+use Rattle.report_pages.specs.{Text.pages_text, Json.pages_json}
+use Rattle.request_model.specs.{Lines.line_of, declared.changes.NamedChange.NamedChange, declared.replies.Answer.Answer, declared.replies.RangePlace.RangePlace}
 use Rattle.request_model.specs.declared.replies.Answer.TheVariants as answer
-use Rattle.request_model.specs.declared.replies.RangePlace.{RangePlace}
 use Rattle.request_model.specs.declared.replies.RangePlace.TheVariants as place
-use Rattle.request_model.specs.declared.replies.Refusal.{Refusal}
+use Rattle.request_model.specs.declared.{replies.Refusal.Refusal, replies.Reply.Reply, runs.RunLine.RunLine}
 use Rattle.request_model.specs.declared.replies.Refusal.TheVariants as refusal
-use Rattle.request_model.specs.declared.replies.Reply.{Reply}
-use Rattle.request_model.specs.declared.runs.RunLine.{RunLine}
 
 -- a word that names a step
 abbrev pub at : ℕ → List ℕ

@@ -1,6 +1,5 @@
 //! The words of an answer, and the lines of a list.
-ghost use Rattle.std.specs.Prelude.{◌≡◌, ◌+◌, ◌<◌, ◌^◌, ◌∷◌, [], length, nat_lt, if◌then◌else◌, codes, decimal};
-ghost use Rattle.std.specs.Fmt.{signed_decimal};
+ghost use Rattle.std.specs.{Prelude.{◌≡◌, ◌+◌, ◌<◌, ◌^◌, ◌∷◌, [], length, nat_lt, if◌then◌else◌, codes, decimal}, Fmt.signed_decimal};
 ghost use Rattle.line_text.specs.Names.{spelling};
 ghost use Rattle.request_model.specs.Lines.{spaced, line_of};
 ghost use Rattle.reply_text.specs.Replies.{answer_words, change_words, length_words, lines_in, listed_words, run_words, version_words};

@@ -1,6 +1,5 @@
 //! A reply, written.
-ghost use Rattle.std.specs.Prelude.{◌≡◌, ◌++◌, map, OnOk, OnErr};
-ghost use Rattle.std.specs.List.{flat_map};
+ghost use Rattle.std.specs.{Prelude.{◌≡◌, ◌++◌, map, OnOk, OnErr}, List.flat_map};
 ghost use Rattle.request_model.specs.Lines.{line_of};
 ghost use Rattle.reply_text.specs.Replies.{text_behind, change_words, report_text, run_words, text_of};
 ghost use Rattle.cost_certificate.specs.Text as certificate;

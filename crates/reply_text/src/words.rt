@@ -1,13 +1,11 @@
 //! Words of a line, each behind a space.
-ghost use Rattle.std.specs.Prelude.{◌∷◌, [], decimal};
-ghost use Rattle.std.specs.Fmt.{signed_decimal};
+ghost use Rattle.std.specs.{Prelude.{◌∷◌, [], decimal}, Fmt.signed_decimal};
 ghost use Rattle.line_text.specs.Names.{spelling};
 ghost use Rattle.metric_value.specs.Values.{value_text};
 ghost use Rattle.request_model.specs.Lines.{spaced};
 ghost use Rattle.regression_state.specs.Moves as state;
 ghost use Rattle.report_model.specs.Outcomes.{outcome_text};
-ghost use Rattle.reply_text.specs.Replies.{at};
-ghost use Rattle.reply_text.specs.Puts.{Puts};
+ghost use Rattle.reply_text.specs.{Replies.at, Puts.Puts};
 
 use crate::NoMemory;
 use line_text::{Name, put_escaped, put_i128, put_name, put_u64};

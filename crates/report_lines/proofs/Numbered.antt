@@ -1,8 +1,6 @@
 -- Items with their numbers.
-use Rattle.std.proofs.Common.{◌≡◌, ℕ, suc, ◌+◌, ◌<◌, List, [], ◌∷◌, ◌++◌, length, take, Option, Some, ap, sym, ◌∙◌, arith}
-use Rattle.std.specs.Prelude.{slice_get}
-use Rattle.std.proofs.lemmas.List.{take_more, length-take-le}
-use Rattle.std.proofs.lemmas.Option.{slice_get_within, get_or_from_slice_get}
+use Rattle.std.{proofs.Common.{◌≡◌, ℕ, suc, ◌+◌, ◌<◌, List, [], ◌∷◌, ◌++◌, length, take, Option, Some, ap, sym, ◌∙◌, arith}, specs.Prelude.slice_get}
+use Rattle.std.proofs.lemmas.{List.{take_more, length-take-le}, Option.{slice_get_within, get_or_from_slice_get}}
 use Rattle.track_model.specs.Reports.{numbered}
 
 -- one item more takes the number behind the others

@@ -3,8 +3,7 @@ use Rattle.std.proofs.Common.{◌≡◌, length, ap, ◌∙◌}
 use Rattle.segment_model.specs.Segments.{values_of}
 use Rattle.history_model.specs.Runs.{Series}
 use Rattle.report_model.specs.declared.items.SeriesLine.{SeriesLine}
-use Rattle.series_index.specs.Seen.{seen}
-use Rattle.series_index.specs.declared.tracked.Tracked.{Tracked}
+use Rattle.series_index.specs.{Seen.seen, declared.tracked.Tracked.Tracked}
 use Rattle.track_model.specs.Reports.{series_in}
 use Rattle.report_lines.specs.SeriesLines.{Tests, Segmentations, IsLine}
 

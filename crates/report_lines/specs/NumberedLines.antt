@@ -1,14 +1,9 @@
 -- What a report says of regressions and bisections, their commits by the names that are declared.
 use Rattle.std.specs.Prelude.{ℕ, List, [], unwrap_or, IsSome}
-use Rattle.bisect_core.specs.Bisections.{Bisection}
-use Rattle.bisect_core.specs.declared.outcome.Outcome.{Outcome}
-use Rattle.bisect_core.specs.declared.outcome.Outcome.TheVariants.{Asks, Found, Undecided, Faulted}
+use Rattle.bisect_core.specs.{Bisections.Bisection, declared.outcome.Outcome.Outcome, declared.outcome.Outcome.TheVariants.{Asks, Found, Undecided, Faulted}}
 use Rattle.follow_index.specs.declared.regressions.Followed.{Followed}
-use Rattle.history_model.specs.Commits.{name_in}
-use Rattle.history_model.specs.declared.entries.Declaration.{Declaration}
-use Rattle.report_model.specs.declared.items.JobLine.{JobLine}
-use Rattle.report_model.specs.declared.items.RegressionLine.{RegressionLine}
-use Rattle.report_model.specs.declared.told.Told.{Told}
+use Rattle.history_model.specs.{Commits.name_in, declared.entries.Declaration.Declaration}
+use Rattle.report_model.specs.declared.{items.JobLine.JobLine, items.RegressionLine.RegressionLine, told.Told.Told}
 use Rattle.report_model.specs.declared.told.Told.TheVariants as told
 use Rattle.track_model.specs.Following.{asked_commit}
 

@@ -3,12 +3,9 @@ use Rattle.std.specs.Prelude.{◌≡◌, ℕ, ℤ, List, length, map, All, Optio
 use Rattle.segment_model.specs.Segments.{values_of}
 use Rattle.segment_cost.specs.declared.done.Done.{Done}
 use Rattle.change_list.specs.Last.{IsLastCentre}
-use Rattle.publication_index.specs.declared.held.Held.{Held}
-use Rattle.publication_index.specs.Kept.{kept}
+use Rattle.publication_index.specs.{declared.held.Held.Held, Kept.kept}
 use Rattle.report_model.specs.declared.items.SeriesLine.{SeriesLine}
-use Rattle.series_index.specs.Known.{AreKnown}
-use Rattle.series_index.specs.Seen.{seen}
-use Rattle.series_index.specs.declared.tracked.Tracked.{Tracked}
+use Rattle.series_index.specs.{Known.AreKnown, Seen.seen, declared.tracked.Tracked.Tracked}
 use Rattle.track_model.specs.Reports.{series_in}
 
 -- the series as an index keeps them, and the last finished segmentation of each

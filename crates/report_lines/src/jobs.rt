@@ -1,8 +1,7 @@
 //! The lines of bisections, and what is told of one.
 ghost use Rattle.std.specs.Prelude.{◌≡◌, All, IfOk, IsSome, IsTrue, unwrap_or};
 ghost use Rattle.bisect_core.specs.Bisections.{is_open};
-ghost use Rattle.track_model.specs.Following.{asked_commit};
-ghost use Rattle.track_model.specs.Reports.{numbered};
+ghost use Rattle.track_model.specs.{Following.asked_commit, Reports.numbered};
 ghost use Rattle.report_lines.specs.NumberedLines.{told_in, told_line, HasNames};
 
 use crate::NoMemory;

@@ -1,8 +1,7 @@
 -- The text of where a bisection stands.
 use Rattle.std.specs.Prelude.{ℕ, List, ◌++◌, codes, decimal}
 use Rattle.line_text.specs.Names.{spelling}
-use Rattle.report_model.specs.declared.told.Told.{Told}
-use Rattle.report_model.specs.declared.told.Told.TheVariants.{Asks, Found, Undecided, Faulted}
+use Rattle.report_model.specs.declared.told.Told.{Told, TheVariants.{Asks, Found, Undecided, Faulted}}
 
 -- a word and what it is of, each name in its canonical spelling
 abbrev pub outcome_text : Told → List ℕ

@@ -1,6 +1,5 @@
 -- Texts that are appended one after another.
-use Rattle.std.proofs.Common.{◌≡◌, ℕ, ◌+◌, ◌<◌, List, [], ◌∷◌, ◌++◌, length, get_or, take, sym, ap, ◌∙◌, append_assoc}
-use Rattle.std.specs.Prelude.{flat_map}
+use Rattle.std.{proofs.Common.{◌≡◌, ℕ, ◌+◌, ◌<◌, List, [], ◌∷◌, ◌++◌, length, get_or, take, sym, ap, ◌∙◌, append_assoc}, specs.Prelude.flat_map}
 use Rattle.std.proofs.lemmas.List.{flat_map_more, take_more}
 
 -- the pieces of a line of a series

@@ -1,9 +1,7 @@
 -- No item of a report has a float.
 use Rattle.std.proofs.Common.{◌≡◌, ℕ, ℤ, false, List, Option, Some, None, refl}
 use Rattle.serde_json.specs.Written.{has_float}
-use Rattle.report_model.specs.declared.items.SeriesLine.{SeriesLine}
-use Rattle.report_model.specs.declared.items.RegressionLine.{RegressionLine}
-use Rattle.report_model.specs.declared.items.JobLine.{JobLine}
+use Rattle.report_model.specs.declared.items.{SeriesLine.SeriesLine, RegressionLine.RegressionLine, JobLine.JobLine}
 use Rattle.report_pages.specs.Json.{count_or_null, centre_or_null, series_data, regression_data, job_data}
 
 count_without : (n : Option ℕ) → has_float (count_or_null n) ≡ false

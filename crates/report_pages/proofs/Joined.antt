@@ -1,15 +1,11 @@
 -- The text of a list whose items are appended one after another, and of the members round lists.
 use Rattle.std.proofs.Common.{◌≡◌, ℕ, Bool, true, ◌+◌, ◌<◌, ◌≤◌, List, [], ◌∷◌, ◌++◌, map, drop, length, get_or, refl, sym, ap, ◌∙◌, append_assoc}
-use Rattle.std.specs.Prelude.{codes, decimal}
-use Rattle.std.proofs.lemmas.List.{at_drop_more, at_drop_all}
+use Rattle.std.{specs.Prelude.{codes, decimal}, proofs.lemmas.List.{at_drop_more, at_drop_all}}
 use Rattle.json.specs.Print.{quoted}
-use Rattle.serde_json.specs.Data.{Data, array}
-use Rattle.serde_json.specs.View.{items_of}
-use Rattle.serde_json.specs.Written.{comma_if, compact_text, items_text}
+use Rattle.serde_json.specs.{Data.{Data, array}, View.items_of, Written.{comma_if, compact_text, items_text}}
 use Rattle.serde_json.proofs.OnLiterals.{serde_json_on_literals}
 use Rattle.report_model.specs.declared.pages.Pages.{Pages}
-use Rattle.report_pages.specs.Json.{job_data, regression_data, series_data, pages_json}
-use Rattle.report_pages.specs.Lists.{lists_text}
+use Rattle.report_pages.specs.{Json.{job_data, regression_data, series_data, pages_json}, Lists.lists_text}
 
 joined : (a b c d : List ℕ) → (a ++ (b ++ c)) ++ d ≡ a ++ (b ++ (c ++ d))
 joined a b c d = simp append_assoc

@@ -1,13 +1,8 @@
 -- The JSON form of a report: one line, with the members of each object in the order of their keys.
 use Rattle.std.specs.Prelude.{ℕ, ℤ, List, ◌++◌, map, codes, Option, Some, None}
-use Rattle.serde_json.specs.Data.{Data, null, number, unsigned, string, array, object, member, no_members}
-use Rattle.serde_json.specs.View.{items_of}
-use Rattle.serde_json.specs.Written.{compact_text}
+use Rattle.serde_json.specs.{Data.{Data, null, number, unsigned, string, array, object, member, no_members}, View.items_of, Written.compact_text}
 use Rattle.regression_state.specs.Moves.{word}
-use Rattle.report_model.specs.declared.items.SeriesLine.{SeriesLine}
-use Rattle.report_model.specs.declared.items.RegressionLine.{RegressionLine}
-use Rattle.report_model.specs.declared.items.JobLine.{JobLine}
-use Rattle.report_model.specs.declared.pages.Pages.{Pages}
+use Rattle.report_model.specs.declared.{items.SeriesLine.SeriesLine, items.RegressionLine.RegressionLine, items.JobLine.JobLine, pages.Pages.Pages}
 use Rattle.report_model.specs.Outcomes.{outcome_text}
 use Rattle.report_pages.specs.Text.{value_text}
 

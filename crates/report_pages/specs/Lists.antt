@@ -1,9 +1,7 @@
 -- No public contract cites this. The first members of a report in JSON.
 use Rattle.std.specs.Prelude.{ℕ, List, ◌++◌, map, codes}
 use Rattle.json.specs.Print.{quoted}
-use Rattle.serde_json.specs.Data.{array}
-use Rattle.serde_json.specs.View.{items_of}
-use Rattle.serde_json.specs.Written.{compact_text}
+use Rattle.serde_json.specs.{Data.array, View.items_of, Written.compact_text}
 use Rattle.report_model.specs.declared.pages.Pages.{Pages}
 use Rattle.report_pages.specs.Json.{job_data, regression_data, series_data}
 

@@ -4,10 +4,7 @@ use Rattle.line_text.specs.Names.{spelling}
 use Rattle.fixed_value.specs.Fixed.{fixed_text}
 use Rattle.metric_table.specs.Table.{row_of}
 use Rattle.regression_state.specs.Moves.{word}
-use Rattle.report_model.specs.declared.items.SeriesLine.{SeriesLine}
-use Rattle.report_model.specs.declared.items.RegressionLine.{RegressionLine}
-use Rattle.report_model.specs.declared.items.JobLine.{JobLine}
-use Rattle.report_model.specs.declared.pages.Pages.{Pages}
+use Rattle.report_model.specs.declared.{items.SeriesLine.SeriesLine, items.RegressionLine.RegressionLine, items.JobLine.JobLine, pages.Pages.Pages}
 use Rattle.report_pages.specs.Alignment.{left_aligned, right_aligned}
 use Rattle.report_model.specs.Outcomes.{outcome_text}
 

@@ -1,10 +1,8 @@
 //! The JSON form of a report.
 ghost use Rattle.std.specs.Prelude.{◌≡◌, ◌++◌, IfOk, OnOk, OnErr};
-ghost use Rattle.serde_json.specs.Data.{string};
-ghost use Rattle.serde_json.specs.View.{view};
+ghost use Rattle.serde_json.specs.{Data.string, View.view};
 ghost use Rattle.report_model.specs.Outcomes.{outcome_text};
-ghost use Rattle.report_pages.specs.Json.{count_or_null, centre_or_null, series_of, series_data, regression_data, job_data, pages_json};
-ghost use Rattle.report_pages.specs.Lists.{lists_text};
+ghost use Rattle.report_pages.specs.{Json.{count_or_null, centre_or_null, series_of, series_data, regression_data, job_data, pages_json}, Lists.lists_text};
 
 use crate::NoMemory;
 use crate::items::{Item, put_items, put_quoted};

@@ -1,9 +1,7 @@
 //! Items of a list that are written as JSON one after another.
 ghost use Rattle.std.specs.Prelude.{◌≡◌, ◌++◌, false, map, IfOk, OnOk};
 ghost use Rattle.json.specs.Print.{quoted};
-ghost use Rattle.serde_json.specs.Data.{Data, array};
-ghost use Rattle.serde_json.specs.View.{view, items_of};
-ghost use Rattle.serde_json.specs.Written.{comma_if, compact_text, has_float, items_text};
+ghost use Rattle.serde_json.specs.{Data.{Data, array}, View.{view, items_of}, Written.{comma_if, compact_text, has_float, items_text}};
 
 use crate::NoMemory;
 use crate::text::put_bytes;

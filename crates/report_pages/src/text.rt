@@ -2,8 +2,7 @@
 ghost use Rattle.std.specs.Prelude.{◌≡◌, ℕ, List, ◌++◌, flat_map, codes, decimal, OnOk, OnErr};
 ghost use Rattle.regression_state.specs.Moves.{word};
 ghost use Rattle.line_text.specs.Names.{spelling};
-ghost use Rattle.report_pages.specs.Alignment.{spaces, left_aligned, right_aligned};
-ghost use Rattle.report_pages.specs.Text.{count_text, value_text, centre_text, series_text, regression_text, job_text, pages_text};
+ghost use Rattle.report_pages.specs.{Alignment.{spaces, left_aligned, right_aligned}, Text.{count_text, value_text, centre_text, series_text, regression_text, job_text, pages_text}};
 
 use crate::NoMemory;
 use fixed_value::put_fixed;

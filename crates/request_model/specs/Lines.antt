@@ -1,6 +1,5 @@
 -- Lines of words, as requests and replies are written.
-use Rattle.std.specs.Prelude.{ℕ, List, [], ◌∷◌, ◌++◌}
-use Rattle.std.specs.List.{flat_map}
+use Rattle.std.specs.{Prelude.{ℕ, List, [], ◌∷◌, ◌++◌}, List.flat_map}
 
 -- words, each behind a space
 abbrev pub spaced : List (List ℕ) → List ℕ

@@ -1,25 +1,15 @@
 -- Two worked scripts, read by the definitions alone: one ends inside a body, one has more bytes than are read.
 use Rattle.std.proofs.Common.{◌≡◌, ◌≢◌, ℕ, zero, suc, ◌+◌, ◌*◌, ◌^◌, ◌<◌, ◌≤◌, true, not, inl, inr, List, [], ◌∷◌, ◌++◌, length, take, replicate, refl, sym, ap, subst, ◌∙◌, arith, append-nil, append_assoc, length-append, Ok}
-use Rattle.std.specs.Prelude.{◌==◌, ◌&&◌, nat_lt, slice_index, codes}
-use Rattle.std.specs.Fmt.{digits}
-use Rattle.std.specs.List.{list_all, repeat}
-use Rattle.std.proofs.lemmas.Bool.{cases_lt}
-use Rattle.std.proofs.lemmas.Bool.Decides.{nat_tests}
-use Rattle.std.proofs.lemmas.List.{get_or_past, length-replicate}
-use Rattle.std.proofs.lemmas.List.Elements.{All-nil, All-weaker, All-replicate}
-use Rattle.std.proofs.lemmas.List.Sums.{AllPass-from_list_all}
-use Rattle.std.proofs.lemmas.Str.{IsUtf8-from_ascii}
-use Rattle.std.proofs.Math.Seq.{take-append_seam}
+use Rattle.std.{specs.Prelude.{◌==◌, ◌&&◌, nat_lt, slice_index, codes}, specs.Fmt.digits, specs.List.{list_all, repeat}, proofs.lemmas.Bool.cases_lt}
+use Rattle.std.proofs.lemmas.{Bool.Decides.nat_tests, List.{get_or_past, length-replicate}, List.Elements.{All-nil, All-weaker, All-replicate}}
+use Rattle.std.proofs.{lemmas.List.Sums.AllPass-from_list_all, lemmas.Str.IsUtf8-from_ascii, Math.Seq.take-append_seam}
 use Rattle.percent_encoding.specs.Percent.{percent_decode}
 use Rattle.line_text.specs.Names.{IsName}
 use Rattle.request_model.specs.declared.requests.Request.TheVariants as request
 use Rattle.request_words.specs.Forms.{Form, machine, commit, submit_go, body_length, IsOfForm, IsNamed, SpellsName, IsInRange, HasLength}
-use Rattle.request_words.specs.Bodies.{Item, AsksNamed}
-use Rattle.request_words.specs.Items.{IsSkipped, formed, named}
+use Rattle.request_words.{specs.Bodies.{Item, AsksNamed}, specs.Items.{IsSkipped, formed, named}, proofs.Skipped.{skipped_formless, skipped_counts}}
 use Rattle.request_reader.specs.Scripts.{line_limit, input_limit, IsLine, Piece, IsPiece, ArePieces, IsInside, cut_off, unfinished, inside, more, IsScript}
-use Rattle.request_words.proofs.Skipped.{skipped_formless, skipped_counts}
-use Rattle.request_reader.proofs.PieceLists.{pieces_join}
-use Rattle.request_reader.proofs.WholePieces.{one_piece}
+use Rattle.request_reader.proofs.{PieceLists.pieces_join, WholePieces.one_piece}
 
 -- ---- a script that ends inside a body
 

@@ -1,19 +1,10 @@
 -- The last line of an input, which has no line feed.
 use Rattle.std.proofs.Common.{◌≡◌, ℕ, ◌+◌, ◌<◌, ◌≤◌, Bool, true, false, List, [], ◌∷◌, ◌++◌, length, refl, sym, ap, ◌∙◌, arith, inl, inr, append-nil, length-append, Option, Some, None}
-use Rattle.request_words.specs.Bodies.{Item}
-use Rattle.request_words.specs.Items.{IsSkipped, Asks, Counts, Gives}
-use Rattle.request_reader.specs.Scripts.{input_limit, IsLine, end, cut_off, last, Reads}
-use Rattle.request_reader.specs.declared.asked.Asked.{Asked}
+use Rattle.request_words.{specs.Bodies.Item, specs.Items.{IsSkipped, Asks, Counts, Gives}, proofs.Skipped.skipped_counts}
+use Rattle.request_reader.specs.{Scripts.{input_limit, IsLine, end, cut_off, last, Reads}, declared.asked.Asked.Asked, declared.line.LineEnd.TheVariants.Input}
 use Rattle.request_reader.specs.declared.asked.Asked.TheVariants as asked
-use Rattle.request_reader.specs.declared.line.LineEnd.TheVariants.{Input}
-use Rattle.request_reader.specs.Unread.{Unread}
-use Rattle.request_reader.specs.Next.{items_of, TellsEnd, TakesLast, ReadsNext}
-use Rattle.request_reader.specs.Parts.{TakesNext}
-use Rattle.request_reader.specs.LineEnds.{FindsEnd}
-use Rattle.request_reader.specs.LastLines.{HasEnded, AsksLast}
-use Rattle.request_reader.proofs.Stops.{some_same}
-use Rattle.request_reader.proofs.WholePieces.{cut_reads}
-use Rattle.request_words.proofs.Skipped.{skipped_counts}
+use Rattle.request_reader.specs.{Unread.Unread, Next.{items_of, TellsEnd, TakesLast, ReadsNext}, Parts.TakesNext, LineEnds.FindsEnd}
+use Rattle.request_reader.{specs.LastLines.{HasEnded, AsksLast}, proofs.Stops.some_same, proofs.WholePieces.cut_reads}
 
 last_reads : (at : ℕ) (bytes : List ℕ) (items : List Item) → IsLine bytes → Counts bytes 0 → Gives bytes [] items → Reads true at bytes items end
 last_reads at bytes items line counts gives =

@@ -2,8 +2,7 @@
 use Rattle.std.proofs.Common.{◌≡◌, ◌≢◌, ℕ, ◌+◌, ◌<◌, ◌≤◌, List, ◌∷◌, ◌++◌, All, length, take, drop, get_or, slice_index, eqb-true, sym, ap, ◌∙◌, arith, eq-eqb, Some, None}
 use Rattle.std.proofs.lemmas.List.{drop_more, take-append-drop, get_or_default, get_or-take, length-take, length-take-le}
 use Rattle.memchr.specs.Find.{IsFirstByte, Nowhere, Passes, is_byte}
-use Rattle.request_reader.specs.Scripts.{IsLine, IsTooLong}
-use Rattle.request_reader.specs.LineEnds.{BeginsWithLine}
+use Rattle.request_reader.specs.{Scripts.{IsLine, IsTooLong}, LineEnds.BeginsWithLine}
 
 no_feed_in : (bytes : List ℕ) (n m : ℕ) → m ≤ n → Nowhere (Passes (is_byte 10) bytes) 0 n → All (λ b. b ≢ 10) (take m bytes)
 no_feed_in bytes n m few nowhere k d less is =

@@ -1,21 +1,12 @@
 -- Bytes that were passed, and what is read behind them.
 use Rattle.std.proofs.Common.{◌≡◌, ℕ, ◌+◌, ◌-◌, ◌<◌, ◌≤◌, inl, inr, Bool, true, false, List, [], ◌++◌, length, take, drop, refl, sym, ap, ◌∙◌, arith, append_assoc, append-nil, length-append, Option, Some, None}
-use Rattle.std.specs.Io.KnownBytes.{prepend_known}
+use Rattle.std.{specs.Io.KnownBytes.prepend_known, proofs.Math.Seq.take-append-add, proofs.lemmas.List.{take-append-drop, length-take-le}}
 use Rattle.track_outside.specs.declared.source.Source.{Ghosts}
-use Rattle.std.proofs.Math.Seq.{take-append-add}
-use Rattle.std.proofs.lemmas.List.{take-append-drop, length-take-le}
-use Rattle.request_reader.specs.declared.asked.Asked.{Asked}
-use Rattle.request_reader.specs.declared.stop.ReadStop.{ReadStop}
-use Rattle.request_reader.specs.declared.stop.ReadStop.TheVariants.{ReadFault, CutOff, InputTooLong, NoMemory}
+use Rattle.request_reader.specs.declared.{asked.Asked.Asked, stop.ReadStop.ReadStop, stop.ReadStop.TheVariants.{ReadFault, CutOff, InputTooLong, NoMemory}}
 use Rattle.request_words.specs.Bodies.{Item}
-use Rattle.request_reader.specs.Scripts.{input_limit, ArePieces, Ending, Reads, ReadsLeft}
-use Rattle.request_reader.specs.Unread.{Unread}
-use Rattle.request_reader.specs.Filling.{Gains}
-use Rattle.request_reader.specs.Next.{items_of, Takes, ReadsNext, Gave, GaveFew}
-use Rattle.request_reader.specs.Reading.{StopsReading, TakesPast}
-use Rattle.request_reader.specs.Parts.{TakesNext, Fails}
-use Rattle.request_reader.specs.Passes.{Moves, PassesPieces, ReadsPiece}
-use Rattle.request_reader.proofs.Stops.{nothing_given, some_same, none_some, prepend_twice}
+use Rattle.request_reader.specs.{Scripts.{input_limit, ArePieces, Ending, Reads, ReadsLeft}, Unread.Unread, Filling.Gains}
+use Rattle.request_reader.specs.{Next.{items_of, Takes, ReadsNext, Gave, GaveFew}, Reading.{StopsReading, TakesPast}, Parts.{TakesNext, Fails}}
+use Rattle.request_reader.{specs.Passes.{Moves, PassesPieces, ReadsPiece}, proofs.Stops.{nothing_given, some_same, none_some, prepend_twice}}
 use Rattle.request_reader.proofs.PieceLists.{pieces_join, pieces_come_first}
 
 pub moves_none : (a : Unread) (known : Option (List ℕ)) → a.before + length a.kept ≤ input_limit → Moves a a known known []

@@ -1,14 +1,10 @@
 -- Bytes have one reading, where each line asks one thing with its body.
 use Rattle.std.proofs.Common.{◌≡◌, ◌≢◌, ℕ, ◌+◌, ◌-◌, ◌≤◌, ◌⊎◌, inl, inr, Bool, true, false, List, [], ◌∷◌, ◌++◌, All, length, take, refl, sym, ap, ◌∙◌, arith, append_assoc, length-append, suc, subst}
-use Rattle.std.proofs.Math.Seq.{take-append_seam, take-append-add}
-use Rattle.std.proofs.lemmas.List.{append_cancel_left}
-use Rattle.std.proofs.lemmas.List.Elements.{All-head, All-tail}
+use Rattle.std.proofs.{Math.Seq.{take-append_seam, take-append-add}, lemmas.List.append_cancel_left, lemmas.List.Elements.{All-head, All-tail}}
 use Rattle.line_text.specs.Lines.{lines_of, LinesEnd}
-use Rattle.request_words.specs.Bodies.{Item}
-use Rattle.request_words.specs.Items.{Counts, Gives, OneItem}
+use Rattle.request_words.{specs.Bodies.Item, specs.Items.{Counts, Gives, OneItem}, proofs.OneForm.one_count}
 use Rattle.request_reader.specs.Scripts.{line_limit, IsLine, Piece, text_of, IsPiece, ArePiecesOf, IsTooLong, IsInside, Ending, Ends, long, last, inside, more, Reads}
 use Rattle.request_reader.specs.Reading.{OneReading, PiecesAreFirst}
-use Rattle.request_words.proofs.OneForm.{one_count}
 
 -- ---- the first line
 

@@ -1,27 +1,15 @@
 -- A body that is passed and not kept.
 use Rattle.std.proofs.Common.{◌≡◌, ℕ, ◌+◌, ◌-◌, ◌<◌, ◌≤◌, inl, inr, Bool, true, false, List, [], ◌∷◌, ◌++◌, length, take, drop, refl, sym, ap, ◌∙◌, arith, append_assoc, append-nil, length-append, Option, Err}
-use Rattle.std.specs.Io.KnownBytes.{prepend_known}
+use Rattle.std.{specs.Io.KnownBytes.prepend_known, proofs.Math.Seq.{take-append_seam, take-append-add, drop-append-add}, proofs.lemmas.List.length-take-le}
 use Rattle.track_outside.specs.declared.source.Source.{Ghosts}
-use Rattle.std.proofs.Math.Seq.{take-append_seam, take-append-add, drop-append-add}
-use Rattle.std.proofs.lemmas.List.{length-take-le}
 use Rattle.request_model.specs.declared.replies.Refusal.TheVariants.{BodyTooLong}
 use Rattle.request_reader.specs.declared.asked.Asked.TheVariants as asked
-use Rattle.request_reader.specs.declared.stop.ReadStop.{ReadStop}
-use Rattle.request_reader.specs.declared.stop.ReadStop.TheVariants.{ReadFault, CutOff, InputTooLong, NoMemory}
-use Rattle.request_words.specs.Items.{IsSkipped, Asks, formed, long, Counts, body_limit}
-use Rattle.request_reader.specs.Scripts.{input_limit, Piece, IsPiece, text_of}
-use Rattle.request_reader.specs.Unread.{Unread}
-use Rattle.request_reader.specs.Filling.{Gains, StopsFilling}
-use Rattle.request_reader.specs.Reading.{StopsReading}
-use Rattle.request_reader.specs.Next.{GaveFewFrom}
-use Rattle.request_reader.specs.Parts.{TakesNext, Fails}
-use Rattle.request_reader.specs.Needs.{NeedsMore, Gathers}
-use Rattle.request_reader.specs.LineEnds.{BeginsWithLine}
-use Rattle.request_reader.specs.Begun.{HasLine}
+use Rattle.request_reader.specs.declared.stop.ReadStop.{ReadStop, TheVariants.{ReadFault, CutOff, InputTooLong, NoMemory}}
+use Rattle.request_words.{specs.Items.{IsSkipped, Asks, formed, long, Counts, body_limit}, proofs.Skipped.skipped_counts}
+use Rattle.request_reader.specs.{Scripts.{input_limit, Piece, IsPiece, text_of}, Unread.Unread, Filling.{Gains, StopsFilling}, Reading.StopsReading}
+use Rattle.request_reader.specs.{Next.GaveFewFrom, Parts.{TakesNext, Fails}, Needs.{NeedsMore, Gathers}, LineEnds.BeginsWithLine, Begun.HasLine}
 use Rattle.request_reader.specs.Passes.{Moves, Passes, PassesFrom, StopsPassing, StopsPassingFrom, seen, PassesPieces}
-use Rattle.request_reader.proofs.Stops.{stops_filling, stops_gain, needs_more, needs_now, few_same}
-use Rattle.request_words.proofs.Skipped.{skipped_counts}
-use Rattle.request_reader.proofs.WholePieces.{needs_body, stops_inside, next_piece}
+use Rattle.request_reader.proofs.{Stops.{stops_filling, stops_gain, needs_more, needs_now, few_same}, WholePieces.{needs_body, stops_inside, next_piece}}
 use Rattle.request_reader.proofs.Moving.{moves_use, moves_join, moves_size, few_passed}
 
 -- the same bytes were read so far

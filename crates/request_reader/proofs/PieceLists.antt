@@ -1,8 +1,7 @@
 -- Pieces in front of bytes are read before them.
 use Rattle.std.proofs.Common.{◌≡◌, ℕ, ◌+◌, List, [], ◌∷◌, ◌++◌, length, sym, ap, ◌∙◌, subst, arith, append_assoc, length-append}
 use Rattle.request_words.specs.Bodies.{Item}
-use Rattle.request_reader.specs.Scripts.{Piece, text_of, ArePiecesOf, Ends}
-use Rattle.request_reader.specs.Reading.{PiecesComeFirst}
+use Rattle.request_reader.specs.{Scripts.{Piece, text_of, ArePiecesOf, Ends}, Reading.PiecesComeFirst}
 
 pub pieces_join : (ps qs : List Piece) (bytes more : List ℕ) (items others : List Item)
     → ArePiecesOf ps bytes items → ArePiecesOf qs more others → ArePiecesOf (ps ++ qs) (bytes ++ more) (items ++ others)

@@ -1,21 +1,12 @@
 -- Why reading stops at the line that bytes begin with.
 use Rattle.std.proofs.Common.{◌≡◌, ℕ, ◌+◌, ◌-◌, ◌<◌, ◌≤◌, inl, inr, ⊎_elim, Bool, true, false, List, [], ◌++◌, length, take, refl, sym, ap, ◌∙◌, subst, arith, append_assoc, append-nil, length-append, Option, Some, None}
-use Rattle.std.proofs.lemmas.Bool.{cases_lt}
-use Rattle.std.specs.Io.KnownBytes.{prepend_known}
-use Rattle.std.proofs.lemmas.List.{take-append-le}
+use Rattle.std.{proofs.lemmas.Bool.cases_lt, specs.Io.KnownBytes.prepend_known, proofs.lemmas.List.take-append-le}
 use Rattle.std.proofs.Math.Seq.{take-append_seam, take-append-add}
 use Rattle.track_outside.specs.declared.source.Source.{Ghosts}
-use Rattle.request_reader.specs.declared.stop.ReadStop.{ReadStop}
-use Rattle.request_reader.specs.declared.stop.ReadStop.TheVariants.{ReadFault, CutOff, InputTooLong, NoMemory}
-use Rattle.request_reader.specs.Scripts.{input_limit, IsLine, IsTooLong, Ending, cut_off, unfinished, Ends, long, more, Reads, ReadsLeft}
-use Rattle.request_reader.specs.Unread.{Unread}
-use Rattle.request_reader.specs.Filling.{Gains, IsPast, IsFault, StopsFilling}
-use Rattle.request_reader.specs.Next.{GaveFew}
-use Rattle.request_reader.specs.Reading.{StopsReading}
-use Rattle.request_reader.specs.Parts.{Fails}
-use Rattle.request_reader.specs.declared.line.LineEnd.{LineEnd}
-use Rattle.request_reader.specs.LineEnds.{FindsEnd}
-use Rattle.request_reader.specs.Needs.{NeedsMore, Gathers}
+use Rattle.request_reader.specs.declared.stop.ReadStop.{ReadStop, TheVariants.{ReadFault, CutOff, InputTooLong, NoMemory}}
+use Rattle.request_reader.specs.{Scripts.{input_limit, IsLine, IsTooLong, Ending, cut_off, unfinished, Ends, long, more, Reads, ReadsLeft}, Unread.Unread}
+use Rattle.request_reader.specs.{Filling.{Gains, IsPast, IsFault, StopsFilling}, Next.GaveFew, Reading.StopsReading, Parts.Fails, declared.line.LineEnd.LineEnd}
+use Rattle.request_reader.specs.{LineEnds.FindsEnd, Needs.{NeedsMore, Gathers}}
 
 pub nothing_given : (known : Option (List ℕ)) → known ≡ prepend_known [] known
 nothing_given None = refl

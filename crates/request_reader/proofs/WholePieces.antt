@@ -1,21 +1,11 @@
 -- A line that has come with its line feed, and the bytes that belong to it.
 use Rattle.std.proofs.Common.{◌≡◌, ℕ, ◌+◌, ◌-◌, ◌<◌, ◌≤◌, ◌⊎◌, true, false, List, [], ◌∷◌, ◌++◌, length, take, drop, refl, sym, ap, ◌∙◌, arith, inl, inr, append_assoc, append-nil, length-append, Option, Some, None, slice_range, suc}
-use Rattle.std.specs.Prelude.{IfSome}
-use Rattle.std.proofs.Math.Seq.{take-append-add, drop-append-add}
-use Rattle.std.proofs.lemmas.List.{take-append-drop, length-take-le}
-use Rattle.request_reader.specs.declared.asked.Asked.{Asked}
-use Rattle.request_reader.specs.declared.stop.ReadStop.TheVariants.{CutOff}
-use Rattle.request_words.specs.Bodies.{Item}
-use Rattle.request_words.specs.Items.{IsSkipped, Asks, Counts}
-use Rattle.request_reader.specs.Scripts.{input_limit, IsLine, IsInside, IsBefore, cut_off, inside, more, Reads, Piece, IsPiece, ArePieces}
-use Rattle.request_reader.specs.Unread.{Unread}
-use Rattle.request_reader.specs.Next.{items_of, TellsEnd, TakesWhole, ReadsNext, Gave}
-use Rattle.request_reader.specs.Reading.{StopsReading}
-use Rattle.request_reader.specs.Parts.{TakesNext}
-use Rattle.request_reader.specs.Filling.{Gains}
-use Rattle.request_reader.specs.Needs.{NeedsMore, Gathers}
-use Rattle.request_reader.specs.Begun.{HasLine}
-use Rattle.request_reader.proofs.Stops.{some_same, none_some}
+use Rattle.std.{specs.Prelude.IfSome, proofs.Math.Seq.{take-append-add, drop-append-add}, proofs.lemmas.List.{take-append-drop, length-take-le}}
+use Rattle.request_reader.specs.declared.{asked.Asked.Asked, stop.ReadStop.TheVariants.CutOff}
+use Rattle.request_words.specs.{Bodies.Item, Items.{IsSkipped, Asks, Counts}}
+use Rattle.request_reader.specs.{Scripts.{input_limit, IsLine, IsInside, IsBefore, cut_off, inside, more, Reads, Piece, IsPiece, ArePieces}, Unread.Unread}
+use Rattle.request_reader.specs.{Next.{items_of, TellsEnd, TakesWhole, ReadsNext, Gave}, Reading.StopsReading, Parts.TakesNext, Filling.Gains}
+use Rattle.request_reader.{specs.Needs.{NeedsMore, Gathers}, specs.Begun.HasLine, proofs.Stops.{some_same, none_some}}
 
 -- fewer bytes than the line counts are behind it
 inside_of : (bytes line rest behind : List ℕ) (count : ℕ) → bytes ≡ line ++ 10 ∷ rest → IsLine line → Counts line count

@@ -1,8 +1,6 @@
 -- No public contract cites this. A line that has come with its line feed.
 use Rattle.std.specs.Prelude.{◌≡◌, ℕ, ◌+◌, List, ◌∷◌, ◌++◌, length}
-use Rattle.request_words.specs.declared.head.Head.{Head}
-use Rattle.request_words.specs.Heads.{IsHead}
-use Rattle.request_words.specs.Items.{IsSkipped, Counts}
+use Rattle.request_words.specs.{declared.head.Head.Head, Heads.IsHead, Items.{IsSkipped, Counts}}
 use Rattle.request_reader.specs.Scripts.{IsLine}
 
 -- the bytes begin with the line, which takes so many of them with its line feed

@@ -1,12 +1,8 @@
 -- No public contract cites this. What reading more bytes of an input comes to.
-use Rattle.std.specs.Prelude.{◌≡◌, ℕ, ◌+◌, ◌<◌, ◌≤◌, List, [], ◌++◌, length, Option, IfSome}
-use Rattle.std.specs.Io.KnownBytes.{prepend_known}
-use Rattle.track_outside.specs.Counts.{Rose}
-use Rattle.track_outside.specs.declared.source.Source.{Ghosts}
-use Rattle.request_reader.specs.declared.stop.ReadStop.{ReadStop}
-use Rattle.request_reader.specs.declared.stop.ReadStop.TheVariants.{ReadFault, CutOff, InputTooLong, NoMemory}
-use Rattle.request_reader.specs.Scripts.{input_limit}
-use Rattle.request_reader.specs.Unread.{Unread}
+use Rattle.std.specs.{Prelude.{◌≡◌, ℕ, ◌+◌, ◌<◌, ◌≤◌, List, [], ◌++◌, length, Option, IfSome}, Io.KnownBytes.prepend_known}
+use Rattle.track_outside.specs.{Counts.Rose, declared.source.Source.Ghosts}
+use Rattle.request_reader.specs.declared.stop.ReadStop.{ReadStop, TheVariants.{ReadFault, CutOff, InputTooLong, NoMemory}}
+use Rattle.request_reader.specs.{Scripts.input_limit, Unread.Unread}
 
 -- the source gave these bytes, which are kept behind the others
 pub record Gains (old new : Unread) (before after : Option (List ℕ)) (given : List ℕ) : Type 0 where

@@ -1,11 +1,7 @@
 -- No public contract cites this. What the last line of an input comes to.
 use Rattle.std.specs.Prelude.{◌≡◌, ◌+◌, true, [], length}
-use Rattle.request_reader.specs.declared.asked.Asked.{Asked}
-use Rattle.request_reader.specs.declared.stop.ReadStop.{ReadStop}
-use Rattle.request_reader.specs.declared.stop.ReadStop.TheVariants.{CutOff, NoMemory}
-use Rattle.request_reader.specs.Scripts.{cut_off, Reads}
-use Rattle.request_reader.specs.Unread.{Unread}
-use Rattle.request_reader.specs.Next.{items_of, TakesLast}
+use Rattle.request_reader.specs.declared.{asked.Asked.Asked, stop.ReadStop.ReadStop, stop.ReadStop.TheVariants.{CutOff, NoMemory}}
+use Rattle.request_reader.specs.{Scripts.{cut_off, Reads}, Unread.Unread, Next.{items_of, TakesLast}}
 
 -- all bytes were used, and the input has ended
 pub record HasEnded (old new : Unread) : Type 0 where

@@ -1,13 +1,9 @@
 -- No public contract cites this. Where the next line ends.
 use Rattle.std.specs.Prelude.{◌≡◌, ℕ, ◌<◌, List, [], ◌∷◌, ◌++◌, length, Option, Some, None, IfSome}
 use Rattle.track_outside.specs.declared.source.Source.{Ghosts}
-use Rattle.request_reader.specs.declared.line.LineEnd.{LineEnd}
-use Rattle.request_reader.specs.declared.line.LineEnd.TheVariants.{Feed, Input}
-use Rattle.request_reader.specs.declared.line.Look.{Look}
+use Rattle.request_reader.specs.declared.line.{LineEnd.LineEnd, LineEnd.TheVariants.{Feed, Input}, Look.Look}
 use Rattle.request_reader.specs.declared.line.Look.TheVariants as look
-use Rattle.request_reader.specs.Scripts.{IsLine, IsTooLong}
-use Rattle.request_reader.specs.Unread.{Unread}
-use Rattle.request_reader.specs.Filling.{Gains}
+use Rattle.request_reader.specs.{Scripts.{IsLine, IsTooLong}, Unread.Unread, Filling.Gains}
 
 -- a line of so many bytes comes first, with its line feed
 pub record BeginsWithLine (bytes : List ℕ) (count : ℕ) : Type 0 where

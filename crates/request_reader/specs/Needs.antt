@@ -1,11 +1,7 @@
 -- No public contract cites this. Reading on until so many bytes are kept.
 use Rattle.std.specs.Prelude.{◌≡◌, ℕ, ◌<◌, ◌≤◌, Bool, true, false, List, [], ◌++◌, length, Option, Some, None, IfSome}
 use Rattle.track_outside.specs.declared.source.Source.{Ghosts}
-use Rattle.request_reader.specs.declared.stop.ReadStop.{ReadStop}
-use Rattle.request_reader.specs.Scripts.{unfinished, Reads}
-use Rattle.request_reader.specs.Unread.{Unread}
-use Rattle.request_reader.specs.Filling.{Gains}
-use Rattle.request_reader.specs.Parts.{Fails}
+use Rattle.request_reader.specs.{declared.stop.ReadStop.ReadStop, Scripts.{unfinished, Reads}, Unread.Unread, Filling.Gains, Parts.Fails}
 
 -- as long as fewer bytes than so many are kept, it takes more to tell what they ask
 abbrev pub NeedsMore : Unread → ℕ → Type 0

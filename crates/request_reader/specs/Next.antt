@@ -1,12 +1,9 @@
 -- What comes next in a script, and what is left behind it.
-use Rattle.std.specs.Prelude.{◌≡◌, ℕ, ◌+◌, ◌<◌, ◌≤◌, Bool, true, false, List, [], ◌∷◌, ◌++◌, length, Option, Ok, Err, IfSome}
-use Rattle.std.specs.Io.KnownBytes.{prepend_known}
+use Rattle.std.specs.{Prelude.{◌≡◌, ℕ, ◌+◌, ◌<◌, ◌≤◌, Bool, true, false, List, [], ◌∷◌, ◌++◌, length, Option, Ok, Err, IfSome}, Io.KnownBytes.prepend_known}
 use Rattle.track_outside.specs.declared.source.Source.{Ghosts}
-use Rattle.request_reader.specs.declared.asked.Asked.{Asked}
+use Rattle.request_reader.specs.{declared.asked.Asked.Asked, Scripts.{ArePieces, end, Reads, input_limit}, Unread.Unread}
 use Rattle.request_reader.specs.declared.asked.Asked.TheVariants as asked
 use Rattle.request_words.specs.Bodies.{Item}
-use Rattle.request_reader.specs.Scripts.{ArePieces, end, Reads, input_limit}
-use Rattle.request_reader.specs.Unread.{Unread}
 
 -- what was asked, as items of the script: one, or none at its end
 abbrev pub items_of : Asked → List Item

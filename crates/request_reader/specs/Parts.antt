@@ -1,15 +1,9 @@
 -- No public contract cites this. What each part of a call that reads the next request comes to.
 use Rattle.std.specs.Prelude.{◌≡◌, ℕ, ◌+◌, List, [], ◌∷◌, Option, drop, slice_range}
 use Rattle.track_outside.specs.declared.source.Source.{Ghosts}
-use Rattle.request_reader.specs.declared.asked.Asked.{Asked}
-use Rattle.request_words.specs.declared.head.Head.{Head}
-use Rattle.request_reader.specs.declared.stop.ReadStop.{ReadStop}
-use Rattle.request_reader.specs.Unread.{Unread}
-use Rattle.request_words.specs.Bodies.{Item}
-use Rattle.request_words.specs.Items.{Asks}
-use Rattle.request_words.specs.Heads.{IsHead}
-use Rattle.request_reader.specs.Next.{ReadsNext, TellsEnd, Gave, GaveFewFrom, items_of}
-use Rattle.request_reader.specs.Reading.{StopsFrom}
+use Rattle.request_reader.specs.{declared.asked.Asked.Asked, declared.stop.ReadStop.ReadStop, Unread.Unread}
+use Rattle.request_words.specs.{declared.head.Head.Head, Bodies.Item, Items.Asks, Heads.IsHead}
+use Rattle.request_reader.specs.{Next.{ReadsNext, TellsEnd, Gave, GaveFewFrom, items_of}, Reading.StopsFrom}
 
 -- this came next
 pub record TakesNext (old new : Unread) (before after : Option (List ℕ)) (asked : Asked) : Type 0 where

@@ -1,16 +1,9 @@
 -- No public contract cites this. Passing bytes of an input: those of a body that is not kept, and pieces that ask
 -- nothing.
-use Rattle.std.specs.Prelude.{◌≡◌, ℕ, ◌+◌, ◌<◌, ◌≤◌, Bool, true, false, List, [], ◌++◌, length, Option, Some, None, IfSome}
-use Rattle.std.specs.Io.KnownBytes.{prepend_known}
+use Rattle.std.specs.{Prelude.{◌≡◌, ℕ, ◌+◌, ◌<◌, ◌≤◌, Bool, true, false, List, [], ◌++◌, length, Option, Some, None, IfSome}, Io.KnownBytes.prepend_known}
 use Rattle.track_outside.specs.declared.source.Source.{Ghosts}
-use Rattle.request_reader.specs.declared.asked.Asked.{Asked}
-use Rattle.request_reader.specs.declared.pass.Pass.{Pass}
-use Rattle.request_reader.specs.declared.pass.Pass.TheVariants.{All, Short, Left}
-use Rattle.request_reader.specs.declared.stop.ReadStop.{ReadStop}
-use Rattle.request_reader.specs.Scripts.{ArePieces, input_limit}
-use Rattle.request_reader.specs.Unread.{Unread}
-use Rattle.request_reader.specs.Filling.{StopsFilling}
-use Rattle.request_reader.specs.Parts.{TakesNext}
+use Rattle.request_reader.specs.declared.{asked.Asked.Asked, pass.Pass.Pass, pass.Pass.TheVariants.{All, Short, Left}, stop.ReadStop.ReadStop}
+use Rattle.request_reader.specs.{Scripts.{ArePieces, input_limit}, Unread.Unread, Filling.StopsFilling, Parts.TakesNext}
 
 -- the source gave bytes, and the first of those that were kept with them were passed
 pub record Moves (old new : Unread) (before after : Option (List ℕ)) (passed : List ℕ) : Type 0 where

@@ -1,12 +1,9 @@
 -- Why reading stops, and what holds of all readings.
 use Rattle.std.specs.Prelude.{◌≡◌, ℕ, ◌+◌, ◌-◌, ◌<◌, Bool, false, List, [], ◌++◌, length, take, Option, IfSome}
-use Rattle.track_outside.specs.Counts.{Rose}
-use Rattle.track_outside.specs.declared.source.Source.{Ghosts}
-use Rattle.request_reader.specs.declared.stop.ReadStop.{ReadStop}
-use Rattle.request_reader.specs.declared.stop.ReadStop.TheVariants.{ReadFault, CutOff, InputTooLong, NoMemory}
+use Rattle.track_outside.specs.{Counts.Rose, declared.source.Source.Ghosts}
+use Rattle.request_reader.specs.declared.stop.ReadStop.{ReadStop, TheVariants.{ReadFault, CutOff, InputTooLong, NoMemory}}
 use Rattle.request_words.specs.Bodies.{Item}
-use Rattle.request_reader.specs.Scripts.{ArePieces, Ending, cut_off, unfinished, Reads, ReadsLeft, input_limit}
-use Rattle.request_reader.specs.Unread.{Unread, GivesOpen}
+use Rattle.request_reader.specs.{Scripts.{ArePieces, Ending, cut_off, unfinished, Reads, ReadsLeft, input_limit}, Unread.{Unread, GivesOpen}}
 
 -- the source has bytes past the limit, and it takes one of them to tell what comes next
 pub record TakesPast (at : ℕ) (bytes : List ℕ) : Type 0 where

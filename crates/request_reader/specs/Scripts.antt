@@ -1,7 +1,6 @@
 -- The bytes of a script: pieces one after another, which are a line and its body, and how they end.
 use Rattle.std.specs.Prelude.{◌≡◌, ◌≢◌, ℕ, ◌+◌, ◌-◌, ◌^◌, ◌<◌, ◌≤◌, ◌⊎◌, Bool, true, false, List, [], ◌∷◌, ◌++◌, All, length, take}
-use Rattle.request_words.specs.Bodies.{Item}
-use Rattle.request_words.specs.Items.{Gives, Counts}
+use Rattle.request_words.specs.{Bodies.Item, Items.{Gives, Counts}}
 
 -- the most bytes of a line
 abbrev pub line_limit : ℕ

@@ -1,6 +1,5 @@
 -- What is kept of an input between two calls, and what calls made of it.
-use Rattle.std.specs.Prelude.{◌≡◌, ℕ, ◌+◌, ◌≤◌, Bool, false, List, [], ◌++◌, length, Option}
-use Rattle.std.specs.Io.KnownBytes.{prepend_known}
+use Rattle.std.specs.{Prelude.{◌≡◌, ℕ, ◌+◌, ◌≤◌, Bool, false, List, [], ◌++◌, length, Option}, Io.KnownBytes.prepend_known}
 use Rattle.request_reader.specs.Scripts.{unfinished, Reads, input_limit}
 
 -- the bytes that were read and not used yet, how many bytes of the input came before them, whether the last of the input

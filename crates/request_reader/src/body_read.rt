@@ -1,8 +1,6 @@
 //! A body that is kept, read behind its line.
 ghost use Rattle.std.specs.Prelude.{true, OnOk, ◌≡◌, ◌≤◌, ◌<◌, ◌+◌, ◌^◌, false, length, IfOk, IfErr};
-ghost use Rattle.request_reader.specs.Begun.{BeginsWithBody, BeginsWithHead};
-ghost use Rattle.request_reader.specs.Needs.{GathersFrom};
-ghost use Rattle.request_reader.specs.Parts.{AsksKept, TakesFrom, Fails};
+ghost use Rattle.request_reader.specs.{Begun.{BeginsWithBody, BeginsWithHead}, Needs.GathersFrom, Parts.{AsksKept, TakesFrom, Fails}};
 
 use crate::asked::Asked;
 use crate::last::asked_of;

@@ -1,9 +1,6 @@
 //! The last line of an input, which has no line feed.
 ghost use Rattle.std.specs.Prelude.{◌≡◌, ◌∷◌, [], IfOk, OnOk, IfErr};
-ghost use Rattle.request_reader.specs.LastLines.{AsksLast, HasEnded, StopsLast};
-ghost use Rattle.request_reader.specs.Next.{items_of, TellsEnd};
-ghost use Rattle.request_reader.specs.Scripts.{IsLine};
-ghost use Rattle.request_reader.specs.Unread.{Unread};
+ghost use Rattle.request_reader.specs.{LastLines.{AsksLast, HasEnded, StopsLast}, Next.{items_of, TellsEnd}, Scripts.IsLine, Unread.Unread};
 
 use crate::asked::Asked;
 use crate::line::is_skipped;

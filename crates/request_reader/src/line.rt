@@ -1,8 +1,7 @@
 //! Where the next line of an input ends.
 ghost use Rattle.std.specs.Prelude.{◌≤◌, IfOk, IfErr, IsTrue};
 ghost use Rattle.request_words.specs.Items.{IsSkipped};
-ghost use Rattle.request_reader.specs.LineEnds.{Shows, FindsFrom, Turns};
-ghost use Rattle.request_reader.specs.Parts.{Fails};
+ghost use Rattle.request_reader.specs.{LineEnds.{Shows, FindsFrom, Turns}, Parts.Fails};
 
 use crate::lines::Lines;
 use crate::stop::ReadStop;

@@ -1,11 +1,7 @@
 //! What was read of an input and not used yet.
 ghost use Rattle.std.specs.Prelude.{◌≡◌, ◌+◌, ◌≤◌, ◌<◌, ◌^◌, ◌≢◌, ℕ, List, true, false, All, SomeIndex, IsTrue, take, drop, length, slice_index, slice_range, IfOk, IfErr, OnErr};
-ghost use Rattle.request_words.specs.Heads.{IsHead};
-ghost use Rattle.request_words.specs.Items.{Asks};
-ghost use Rattle.request_reader.specs.Filling.{Fills, StopsFillingFrom, IsReadOnto, StopsReadingOnto, GaveAtMost};
-ghost use Rattle.request_reader.specs.LastLines.{HasEnded};
-ghost use Rattle.request_reader.specs.Next.{GaveFewFrom};
-ghost use Rattle.request_reader.specs.Unread.{nothing_read};
+ghost use Rattle.request_words.specs.{Heads.IsHead, Items.Asks};
+ghost use Rattle.request_reader.specs.{Filling.{Fills, StopsFillingFrom, IsReadOnto, StopsReadingOnto, GaveAtMost}, LastLines.HasEnded, Next.GaveFewFrom, Unread.nothing_read};
 
 use crate::NoMemory;
 use crate::stop::ReadStop;

@@ -1,7 +1,6 @@
 //! Reading on until so many bytes are kept.
 ghost use Rattle.std.specs.Prelude.{◌≤◌, IfOk, IfErr, OnErr};
-ghost use Rattle.request_reader.specs.Needs.{GathersFrom, Grows, FailsNeed};
-ghost use Rattle.request_reader.specs.Next.{GaveFewFrom};
+ghost use Rattle.request_reader.specs.{Needs.{GathersFrom, Grows, FailsNeed}, Next.GaveFewFrom};
 
 use crate::lines::Lines;
 use crate::stop::ReadStop;

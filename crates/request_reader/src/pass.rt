@@ -1,8 +1,6 @@
 //! Passing bytes of an input that are not kept.
 ghost use Rattle.std.specs.Prelude.{◌<◌, ◌≤◌, length, IfOk, IfErr, OnErr};
-ghost use Rattle.request_reader.specs.Filling.{StopsFillingFrom};
-ghost use Rattle.request_reader.specs.Next.{GaveFewFrom};
-ghost use Rattle.request_reader.specs.Passes.{PassesFrom, PassesTurn, StopsPassingFrom};
+ghost use Rattle.request_reader.specs.{Filling.StopsFillingFrom, Next.GaveFewFrom, Passes.{PassesFrom, PassesTurn, StopsPassingFrom}};
 
 use crate::lines::Lines;
 use crate::stop::ReadStop;

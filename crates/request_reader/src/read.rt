@@ -1,9 +1,6 @@
 //! The next request of a script.
 ghost use Rattle.std.specs.Prelude.{◌≡◌, ◌≤◌, false, true, Ok, MatchResult, IfOk, IfErr};
-ghost use Rattle.request_reader.specs.Next.{ReadsFrom, TellsEnd, GaveFrom, GaveFewFrom};
-ghost use Rattle.request_reader.specs.Reading.{StopsFrom};
-ghost use Rattle.request_reader.specs.Parts.{TakesFrom, Fails};
-ghost use Rattle.request_reader.specs.Passes.{PieceFrom};
+ghost use Rattle.request_reader.specs.{Next.{ReadsFrom, TellsEnd, GaveFrom, GaveFewFrom}, Reading.StopsFrom, Parts.{TakesFrom, Fails}, Passes.PieceFrom};
 
 use crate::asked::Asked;
 use crate::last::read_last;

@@ -1,9 +1,6 @@
 //! A piece whose line has come: what it asks with the body behind it.
 ghost use Rattle.std.specs.Prelude.{◌≡◌, ◌≤◌, false, IfOk, IfErr};
-ghost use Rattle.request_reader.specs.Begun.{HeadIsFirst};
-ghost use Rattle.request_reader.specs.LineEnds.{BeginsWithLine};
-ghost use Rattle.request_reader.specs.Parts.{TakesFrom, Fails};
-ghost use Rattle.request_reader.specs.Passes.{PieceFrom};
+ghost use Rattle.request_reader.specs.{Begun.HeadIsFirst, LineEnds.BeginsWithLine, Parts.{TakesFrom, Fails}, Passes.PieceFrom};
 
 use crate::asked::Asked;
 use crate::body_read::read_short;

@@ -1,10 +1,7 @@
 -- No public contract cites this. The words of a line, as they are written.
-use Rattle.std.specs.Prelude.{ℕ, List, [], ◌∷◌, ◌++◌, decimal}
-use Rattle.std.specs.List.{flat_map}
-use Rattle.std.specs.Fmt.{signed_decimal}
+use Rattle.std.specs.{Prelude.{ℕ, List, [], ◌∷◌, ◌++◌, decimal}, List.flat_map, Fmt.signed_decimal}
 use Rattle.line_text.specs.Names.{spelling}
-use Rattle.request_text.specs.declared.write_line.Word.{Word}
-use Rattle.request_text.specs.declared.write_line.Word.TheVariants.{Said, Named, Number, Amount}
+use Rattle.request_text.specs.declared.write_line.Word.{Word, TheVariants.{Said, Named, Number, Amount}}
 
 -- a word as it is written
 abbrev pub spelled : Word → List ℕ

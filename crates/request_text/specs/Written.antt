@@ -1,24 +1,15 @@
 -- The one spelling of a request.
-use Rattle.std.specs.Prelude.{◌≡◌, ℕ, ◌^◌, ◌<◌, ◌≤◌, List, [], ◌∷◌, ◌++◌, length, slice_index_or, codes, Option, Some, None, IfSome, Ok}
-use Rattle.std.specs.Fmt.{signed_decimal}
+use Rattle.std.specs.{Prelude.{◌≡◌, ℕ, ◌^◌, ◌<◌, ◌≤◌, List, [], ◌∷◌, ◌++◌, length, slice_index_or, codes, Option, Some, None, IfSome, Ok}, Fmt.signed_decimal}
 use Rattle.line_text.specs.Names.{IsName, spelling}
-use Rattle.metric_table.specs.Limits.{most}
-use Rattle.metric_table.specs.declared.limits.Limit.TheVariants.{RunSamples}
+use Rattle.metric_table.specs.{Limits.most, declared.limits.Limit.TheVariants.RunSamples, Table.IsPenalty}
 use Rattle.sample_model.specs.Samples.{Measurement}
-use Rattle.metric_table.specs.Table.{IsPenalty}
-use Rattle.go_bench_text.specs.Readings.{IsRead}
-use Rattle.go_bench_text.specs.Spellings.{AreSpelled, IsFirstUnspelled}
-use Rattle.lnt_report.specs.Runs.{IsGiven}
-use Rattle.lnt_report.specs.Outcomes.{IsDue}
-use Rattle.lnt_report.specs.Written.{compact, run_tree}
+use Rattle.go_bench_text.specs.{Readings.IsRead, Spellings.{AreSpelled, IsFirstUnspelled}}
+use Rattle.lnt_report.specs.{Runs.IsGiven, Outcomes.IsDue, Written.{compact, run_tree}}
 use Rattle.segment_model.specs.Limits.{IsLength}
-use Rattle.request_model.specs.Factors.{IsFactor}
-use Rattle.request_model.specs.Lines.{line_of}
-use Rattle.request_model.specs.declared.requests.Request.{Request}
+use Rattle.request_model.specs.{Factors.IsFactor, Lines.line_of, declared.requests.Request.Request}
 use Rattle.request_model.specs.declared.requests.Request.TheVariants as request
 use Rattle.request_words.specs.Forms.{Form, machine, commit, submit_go, submit_lnt, retract, tune, calibrate, of_series, regress, set_state, bisect, answer, of_job, runs, report, words_in}
-use Rattle.request_words.specs.declared.verb.JobVerb.TheVariants.{Resume, Job}
-use Rattle.request_words.specs.declared.verb.SeriesVerb.TheVariants.{Segment, Changes, Verify}
+use Rattle.request_words.specs.declared.verb.{JobVerb.TheVariants.{Resume, Job}, SeriesVerb.TheVariants.{Segment, Changes, Verify}}
 use Rattle.request_words.specs.Items.{body_limit}
 use Rattle.request_reader.specs.Scripts.{ArePieces}
 

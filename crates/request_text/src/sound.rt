@@ -1,8 +1,7 @@
 //! What a request keeps.
 ghost use Rattle.std.specs.Prelude.{◌<◌, ◌≤◌, ◌^◌, length, IfSome};
 ghost use Rattle.line_text.specs.Names.{IsName};
-ghost use Rattle.metric_table.specs.Limits.{most};
-ghost use Rattle.metric_table.specs.declared.limits.Limit.TheVariants.{RunSamples};
+ghost use Rattle.metric_table.specs.{Limits.most, declared.limits.Limit.TheVariants.RunSamples};
 ghost use Rattle.request_text.specs.Written.{IsSound};
 
 use line_text::Name;

@@ -1,7 +1,6 @@
 //! The text of a request.
 ghost use Rattle.std.specs.Prelude.{◌≡◌, ℕ, List, ◌++◌, None, Some, All, length, IfOk, IfSome, IfNone, OnOk, OnErr, IsTrue, ◌↔◌, codes};
-ghost use Rattle.lnt_report.specs.Runs.{IsGiven};
-ghost use Rattle.lnt_report.specs.Written.{compact, run_tree};
+ghost use Rattle.lnt_report.specs.{Runs.IsGiven, Written.{compact, run_tree}};
 ghost use Rattle.request_text.specs.Written.{head_line, IsBody, IsBodyOf, IsFirstNamed, IsFirstUnwritten, HasNoText, WrittenIsReadBack, IsReadAs, AsksBack};
 
 use crate::NoMemory;

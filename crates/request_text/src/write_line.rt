@@ -1,12 +1,10 @@
 //! The line of a request.
-ghost use Rattle.std.specs.Prelude.{◌≡◌, ◌∷◌, ◌++◌, map, option_to_list, decimal, OnOk};
-ghost use Rattle.std.specs.Fmt.{signed_decimal};
+ghost use Rattle.std.specs.{Prelude.{◌≡◌, ◌∷◌, ◌++◌, map, option_to_list, decimal, OnOk}, Fmt.signed_decimal};
 ghost use Rattle.line_text.specs.Names.{spelling};
 ghost use Rattle.request_model.specs.Lines.{line_of};
 ghost use Rattle.request_words.specs.Forms.{words_in, report_word};
 ghost use Rattle.request_words.specs.Forms as form;
-ghost use Rattle.request_text.specs.Words.{next, written};
-ghost use Rattle.request_text.specs.Written.{head_line};
+ghost use Rattle.request_text.specs.{Words.{next, written}, Written.head_line};
 
 use crate::NoMemory;
 use Word::{Amount, Named, Number, Said};

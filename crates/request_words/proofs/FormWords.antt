@@ -1,16 +1,12 @@
 -- A form is what its words say: the words of a line tell the one form that it can have.
 use Rattle.std.proofs.Common.{◌≡◌, ℕ, ◌+◌, ◌*◌, ◌<◌, ◌^◌, eqb, List, [], ◌∷◌, refl, sym, ap, ◌∙◌, subst, arith}
-use Rattle.std.specs.Prelude.{if◌then◌else◌, Bool, true, false, codes, decimal, Option, Some, None}
-use Rattle.std.specs.List.{AllByRecursion}
-use Rattle.std.specs.Str.Parse.{digits_value}
+use Rattle.std.specs.{Prelude.{if◌then◌else◌, Bool, true, false, codes, decimal, Option, Some, None}, List.AllByRecursion, Str.Parse.digits_value}
 use Rattle.std.proofs.lemmas.Fmt.{decimal_is_IsNumeral_wide}
 use Rattle.line_text.specs.Lines.{words_of}
-use Rattle.regression_state.specs.Moves.{word}
-use Rattle.regression_state.specs.declared.states.State.{State}
+use Rattle.regression_state.specs.{Moves.word, declared.states.State.State}
 use Rattle.regression_state.specs.declared.states.State.TheVariants as state
 use Rattle.request_words.specs.Forms.{Form, machine, commit, submit_go, submit_lnt, retract, tune, calibrate, of_series, regress, set_state, bisect, answer, of_job, runs, report, words_in, numbers_in, IsOfForm}
-use Rattle.request_words.specs.declared.verb.SeriesVerb.TheVariants.{Segment, Changes, Verify}
-use Rattle.request_words.specs.declared.verb.JobVerb.TheVariants.{Resume, Job}
+use Rattle.request_words.specs.declared.verb.{SeriesVerb.TheVariants.{Segment, Changes, Verify}, JobVerb.TheVariants.{Resume, Job}}
 
 pub first_of : {one other : List ℕ} {words others : List (List ℕ)} → one ∷ words ≡ other ∷ others → one ≡ other
 first_of same = cc

@@ -1,6 +1,5 @@
 -- A number that may be given: what its words say of it.
-use Rattle.std.proofs.Common.{◌≢◌, ℕ, ◌^◌, ◌<◌, List, [], ◌∷◌, map, decimal, Option, Some, None}
-use Rattle.std.specs.Prelude.{IfSome, option_to_list}
+use Rattle.std.{proofs.Common.{◌≢◌, ℕ, ◌^◌, ◌<◌, List, [], ◌∷◌, map, decimal, Option, Some, None}, specs.Prelude.{IfSome, option_to_list}}
 use Rattle.std.specs.List.{AllByRecursion}
 
 pub given-all : (given : Option ℕ) → IfSome given (λ n. n < 2 ^ 64) → AllByRecursion (λ n. n < 2 ^ 64) (option_to_list given)

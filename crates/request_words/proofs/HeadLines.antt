@@ -3,18 +3,12 @@ use Rattle.std.proofs.Common.{◌≡◌, ◌≢◌, ℕ, ◌<◌, ◌≤◌, Boo
 use Rattle.request_words.specs.declared.head.LineFault.TheVariants.{BadRequest, BadName, BadPenalty, BadLength, BodyTooLong}
 use Rattle.request_words.specs.declared.head.Head.TheVariants.{Refused, Asked}
 use Rattle.request_words.specs.Forms.{Form, machine, commit, submit_go, submit_lnt, retract, tune, calibrate, of_series, regress, set_state, bisect, answer, of_job, runs, report, machine_word, machine_form, series_word, job_word, name_of, IsOfForm, HasNoForm, names_in, body_length, HasShortMetric, IsNamed, IsInRange, HasLength}
-use Rattle.request_words.specs.Bodies.{Item, AsksNamed, machine_request}
-use Rattle.request_words.specs.Items.{long, unnamed, wide, off, named, formless, formed, Counts, body_limit}
+use Rattle.request_words.specs.{Bodies.{Item, AsksNamed, machine_request}, Items.{long, unnamed, wide, off, named, formless, formed, Counts, body_limit}}
 use Rattle.line_text.specs.Lines.{words_of}
-use Rattle.request_words.specs.Verbs.{word_of}
-use Rattle.request_words.specs.declared.verb.Verb.{Verb}
+use Rattle.request_words.specs.{Verbs.word_of, declared.verb.Verb.Verb, Heads.{IsHeadOf, IsHead, AreNames, IsFoundIf}, declared.verb.MachineVerb.MachineVerb}
 use Rattle.request_words.specs.declared.verb.Verb.TheVariants as verb
-use Rattle.request_words.specs.Heads.{IsHeadOf, IsHead, AreNames, IsFoundIf}
-use Rattle.request_words.specs.declared.verb.MachineVerb.{MachineVerb}
 use Rattle.request_words.specs.declared.verb.MachineVerb.TheVariants as of_machine
-use Rattle.request_words.specs.declared.verb.SeriesVerb.{SeriesVerb}
-use Rattle.request_words.specs.declared.verb.SeriesVerb.TheVariants.{Segment, Changes, Verify}
-use Rattle.request_words.specs.declared.verb.JobVerb.{JobVerb}
+use Rattle.request_words.specs.declared.verb.{SeriesVerb.SeriesVerb, SeriesVerb.TheVariants.{Segment, Changes, Verify}, JobVerb.JobVerb}
 use Rattle.request_words.specs.declared.verb.JobVerb.TheVariants.{Resume, Job}
 use Rattle.request_words.proofs.FormWords.{first_of, behind, first, second, third, value, submission_of, form_in, the_form}
 

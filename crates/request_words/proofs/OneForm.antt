@@ -1,8 +1,6 @@
 -- A line has one form, and so one count.
 use Rattle.std.proofs.Common.{◌≡◌, ℕ, inl, inr, List, sym, ap, ◌∙◌}
-use Rattle.request_words.specs.Forms.{Form, body_length, IsOfForm}
-use Rattle.request_words.specs.Items.{Counts}
-use Rattle.request_words.proofs.FormWords.{one_words}
+use Rattle.request_words.{specs.Forms.{Form, body_length, IsOfForm}, specs.Items.Counts, proofs.FormWords.one_words}
 
 pub one_form : (line : List ℕ) (f g : Form) → IsOfForm line f → IsOfForm line g → f ≡ g
 one_form line f g one two = one_words f g (sym one.words ∙ two.words) one.numbers two.numbers

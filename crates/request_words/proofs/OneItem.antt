@@ -1,24 +1,18 @@
 -- A line asks one thing with its body.
 use Rattle.std.proofs.Common.{◌≡◌, ℕ, ◌-◌, ◌<◌, ◌≤◌, List, [], length, Result, Ok, Err, refl, sym, ap, ◌∙◌, subst, arith, ⊎_elim}
-use Rattle.std.specs.Str.{IsUtf8, IsValidUpTo}
-use Rattle.std.proofs.lemmas.Bool.{cases_lt}
-use Rattle.std.proofs.lemmas.List.{take_all}
+use Rattle.std.{specs.Str.{IsUtf8, IsValidUpTo}, proofs.lemmas.Bool.cases_lt, proofs.lemmas.List.take_all}
 use Rattle.line_text.specs.Lines.{lines_of}
 use Rattle.metric_table.specs.declared.limits.Limit.TheVariants.{RunSamples}
 use Rattle.sample_model.specs.Samples.{Measurement}
 use Rattle.go_bench_text.specs.Readings.{IsRead, IsFirstOver, HasTooMany, OneReading}
-use Rattle.lnt_report.specs.declared.fault.ReportFault.{ReportFault}
+use Rattle.lnt_report.specs.{declared.fault.ReportFault.ReportFault, Runs.Report, Outcomes.{IsDue, OneAnswer}}
 use Rattle.lnt_report.specs.declared.fault.ReportFault.TheVariants as fault
-use Rattle.lnt_report.specs.Runs.{Report}
-use Rattle.lnt_report.specs.Outcomes.{IsDue, OneAnswer}
-use Rattle.request_model.specs.declared.requests.Request.{Request}
+use Rattle.request_model.specs.declared.{requests.Request.Request, replies.Refusal.Refusal}
 use Rattle.request_model.specs.declared.replies.RangePlace.TheVariants as place
-use Rattle.request_model.specs.declared.replies.Refusal.{Refusal}
 use Rattle.request_model.specs.declared.replies.Refusal.TheVariants as refusal
 use Rattle.request_words.specs.Forms.{Form, machine, commit, submit_go, submit_lnt, retract, tune, calibrate, of_series, regress, set_state, bisect, answer, of_job, runs, report}
 use Rattle.request_words.specs.Bodies.{Item, GivesGo, RefusesGo, AsksGo, fault_of, AsksLnt, AsksNamed}
-use Rattle.request_words.specs.Items.{off, AsksForm, long, unnamed, wide, named, formless, formed, OneItem}
-use Rattle.request_words.proofs.OneForm.{one_form}
+use Rattle.request_words.{specs.Items.{off, AsksForm, long, unnamed, wide, named, formless, formed, OneItem}, proofs.OneForm.one_form}
 
 -- ---- Go benchmark text
 

@@ -1,12 +1,9 @@
 -- A line that is skipped has no form.
-use Rattle.std.proofs.Common.{◌≡◌, ◌≢◌, ℕ, List, [], ◌∷◌, length, filter, true, not, refl, sym, ap, ◌∙◌, arith, ne_eqb, eqb, inl, inr}
-use Rattle.std.specs.Prelude.{nat_le}
-use Rattle.std.proofs.lemmas.Bool.{leb-true}
-use Rattle.std.specs.List.{slice_split, onto_first}
+use Rattle.std.{proofs.Common.{◌≡◌, ◌≢◌, ℕ, List, [], ◌∷◌, length, filter, true, not, refl, sym, ap, ◌∙◌, arith, ne_eqb, eqb, inl, inr}, specs.Prelude.nat_le}
+use Rattle.std.{proofs.lemmas.Bool.leb-true, specs.List.{slice_split, onto_first}}
 use Rattle.line_text.specs.Lines.{is_word, words_of}
 use Rattle.request_words.specs.Forms.{Form, machine, commit, submit_go, submit_lnt, retract, tune, calibrate, of_series, regress, set_state, bisect, answer, of_job, runs, report, words_in, HasNoForm}
-use Rattle.request_words.specs.Items.{IsSkipped, Counts}
-use Rattle.request_words.specs.declared.verb.SeriesVerb.TheVariants.{Segment, Changes, Verify}
+use Rattle.request_words.specs.{Items.{IsSkipped, Counts}, declared.verb.SeriesVerb.TheVariants.{Segment, Changes, Verify}}
 use Rattle.request_words.specs.declared.verb.JobVerb.TheVariants.{Resume, Job}
 
 abbrev first_byte : List (List ℕ) → ℕ

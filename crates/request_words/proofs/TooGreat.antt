@@ -1,6 +1,5 @@
 -- A number that is none of 128 bits.
-use Rattle.std.proofs.Common.{◌≡◌, ◌≢◌, ℕ, ◌^◌, ◌<◌, Bool, true, false, List, decimal, nat_le, refl, arith}
-use Rattle.std.specs.Str.Parse.{digits_value}
+use Rattle.std.{proofs.Common.{◌≡◌, ◌≢◌, ℕ, ◌^◌, ◌<◌, Bool, true, false, List, decimal, nat_le, refl, arith}, specs.Str.Parse.digits_value}
 use Rattle.std.proofs.lemmas.Bool.{leb-true, leb-false}
 use Rattle.line_text.specs.Numbers.{IsNumber, NumbersAreSpelled}
 

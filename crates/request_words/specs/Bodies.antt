@@ -1,27 +1,18 @@
 -- What a form asks once its words are names: a request, or a refusal of its body.
-use Rattle.std.specs.Prelude.{◌≡◌, ℕ, pos, ◌≤◌, List, length, Some, None, Result, Ok, Err}
-use Rattle.std.specs.Str.Parse.{digits_value}
-use Rattle.std.specs.Str.{IsUtf8, IsValidUpTo}
+use Rattle.std.specs.{Prelude.{◌≡◌, ℕ, pos, ◌≤◌, List, length, Some, None, Result, Ok, Err}, Str.Parse.digits_value, Str.{IsUtf8, IsValidUpTo}}
 use Rattle.line_text.specs.Lines.{lines_of}
-use Rattle.metric_table.specs.Limits.{most}
-use Rattle.metric_table.specs.declared.limits.Limit.TheVariants.{RunSamples}
+use Rattle.metric_table.specs.{Limits.most, declared.limits.Limit.TheVariants.RunSamples}
 use Rattle.sample_model.specs.Samples.{Measurement}
 use Rattle.go_bench_text.specs.Readings.{IsRead, IsFirstOver, HasTooMany}
-use Rattle.lnt_report.specs.declared.fault.ReportFault.{ReportFault}
+use Rattle.lnt_report.specs.{declared.fault.ReportFault.ReportFault, Runs.Report, Outcomes.IsDue}
 use Rattle.lnt_report.specs.declared.fault.ReportFault.TheVariants as fault
-use Rattle.lnt_report.specs.Runs.{Report}
-use Rattle.lnt_report.specs.Outcomes.{IsDue}
-use Rattle.request_model.specs.declared.requests.Request.{Request}
+use Rattle.request_model.specs.declared.{requests.Request.Request, replies.Refusal.Refusal}
 use Rattle.request_model.specs.declared.requests.Request.TheVariants as request
 use Rattle.request_model.specs.declared.replies.RangePlace.TheVariants as place
-use Rattle.request_model.specs.declared.replies.Refusal.{Refusal}
 use Rattle.request_model.specs.declared.replies.Refusal.TheVariants as refusal
 use Rattle.request_words.specs.Forms.{Form, machine, commit, submit_go, submit_lnt, retract, tune, calibrate, of_series, regress, set_state, bisect, answer, of_job, runs, report, name_of}
-use Rattle.request_words.specs.declared.verb.JobVerb.{JobVerb}
-use Rattle.request_words.specs.declared.verb.MachineVerb.{MachineVerb}
+use Rattle.request_words.specs.declared.verb.{JobVerb.JobVerb, MachineVerb.MachineVerb, JobVerb.TheVariants.{Resume, Job}, SeriesVerb.SeriesVerb}
 use Rattle.request_words.specs.declared.verb.MachineVerb.TheVariants as of_machine
-use Rattle.request_words.specs.declared.verb.JobVerb.TheVariants.{Resume, Job}
-use Rattle.request_words.specs.declared.verb.SeriesVerb.{SeriesVerb}
 use Rattle.request_words.specs.declared.verb.SeriesVerb.TheVariants.{Segment, Changes, Verify}
 
 -- what an item of a script asks: a request, or the refusal of reading it

@@ -1,20 +1,13 @@
 -- The forms of a request line, and the words of each.
 use Rattle.std.specs.Prelude.{◌≡◌, ℕ, ◌^◌, ◌<◌, ◌≤◌, Bool, true, false, List, [], ◌∷◌, length, map, option_to_list, decimal, codes, Option, IfSome}
-use Rattle.std.specs.List.{AllByRecursion}
-use Rattle.std.specs.Str.Parse.{digits_value}
+use Rattle.std.specs.{List.AllByRecursion, Str.Parse.digits_value}
 use Rattle.percent_encoding.specs.Percent.{percent_decode}
-use Rattle.line_text.specs.Lines.{words_of}
-use Rattle.line_text.specs.Names.{Spells}
-use Rattle.line_text.specs.Numbers.{IsNumber}
-use Rattle.regression_state.specs.declared.states.State.{State}
-use Rattle.regression_state.specs.Moves.{word}
+use Rattle.line_text.specs.{Lines.words_of, Names.Spells, Numbers.IsNumber}
+use Rattle.regression_state.specs.{declared.states.State.State, Moves.word}
 use Rattle.segment_model.specs.Limits.{IsLength}
 use Rattle.request_model.specs.Factors.{IsFactor}
-use Rattle.request_words.specs.declared.verb.JobVerb.{JobVerb}
-use Rattle.request_words.specs.declared.verb.JobVerb.TheVariants.{Resume, Job}
-use Rattle.request_words.specs.declared.verb.MachineVerb.{MachineVerb}
+use Rattle.request_words.specs.declared.verb.{JobVerb.JobVerb, JobVerb.TheVariants.{Resume, Job}, MachineVerb.MachineVerb, SeriesVerb.SeriesVerb}
 use Rattle.request_words.specs.declared.verb.MachineVerb.TheVariants as of_machine
-use Rattle.request_words.specs.declared.verb.SeriesVerb.{SeriesVerb}
 use Rattle.request_words.specs.declared.verb.SeriesVerb.TheVariants.{Segment, Changes, Verify}
 
 -- a form, with its words that spell names or a number of any size, its numbers, and what else its words say

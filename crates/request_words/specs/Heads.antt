@@ -1,16 +1,11 @@
 -- What a request line asks before its body is read.
-use Rattle.std.specs.Prelude.{◌≡◌, ℕ, ◌≤◌, List, ◌∷◌, Option, Some, None, Ok, Err}
-use Rattle.std.specs.List.{AllByRecursion}
+use Rattle.std.specs.{Prelude.{◌≡◌, ℕ, ◌≤◌, List, ◌∷◌, Option, Some, None, Ok, Err}, List.AllByRecursion}
 use Rattle.line_text.specs.Lines.{words_of}
-use Rattle.request_words.specs.declared.head.Head.{Head}
-use Rattle.request_words.specs.declared.head.Head.TheVariants.{Refused, Asked, Go, Lnt}
-use Rattle.request_words.specs.declared.head.LineFault.{LineFault}
-use Rattle.request_words.specs.declared.head.LineFault.TheVariants.{BadRequest, BadName, BadPenalty, BadLength, BodyTooLong}
+use Rattle.request_words.specs.declared.head.{Head.Head, Head.TheVariants.{Refused, Asked, Go, Lnt}, LineFault.LineFault}
+use Rattle.request_words.specs.{declared.head.LineFault.TheVariants.{BadRequest, BadName, BadPenalty, BadLength, BodyTooLong}, Forms.SpellsName}
 use Rattle.request_model.specs.declared.replies.Refusal.{Refusal}
 use Rattle.request_model.specs.declared.replies.Refusal.TheVariants as refusal
-use Rattle.request_words.specs.Forms.{SpellsName}
-use Rattle.request_words.specs.Bodies.{Item, of_go, AsksGo, of_lnt, AsksLnt}
-use Rattle.request_words.specs.Items.{Asks, Counts, body_limit}
+use Rattle.request_words.specs.{Bodies.{Item, of_go, AsksGo, of_lnt, AsksLnt}, Items.{Asks, Counts, body_limit}}
 
 -- whatever its body, the line asks this, and so many bytes belong to it
 pub record IsHeadOf (line : List ℕ) (count : ℕ) (OfBody : List ℕ → Item → Type 0) : Type 0 where

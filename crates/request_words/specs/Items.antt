@@ -2,8 +2,7 @@
 use Rattle.std.specs.Prelude.{◌≡◌, ℕ, ◌<◌, ◌≤◌, ◌⊎◌, List, [], ◌∷◌, Err}
 use Rattle.line_text.specs.Lines.{words_of}
 use Rattle.request_model.specs.declared.replies.Refusal.TheVariants.{BadRequest, BadName, BadPenalty, BadLength, BodyTooLong}
-use Rattle.request_words.specs.Forms.{Form, IsOfForm, HasNoForm, body_length, IsNamed, IsInRange, HasLength}
-use Rattle.request_words.specs.Bodies.{Item, AsksNamed}
+use Rattle.request_words.specs.{Forms.{Form, IsOfForm, HasNoForm, body_length, IsNamed, IsInRange, HasLength}, Bodies.{Item, AsksNamed}}
 
 -- the most bytes of a body
 abbrev pub body_limit : ℕ

@@ -1,12 +1,11 @@
 -- No public contract cites this. The refusals that the faults of bodies are.
-use Rattle.std.specs.Prelude.{◌≡◌, ◌≢◌, Result, Ok, Err}
+use Rattle.std.specs.{Prelude.{◌≡◌, ◌≢◌, Result, Ok, Err}, declared.alloc.AllocError.AllocError}
 use Rattle.go_bench_text.specs.declared.read.GoFault.{GoFault}
 use Rattle.go_bench_text.specs.declared.read.GoFault.TheVariants as go
 use Rattle.lnt_report.specs.declared.fault.ReportFault.{ReportFault}
 use Rattle.lnt_report.specs.declared.fault.ReportFault.TheVariants as report
 use Rattle.request_model.specs.declared.replies.RangePlace.TheVariants as place
 use Rattle.request_model.specs.declared.replies.Refusal.TheVariants as refusal
-use Rattle.std.specs.declared.alloc.AllocError.{AllocError}
 use Rattle.request_words.specs.Bodies.{Item, fault_of}
 
 -- want of memory is no refusal, and each other fault of Go benchmark text is this one

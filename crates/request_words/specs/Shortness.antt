@@ -1,8 +1,6 @@
 -- No public contract cites this. How long the last of the names of a request may be.
 use Rattle.std.specs.Prelude.{ℕ, ◌≤◌, List, length}
-use Rattle.request_words.specs.declared.names.Last.{Last}
-use Rattle.request_words.specs.declared.names.Last.TheVariants.{Metric, Any}
-use Rattle.request_words.specs.Forms.{name_of}
+use Rattle.request_words.specs.{declared.names.Last.Last, declared.names.Last.TheVariants.{Metric, Any}, Forms.name_of}
 
 -- that of a metric has at most 64 bytes
 abbrev pub IsShortName : Last → List ℕ → Type 0

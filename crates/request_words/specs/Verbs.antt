@@ -1,7 +1,6 @@
 -- No public contract cites this. The words that a request line begins with.
 use Rattle.std.specs.Prelude.{ℕ, List, codes}
-use Rattle.request_words.specs.Forms.{series_word, job_word}
-use Rattle.request_words.specs.declared.verb.Verb.{Verb}
+use Rattle.request_words.specs.{Forms.{series_word, job_word}, declared.verb.Verb.Verb}
 use Rattle.request_words.specs.declared.verb.Verb.TheVariants as verb
 
 abbrev pub word_of : Verb → List ℕ

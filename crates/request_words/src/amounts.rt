@@ -1,6 +1,5 @@
 //! Words of a request line that are numbers of any size.
-ghost use Rattle.std.specs.Prelude.{◌≡◌, ◌<◌, ◌≤◌, ◌^◌, ◌↔◌, IsTrue, IfSome, IfNone, pos};
-ghost use Rattle.std.specs.Str.Parse.{digits_value};
+ghost use Rattle.std.specs.{Prelude.{◌≡◌, ◌<◌, ◌≤◌, ◌^◌, ◌↔◌, IsTrue, IfSome, IfNone, pos}, Str.Parse.digits_value};
 ghost use Rattle.line_text.specs.Numbers.{IsNumber};
 ghost use Rattle.segment_model.specs.Limits.{IsLength};
 ghost use Rattle.request_model.specs.Factors.{IsFactor};

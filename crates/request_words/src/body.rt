@@ -1,8 +1,7 @@
 //! What a submission asks, by its body.
 ghost use Rattle.std.specs.Prelude.{◌≡◌, IfOk};
 ghost use Rattle.request_model.specs.declared.requests.Request.TheVariants as request;
-ghost use Rattle.request_words.specs.Refused.{IsGoRefused, IsLntRefused};
-ghost use Rattle.request_words.specs.Bodies.{of_go, AsksGo, of_lnt, AsksLnt};
+ghost use Rattle.request_words.specs.{Refused.{IsGoRefused, IsLntRefused}, Bodies.{of_go, AsksGo, of_lnt, AsksLnt}};
 
 use crate::NoMemory;
 use go_bench_text::{GoFault, GoRun, read_go_with};

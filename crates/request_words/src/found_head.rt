@@ -1,9 +1,7 @@
 //! The heads of requests about what was found in a series, and of reports.
 ghost use Rattle.std.specs.Prelude.{◌≡◌, ◌≢◌, ℕ, ◌^◌, ◌<◌, Bool, List, [], ◌∷◌, decimal, codes, IfOk, IfSome, IfNone};
 ghost use Rattle.regression_state.specs.Moves.{word};
-ghost use Rattle.request_words.specs.Forms.{job_word, report_word};
-ghost use Rattle.request_words.specs.Bodies.{job_request};
-ghost use Rattle.request_words.specs.Heads.{IsHeadBehind};
+ghost use Rattle.request_words.specs.{Forms.{job_word, report_word}, Bodies.job_request, Heads.IsHeadBehind};
 
 use crate::NoMemory;
 use crate::head::{Head, formless, three_and_number, unnamed};

@@ -1,10 +1,7 @@
 //! The head of a request: what its line asks before its body is read.
 ghost use Rattle.std.specs.Prelude.{◌≡◌, ◌≢◌, ℕ, ◌^◌, ◌<◌, List, [], ◌∷◌, map, option_to_list, Option, decimal, codes, IfOk, IfSome, IfNone};
 ghost use Rattle.line_text.specs.Numbers.{IsNumber};
-ghost use Rattle.request_words.specs.Forms.{machine_word, series_word};
-ghost use Rattle.request_words.specs.Bodies.{machine_request, series_request};
-ghost use Rattle.request_words.specs.Heads.{IsHead, IsHeadBehind, line_refusal};
-ghost use Rattle.request_words.specs.Items.{Asks, Counts};
+ghost use Rattle.request_words.specs.{Forms.{machine_word, series_word}, Bodies.{machine_request, series_request}, Heads.{IsHead, IsHeadBehind, line_refusal}, Items.{Asks, Counts}};
 
 use crate::NoMemory;
 use crate::amounts::{is_factor, length_of, penalty_of};

@@ -1,8 +1,6 @@
 //! Words of a request line that spell names.
 ghost use Rattle.std.specs.Prelude.{◌≡◌, ◌↔◌, [], ◌∷◌, IfOk, IfSome, IsTrue};
-ghost use Rattle.request_words.specs.Forms.{name_of};
-ghost use Rattle.request_words.specs.Heads.{AreNames, IsFoundIf};
-ghost use Rattle.request_words.specs.Shortness.{IsShortName, IsShortFor};
+ghost use Rattle.request_words.specs.{Forms.name_of, Heads.{AreNames, IsFoundIf}, Shortness.{IsShortName, IsShortFor}};
 
 use crate::NoMemory;
 use line_text::{Name, NameError, Names, read_name};

@@ -1,27 +1,16 @@
 -- A publication adds to a history, or leaves it as it was; and a snapshot that was taken before was taken before then, too.
-use Rattle.std.proofs.Common.{◌≡◌, ℕ, List, [], ◌∷◌, ◌++◌, sym, ap, subst, ◌∙◌, append_assoc, Option, Some, None}
-use Rattle.std.specs.Prelude.{IfSome}
+use Rattle.std.{proofs.Common.{◌≡◌, ℕ, List, [], ◌∷◌, ◌++◌, sym, ap, subst, ◌∙◌, append_assoc, Option, Some, None}, specs.Prelude.IfSome}
 use Rattle.std.proofs.lemmas.List.{append-nil}
 use Rattle.metric_table.specs.declared.limits.Limit.{Limit}
 use Rattle.segment_cost.specs.declared.done.Done.{Done}
-use Rattle.history_model.specs.declared.entries.Author.{Author}
-use Rattle.history_model.specs.declared.entries.Entry.{Entry}
-use Rattle.history_model.specs.Allowed.{Legal}
-use Rattle.history_model.specs.Entries.{entries_of}
-use Rattle.history_model.specs.Laws.{LastStands, VersionsStay}
-use Rattle.history_model.specs.Publications.{last_publication}
-use Rattle.history_model.specs.Runs.{Series}
-use Rattle.history_model.proofs.Chosen.{entries-push}
+use Rattle.history_model.specs.{declared.entries.Author.Author, declared.entries.Entry.Entry, Allowed.Legal, Entries.entries_of}
+use Rattle.history_model.{specs.Laws.{LastStands, VersionsStay}, specs.Publications.last_publication, specs.Runs.Series, proofs.Chosen.entries-push}
 use Rattle.publication_index.specs.Kept.{series_of}
 use Rattle.track_model.specs.Tracks.{Track, with_taken}
-use Rattle.track_series.specs.Publications.{IsAdded, IsPublished, IsTaken, later, passed}
-use Rattle.track_series.specs.Snapshots.{IsRedone, IsSnapshot, IsTakenAt}
-use Rattle.track_series.specs.declared.publishing.Published.{Published}
-use Rattle.track_series.specs.declared.redone.Redone.{Redone}
-use Rattle.track_series.specs.declared.snapshot.Snapshot.{Snapshot}
+use Rattle.track_series.specs.{Publications.{IsAdded, IsPublished, IsTaken, later, passed}, Snapshots.{IsRedone, IsSnapshot, IsTakenAt}}
+use Rattle.track_series.specs.declared.{publishing.Published.Published, redone.Redone.Redone, snapshot.Snapshot.Snapshot}
 use Rattle.track_series.proofs.Segmenting.{made-from, taken-history}
-use Rattle.machine_state.specs.Made.{IsMadeFrom, entry_of}
-use Rattle.machine_state.proofs.Publishing.{made-later}
+use Rattle.machine_state.{specs.Made.{IsMadeFrom, entry_of}, proofs.Publishing.made-later}
 use Rattle.room_tests.specs.Growth.{Grows, IsTakenBefore}
 
 -- ---- what a publication makes of a history

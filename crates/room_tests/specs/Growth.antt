@@ -1,12 +1,8 @@
 -- A history that goes on, and a snapshot of what it was: for tests alone, and no public contract cites it.
 use Rattle.std.specs.Prelude.{◌≡◌, List, ◌++◌}
-use Rattle.history_model.specs.declared.entries.Entry.{Entry}
-use Rattle.history_model.specs.Allowed.{Legal}
-use Rattle.history_model.specs.Entries.{entries_of}
-use Rattle.history_model.specs.Runs.{Series}
+use Rattle.history_model.specs.{declared.entries.Entry.Entry, Allowed.Legal, Entries.entries_of, Runs.Series}
 use Rattle.track_model.specs.Tracks.{Track}
-use Rattle.track_series.specs.Snapshots.{IsTakenAt}
-use Rattle.track_series.specs.declared.snapshot.Snapshot.{Snapshot}
+use Rattle.track_series.specs.{Snapshots.IsTakenAt, declared.snapshot.Snapshot.Snapshot}
 
 -- a machine's history goes on
 abbrev pub Grows : Track → Track → Type 0

@@ -1,7 +1,6 @@
 //! Machines and rooms that the tests begin with, what is asked of a room, and what both come to.
 ghost use Rattle.std.specs.Prelude.{◌≤◌, IfSome, length};
-ghost use Rattle.metric_table.specs.Limits.{most};
-ghost use Rattle.metric_table.specs.declared.limits.Limit.TheVariants.{Machines};
+ghost use Rattle.metric_table.specs.{Limits.most, declared.limits.Limit.TheVariants.Machines};
 ghost use Rattle.track_room.specs.Rooms.{IsFirst, IsPassOf};
 
 use history_model::Author;

@@ -2,9 +2,7 @@
 ghost use Rattle.std.specs.Prelude.{◌≡◌, IfSome};
 ghost use Rattle.publication_index.specs.Standing.{table_for};
 ghost use Rattle.machine_state.specs.Made.{IsMadeFrom};
-ghost use Rattle.track_room.specs.Claims.{IsOf, taken_with};
-ghost use Rattle.track_room.specs.Rooms.{IsFirst, IsPassOf};
-ghost use Rattle.track_room.specs.Taking.{IsTaken, OfSeen};
+ghost use Rattle.track_room.specs.{Claims.{IsOf, taken_with}, Rooms.{IsFirst, IsPassOf}, Taking.{IsTaken, OfSeen}};
 
 use crate::made::{Kind, MEASURED, asked, is_told, room_of};
 use history_model::{Author, publication_law};

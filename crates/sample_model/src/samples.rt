@@ -1,9 +1,7 @@
 //! Lists of samples, of bounded length.
 ghost use Rattle.std.specs.Prelude.{◌≡◌, ◌<◌, ◌↔◌, IsTrue, [], ◌∷◌, ◌++◌, length, OnOk, OnErr, IfOk, slice_get, option_copied};
-ghost use Rattle.metric_table.specs.Limits.{most};
-ghost use Rattle.metric_table.specs.declared.limits.Limit.TheVariants.{RunSamples};
-ghost use Rattle.sample_model.specs.Listed.{listed};
-ghost use Rattle.sample_model.specs.Samples.{AreSamples};
+ghost use Rattle.metric_table.specs.{Limits.most, declared.limits.Limit.TheVariants.RunSamples};
+ghost use Rattle.sample_model.specs.{Listed.listed, Samples.AreSamples};
 
 use crate::NoMemory;
 use crate::sample::Sample;
@@ -31,8 +29,7 @@ pub struct Samples {
 
 impl Model for Samples {
     ghost use Rattle.std.specs.Prelude.{List};
-    ghost use Rattle.sample_model.specs.Samples.{Measurement, AreSamples};
-    ghost use Rattle.sample_model.specs.Listed.{listed};
+    ghost use Rattle.sample_model.specs.{Samples.{Measurement, AreSamples}, Listed.listed};
 
     ghost Value = { List Measurement };
 

@@ -1,19 +1,12 @@
 -- One run more.
 use Rattle.std.proofs.Common.{◌≡◌, ◌+◌, ◌≤◌, Bool, true, false, cond, List, [], ◌∷◌, ◌++◌, length, refl, sym, ap, ◌∙◌, Option, Some, None, inl, inr, ◌⊎◌}
-use Rattle.std.specs.Prelude.{find, bytes_eq, nat_lt}
-use Rattle.std.specs.Option.{option_or}
-use Rattle.std.proofs.lemmas.List.Sums.{sum_by_push}
-use Rattle.std.proofs.lemmas.Bool.{cases_Bool, cases_lt, lt-ltb}
-use Rattle.std.proofs.lemmas.List.Folds.{find-append}
-use Rattle.std.proofs.lemmas.Slice.Eq.{bytes_eq-Decides}
+use Rattle.std.{specs.Prelude.{find, bytes_eq, nat_lt}, specs.Option.option_or, proofs.lemmas.List.Sums.sum_by_push}
+use Rattle.std.proofs.lemmas.{Bool.{cases_Bool, cases_lt, lt-ltb}, List.Folds.find-append, Slice.Eq.bytes_eq-Decides}
 use Rattle.metric_table.specs.Limits.{most}
 use Rattle.metric_table.specs.declared.limits.Limit.TheVariants as limit
-use Rattle.history_model.specs.declared.run.Run.{Run}
-use Rattle.history_model.specs.Runs.{same_run}
-use Rattle.sample_store.specs.declared.answers.Accepted.TheVariants.{New, Duplicate, Clash, Full}
-use Rattle.sample_store.specs.declared.store.Stored.{Stored}
-use Rattle.sample_store.specs.Runs.{names, samples_in, AreNamedOnce}
-use Rattle.sample_store.specs.Judged.{judged, judged_by, told_again, within}
+use Rattle.history_model.specs.{declared.run.Run.Run, Runs.same_run}
+use Rattle.sample_store.specs.declared.{answers.Accepted.TheVariants.{New, Duplicate, Clash, Full}, store.Stored.Stored}
+use Rattle.sample_store.specs.{Runs.{names, samples_in, AreNamedOnce}, Judged.{judged, judged_by, told_again, within}}
 
 some-or-none : {A : Type 0} (o : Option A) → (o ≡ None) ⊎ ((x : A) × (o ≡ Some x))
 some-or-none None = inl refl

@@ -2,13 +2,9 @@
 use Rattle.std.specs.Prelude.{ℕ, ◌+◌, nat_lt, if◌then◌else◌, List, length, find, Option, Some, None}
 use Rattle.metric_table.specs.Limits.{most}
 use Rattle.metric_table.specs.declared.limits.Limit.TheVariants as limit
-use Rattle.history_model.specs.declared.run.Run.{Run}
-use Rattle.history_model.specs.Runs.{same_run}
-use Rattle.sample_store.specs.declared.answers.Accepted.{Accepted}
-use Rattle.sample_store.specs.declared.answers.Accepted.TheVariants.{New, Duplicate, Clash, Full}
-use Rattle.sample_store.specs.declared.answers.Retracted.{Retracted}
-use Rattle.sample_store.specs.declared.answers.Retracted.TheVariants.{Done, UnknownRun, AlreadyRetracted}
-use Rattle.sample_store.specs.declared.store.Stored.{Stored}
+use Rattle.history_model.specs.{declared.run.Run.Run, Runs.same_run}
+use Rattle.sample_store.specs.declared.answers.{Accepted.Accepted, Accepted.TheVariants.{New, Duplicate, Clash, Full}, Retracted.Retracted}
+use Rattle.sample_store.specs.declared.{answers.Retracted.TheVariants.{Done, UnknownRun, AlreadyRetracted}, store.Stored.Stored}
 use Rattle.sample_store.specs.Runs.{names, samples_in}
 
 -- a run of a name that was accepted: the same, or another

@@ -1,9 +1,7 @@
 //! The store of runs: look-ups, acceptances and retractions.
-ghost use Rattle.std.specs.Prelude.{◌≡◌, ◌≢◌, ◌++◌, ◌∷◌, [], OnOk, OnErr, IfOk, length, find, map, option_copied, position};
-ghost use Rattle.std.specs.Cmp.Lexicographic.{pointwise};
+ghost use Rattle.std.specs.{Prelude.{◌≡◌, ◌≢◌, ◌++◌, ◌∷◌, [], OnOk, OnErr, IfOk, length, find, map, option_copied, position}, Cmp.Lexicographic.pointwise};
 ghost use Rattle.history_model.specs.Runs.{same_run, same_sample};
-ghost use Rattle.sample_store.specs.Runs.{names, marked, samples_in, AreNamedOnce};
-ghost use Rattle.sample_store.specs.Judged.{judged, retraction};
+ghost use Rattle.sample_store.specs.{Runs.{names, marked, samples_in, AreNamedOnce}, Judged.{judged, retraction}};
 
 use crate::NoMemory;
 use crate::answers::{Accepted, Retracted};
@@ -50,8 +48,7 @@ impl Model for SampleStore {
     ghost Value = { List Stored };
 
     ghost use Rattle.std.specs.Prelude.{◌≡◌, ◌≤◌, map, length};
-    ghost use Rattle.metric_table.specs.Limits.{most};
-    ghost use Rattle.metric_table.specs.declared.limits.Limit.TheVariants.{Runs, Samples};
+    ghost use Rattle.metric_table.specs.{Limits.most, declared.limits.Limit.TheVariants.{Runs, Samples}};
     ghost use Rattle.sample_store.specs.Runs.{samples_in, AreNamedOnce};
 
     ghost view = { λ s. s.runs.items };

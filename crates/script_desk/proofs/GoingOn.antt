@@ -1,17 +1,10 @@
 -- Kept machines that a session leaves go on from what they were, and come back.
-use Rattle.std.proofs.Common.{◌≡◌, true, List, [], ◌∷◌, ap, ◌∙◌}
-use Rattle.std.specs.List.{AllByRecursion}
-use Rattle.history_model.specs.declared.entries.Author.{Author}
-use Rattle.history_model.specs.declared.entries.Placed.{Placed}
+use Rattle.std.{proofs.Common.{◌≡◌, true, List, [], ◌∷◌, ap, ◌∙◌}, specs.List.AllByRecursion}
+use Rattle.history_model.specs.declared.entries.{Author.Author, Placed.Placed}
 use Rattle.track_model.specs.Tracks.{Track}
-use Rattle.keep_rows.specs.Growth.{AreOfSession, GoOn, IsNewTrack, MayBeKept}
-use Rattle.keep_rows.specs.Kept.{kept_of, AreKept}
-use Rattle.keep_rows.specs.Laws.{KeptComesBack, LoadedAreKept}
-use Rattle.keep_rows.specs.Loading.{Stored}
+use Rattle.keep_rows.specs.{Growth.{AreOfSession, GoOn, IsNewTrack, MayBeKept}, Kept.{kept_of, AreKept}, Laws.{KeptComesBack, LoadedAreKept}, Loading.Stored}
 use Rattle.keep_rows.specs.Rows.{is_of_session}
-use Rattle.script_desk.specs.Growth.{AreBy, ComesBack, IsNew, Grows, SessionsGoOn, Stays}
-use Rattle.script_desk.specs.Sessions.{State}
-use Rattle.script_desk.proofs.Growing.{sessions_stay}
+use Rattle.script_desk.{specs.Growth.{AreBy, ComesBack, IsNew, Grows, SessionsGoOn, Stays}, specs.Sessions.State, proofs.Growing.sessions_stay}
 
 made_by : (author : Author) → is_of_session author ≡ true → (entries : List Placed) → AreBy author entries → AreOfSession entries
 made_by author is [] by = tt

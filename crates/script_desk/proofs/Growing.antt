@@ -1,25 +1,15 @@
 -- What a session leaves of the tracks that it began with.
 use Rattle.std.proofs.Common.{◌≡◌, ℕ, ◌<◌, Bool, true, false, cond, List, [], ◌∷◌, ◌++◌, length, Option, None, Some, Ok, Err, refl, sym, ap, subst, ◌∙◌, arith, append_assoc, append-nil, length-append}
-use Rattle.std.specs.Prelude.{find, nat_eq, nat_le}
-use Rattle.std.specs.List.{AllByRecursion}
-use Rattle.std.proofs.lemmas.Bool.{leb-false}
-use Rattle.metric_table.specs.Limits.{most}
-use Rattle.metric_table.specs.declared.limits.Limit.TheVariants.{Machines}
-use Rattle.request_model.specs.declared.requests.Request.{Request}
+use Rattle.std.{specs.Prelude.{find, nat_eq, nat_le}, specs.List.AllByRecursion, proofs.lemmas.Bool.leb-false}
+use Rattle.metric_table.specs.{Limits.most, declared.limits.Limit.TheVariants.Machines}
+use Rattle.request_model.specs.{declared.requests.Request.Request, declared.replies.Reply.Reply, Requests.machine_of, declared.replies.Answer.Answer}
 use Rattle.request_model.specs.declared.requests.Request.TheVariants as request
 use Rattle.request_model.specs.declared.replies.Refusal.TheVariants as refusal
 use Rattle.request_model.specs.declared.replies.Answer.TheVariants as answer
-use Rattle.request_model.specs.declared.replies.Reply.{Reply}
 use Rattle.request_words.specs.Bodies.{Item}
-use Rattle.history_model.specs.declared.entries.Author.{Author}
-use Rattle.history_model.specs.declared.entries.Entry.{Entry}
-use Rattle.history_model.specs.declared.entries.Placed.{Placed}
-use Rattle.track_model.specs.Outcomes.{Outcome, tells, refuses}
-use Rattle.track_model.specs.Replies.{apart}
-use Rattle.request_model.specs.Requests.{machine_of}
+use Rattle.history_model.specs.{declared.entries.Author.Author, declared.entries.Entry.Entry, declared.entries.Placed.Placed, Runs.Series}
+use Rattle.track_model.specs.{Outcomes.{Outcome, tells, refuses}, Replies.apart}
 use Rattle.std.specs.FinSet as set
-use Rattle.history_model.specs.Runs.{Series}
-use Rattle.request_model.specs.declared.replies.Answer.{Answer}
 use Rattle.track_model.specs.Tracks.{Track, base_of, with_added, with_answered, with_home, with_segmented, with_taken}
 use Rattle.script_desk.specs.Sessions.{Answered, is_track, changed, untouched, new_track, added, unknown, AnswersAbout, Answers, State, AnswersFor}
 use Rattle.script_loop.specs.Folds.{AnswersItem}

@@ -1,12 +1,8 @@
 -- Private: no public contract cites this. Machines that stand as they did, but for a table that went.
-use Rattle.std.proofs.Common.{◌≡◌, ℕ, zero, suc, get_or, List, [], ◌∷◌, Result, Ok, Err, refl, subst, sym}
-use Rattle.std.specs.Prelude.{OnErr, slice_set}
-use Rattle.std.specs.Cmp.{IsTotalOrder}
-use Rattle.std.specs.List.{AllZip}
+use Rattle.std.{proofs.Common.{◌≡◌, ℕ, zero, suc, get_or, List, [], ◌∷◌, Result, Ok, Err, refl, subst, sym}, specs.Prelude.{OnErr, slice_set}}
+use Rattle.std.{specs.Cmp.IsTotalOrder, specs.List.AllZip, proofs.lemmas.Cmp.{then_total, on_total, nat_list_cmp_total}}
 use Rattle.std.specs.FinSet as sets
-use Rattle.std.proofs.lemmas.Cmp.{then_total, on_total, nat_list_cmp_total}
-use Rattle.history_model.specs.Runs.{Series}
-use Rattle.history_model.specs.SeriesOrder.{series_cmp}
+use Rattle.history_model.specs.{Runs.Series, SeriesOrder.series_cmp}
 use Rattle.track_model.specs.Tracks.{Track, IsSameButTables}
 
 series-total : IsTotalOrder series_cmp

@@ -1,7 +1,6 @@
 -- Requests, answered by steps that are counted.
 use Rattle.std.specs.Prelude.{◌≡◌, ℕ, Option, None, Some}
-use Rattle.request_model.specs.declared.requests.Request.{Request}
-use Rattle.request_model.specs.declared.replies.Reply.{Reply}
+use Rattle.request_model.specs.declared.{requests.Request.Request, replies.Reply.Reply}
 use Rattle.track_model.specs.Counts.{Counts}
 
 -- the steps rose by as many as a request took, by what is told of it; where nothing is told, it took

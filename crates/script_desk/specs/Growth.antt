@@ -1,17 +1,11 @@
 -- What a session leaves of the tracks that it began with.
-use Rattle.std.specs.Prelude.{◌≡◌, ℕ, ◌≤◌, true, false, List, [], ◌∷◌, ◌++◌, length, map}
-use Rattle.std.specs.List.{AllByRecursion}
-use Rattle.metric_table.specs.Limits.{most}
-use Rattle.metric_table.specs.declared.limits.Limit.TheVariants.{Machines}
+use Rattle.std.specs.{Prelude.{◌≡◌, ℕ, ◌≤◌, true, false, List, [], ◌∷◌, ◌++◌, length, map}, List.AllByRecursion}
+use Rattle.metric_table.specs.{Limits.most, declared.limits.Limit.TheVariants.Machines}
 use Rattle.request_model.specs.declared.replies.Reply.{Reply}
 use Rattle.request_words.specs.Bodies.{Item}
-use Rattle.history_model.specs.declared.entries.Author.{Author}
-use Rattle.history_model.specs.declared.entries.Placed.{Placed}
+use Rattle.history_model.specs.declared.entries.{Author.Author, Placed.Placed}
 use Rattle.track_model.specs.Tracks.{Track}
-use Rattle.keep_rows.specs.Growth.{GoOn}
-use Rattle.keep_rows.specs.Kept.{kept_of, AreKept}
-use Rattle.keep_rows.specs.Loading.{Stored, LeadTo}
-use Rattle.keep_rows.specs.Rows.{is_of_session, new_rows, session_rows, version_after}
+use Rattle.keep_rows.specs.{Growth.GoOn, Kept.{kept_of, AreKept}, Loading.{Stored, LeadTo}, Rows.{is_of_session, new_rows, session_rows, version_after}}
 pub use Rattle.keep_rows.specs.Machines.{IsOther, AreDifferent, names_of}
 use Rattle.script_desk.specs.Sessions.{State, AnswersFor}
 use Rattle.script_loop.specs.Folds.{AreAnswers}

@@ -1,20 +1,13 @@
 -- What one request of a script makes of the machines of a session: its reply, and their histories
 -- after it.
-use Rattle.std.specs.Prelude.{◌≡◌, ℕ, Bool, true, false, nat_le, if◌then◌else◌, List, [], ◌∷◌, ◌++◌, length, find, Option, Some, None}
-use Rattle.std.specs.List.{AllZip}
-use Rattle.metric_table.specs.Limits.{most}
-use Rattle.metric_table.specs.declared.limits.Limit.TheVariants.{Machines}
-use Rattle.request_model.specs.declared.requests.Request.{Request}
+use Rattle.std.specs.{Prelude.{◌≡◌, ℕ, Bool, true, false, nat_le, if◌then◌else◌, List, [], ◌∷◌, ◌++◌, length, find, Option, Some, None}, List.AllZip}
+use Rattle.metric_table.specs.{Limits.most, declared.limits.Limit.TheVariants.Machines}
+use Rattle.request_model.specs.{declared.requests.Request.Request, declared.replies.Reply.Reply, Requests.machine_of}
 use Rattle.request_model.specs.declared.requests.Request.TheVariants as request
 use Rattle.request_model.specs.declared.replies.Answer.TheVariants as answer
 use Rattle.request_model.specs.declared.replies.Refusal.TheVariants as refusal
-use Rattle.request_model.specs.declared.replies.Reply.{Reply}
-use Rattle.history_model.specs.declared.entries.Author.{Author}
-use Rattle.history_model.specs.Allowed.{Legal}
-use Rattle.history_model.specs.Entries.{entries_of}
-use Rattle.track_model.specs.Outcomes.{Outcome, tells, refuses}
-use Rattle.track_model.specs.Replies.{reply_of, apart}
-use Rattle.request_model.specs.Requests.{machine_of}
+use Rattle.history_model.specs.{declared.entries.Author.Author, Allowed.Legal, Entries.entries_of}
+use Rattle.track_model.specs.{Outcomes.{Outcome, tells, refuses}, Replies.{reply_of, apart}}
 use Rattle.track_model.specs.Tracks.{Track, ComesTo, IsSameButTables, base_asked, with_answered, new_track as empty_track}
 pub use Rattle.keep_rows.specs.Machines.{is_track, changed}
 

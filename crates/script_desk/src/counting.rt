@@ -1,7 +1,6 @@
 //! What answers the requests of a script by steps that are counted.
 ghost use Rattle.std.specs.Prelude.{IfOk, OnErr, Option};
-ghost use Rattle.request_model.specs.declared.requests.Request.{Request};
-ghost use Rattle.request_model.specs.declared.replies.Reply.{Reply};
+ghost use Rattle.request_model.specs.declared.{requests.Request.Request, replies.Reply.Reply};
 ghost use Rattle.script_desk.specs.Counting.{CountsTold};
 
 use crate::NoMemory;

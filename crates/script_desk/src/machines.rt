@@ -1,8 +1,6 @@
 //! Requests, answered on the machine that each is about.
-ghost use Rattle.std.specs.Prelude.{◌≡◌, IfOk, OnErr};
-ghost use Rattle.std.specs.List.{AllZip};
-ghost use Rattle.track_model.specs.Counts.{Counts};
-ghost use Rattle.track_model.specs.Tracks.{IsSameButTables};
+ghost use Rattle.std.specs.{Prelude.{◌≡◌, IfOk, OnErr}, List.AllZip};
+ghost use Rattle.track_model.specs.{Counts.Counts, Tracks.IsSameButTables};
 ghost use Rattle.script_desk.specs.Sessions.{unknown, Answers};
 
 use crate::NoMemory;

@@ -1,8 +1,7 @@
 //! The machines of one thread.
 ghost use Rattle.std.specs.Prelude.{◌≡◌, All, IfOk, OnErr};
 ghost use Rattle.track_model.specs.Counts.{Counts};
-ghost use Rattle.script_desk.specs.Growth.{ComesBack};
-ghost use Rattle.script_desk.specs.Sessions.{HasLegalHistory, Keeps, RepliesTo};
+ghost use Rattle.script_desk.specs.{Growth.ComesBack, Sessions.{HasLegalHistory, Keeps, RepliesTo}};
 
 use crate::NoMemory;
 use crate::counting::CountingDesk;

@@ -1,20 +1,14 @@
 -- Scripts that are opened one after another.
 use Rattle.std.proofs.Common.{◌≡◌, ◌∙◌, ℕ, zero, suc, ◌+◌, ◌<◌, ◌≤◌, length, Bool, true, List, [], ◌∷◌, ◌++◌, take, Option, Some, None, Ok, Err, refl, sym, ap, subst, arith}
-use Rattle.std.specs.Prelude.{option_map, Result, IfErr, IsSome, slice_get}
-use Rattle.std.specs.List.{AllByRecursion}
-use Rattle.track_outside.specs.Named.{NamedBytes, Call, bytes_at, with_bytes}
+use Rattle.std.specs.{Prelude.{option_map, Result, IfErr, IsSome, slice_get}, List.AllByRecursion}
+use Rattle.track_outside.{specs.Named.{NamedBytes, Call, bytes_at, with_bytes}, proofs.Places.bytes_at-with_bytes}
 use Rattle.track_outside.specs.declared.files.Files as files
 use Rattle.track_outside.specs.declared.source.Source as source
 use Rattle.track_outside.specs.declared.sink.Sink as sink
-use Rattle.track_outside.proofs.Places.{bytes_at-with_bytes}
 use Rattle.command_words.specs.Plans.{transcript_of}
-use Rattle.script_files.specs.declared.open.OpenFault.{OpenFault}
-use Rattle.script_files.specs.declared.open.OpenFault.TheVariants.{ReadFault, WriteFault, NoMemory}
-use Rattle.script_files.specs.declared.open.OpenScript.{OpenScript}
+use Rattle.script_files.specs.declared.open.{OpenFault.OpenFault, OpenFault.TheVariants.{ReadFault, WriteFault, NoMemory}, OpenScript.OpenScript}
 use Rattle.script_files.specs.Opening.{Asks, AreMade, FailsAt, HasRisen, RoseAt, IsOpen, calls_for, opening, creating, with_transcript}
-use Rattle.script_files.specs.Closing.{AreClosable, IsClosable}
-use Rattle.script_files.proofs.Calls.{then_more, none_more}
-use Rattle.script_files.proofs.Names.{closable_still}
+use Rattle.script_files.{specs.Closing.{AreClosable, IsClosable}, proofs.Calls.{then_more, none_more}, proofs.Names.closable_still}
 
 -- ---- calls
 

@@ -1,9 +1,7 @@
 -- The calls that files tell.
 use Rattle.std.proofs.Common.{◌≡◌, ℕ, Bool, true, List, [], ◌∷◌, ◌++◌, Option, Some, None, Err, refl, sym, ap, append-nil, append_assoc}
 use Rattle.std.specs.Prelude.{option_map}
-use Rattle.track_outside.specs.Named.{Call, with_call}
-use Rattle.track_outside.specs.declared.out_error.OutError.{OutError}
-use Rattle.track_outside.specs.declared.out_error.OutError.TheVariants.{Failed, NoMemory}
+use Rattle.track_outside.specs.{Named.{Call, with_call}, declared.out_error.OutError.OutError, declared.out_error.OutError.TheVariants.{Failed, NoMemory}}
 
 pub none_more : (told : Option (List Call)) → told ≡ option_map (λ calls. calls ++ []) told
 none_more None = refl

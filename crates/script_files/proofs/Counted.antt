@@ -1,6 +1,5 @@
 -- Counts that rise.
-use Rattle.std.proofs.Common.{◌≡◌, ℕ, zero, suc, ◌+◌, ◌<◌, ◌≤◌, true, arith, lt-ltb}
-use Rattle.std.specs.Prelude.{nat_lt, if◌then◌else◌}
+use Rattle.std.{proofs.Common.{◌≡◌, ℕ, zero, suc, ◌+◌, ◌<◌, ◌≤◌, true, arith, lt-ltb}, specs.Prelude.{nat_lt, if◌then◌else◌}}
 use Rattle.track_outside.specs.Counts.{Rose}
 use Rattle.script_files.specs.Closing.{RoseBy}
 

@@ -1,16 +1,12 @@
 -- Scripts that were opened one after another have the bytes that their names had before the first.
 use Rattle.std.proofs.Common.{◌≡◌, ◌∙◌, ℕ, Bool, false, inl, inr, List, [], ◌∷◌, Option, Some, None, refl, sym, subst, ap}
-use Rattle.std.specs.Prelude.{All, Contains, bytes_eq, if◌then◌else◌, IsSome}
-use Rattle.std.specs.List.{AllZip, AllByRecursion}
-use Rattle.std.proofs.lemmas.Bool.{cases_Bool}
-use Rattle.std.proofs.lemmas.Slice.Eq.{bytes_eq-Decides}
-use Rattle.std.proofs.lemmas.List.Elements.{All-head, All-tail, Contains-get_or}
+use Rattle.std.{specs.Prelude.{All, Contains, bytes_eq, if◌then◌else◌, IsSome}, specs.List.{AllZip, AllByRecursion}, proofs.lemmas.Bool.cases_Bool}
+use Rattle.std.proofs.lemmas.{Slice.Eq.bytes_eq-Decides, List.Elements.{All-head, All-tail, Contains-get_or}}
 use Rattle.track_outside.specs.Named.{NamedBytes, bytes_at, with_bytes}
 use Rattle.track_outside.specs.declared.source.Source as source
 use Rattle.track_outside.specs.declared.sink.Sink as sink
 use Rattle.command_words.specs.Plans.{transcript_of}
-use Rattle.script_files.specs.declared.open.OpenScript.{OpenScript}
-use Rattle.script_files.specs.Opening.{IsOpen, AreOpen, with_transcript}
+use Rattle.script_files.specs.{declared.open.OpenScript.OpenScript, Opening.{IsOpen, AreOpen, with_transcript}}
 
 differs : (one other : List ℕ) → (one ≡ other → ⊥) → bytes_eq one other ≡ false
 differs one other apart = elim (cases_Bool (bytes_eq one other)) [

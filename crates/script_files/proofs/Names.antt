@@ -1,13 +1,10 @@
 -- Names and their bytes, while transcripts are closed.
 use Rattle.std.proofs.Common.{◌≡◌, ℕ, Bool, true, false, inl, inr, List, [], ◌∷◌, Option, Some, None, refl, subst, ap}
-use Rattle.std.specs.Prelude.{bytes_eq, if◌then◌else◌, option_map, unwrap_or, IfSome, IfNone, IsSome, IsNone}
-use Rattle.std.specs.List.{AllByRecursion}
-use Rattle.std.proofs.lemmas.Bool.{cases_Bool}
-use Rattle.std.proofs.lemmas.Slice.Eq.{bytes_eq-Decides}
+use Rattle.std.specs.{Prelude.{bytes_eq, if◌then◌else◌, option_map, unwrap_or, IfSome, IfNone, IsSome, IsNone}, List.AllByRecursion}
+use Rattle.std.proofs.lemmas.{Bool.cases_Bool, Slice.Eq.bytes_eq-Decides}
 use Rattle.track_outside.specs.Named.{NamedBytes, bytes_at, with_bytes}
 use Rattle.track_outside.specs.declared.sink.Sink as sink
-use Rattle.script_files.specs.declared.open.OpenScript.{OpenScript}
-use Rattle.script_files.specs.Closing.{IsClosable, AreClosable, with_written}
+use Rattle.script_files.specs.{declared.open.OpenScript.OpenScript, Closing.{IsClosable, AreClosable, with_written}}
 
 either_there : (b : Bool) (x y : List ℕ) (z : Option (List ℕ)) → IsSome (if b then Some x else z) → IsSome (if b then Some y else z)
 either_there true x y z there = refl

@@ -1,14 +1,10 @@
 -- What the names of transcripts have when all are closed.
-use Rattle.std.proofs.Common.{◌≡◌, ◌≢◌, ◌∙◌, ℕ, List, [], ◌∷◌, Option, Some, None, refl, sym, subst}
-use Rattle.std.specs.Prelude.{IsSome, option_map, unwrap_or}
+use Rattle.std.{proofs.Common.{◌≡◌, ◌≢◌, ◌∙◌, ℕ, List, [], ◌∷◌, Option, Some, None, refl, sym, subst}, specs.Prelude.{IsSome, option_map, unwrap_or}}
 use Rattle.std.specs.List.{AllByRecursion}
-use Rattle.track_outside.specs.Named.{NamedBytes, bytes_at, with_bytes}
+use Rattle.track_outside.{specs.Named.{NamedBytes, bytes_at, with_bytes}, proofs.Places.bytes_at-with_bytes}
 use Rattle.track_outside.specs.declared.sink.Sink as sink
-use Rattle.track_outside.proofs.Places.{bytes_at-with_bytes}
-use Rattle.script_files.specs.declared.open.OpenScript.{OpenScript}
-use Rattle.script_files.specs.Closing.{AreClosable, IsClosable, AreApart, HaveWritten, with_written}
-use Rattle.script_files.proofs.FromStart.{bytes_at-other}
-use Rattle.script_files.proofs.Names.{closable_still}
+use Rattle.script_files.specs.{declared.open.OpenScript.OpenScript, Closing.{AreClosable, IsClosable, AreApart, HaveWritten, with_written}}
+use Rattle.script_files.proofs.{FromStart.bytes_at-other, Names.closable_still}
 
 told_text : (taken : Option (List ℕ)) → IsSome taken → Some (unwrap_or taken []) ≡ taken
 told_text None tells = absurd (cc)

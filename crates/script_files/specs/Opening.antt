@@ -1,14 +1,11 @@
 -- The scripts of a shared run and their transcripts, opened: the calls that are made, and what is open then.
 use Rattle.std.specs.Prelude.{◌≡◌, ℕ, ◌<◌, ◌≤◌, length, Bool, true, false, List, [], ◌∷◌, ◌++◌, take, slice_get, Option, Some, option_map, IfSome, IsSome, Result, Ok, Err}
-use Rattle.track_outside.specs.Counts.{Rose}
-use Rattle.track_outside.specs.Named.{NamedBytes, Call, bytes_at, with_bytes}
+use Rattle.track_outside.specs.{Counts.Rose, Named.{NamedBytes, Call, bytes_at, with_bytes}}
 use Rattle.track_outside.specs.declared.files.Files as files
 use Rattle.track_outside.specs.declared.source.Source as source
 use Rattle.track_outside.specs.declared.sink.Sink as sink
 use Rattle.command_words.specs.Plans.{transcript_of}
-use Rattle.script_files.specs.declared.open.OpenFault.{OpenFault}
-use Rattle.script_files.specs.declared.open.OpenFault.TheVariants.{ReadFault, WriteFault, NoMemory}
-use Rattle.script_files.specs.declared.open.OpenScript.{OpenScript}
+use Rattle.script_files.specs.declared.open.{OpenFault.OpenFault, OpenFault.TheVariants.{ReadFault, WriteFault, NoMemory}, OpenScript.OpenScript}
 
 -- ---- calls
 

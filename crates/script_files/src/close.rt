@@ -1,6 +1,5 @@
 //! Closing scripts and their transcripts.
-ghost use Rattle.std.specs.Prelude.{[], ◌∷◌};
-ghost use Rattle.std.specs.Vec.Iter.{into_iter_items};
+ghost use Rattle.std.specs.{Prelude.{[], ◌∷◌}, Vec.Iter.into_iter_items};
 ghost use Rattle.script_files.specs.Closing.{AreApart, AreClosable, Closes, HaveWritten};
 
 use crate::open::OpenScript;

@@ -1,10 +1,7 @@
 //! Opening scripts and creating their transcripts.
-ghost use Rattle.std.specs.Prelude.{◌≡◌, ◌<◌, [], ◌∷◌, ◌++◌, vec_len, vec_capacity, IfOk, IfErr, OnOk, OnErr, Ok, Err, All, Contains};
-ghost use Rattle.std.specs.List.{AllZip};
-ghost use Rattle.command_words.specs.Plans.{transcript_of};
-ghost use Rattle.command_words.specs.Texts.{shown};
-ghost use Rattle.script_files.specs.Closing.{AreClosable};
-ghost use Rattle.script_files.specs.Opening.{Asks, AreOpen, IsOpen, OpensMore, with_transcripts};
+ghost use Rattle.std.specs.{Prelude.{◌≡◌, ◌<◌, [], ◌∷◌, ◌++◌, vec_len, vec_capacity, IfOk, IfErr, OnOk, OnErr, Ok, Err, All, Contains}, List.AllZip};
+ghost use Rattle.command_words.specs.{Plans.transcript_of, Texts.shown};
+ghost use Rattle.script_files.specs.{Closing.AreClosable, Opening.{Asks, AreOpen, IsOpen, OpensMore, with_transcripts}};
 
 use crate::close::close_scripts;
 use command_words::transcript_name;

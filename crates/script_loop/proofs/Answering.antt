@@ -1,22 +1,14 @@
 -- The output of items one after another, and what a sink took of it.
 use Rattle.std.proofs.Common.{◌≡◌, ℕ, inl, Err, List, [], ◌∷◌, ◌++◌, Option, refl, sym, ap, subst, ◌∙◌, arith, append_assoc, append-nil}
-use Rattle.std.specs.Prelude.{option_to_list}
-use Rattle.std.specs.List.{flat_map}
-use Rattle.std.proofs.lemmas.Grind.{flat_map-append}
-use Rattle.track_outside.specs.declared.sink.Sink.{Ghosts}
-use Rattle.track_outside.specs.Calls.{Took, FailedIn, TookPart}
+use Rattle.std.{specs.Prelude.option_to_list, specs.List.flat_map, proofs.lemmas.Grind.flat_map-append}
+use Rattle.track_outside.specs.{declared.sink.Sink.Ghosts, Calls.{Took, FailedIn, TookPart}}
 use Rattle.track_outside.proofs.InParts.{took_none, took_more, failed_more, part_more}
-use Rattle.request_model.specs.declared.requests.Request.{Request}
-use Rattle.request_model.specs.declared.replies.Reply.{Reply}
+use Rattle.request_model.specs.declared.{requests.Request.Request, replies.Reply.Reply}
 use Rattle.reply_text.specs.Replies.{text_of}
 use Rattle.request_words.specs.Bodies.{Item}
-use Rattle.script_loop.specs.Folds.{AnswersItem, AreAnswers}
-use Rattle.script_loop.specs.Outputs.{IsOutput}
+use Rattle.script_loop.specs.{Folds.{AnswersItem, AreAnswers}, Outputs.IsOutput, Stops.stop_of, Paced.IsLeft, Turns.{Gathers, WrittenBut}}
 use Rattle.request_reader.specs.declared.stop.ReadStop.{ReadStop}
 use Rattle.request_reader.specs.declared.stop.ReadStop.TheVariants as read
-use Rattle.script_loop.specs.Stops.{stop_of}
-use Rattle.script_loop.specs.Paced.{IsLeft}
-use Rattle.script_loop.specs.Turns.{Gathers, WrittenBut}
 
 module _ {S : Type 0} (does : S → Request → Option Reply → S → Type 0) where
   pub answers_join : (before between after : S) (items more : List Item) (replies others : List Reply)

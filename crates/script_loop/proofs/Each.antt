@@ -1,26 +1,16 @@
 -- Private: no public contract cites this. What a sink took where each reply is handed out by itself.
 use Rattle.std.proofs.Common.{◌≡◌, ℕ, ◌≤◌, inl, inr, true, List, [], ◌++◌, length, take, Option, None, Some, refl, sym, ap, subst, ◌∙◌, arith, append_assoc, append-nil, length-append, Ok, Err}
-use Rattle.std.specs.Prelude.{Bool, IfSome, OnErr, Result, option_to_list}
+use Rattle.std.specs.{Prelude.{Bool, IfSome, OnErr, Result, option_to_list}, Io.KnownBytes.append_known, List.flat_map}
 use Rattle.track_outside.specs.declared.source.Source as source
-use Rattle.request_reader.specs.Scripts.{AsksFirst}
-use Rattle.script_loop.specs.declared.stop.Stop.TheVariants.{NoMemory}
-use Rattle.std.specs.Io.KnownBytes.{append_known}
-use Rattle.std.specs.List.{flat_map}
+use Rattle.request_reader.specs.{Scripts.AsksFirst, Next.items_of, declared.asked.Asked.Asked}
+use Rattle.script_loop.specs.{declared.stop.Stop.TheVariants.NoMemory, Folds.AreAnswers, Outputs.IsOutput, Paced.{TookThrough, IsEach}}
 use Rattle.std.proofs.lemmas.List.{take-append-le, take_all}
-use Rattle.track_outside.specs.declared.sink.Sink.{Ghosts}
-use Rattle.track_outside.specs.Calls.{Took, FailedIn, TookFront, TookPart}
-use Rattle.request_model.specs.declared.requests.Request.{Request}
-use Rattle.request_model.specs.declared.replies.Reply.{Reply}
+use Rattle.track_outside.specs.{declared.sink.Sink.Ghosts, Calls.{Took, FailedIn, TookFront, TookPart}}
+use Rattle.request_model.specs.declared.{requests.Request.Request, replies.Reply.Reply}
 use Rattle.request_words.specs.Bodies.{Item}
-use Rattle.request_reader.specs.Next.{items_of}
-use Rattle.request_reader.specs.declared.asked.Asked.{Asked}
 use Rattle.request_reader.specs.declared.asked.Asked.TheVariants as asked
 use Rattle.reply_text.specs.Replies.{text_of}
-use Rattle.script_loop.specs.Folds.{AreAnswers}
-use Rattle.script_loop.specs.Outputs.{IsOutput}
-use Rattle.script_loop.specs.Paced.{TookThrough, IsEach}
-use Rattle.script_loop.specs.Turns.{Answers, Gathers, IsLost, IsPending, Splits}
-use Rattle.script_loop.proofs.Answering.{output_none, output_join}
+use Rattle.script_loop.{specs.Turns.{Answers, Gathers, IsLost, IsPending, Splits}, proofs.Answering.{output_none, output_join}}
 
 pub on_error : {T E P : Type 0} (r : Result T E) → P → OnErr r P
 on_error (Ok done) p = tt

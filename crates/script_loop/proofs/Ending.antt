@@ -1,18 +1,12 @@
 -- What is written at the end of a script, of what was gathered by then.
-use Rattle.std.proofs.Common.{◌≡◌, ℕ, inl, inr, Bool, List, Option, Ok, Err, sym, subst}
-use Rattle.std.specs.Prelude.{◌⊎◌, Result, OnOk, IfErr}
+use Rattle.std.{proofs.Common.{◌≡◌, ℕ, inl, inr, Bool, List, Option, Ok, Err, sym, subst}, specs.Prelude.{◌⊎◌, Result, OnOk, IfErr}}
 use Rattle.track_outside.specs.declared.source.Source as source
 use Rattle.track_outside.specs.declared.sink.Sink as sink
 use Rattle.track_outside.specs.Calls.{Took, TookPart}
-use Rattle.request_model.specs.declared.requests.Request.{Request}
-use Rattle.request_model.specs.declared.replies.Reply.{Reply}
-use Rattle.script_loop.specs.declared.stop.Stop.{Stop}
+use Rattle.request_model.specs.declared.{requests.Request.Request, replies.Reply.Reply}
+use Rattle.script_loop.specs.{declared.stop.Stop.Stop, Endings.{HasRead, HasWritten}, Paced.{IsLeft, Paced}, Turns.{Answers, FailsOn, Gathers, StopsSo}}
 use Rattle.script_loop.specs.declared.stop.Stop.TheVariants as stop
-use Rattle.script_loop.specs.Endings.{HasRead, HasWritten}
-use Rattle.script_loop.specs.Paced.{IsLeft, Paced}
-use Rattle.script_loop.specs.Turns.{Answers, FailsOn, Gathers, StopsSo}
-use Rattle.script_loop.proofs.Answering.{took_all, failed_on, part_of}
-use Rattle.script_loop.proofs.Each.{took-part, failed-part, nothing-part, part-first, each-of}
+use Rattle.script_loop.proofs.{Answering.{took_all, failed_on, part_of}, Each.{took-part, failed-part, nothing-part, part-first, each-of}}
 
 module _ {I O S : Type 0} (g : source.Ghosts I) (h : sink.Ghosts O) (first now : I) (old between new : O) (does : S → Request → Option Reply → S → Type 0) (fails : S → S → Type 0) (each : Bool) (before left : S) (pending : List ℕ) where
   -- what was answered, with what became of what is gathered

@@ -1,15 +1,11 @@
 -- Private: no public contract cites this. What is said of a script where it doesn't matter when its replies are handed out.
-use Rattle.std.proofs.Common.{ℕ, Bool, List, Option, Ok, Err}
-use Rattle.std.specs.Prelude.{Result}
+use Rattle.std.{proofs.Common.{ℕ, Bool, List, Option, Ok, Err}, specs.Prelude.Result}
 use Rattle.track_outside.specs.declared.source.Source as source
 use Rattle.track_outside.specs.declared.sink.Sink as sink
-use Rattle.request_model.specs.declared.requests.Request.{Request}
-use Rattle.request_model.specs.declared.replies.Reply.{Reply}
+use Rattle.request_model.specs.declared.{requests.Request.Request, replies.Reply.Reply}
 use Rattle.request_words.specs.Bodies.{Item}
-use Rattle.script_loop.specs.declared.stop.Stop.{Stop}
+use Rattle.script_loop.specs.{declared.stop.Stop.Stop, Endings.{HasRead, HasWritten, HasAnswered, Stands}, Paced.{IsLeft, Paced}}
 use Rattle.script_loop.specs.declared.stop.Stop.TheVariants as stop
-use Rattle.script_loop.specs.Endings.{HasRead, HasWritten, HasAnswered, Stands}
-use Rattle.script_loop.specs.Paced.{IsLeft, Paced}
 
 stands-so : {S : Type 0} (fails : S → S → Type 0) (after now : S) (result : Result (Unit {0}) Stop) → IsLeft fails after now result → Stands after now result
 stands-so fails after now (Ok done) left = left

@@ -2,8 +2,7 @@
 use Rattle.std.proofs.Common.{◌≡◌, ℕ, ◌+◌, inl, false, List, [], ◌++◌, length, Option, sym, ap, subst, ◌∙◌, arith, append_assoc, append-nil, length-append}
 use Rattle.request_words.specs.Bodies.{Item}
 use Rattle.request_reader.specs.Scripts.{ArePieces, Ends, long, last, inside, more, unfinished}
-use Rattle.script_loop.specs.Endings.{GaveOpen}
-use Rattle.script_loop.specs.Outputs.{AsksFirst}
+use Rattle.script_loop.specs.{Endings.GaveOpen, Outputs.AsksFirst}
 
 module _ (at : ℕ) (back : List ℕ) (items : List Item) where
   none_behind : Ends false at back items unfinished → items ≡ []

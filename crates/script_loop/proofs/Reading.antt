@@ -2,11 +2,8 @@
 use Rattle.std.proofs.Common.{◌≡◌, ℕ, ◌+◌, ◌-◌, ◌<◌, ◌≤◌, inl, inr, Bool, true, false, List, [], ◌++◌, length, take, Some, refl, sym, ap, subst, ◌∙◌, arith, append_assoc, append-nil, length-append}
 use Rattle.std.proofs.Math.Seq.{take-append-add}
 use Rattle.request_words.specs.Bodies.{Item}
-use Rattle.request_reader.specs.Scripts.{Ending, Reads, ReadsLeft, IsScript, input_limit, unfinished}
-use Rattle.request_reader.specs.Next.{TakesWhole}
-use Rattle.request_reader.specs.Reading.{PiecesComeFirst, PiecesJoin}
-use Rattle.script_loop.specs.Outputs.{AsksFirst}
-use Rattle.script_loop.specs.Endings.{GaveOpen}
+use Rattle.request_reader.specs.{Scripts.{Ending, Reads, ReadsLeft, IsScript, input_limit, unfinished}, Next.TakesWhole, Reading.{PiecesComeFirst, PiecesJoin}}
+use Rattle.script_loop.specs.{Outputs.AsksFirst, Endings.GaveOpen}
 
 -- ---- bytes that are known
 

@@ -1,21 +1,13 @@
 -- The same of an input, which may tell its bytes or not.
 use Rattle.std.proofs.Common.{◌≡◌, ℕ, ◌+◌, ◌≤◌, inl, inr, Bool, true, false, List, [], ◌∷◌, ◌++◌, length, Option, None, Some, IfSome, Err, refl, sym, ap, subst, ◌∙◌, arith, append_assoc, length-append}
-use Rattle.std.specs.Io.KnownBytes.{prepend_known, IsAtEnd}
-use Rattle.std.proofs.lemmas.Option.{none-some}
-use Rattle.track_outside.specs.declared.source.Source.{Ghosts}
-use Rattle.request_reader.specs.declared.asked.Asked.{Asked}
-use Rattle.request_reader.specs.declared.stop.ReadStop.{ReadStop}
+use Rattle.std.{specs.Io.KnownBytes.{prepend_known, IsAtEnd}, proofs.lemmas.Option.none-some}
+use Rattle.track_outside.specs.{declared.source.Source.Ghosts, Calls.GaveAtMost}
+use Rattle.request_reader.specs.{declared.asked.Asked.Asked, declared.stop.ReadStop.ReadStop, Scripts.{end, cut_off, unfinished, Reads, IsScript, input_limit}}
 use Rattle.request_reader.specs.declared.stop.ReadStop.TheVariants as stop
 use Rattle.request_words.specs.Bodies.{Item}
-use Rattle.request_reader.specs.Scripts.{end, cut_off, unfinished, Reads, IsScript, input_limit}
-use Rattle.request_reader.specs.Unread.{Unread, nothing_read, GivesOpen}
-use Rattle.request_reader.specs.Next.{items_of, Takes, TakesWhole, TakesLast, ReadsNext, Gave, GaveFew}
+use Rattle.request_reader.specs.{Unread.{Unread, nothing_read, GivesOpen}, Next.{items_of, Takes, TakesWhole, TakesLast, ReadsNext, Gave, GaveFew}}
 use Rattle.request_reader.specs.Reading.{PiecesComeFirst, PiecesJoin, StopsReading, TakesPast}
-use Rattle.script_loop.specs.Stops.{stop_of}
-use Rattle.script_loop.specs.Outputs.{AsksFirst}
-use Rattle.script_loop.specs.Endings.{GaveOpen, HasRead}
-use Rattle.track_outside.specs.Calls.{GaveAtMost}
-use Rattle.script_loop.specs.Turns.{HasTaken}
+use Rattle.script_loop.specs.{Stops.stop_of, Outputs.AsksFirst, Endings.{GaveOpen, HasRead}, Turns.HasTaken}
 use Rattle.script_loop.proofs.Reading.{whole_join, whole_asks, script_ends, script_stops, gave_open}
 
 prepend_known-append : (given more : List ℕ) (known : Option (List ℕ)) → prepend_known given (prepend_known more known) ≡ prepend_known (given ++ more) known

@@ -1,16 +1,12 @@
 -- How the answering of a script ends, on what it reads and on what it writes.
-use Rattle.std.specs.Prelude.{◌≡◌, ℕ, ◌≤◌, false, List, ◌++◌, length, Option, Some, Result, Ok, Err, IfSome}
-use Rattle.std.specs.Io.KnownBytes.{IsAtEnd}
-use Rattle.track_outside.specs.Counts.{Rose}
-use Rattle.track_outside.specs.Calls.{Took, FailedIn, TookPart}
+use Rattle.std.specs.{Prelude.{◌≡◌, ℕ, ◌≤◌, false, List, ◌++◌, length, Option, Some, Result, Ok, Err, IfSome}, Io.KnownBytes.IsAtEnd}
+use Rattle.track_outside.specs.{Counts.Rose, Calls.{Took, FailedIn, TookPart}}
 use Rattle.track_outside.specs.declared.source.Source as source
 use Rattle.track_outside.specs.declared.sink.Sink as sink
 use Rattle.request_words.specs.Bodies.{Item}
 use Rattle.request_reader.specs.Scripts.{end, cut_off, unfinished, Reads, IsScript, input_limit}
-use Rattle.script_loop.specs.declared.stop.Stop.{Stop}
-use Rattle.script_loop.specs.declared.stop.Stop.TheVariants.{ReadFault, WriteFault, CutOff, InputTooLong, NoMemory}
-use Rattle.request_model.specs.declared.requests.Request.{Request}
-use Rattle.request_model.specs.declared.replies.Reply.{Reply}
+use Rattle.script_loop.specs.declared.stop.Stop.{Stop, TheVariants.{ReadFault, WriteFault, CutOff, InputTooLong, NoMemory}}
+use Rattle.request_model.specs.declared.{requests.Request.Request, replies.Reply.Reply}
 use Rattle.script_loop.specs.Outputs.{AsksFirst, IsOutput}
 
 -- the input gave some bytes, which ask these items in whole pieces, and takes more to tell what

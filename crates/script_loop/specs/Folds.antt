@@ -1,10 +1,8 @@
 -- Items, answered one after another, and the replies that are told; over whatever answers requests.
 use Rattle.std.specs.Prelude.{◌≡◌, List, [], ◌∷◌, ◌++◌, Option, Some, Ok, Err, option_to_list}
-use Rattle.request_model.specs.declared.requests.Request.{Request}
-use Rattle.request_model.specs.declared.replies.Reply.{Reply}
+use Rattle.request_model.specs.declared.{requests.Request.Request, replies.Reply.Reply}
 use Rattle.request_words.specs.Bodies.{Item}
-use Rattle.track_model.specs.Outcomes.{refuses}
-use Rattle.track_model.specs.Replies.{apart}
+use Rattle.track_model.specs.{Outcomes.refuses, Replies.apart}
 
 -- an item is answered: a request by what answers requests, and the refusal of reading one apart
 -- from all; with the reply that is told, if one is

@@ -1,9 +1,7 @@
 -- The output of a script: the text of the replies that are told, what stands after it, and how it
 -- ends; over whatever answers requests.
-use Rattle.std.specs.Prelude.{◌≡◌, ℕ, List, Option}
-use Rattle.std.specs.List.{flat_map}
-use Rattle.request_model.specs.declared.requests.Request.{Request}
-use Rattle.request_model.specs.declared.replies.Reply.{Reply}
+use Rattle.std.specs.{Prelude.{◌≡◌, ℕ, List, Option}, List.flat_map}
+use Rattle.request_model.specs.declared.{requests.Request.Request, replies.Reply.Reply}
 use Rattle.reply_text.specs.Replies.{text_of}
 use Rattle.request_words.specs.Bodies.{Item}
 use Rattle.request_reader.specs.Scripts.{Ending, IsScript}

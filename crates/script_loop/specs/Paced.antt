@@ -1,16 +1,11 @@
 -- What a script comes to where it matters when its replies are handed out, and what stands where
 -- memory is wanting.
-use Rattle.std.specs.Prelude.{◌≡◌, ℕ, ◌≤◌, ◌⊎◌, Bool, true, List, ◌++◌, length, take, Option, Result, Err}
-use Rattle.std.specs.Io.KnownBytes.{append_known}
+use Rattle.std.specs.{Prelude.{◌≡◌, ℕ, ◌≤◌, ◌⊎◌, Bool, true, List, ◌++◌, length, take, Option, Result, Err}, Io.KnownBytes.append_known}
 use Rattle.track_outside.specs.declared.source.Source as source
 use Rattle.track_outside.specs.declared.sink.Sink as sink
 use Rattle.request_words.specs.Bodies.{Item}
-use Rattle.request_model.specs.declared.requests.Request.{Request}
-use Rattle.request_model.specs.declared.replies.Reply.{Reply}
-use Rattle.script_loop.specs.declared.stop.Stop.{Stop}
-use Rattle.script_loop.specs.declared.stop.Stop.TheVariants.{NoMemory}
-use Rattle.script_loop.specs.Outputs.{IsOutput}
-use Rattle.script_loop.specs.Endings.{HasRead, HasWritten}
+use Rattle.request_model.specs.declared.{requests.Request.Request, replies.Reply.Reply}
+use Rattle.script_loop.specs.{declared.stop.Stop.Stop, declared.stop.Stop.TheVariants.NoMemory, Outputs.IsOutput, Endings.{HasRead, HasWritten}}
 
 -- what stands at this result where the items were answered: where memory is wanting, perhaps what one
 -- more answer left that wasn't made

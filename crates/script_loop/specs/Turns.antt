@@ -1,20 +1,13 @@
 -- No public contract cites this. What one turn of a session gathers and writes, and what a
 -- session has done between turns.
-use Rattle.std.specs.Prelude.{◌≡◌, ℕ, ◌+◌, ◌≤◌, ◌⊎◌, Bool, true, false, List, [], ◌++◌, length, Option, Result, IfSome, Err}
-use Rattle.std.specs.Io.KnownBytes.{prepend_known}
+use Rattle.std.specs.{Prelude.{◌≡◌, ℕ, ◌+◌, ◌≤◌, ◌⊎◌, Bool, true, false, List, [], ◌++◌, length, Option, Result, IfSome, Err}, Io.KnownBytes.prepend_known}
 use Rattle.track_outside.specs.Calls.{Took, FailedIn, TookPart}
 use Rattle.track_outside.specs.declared.source.Source as source
 use Rattle.track_outside.specs.declared.sink.Sink as sink
 use Rattle.request_words.specs.Bodies.{Item}
-use Rattle.request_reader.specs.Next.{TakesWhole}
-use Rattle.request_reader.specs.Scripts.{input_limit}
-use Rattle.request_reader.specs.Unread.{Unread}
-use Rattle.request_model.specs.declared.requests.Request.{Request}
-use Rattle.request_model.specs.declared.replies.Reply.{Reply}
-use Rattle.script_loop.specs.declared.stop.Stop.{Stop}
-use Rattle.script_loop.specs.declared.stop.Stop.TheVariants.{WriteFault, NoMemory}
-use Rattle.script_loop.specs.Outputs.{AsksFirst, IsOutput}
-use Rattle.script_loop.specs.Endings.{HasRead}
+use Rattle.request_reader.specs.{Next.TakesWhole, Scripts.input_limit, Unread.Unread}
+use Rattle.request_model.specs.declared.{requests.Request.Request, replies.Reply.Reply}
+use Rattle.script_loop.specs.{declared.stop.Stop.Stop, declared.stop.Stop.TheVariants.{WriteFault, NoMemory}, Outputs.{AsksFirst, IsOutput}, Endings.HasRead}
 use Rattle.script_loop.specs.Paced.{IsLeft, IsSplit, TookThrough}
 
 -- items are answered, and the text of their replies is gathered behind what was

@@ -1,7 +1,6 @@
 //! What answers the requests of a script.
 ghost use Rattle.std.specs.Prelude.{IfOk, OnErr, Option};
-ghost use Rattle.request_model.specs.declared.requests.Request.{Request};
-ghost use Rattle.request_model.specs.declared.replies.Reply.{Reply};
+ghost use Rattle.request_model.specs.declared.{requests.Request.Request, replies.Reply.Reply};
 
 use crate::NoMemory;
 use request_model::{Reply, Request};

@@ -2,14 +2,9 @@
 ghost use Rattle.std.specs.Prelude.{◌≡◌, ◌≢◌, ◌+◌, ◌<◌, ◌≤◌, ℕ, true, List, [], All, length, OnOk, OnErr, IfOk, IfErr, option_to_list};
 ghost use Rattle.track_outside.specs.Calls.{GaveAtMost, Took};
 ghost use Rattle.request_words.specs.Bodies.{Item};
-ghost use Rattle.request_reader.specs.Next.{items_of};
-ghost use Rattle.request_reader.specs.Scripts.{input_limit};
-ghost use Rattle.track_model.specs.Outcomes.{refuses};
-ghost use Rattle.track_model.specs.Replies.{apart};
-ghost use Rattle.script_loop.specs.Folds.{AreAnswers};
-ghost use Rattle.script_loop.specs.Endings.{HasRead, HasWritten, HasAnswered};
-ghost use Rattle.script_loop.specs.Paced.{Paced};
-ghost use Rattle.script_loop.specs.Turns.{Answers, Adds, Gathers, FailsOn, IsLost, StopsSo};
+ghost use Rattle.request_reader.specs.{Next.items_of, Scripts.input_limit};
+ghost use Rattle.track_model.specs.{Outcomes.refuses, Replies.apart};
+ghost use Rattle.script_loop.specs.{Folds.AreAnswers, Endings.{HasRead, HasWritten, HasAnswered}, Paced.Paced, Turns.{Answers, Adds, Gathers, FailsOn, IsLost, StopsSo}};
 
 use crate::NoMemory;
 use crate::desk::Desk;

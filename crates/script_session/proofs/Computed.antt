@@ -1,22 +1,15 @@
 -- The answers to items, computed, where each request is of a form whose outcome is a function of the history.
-use Rattle.std.proofs.Common.{ℕ, List, [], ◌∷◌, refl, Option, Some, None, Ok, Err}
-use Rattle.std.specs.Prelude.{find}
-use Rattle.std.specs.List.{AllByRecursion, flat_map}
-use Rattle.request_model.specs.declared.requests.Request.{Request}
+use Rattle.std.{proofs.Common.{ℕ, List, [], ◌∷◌, refl, Option, Some, None, Ok, Err}, specs.Prelude.find, specs.List.{AllByRecursion, flat_map}}
+use Rattle.request_model.specs.{declared.requests.Request.Request, declared.replies.Reply.Reply, Requests.machine_of}
 use Rattle.request_model.specs.declared.requests.Request.TheVariants as request
 use Rattle.request_model.specs.declared.replies.Answer.TheVariants as answer
 use Rattle.request_model.specs.declared.replies.Refusal.TheVariants as refusal
-use Rattle.request_model.specs.declared.replies.Reply.{Reply}
 use Rattle.reply_text.specs.Replies.{text_of}
 use Rattle.request_words.specs.Bodies.{Item}
-use Rattle.history_model.specs.declared.entries.Author.{Author}
-use Rattle.history_model.specs.declared.entries.Entry.{Entry}
-use Rattle.history_model.specs.Entries.{entries_of}
+use Rattle.history_model.specs.{declared.entries.Author.Author, declared.entries.Entry.Entry, Entries.entries_of}
 use Rattle.track_model.specs.Following as following
 use Rattle.track_model.specs.Forms as forms
-use Rattle.track_model.specs.Outcomes.{Outcome, tells, refuses}
-use Rattle.request_model.specs.Requests.{machine_of}
-use Rattle.track_model.specs.Tracks.{Track, ComesTo, base_asked}
+use Rattle.track_model.specs.{Outcomes.{Outcome, tells, refuses}, Tracks.{Track, ComesTo, base_asked}}
 use Rattle.script_desk.specs.Sessions.{Answered, is_track, untouched, unknown, stepped, AnswersAbout, State, AnswersFor}
 use Rattle.script_loop.specs.Folds.{AnswersItem, AreAnswers}
 use Rattle.script_session.specs.Laws.{IsComputed, AsksComputed, OutputsExist}

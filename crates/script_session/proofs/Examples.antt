@@ -1,14 +1,10 @@
 -- Worked scripts, answered by the definitions alone.
-use Rattle.std.proofs.Common.{◌≡◌, ℕ, zero, suc, pos, Bool, true, false, List, [], ◌∷◌, ◌++◌, refl, None, Ok, Err}
-use Rattle.std.specs.Prelude.{codes}
-use Rattle.std.specs.Fmt.{digits}
+use Rattle.std.{proofs.Common.{◌≡◌, ℕ, zero, suc, pos, Bool, true, false, List, [], ◌∷◌, ◌++◌, refl, None, Ok, Err}, specs.Prelude.codes, specs.Fmt.digits}
 use Rattle.std.specs.List.{flat_map}
 use Rattle.request_model.specs.declared.requests.Request.TheVariants as request
 use Rattle.request_model.specs.declared.replies.Refusal.TheVariants as refusal
-use Rattle.request_model.specs.declared.replies.Reply.{Reply}
-use Rattle.request_model.specs.declared.replies.Answer.{Answer}
+use Rattle.request_model.specs.declared.{replies.Reply.Reply, replies.Answer.Answer, runs.RunLine.RunLine}
 use Rattle.request_model.specs.declared.replies.Answer.TheVariants as answer
-use Rattle.request_model.specs.declared.runs.RunLine.{RunLine}
 use Rattle.metric_table.specs.declared.limits.Limit.TheVariants.{Machines}
 use Rattle.reply_text.specs.Replies.{text_of}
 use Rattle.sample_model.specs.Samples.{Measurement}

@@ -1,23 +1,15 @@
 -- Outputs are determined.
 use Rattle.std.proofs.Common.{◌≡◌, ℕ, ◌+◌, ◌-◌, inl, inr, true, false, List, [], ◌∷◌, ◌++◌, length, take, Option, None, Some, Ok, Err, refl, sym, ap, ap₂, subst, ◌∙◌, arith, append_assoc, append-nil}
-use Rattle.std.specs.Prelude.{find, Bool, if◌then◌else◌, option_to_list}
-use Rattle.std.specs.List.{flat_map}
-use Rattle.std.proofs.lemmas.Grind.{flat_map-append}
+use Rattle.std.{specs.Prelude.{find, Bool, if◌then◌else◌, option_to_list}, specs.List.flat_map, proofs.lemmas.Grind.flat_map-append}
 use Rattle.std.proofs.Math.Seq.{take-append-add}
-use Rattle.request_model.specs.declared.requests.Request.{Request}
-use Rattle.request_model.specs.declared.replies.Reply.{Reply}
+use Rattle.request_model.specs.{declared.requests.Request.Request, declared.replies.Reply.Reply, Requests.machine_of}
 use Rattle.reply_text.specs.Replies.{text_of}
 use Rattle.request_words.specs.Bodies.{Item}
-use Rattle.request_reader.specs.Scripts.{Ending, end, Reads, IsScript, input_limit}
-use Rattle.request_reader.specs.Reading.{OneReading, PiecesAreFirst}
-use Rattle.history_model.specs.declared.entries.Author.{Author}
-use Rattle.history_model.specs.Entries.{entries_of}
-use Rattle.track_model.specs.Laws.{OneOutcome}
-use Rattle.request_model.specs.Requests.{machine_of}
-use Rattle.track_model.specs.Tracks.{Track, base_asked}
+use Rattle.request_reader.specs.{Scripts.{Ending, end, Reads, IsScript, input_limit}, Reading.{OneReading, PiecesAreFirst}}
+use Rattle.history_model.specs.{declared.entries.Author.Author, Entries.entries_of}
+use Rattle.track_model.specs.{Laws.OneOutcome, Tracks.{Track, base_asked}}
 use Rattle.script_desk.specs.Sessions.{Answered, is_track, stepped, AnswersAbout, Answers, State, RepliesTo, AnswersFor, is_of_segmentations, AnswersSome}
-use Rattle.script_loop.specs.Folds.{AnswersItem, AreAnswers}
-use Rattle.script_loop.specs.Outputs.{IsOutput, AsksFirst}
+use Rattle.script_loop.specs.{Folds.{AnswersItem, AreAnswers}, Outputs.{IsOutput, AsksFirst}}
 use Rattle.script_session.specs.Laws.{AnswersOnce, OutputsOnce, OneScript, ScriptsOnce, BeginsOutput}
 
 -- ---- the machines of a session, over whatever request comes to one outcome

@@ -1,18 +1,13 @@
 -- How many steps the answers of sessions take.
 use Rattle.std.proofs.Common.{◌≡◌, ℕ, ◌+◌, Bool, true, false, List, [], ◌∷◌, ◌++◌, Option, Some, None, Ok, Err, refl, sym, ap, subst, ◌∙◌, arith}
 use Rattle.std.specs.Prelude.{if◌then◌else◌, option_to_list}
-use Rattle.request_model.specs.declared.requests.Request.{Request}
+use Rattle.request_model.specs.declared.{requests.Request.Request, replies.Reply.Reply}
 use Rattle.request_model.specs.declared.requests.Request.TheVariants as request
-use Rattle.request_model.specs.declared.replies.Reply.{Reply}
 use Rattle.request_words.specs.Bodies.{Item}
-use Rattle.track_model.specs.Counts.{Counts, is_full, redone_in}
-use Rattle.track_model.specs.Outcomes.{refuses}
-use Rattle.track_model.specs.Replies.{apart}
-use Rattle.script_desk.specs.Counting.{Counted, Counting, CountsTold}
-use Rattle.script_desk.specs.Sessions.{State, AnswersFor, AnswersSome, is_of_segmentations}
+use Rattle.track_model.specs.{Counts.{Counts, is_full, redone_in}, Outcomes.refuses, Replies.apart}
+use Rattle.script_desk.specs.{Counting.{Counted, Counting, CountsTold}, Sessions.{State, AnswersFor, AnswersSome, is_of_segmentations}}
 use Rattle.script_loop.specs.Folds.{AnswersItem}
-use Rattle.script_session.specs.Part.{is_of_part, part}
-use Rattle.script_session.specs.Counts.{asks_segment, RoseByRedone, SessionsCount, TrialsCount}
+use Rattle.script_session.specs.{Part.{is_of_part, part}, Counts.{asks_segment, RoseByRedone, SessionsCount, TrialsCount}}
 
 -- what one item adds to the sum, and when it is known
 abbrev redone_of : Item → Reply → ℕ

@@ -1,15 +1,11 @@
 -- Private: no public contract cites this. What a desk makes of a script, seen by a part of what stands behind it.
-use Rattle.std.proofs.Common.{◌≡◌, ℕ, inl, inr, Bool, List, [], ◌∷◌, Option, Ok, Err, ap, ◌∙◌}
-use Rattle.std.specs.Prelude.{Result}
+use Rattle.std.{proofs.Common.{◌≡◌, ℕ, inl, inr, Bool, List, [], ◌∷◌, Option, Ok, Err, ap, ◌∙◌}, specs.Prelude.Result}
 use Rattle.track_outside.specs.declared.source.Source as source
 use Rattle.track_outside.specs.declared.sink.Sink as sink
-use Rattle.request_model.specs.declared.requests.Request.{Request}
-use Rattle.request_model.specs.declared.replies.Reply.{Reply}
+use Rattle.request_model.specs.declared.{requests.Request.Request, replies.Reply.Reply}
 use Rattle.request_words.specs.Bodies.{Item}
-use Rattle.script_loop.specs.declared.stop.Stop.{Stop}
+use Rattle.script_loop.specs.{declared.stop.Stop.Stop, Endings.{HasRead, HasWritten, HasAnswered, Stands}, Folds.{AnswersItem, AreAnswers}}
 use Rattle.script_loop.specs.declared.stop.Stop.TheVariants as stop
-use Rattle.script_loop.specs.Endings.{HasRead, HasWritten, HasAnswered, Stands}
-use Rattle.script_loop.specs.Folds.{AnswersItem, AreAnswers}
 use Rattle.script_loop.specs.Paced.{IsLeft, Paced}
 
 module _ {I O S : Type 0} (g : source.Ghosts I) (h : sink.Ghosts O) (first now : I) (old new : O) (does : S → Request → Option Reply → S → Type 0) (fails : S → S → Type 0) (each : Bool) (before left : S) where

@@ -1,11 +1,9 @@
 -- How many steps the answers to some items took.
-use Rattle.std.specs.Prelude.{◌≡◌, ◌+◌, ℕ, Bool, false, true, if◌then◌else◌, List, [], ◌∷◌, Ok, Err}
-use Rattle.std.specs.List.{AllZip}
+use Rattle.std.specs.{Prelude.{◌≡◌, ◌+◌, ℕ, Bool, false, true, if◌then◌else◌, List, [], ◌∷◌, Ok, Err}, List.AllZip}
 use Rattle.request_model.specs.declared.replies.Reply.{Reply}
 use Rattle.request_words.specs.Bodies.{Item}
 use Rattle.track_model.specs.Counts.{is_full, is_segment, redone_in}
-use Rattle.script_desk.specs.Counting.{Counted, Counting}
-use Rattle.script_desk.specs.Sessions.{State, AnswersFor, AnswersSome}
+use Rattle.script_desk.specs.{Counting.{Counted, Counting}, Sessions.{State, AnswersFor, AnswersSome}}
 use Rattle.script_loop.specs.Folds.{AreAnswers}
 use Rattle.script_session.specs.Part.{part}
 

@@ -1,13 +1,10 @@
 -- What holds of all outputs.
-use Rattle.std.specs.Prelude.{◌≡◌, List, ◌++◌, ℕ, Option, Ok, Err}
-use Rattle.std.specs.List.{AllByRecursion}
-use Rattle.request_model.specs.declared.requests.Request.{Request}
+use Rattle.std.specs.{Prelude.{◌≡◌, List, ◌++◌, ℕ, Option, Ok, Err}, List.AllByRecursion}
+use Rattle.request_model.specs.declared.{requests.Request.Request, replies.Reply.Reply}
 use Rattle.request_model.specs.declared.requests.Request.TheVariants as request
-use Rattle.request_model.specs.declared.replies.Reply.{Reply}
 use Rattle.request_words.specs.Bodies.{Item}
 use Rattle.request_reader.specs.Scripts.{Ending, IsScript}
-use Rattle.script_loop.specs.Outputs.{IsOutput, Out, AsksFirst}
-use Rattle.script_loop.specs.Endings.{GaveOpen}
+use Rattle.script_loop.specs.{Outputs.{IsOutput, Out, AsksFirst}, Endings.GaveOpen}
 
 -- a request has one answer
 abbrev pub AnswersOnce : {S : Type 0} → (S → Request → Option Reply → S → Type 0) → Type 0

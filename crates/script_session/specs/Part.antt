@@ -1,13 +1,11 @@
 -- The part of the replies of a script that is told where those about segmentations alone are.
-use Rattle.std.specs.Prelude.{◌≡◌, ◌↔◌, ℕ, Bool, true, if◌then◌else◌, List, [], ◌∷◌, length, Ok, Err}
-use Rattle.std.specs.List.{flat_map}
+use Rattle.std.specs.{Prelude.{◌≡◌, ◌↔◌, ℕ, Bool, true, if◌then◌else◌, List, [], ◌∷◌, length, Ok, Err}, List.flat_map}
 use Rattle.request_model.specs.declared.replies.Reply.{Reply}
 use Rattle.reply_text.specs.Replies.{text_of}
 use Rattle.request_words.specs.Bodies.{Item}
 use Rattle.request_reader.specs.Scripts.{Ending, IsScript}
 use Rattle.script_desk.specs.Sessions.{State, AnswersFor, AnswersSome, is_of_segmentations}
-use Rattle.script_loop.specs.Folds.{AreAnswers}
-use Rattle.script_loop.specs.Outputs.{Out}
+use Rattle.script_loop.specs.{Folds.AreAnswers, Outputs.Out}
 
 -- the reply to the item is told: the item asks for a segmentation or for changes, or could not be
 -- read

@@ -1,10 +1,7 @@
 -- Certificates for a cost: one for each cost that agrees, and no two for the same.
 use Rattle.std.proofs.Common.{◌≡◌, ℕ, ℤ, List, length, sym, ap, ◌∙◌}
-use Rattle.segment_model.specs.Segments.{Position}
-use Rattle.segment_model.specs.Cuts.{Agree, total}
-use Rattle.segment_model.specs.Laws.{BestIsUnique, AgreeingCostsHaveOneBest, AgreeingCostsHaveOneTable, TableIsUnique}
-use Rattle.segment_cost.specs.declared.cert.Cert.{Cert}
-use Rattle.segment_cost.specs.Certificate.{IsCertificate, HaveOne, AreCertified}
+use Rattle.segment_model.specs.{Segments.Position, Cuts.{Agree, total}, Laws.{BestIsUnique, AgreeingCostsHaveOneBest, AgreeingCostsHaveOneTable, TableIsUnique}}
+use Rattle.segment_cost.specs.{declared.cert.Cert.Cert, Certificate.{IsCertificate, HaveOne, AreCertified}}
 
 -- a certificate for a cost is one for each cost that agrees
 pub agreed : AgreeingCostsHaveOneBest → AgreeingCostsHaveOneTable → (one other : ℕ → ℕ → ℤ) (n : ℕ) (penalty : ℤ) (len : ℕ) (cert : Cert) → Agree one other n

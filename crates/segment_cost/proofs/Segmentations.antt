@@ -1,10 +1,7 @@
 -- Segmentations of which every part but what they stand for is the same.
-use Rattle.std.proofs.Common.{◌≡◌, ◌^◌, pos, ◌≤ℤ◌}
-use Rattle.std.proofs.Math.Path.{to_path_p}
-use Rattle.std.proofs.Math.Logic.{∥∥₁_prop}
+use Rattle.std.proofs.{Common.{◌≡◌, ◌^◌, pos, ◌≤ℤ◌}, Math.Path.to_path_p, Math.Logic.∥∥₁_prop}
 use Rattle.segment_model.specs.Limits.{IsLength}
-use Rattle.segment_cost.specs.Certificate.{StandsFor}
-use Rattle.segment_cost.specs.declared.done.Done.{Done}
+use Rattle.segment_cost.specs.{Certificate.StandsFor, declared.done.Done.Done}
 
 -- they are equal, since no fact has two proofs
 pub same_segmentation : (one other : Done) → one.test ≡ other.test → one.metric ≡ other.metric → one.version ≡ other.version → one.base ≡ other.base → one.redone ≡ other.redone → one.cert ≡ other.cert → one.points ≡ other.points → one ≡ other

@@ -1,9 +1,6 @@
 //! The cost about a whole number.
-ghost use Rattle.std.specs.Prelude.{◌≡◌, ℤ, ◌^◌, ◌<◌, ◌≤◌, List, length, IfOk, unsigned_abs, pos, ◌<ℤ◌, ◌-ℤ◌, ◌*ℤ◌};
-ghost use Rattle.std.specs.Int.{int_div_euclid};
-ghost use Rattle.segment_model.specs.Segments.{IsLeastSum};
-ghost use Rattle.segment_model.specs.Computed.{sum_of, centre_by_division, least_sum_of};
-ghost use Rattle.segment_model.specs.Values.{AreWithinLimits, values_by_position};
+ghost use Rattle.std.specs.{Prelude.{◌≡◌, ℤ, ◌^◌, ◌<◌, ◌≤◌, List, length, IfOk, unsigned_abs, pos, ◌<ℤ◌, ◌-ℤ◌, ◌*ℤ◌}, Int.int_div_euclid};
+ghost use Rattle.segment_model.specs.{Segments.IsLeastSum, Computed.{sum_of, centre_by_division, least_sum_of}, Values.{AreWithinLimits, values_by_position}};
 ghost use Rattle.prefix_sums.specs.Sums.{IsInRange, AreSums};
 
 use crate::NoMemory;
@@ -69,8 +66,7 @@ impl Square {
 
 impl Cost for Square {
     ghost use Rattle.std.specs.Prelude.{length};
-    ghost use Rattle.segment_model.specs.Computed.{sum_of, centre_by_division, least_sum_of};
-    ghost use Rattle.segment_model.proofs.LeastSums.{least_sums-merge, least_sums-range};
+    ghost use Rattle.segment_model.{specs.Computed.{sum_of, centre_by_division, least_sum_of}, proofs.LeastSums.{least_sums-merge, least_sums-range}};
 
     ghost positions = { λ s. s.positions };
 

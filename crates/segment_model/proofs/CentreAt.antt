@@ -1,10 +1,7 @@
 -- One division gives the centre of a segment of the points.
 use Rattle.std.proofs.Common.{◌≡◌, ℕ, ℤ, ◌<◌, ◌≤◌, List, length, ap, ◌∙◌}
-use Rattle.segment_model.specs.Segments.{Position, segment, IsCentre}
-use Rattle.segment_model.specs.Limits.{WithinLimits}
-use Rattle.segment_model.specs.Computed.{sum_of, centre_by_division}
-use Rattle.segment_model.specs.Values.{values_between, values_by_position, ValuesOfPoints}
-use Rattle.segment_model.specs.Laws.{SegmentHasValue, DivisionGivesCentre}
+use Rattle.segment_model.specs.{Segments.{Position, segment, IsCentre}, Limits.WithinLimits, Computed.{sum_of, centre_by_division}}
+use Rattle.segment_model.specs.{Values.{values_between, values_by_position, ValuesOfPoints}, Laws.{SegmentHasValue, DivisionGivesCentre}}
 
 pub centre-at : ValuesOfPoints → SegmentHasValue → DivisionGivesCentre → (points : List Position) (positions : List (List ℤ))
     → positions ≡ values_by_position points → WithinLimits points → (s t : ℕ) → s < t → t ≤ length points → (x : ℤ)

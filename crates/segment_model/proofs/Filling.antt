@@ -1,8 +1,6 @@
 -- Exported: positions that are filled from points, one after the other.
 use Rattle.std.proofs.Common.{◌≡◌, List, ℤ, ℕ, [], ◌∷◌, ◌++◌, ◌+◌, ◌<◌, ◌≤◌, take, length, refl, ap, ◌∙◌, arith}
-use Rattle.segment_model.specs.Segments.{Position, segment}
-use Rattle.segment_model.specs.Limits.{WithinLimits}
-use Rattle.segment_model.specs.Values.{AreWithinLimits, values_by_position}
+use Rattle.segment_model.specs.{Segments.{Position, segment}, Limits.WithinLimits, Values.{AreWithinLimits, values_by_position}}
 use Rattle.segment_model.proofs.Values.{next-of-points, first-within, points-within, all-of-points}
 
 pub filled-next : (points : List Position) (i : ℕ) (before after : List (List ℤ)) (values : List ℤ) → i < length points → before ≡ take i (values_by_position points) → values ≡ segment points i (i + 1)

@@ -1,11 +1,8 @@
 -- How many values and positions there are where a value is put in.
 use Rattle.std.proofs.Common.{◌≡◌, ℕ, ◌+◌, ◌≤◌, true, false, cond, List, [], ◌∷◌, ◌++◌, length, refl, sym, ap, subst, ◌∙◌, inl, inr, arith}
-use Rattle.std.proofs.lemmas.Bool.{cases_order, lt-ltb, le-ltb, eq-eqb, ne_eqb}
-use Rattle.std.proofs.lemmas.List.{length-append, length_push, map-append, append_assoc, append-nil}
-use Rattle.segment_model.specs.Segments.{Observation, Position, values_of, position_values}
-use Rattle.segment_model.specs.Edits.{with_value, inserted, has_commit}
-use Rattle.segment_model.specs.Brought.{Brought, observed, positions_of}
-use Rattle.segment_model.proofs.Insertions.{positions-push}
+use Rattle.std.proofs.lemmas.{Bool.{cases_order, lt-ltb, le-ltb, eq-eqb, ne_eqb}, List.{length-append, length_push, map-append, append_assoc, append-nil}}
+use Rattle.segment_model.specs.{Segments.{Observation, Position, values_of, position_values}, Edits.{with_value, inserted, has_commit}}
+use Rattle.segment_model.{specs.Brought.{Brought, observed, positions_of}, proofs.Insertions.positions-push}
 
 -- one value more
 pub count-inserted : (commit : ℕ) (x : Observation) (points : List Position) → length (values_of (inserted commit x points)) ≡ length (values_of points) + 1

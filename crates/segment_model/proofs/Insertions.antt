@@ -1,12 +1,7 @@
 -- A sample more at the end is put into the positions as they stand.
-use Rattle.std.proofs.Common.{◌≡◌, ◌≢◌, ℕ, suc, ◌<◌, ◌≤◌, inl, inr, cond, List, [], ◌∷◌, ◌++◌, map, refl, sym, ap, ◌∙◌, arith, ◌==◌}
-use Rattle.std.specs.Prelude.{filter}
-use Rattle.std.proofs.lemmas.List.{map-append, append-nil}
-use Rattle.std.proofs.lemmas.List.Elements.{filter-append}
-use Rattle.std.proofs.lemmas.Bool.{cases_order, lt-ltb, le-ltb, eq-eqb, ne_eqb}
-use Rattle.segment_model.specs.Brought.{Brought, in_place, rising, position_at, positions_of}
-use Rattle.segment_model.specs.Edits.{inserted}
-use Rattle.segment_model.specs.Brought.{observed}
+use Rattle.std.{proofs.Common.{◌≡◌, ◌≢◌, ℕ, suc, ◌<◌, ◌≤◌, inl, inr, cond, List, [], ◌∷◌, ◌++◌, map, refl, sym, ap, ◌∙◌, arith, ◌==◌}, specs.Prelude.filter}
+use Rattle.std.proofs.lemmas.{List.{map-append, append-nil}, List.Elements.filter-append, Bool.{cases_order, lt-ltb, le-ltb, eq-eqb, ne_eqb}}
+use Rattle.segment_model.specs.{Brought.{Brought, in_place, rising, position_at, positions_of}, Edits.inserted, Brought.observed}
 use Rattle.segment_model.proofs.Rising.{IsIn, RisesFrom, in-bound, rising-push, rising-rises, rising-has}
 
 commit_of : Brought → ℕ

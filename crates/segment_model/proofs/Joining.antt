@@ -1,13 +1,9 @@
 -- Joining the two segments beside a cut of the best list costs more, so that their centres differ.
 use Rattle.std.proofs.Common.{◌≡◌, ◌≢◌, ℕ, ℤ, zero, suc, ◌+◌, ◌-◌, ◌<◌, ◌≤◌, List, [], ◌∷◌, ◌++◌, length, reverse, slice_index, inl, inr, pos, ◌+ℤ◌, ◌≤ℤ◌, arith}
-use Rattle.std.proofs.lemmas.Int.{ints, by_lt_z}
-use Rattle.std.proofs.lemmas.List.{reverse-append, length-reverse, length-append, get_or-reverse}
+use Rattle.std.proofs.lemmas.{Int.{ints, by_lt_z}, List.{reverse-append, length-reverse, length-append, get_or-reverse}}
 use Rattle.segment_model.specs.Segments.{Position, segment, squares_about, IsCentre, IsLeastSum, IsCost}
-use Rattle.segment_model.specs.Cuts.{IsNotAfter, IsBest, place_before, place_behind}
-use Rattle.segment_model.specs.Laws.{IsNeeded}
-use Rattle.segment_model.proofs.BestCuts.{FallsBelow, total_back, reverse-cons, IsBestBack, best-reversed}
-use Rattle.segment_model.proofs.Segments.{segment-split}
-use Rattle.segment_model.proofs.Centres.{squares-append}
+use Rattle.segment_model.specs.{Cuts.{IsNotAfter, IsBest, place_before, place_behind}, Laws.IsNeeded}
+use Rattle.segment_model.proofs.{BestCuts.{FallsBelow, total_back, reverse-cons, IsBestBack, best-reversed}, Segments.segment-split, Centres.squares-append}
 
 -- the list without its item k
 abbrev without : ℕ → List ℕ → List ℕ

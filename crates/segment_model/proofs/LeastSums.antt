@@ -1,9 +1,6 @@
 -- Exported: the least sum of squares is a cost that merges and is in range.
-use Rattle.std.proofs.Common.{◌^◌, ◌++◌, arith}
-use Rattle.std.proofs.lemmas.Int.{ints}
-use Rattle.segment_model.specs.Computed.{least_sum_of}
-use Rattle.segment_model.specs.Values.{LeastSumsMerge, LeastSumsAreInRange}
-use Rattle.segment_model.proofs.Centres.{least_sum_of-is, least_sum-append}
+use Rattle.std.proofs.{Common.{◌^◌, ◌++◌, arith}, lemmas.Int.ints}
+use Rattle.segment_model.{specs.Computed.least_sum_of, specs.Values.{LeastSumsMerge, LeastSumsAreInRange}, proofs.Centres.{least_sum_of-is, least_sum-append}}
 use Rattle.segment_model.proofs.Bounds.{least_sum-low, least_sum-high}
 
 pub least_sums-merge : LeastSumsMerge

@@ -3,11 +3,9 @@ use Rattle.std.proofs.Common.{◌≡◌, ℕ, ℤ, zero, suc, ◌+◌, ◌-◌, 
 use Rattle.std.proofs.lemmas.Int.{ints}
 use Rattle.std.proofs.lemmas.List.{length-append, length-drop, length-map, drop-drop, take-append-drop, take_all, take_more, take-append-le, drop-append-le}
 use Rattle.std.proofs.lemmas.List.Concat.{flat_map-append}
-use Rattle.segment_model.specs.Segments.{Observation, Position, position_values, values_of, segment, IsCost}
-use Rattle.segment_model.specs.Limits.{IsSmall, HasValue, WithinLimits}
+use Rattle.segment_model.specs.{Segments.{Observation, Position, position_values, values_of, segment, IsCost}, Limits.{IsSmall, HasValue, WithinLimits}}
 use Rattle.segment_model.specs.Values.{joined, values_between, values_by_position, IsSome, AreWithinLimits, ValuesHaveParts, ValuesAreWithinLimits, ValuesAreSome, FrontHasSameValues, FrontIsWithinLimits, FirstAreWithinLimits, NextOfPoints, AllOfPoints, NextValuesFollow, ValuesOfPoints, PointsAreWithinLimits, SegmentsMerge, SegmentsAreInRange}
-use Rattle.segment_model.proofs.Segments.{take-sum, one-position}
-use Rattle.segment_model.proofs.Bounds.{all-left, all-right, least_sum-low, least_sum-high}
+use Rattle.segment_model.proofs.{Segments.{take-sum, one-position}, Bounds.{all-left, all-right, least_sum-low, least_sum-high}}
 
 joined-append : (xs ys : List (List ℤ)) → joined (xs ++ ys) ≡ joined xs ++ joined ys
 joined-append xs ys = flat_map-append (λ (v : List ℤ). v) xs ys

@@ -1,16 +1,12 @@
 -- Tables that were looked at entry by entry are the tables.
 use Rattle.std.proofs.Common.{◌≡◌, ◌≢◌, ℕ, ℤ, suc, zero, ◌+◌, ◌<◌, ◌≤◌, List, [], ◌∷◌, ◌++◌, reverse, length, map, cond, ltb, take, slice_index, ◌⊎◌, inl, inr, refl, sym, ap, ◌∙◌, subst, pos, ◌+ℤ◌, ◌≤ℤ◌, arith}
-use Rattle.std.proofs.lemmas.Int.{ints}
-use Rattle.std.proofs.lemmas.Bool.{cases_lt, cases_eq, lt-ltb, le-ltb}
-use Rattle.std.proofs.lemmas.List.{length-take, length-map, take_more, take_all, get_or-take, get_or-map}
+use Rattle.std.proofs.lemmas.{Int.ints, Bool.{cases_lt, cases_eq, lt-ltb, le-ltb}, List.{length-take, length-map, take_more, take_all, get_or-take, get_or-map}}
 use Rattle.segment_model.specs.Cuts.{Merges}
 use Rattle.segment_model.specs.Tables.{int_at, IsCandidate, IsDear, IsTable, IsFirstLeast, IsMarkedAt, IsUnmarkedBehind, IsOpenAt, IsUnmarkedBefore, IsSettled, IsVerified, IsWalk}
 use Rattle.segment_model.specs.Laws.{VerifiedIsTable, TableIsVerified, BestIsWalk}
 use Rattle.segment_model.proofs.BestCuts.{candidate-or, IsBestBack, best-reversed, first_least-some, total_back}
-use Rattle.segment_model.proofs.Rows.{IsPlace, head_or_zero, table-place, next-place, best_back-unique, place-best, tail-best}
-use Rattle.segment_model.proofs.Growth.{table-grows}
-use Rattle.segment_model.proofs.Pruning.{open-first}
-use Rattle.segment_model.proofs.Shrinking.{total-at-most, not-dear}
+use Rattle.segment_model.proofs.{Rows.{IsPlace, head_or_zero, table-place, next-place, best_back-unique, place-best, tail-best}, Growth.table-grows}
+use Rattle.segment_model.proofs.{Pruning.open-first, Shrinking.{total-at-most, not-dear}}
 
 -- a mark, where it isn't behind place m
 mark-within : ℕ → ℕ → ℕ

@@ -1,6 +1,5 @@
 -- Texts that grow by one part after the other.
-use Rattle.std.proofs.Common.{◌≡◌, ℕ, suc, ◌+◌, List, ◌++◌, refl, sym, ap, ◌∙◌, arith}
-use Rattle.std.proofs.lemmas.List.{append_assoc, append-nil}
+use Rattle.std.proofs.{Common.{◌≡◌, ℕ, suc, ◌+◌, List, ◌++◌, refl, sym, ap, ◌∙◌, arith}, lemmas.List.{append_assoc, append-nil}}
 use Rattle.series_gen.specs.Script.{in_turn, next, state_after}
 
 -- one part behind another

@@ -1,15 +1,9 @@
 -- The metrics at the place of a test, and what a write there makes of what is found by name.
 use Rattle.std.proofs.Common.{◌≡◌, ℕ, zero, suc, ◌+◌, ◌<◌, ◌≤◌, Bool, true, false, cond, not, nat_lt, List, [], ◌∷◌, ◌++◌, length, set, drop, get_or, refl, sym, ap, subst, ◌∙◌, Option, Some, None, inl, inr, arith}
-use Rattle.std.specs.Prelude.{bytes_eq, position, unwrap_or}
-use Rattle.std.specs.List.{position_or_len}
-use Rattle.std.specs.Map.{keys_of, lookup}
-use Rattle.std.specs.Cmp.Lexicographic.{nat_list_eq_equiv}
-use Rattle.std.proofs.lemmas.Bool.{cases_Bool, cases_lt, lt-ltb}
-use Rattle.std.proofs.lemmas.List.Quantifiers.{position-Some}
-use Rattle.std.proofs.lemmas.Map.Text.{is_eq-slice_cmp}
-use Rattle.series_index.specs.declared.tracked.Tracked.{Tracked}
+use Rattle.std.specs.{Prelude.{bytes_eq, position, unwrap_or}, List.position_or_len, Map.{keys_of, lookup}, Cmp.Lexicographic.nat_list_eq_equiv}
+use Rattle.std.proofs.lemmas.{Bool.{cases_Bool, cases_lt, lt-ltb}, List.Quantifiers.position-Some, Map.Text.is_eq-slice_cmp}
+use Rattle.series_index.specs.{declared.tracked.Tracked.Tracked, Seen.{is_same, is_series, unseen, seen_of, seen}}
 use Rattle.history_model.specs.Runs.{Series}
-use Rattle.series_index.specs.Seen.{is_same, is_series, unseen, seen_of, seen}
 use Rattle.series_index.proofs.Written.{Metrics, same-name, seen-within, same-within, absent-within}
 
 abbrev pub Tests : Type 0

@@ -1,25 +1,13 @@
 -- The samples of a run, one more: which make a series known, and how many a series has.
 use Rattle.std.proofs.Common.{◌≡◌, ℕ, ◌+◌, ◌<◌, ◌≤◌, Bool, true, false, cond, not, ◌&&◌, ◌||◌, List, [], ◌∷◌, ◌++◌, length, map, take, get_or, refl, sym, ap, subst, ◌∙◌, Option, Some, None, is_some, All, ℤ, pos, negsuc, FitsSigned, w64, arith, inl, inr}
-use Rattle.std.specs.Prelude.{filter, bytes_eq, is_none}
-use Rattle.std.specs.List.{list_any}
-use Rattle.std.proofs.lemmas.Bool.{cases_Bool}
-use Rattle.std.proofs.lemmas.Int.{ints}
-use Rattle.std.proofs.lemmas.List.{take_more, append-nil, length-append, map-append}
-use Rattle.std.proofs.lemmas.List.Elements.{filter-append}
-use Rattle.std.proofs.lemmas.Slice.Eq.{bytes_eq-Decides}
-use Rattle.segment_model.specs.Segments.{values_of}
-use Rattle.segment_model.specs.Limits.{IsSmall}
-use Rattle.segment_model.proofs.Inserted.{count-inserted}
-use Rattle.history_model.specs.Laws.{SeriesAreListedOnce}
+use Rattle.std.{specs.Prelude.{filter, bytes_eq, is_none}, specs.List.list_any, proofs.lemmas.Bool.cases_Bool, proofs.lemmas.Int.ints}
+use Rattle.std.proofs.lemmas.{List.{take_more, append-nil, length-append, map-append}, List.Elements.filter-append, Slice.Eq.bytes_eq-Decides}
+use Rattle.segment_model.{specs.Segments.values_of, specs.Limits.IsSmall, proofs.Inserted.count-inserted}
+use Rattle.history_model.{specs.Laws.SeriesAreListedOnce, specs.Runs.{Series, is_of, measured, distinct, same_series}, proofs.Lists.{or-true, any-map}}
 use Rattle.sample_model.specs.Samples.{Measurement}
-use Rattle.history_model.specs.Runs.{Series, is_of, measured, distinct, same_series}
-use Rattle.series_index.specs.declared.tracked.Tracked.{Tracked}
-use Rattle.series_index.specs.Seen.{seen, is_series, with_sample, HasRoom}
-use Rattle.series_index.specs.Taken.{of_series, with_samples, HasRoomFor}
-use Rattle.series_index.specs.Demands.{Kept, is_new, new_ones}
-use Rattle.series_index.proofs.Runs.{filter-next, count-next, series-is, taken-next, room-fewer}
+use Rattle.series_index.specs.{declared.tracked.Tracked.Tracked, Seen.{seen, is_series, with_sample, HasRoom}, Taken.{of_series, with_samples, HasRoomFor}}
+use Rattle.series_index.{specs.Demands.{Kept, is_new, new_ones}, proofs.Runs.{filter-next, count-next, series-is, taken-next, room-fewer}}
 use Rattle.series_index.proofs.Undo.{room-after, room-next}
-use Rattle.history_model.proofs.Lists.{or-true, any-map}
 
 pub own : (x : Measurement) → is_of (measured x) x ≡ true
 own x =

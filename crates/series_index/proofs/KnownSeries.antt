@@ -1,24 +1,13 @@
 -- The known series of an index, listed in order.
 use Rattle.std.proofs.Common.{◌≡◌, ◌⊎◌, inl, inr, ℕ, Bool, true, false, true≢false, cond, List, [], ◌∷◌, Less, nat_cmp, refl, sym, ap, subst, ◌∙◌, Option, Some, ◌↔◌}
-use Rattle.std.specs.Prelude.{Contains, is_some, unwrap_or}
-use Rattle.std.specs.Ordering.{is_eq, ordering_then, ordering_reverse}
-use Rattle.std.specs.Cmp.Lexicographic.{slice_cmp}
-use Rattle.std.specs.List.{AllByRecursion}
-use Rattle.std.specs.List.Sorted.{IsStrictlySortedBy}
-use Rattle.std.specs.Map.{keys_of, lookup}
-use Rattle.std.proofs.lemmas.Bool.{cases_Bool}
-use Rattle.std.proofs.lemmas.Cmp.{nat_list_cmp_total, tied_itself}
-use Rattle.std.proofs.lemmas.List.Elements.{Contains-append_left, Contains-append_right, Contains-append_cases}
+use Rattle.std.specs.{Prelude.{Contains, is_some, unwrap_or}, Ordering.{is_eq, ordering_then, ordering_reverse}, Cmp.Lexicographic.slice_cmp}
+use Rattle.std.{specs.List.AllByRecursion, specs.List.Sorted.IsStrictlySortedBy, specs.Map.{keys_of, lookup}, proofs.lemmas.Bool.cases_Bool}
+use Rattle.std.proofs.lemmas.{Cmp.{nat_list_cmp_total, tied_itself}, List.Elements.{Contains-append_left, Contains-append_right, Contains-append_cases}}
 use Rattle.std.proofs.lemmas.Map.Keys.{sorted_tail}
-use Rattle.history_model.specs.Runs.{Series}
-use Rattle.history_model.specs.SeriesOrder.{series_cmp}
+use Rattle.history_model.specs.{Runs.Series, SeriesOrder.series_cmp}
 use Rattle.history_model.proofs.Members.{here, behind, either, none-in-nil, later, sorted-nil, sorted-cons, sorted-append}
-use Rattle.series_index.specs.declared.tracked.Tracked.{Tracked}
-use Rattle.series_index.specs.Known.{AreKnown}
-use Rattle.series_index.specs.Listed.{put_if, known_of, all_known, metrics_at, at_place, in_places}
-use Rattle.series_index.specs.Seen.{is_same, seen, seen_of, unseen}
-use Rattle.series_index.proofs.Written.{same-name}
-use Rattle.series_index.proofs.ByPlace.{turned}
+use Rattle.series_index.specs.{declared.tracked.Tracked.Tracked, Known.AreKnown, Listed.{put_if, known_of, all_known, metrics_at, at_place, in_places}}
+use Rattle.series_index.{specs.Seen.{is_same, seen, seen_of, unseen}, proofs.Written.same-name, proofs.ByPlace.turned}
 
 abbrev Metrics : Type 0
 Metrics = List (List ℕ × Tracked)

@@ -1,20 +1,14 @@
 -- Values placed one after another: what they were before, how many there are, and which are taken away.
 use Rattle.std.proofs.Common.{◌≡◌, ℕ, suc, ◌+◌, ◌<◌, ◌≤◌, ℤ, Bool, true, false, cond, ◌==◌, ◌&&◌, not, List, [], ◌∷◌, ◌++◌, length, All, refl, sym, ap, subst, ◌∙◌, inl, inr, arith}
-use Rattle.std.specs.Prelude.{filter, get_or, drop}
-use Rattle.std.specs.List.Sorted.{IsStrictlyIncreasing}
+use Rattle.std.specs.{Prelude.{filter, get_or, drop}, List.Sorted.IsStrictlyIncreasing}
 use Rattle.std.proofs.lemmas.Bool.{cases_Bool, cases_order, cases_eq, lt-ltb, le-ltb, eq-eqb, ne_eqb}
-use Rattle.std.proofs.lemmas.List.{length_push, map-append, get_or_append_left, get_or_at, length-drop}
-use Rattle.std.proofs.lemmas.List.Filters.{length-filter_both}
+use Rattle.std.proofs.lemmas.List.{length_push, map-append, get_or_append_left, get_or_at, length-drop, Filters.length-filter_both}
 use Rattle.std.proofs.lemmas.List.Elements.{All-nil, All-cons, All-head, All-tail, filter-append}
-use Rattle.segment_model.specs.Segments.{Observation, Position, values_of, position_values}
-use Rattle.segment_model.specs.Limits.{IsSmall, HasStepsInOrder, WithinLimits, commits_of}
+use Rattle.segment_model.specs.{Segments.{Observation, Position, values_of, position_values}, Limits.{IsSmall, HasStepsInOrder, WithinLimits, commits_of}}
 use Rattle.segment_model.specs.Edits.{position_of, with_value, inserted, has_values, by_another, without_step, removed}
-use Rattle.point_list.specs.Places.{CameBy, MayCome}
-use Rattle.point_list.proofs.Places.{RisesFrom, lower, to-rises}
+use Rattle.point_list.{specs.Places.{CameBy, MayCome}, proofs.Places.{RisesFrom, lower, to-rises}}
 use Rattle.point_list.proofs.Kept.{few-inserted, within-inserted, within-removed, AreSmall, all-left, all-right, small-out}
-use Rattle.series_index.specs.declared.coming.Coming.{Coming}
-use Rattle.series_index.specs.Log.{observed, all_placed, is_of_step, MayBePlaced, HaveRoom}
-use Rattle.series_index.proofs.Undo.{removed-inserted}
+use Rattle.series_index.{specs.declared.coming.Coming.Coming, specs.Log.{observed, all_placed, is_of_step, MayBePlaced, HaveRoom}, proofs.Undo.removed-inserted}
 use Rattle.segment_model.proofs.Inserted.{count-inserted, size-inserted}
 
 -- ---- one value, by where its commit stands to that of the first position

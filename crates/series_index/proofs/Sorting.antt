@@ -1,16 +1,9 @@
 -- Values of different commits may be placed in any order.
 use Rattle.std.proofs.Common.{◌≡◌, ◌≢◌, ℕ, ◌<◌, Bool, true, false, cond, List, [], ◌∷◌, ◌++◌, refl, sym, ap, ◌∙◌, inl, inr, arith, not, ◌&&◌, Ordering, Less, Equal, Greater}
-use Rattle.std.specs.Prelude.{filter}
-use Rattle.std.proofs.lemmas.Bool.{cases_Bool, cases_order, cases_eq}
-use Rattle.std.proofs.lemmas.List.Elements.{filter-append}
-use Rattle.segment_model.specs.Segments.{Observation, Position}
-use Rattle.segment_model.specs.Edits.{position_of, with_value, inserted}
-use Rattle.std.specs.Ordering.{is_lt, nat_cmp}
-use Rattle.std.specs.Cmp.{nat_cmp_is}
-use Rattle.std.specs.List.Sorted.{ties}
-use Rattle.series_index.specs.declared.coming.Coming.{Coming}
-use Rattle.series_index.specs.Log.{observed, all_placed}
-use Rattle.series_index.proofs.Placing.{put-below, put-at, put-above}
+use Rattle.std.{specs.Prelude.filter, proofs.lemmas.Bool.{cases_Bool, cases_order, cases_eq}, proofs.lemmas.List.Elements.filter-append}
+use Rattle.segment_model.specs.{Segments.{Observation, Position}, Edits.{position_of, with_value, inserted}}
+use Rattle.std.specs.{Ordering.{is_lt, nat_cmp}, Cmp.nat_cmp_is, List.Sorted.ties}
+use Rattle.series_index.{specs.declared.coming.Coming.Coming, specs.Log.{observed, all_placed}, proofs.Placing.{put-below, put-at, put-above}}
 
 less-first : (a b : ℕ) (x y : Observation) (points : List Position) → a < b → inserted a x (inserted b y points) ≡ inserted b y (inserted a x points)
 less-first a b x y [] lt = put-below a x (position_of b y) [] lt ∙ sym (put-above b y (position_of a x) [] lt)

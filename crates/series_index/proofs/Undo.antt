@@ -1,18 +1,12 @@
 -- Samples that are taken out again as if they had never come.
 use Rattle.std.proofs.Common.{◌≡◌, ℕ, ◌+◌, ◌≤◌, ℤ, Bool, true, false, cond, not, ◌==◌, List, [], ◌∷◌, ◌++◌, length, All, refl, sym, ap, ◌∙◌, Option, Some, None, inl, inr, arith}
-use Rattle.std.specs.Prelude.{filter, unwrap_or}
-use Rattle.std.proofs.lemmas.Bool.{cases_Bool, cases_order, lt-ltb, le-ltb, eq-eqb, ne_eqb}
-use Rattle.std.proofs.lemmas.List.{append-nil}
+use Rattle.std.{specs.Prelude.{filter, unwrap_or}, proofs.lemmas.Bool.{cases_Bool, cases_order, lt-ltb, le-ltb, eq-eqb, ne_eqb}, proofs.lemmas.List.append-nil}
 use Rattle.std.proofs.lemmas.List.Elements.{filter-append, All-nil, All-cons, All-head, All-tail, All-push}
-use Rattle.segment_model.specs.Segments.{Observation, Position}
-use Rattle.segment_model.specs.Limits.{IsSmall}
-use Rattle.segment_model.specs.Edits.{position_of, with_value, inserted, has_values, by_another, without_step, removed}
+use Rattle.segment_model.specs.{Segments.{Observation, Position}, Limits.IsSmall}
+use Rattle.segment_model.{specs.Edits.{position_of, with_value, inserted, has_values, by_another, without_step, removed}, proofs.Inserted.count-inserted}
 use Rattle.point_list.specs.Places.{CameBy}
-use Rattle.segment_model.proofs.Inserted.{count-inserted}
 use Rattle.sample_model.specs.Samples.{Measurement}
-use Rattle.series_index.specs.declared.tracked.Tracked.{Tracked}
-use Rattle.series_index.specs.Seen.{with_sample, without, forgotten, undone, HasRoom}
-use Rattle.series_index.specs.Taken.{with_samples, HasRoomFor}
+use Rattle.series_index.specs.{declared.tracked.Tracked.Tracked, Seen.{with_sample, without, forgotten, undone, HasRoom}, Taken.{with_samples, HasRoomFor}}
 use Rattle.history_model.proofs.Commit.{has-inserted}
 
 -- a value that is taken out with its step leaves no trace

@@ -1,8 +1,6 @@
 -- Values that came to some positions, placed one after another.
 use Rattle.std.specs.Prelude.{◌≡◌, ℕ, ℤ, ◌+◌, ◌<◌, Bool, false, ◌==◌, ◌&&◌, List, [], ◌∷◌, length}
-use Rattle.segment_model.specs.Segments.{Observation, Position, values_of}
-use Rattle.segment_model.specs.Limits.{WithinLimits}
-use Rattle.segment_model.specs.Edits.{inserted, has_commit}
+use Rattle.segment_model.specs.{Segments.{Observation, Position, values_of}, Limits.WithinLimits, Edits.{inserted, has_commit}}
 use Rattle.point_list.specs.Places.{MayCome}
 use Rattle.series_index.specs.declared.coming.Coming.{Coming}
 

@@ -1,7 +1,6 @@
 -- No public contract cites this. A series that takes some samples whatever they are.
 use Rattle.std.specs.Prelude.{◌≡◌, ℕ, ◌+◌, ◌<◌, ◌≤◌, false, length, is_none}
-use Rattle.segment_model.specs.Segments.{values_of}
-use Rattle.segment_model.specs.Edits.{has_commit}
+use Rattle.segment_model.specs.{Segments.values_of, Edits.has_commit}
 use Rattle.series_index.specs.declared.tracked.Tracked.{Tracked}
 
 -- it is known, and has room for so many values more, and the commit, or room for it

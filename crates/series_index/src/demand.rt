@@ -1,12 +1,8 @@
 //! What a run asks of the series before it is taken in.
 ghost use Rattle.std.specs.Prelude.{◌≡◌, ◌≤◌, ◌<◌, ◌+◌, ◌↔◌, ◌&&◌, ◌||◌, [], not, if◌then◌else◌, IsTrue, IfOk, OnOk, All, length, is_some, nat_lt};
-ghost use Rattle.segment_model.specs.Segments.{values_of};
-ghost use Rattle.segment_model.specs.Edits.{has_commit};
-ghost use Rattle.segment_model.specs.Limits.{IsSmall};
+ghost use Rattle.segment_model.specs.{Segments.values_of, Edits.has_commit, Limits.IsSmall};
 ghost use Rattle.sample_model.specs.Samples.{Measurement};
-ghost use Rattle.series_index.specs.Seen.{seen};
-ghost use Rattle.series_index.specs.Demands.{new_ones, HaveRoomForSamples, HaveRoomForPosition, Tallies};
-ghost use Rattle.series_index.specs.Plenty.{HasPlenty};
+ghost use Rattle.series_index.specs.{Seen.seen, Demands.{new_ones, HaveRoomForSamples, HaveRoomForPosition, Tallies}, Plenty.HasPlenty};
 
 use crate::NoMemory;
 use crate::series::SeriesIndex;

@@ -1,12 +1,6 @@
 //! The series that are known, listed in order.
-ghost use Rattle.std.specs.Prelude.{◌≡◌, ◌++◌, ℕ, List, IfOk, OnOk};
-ghost use Rattle.std.specs.List.Sorted.{IsStrictlySortedBy};
-ghost use Rattle.std.specs.Map.{keys_of, lookup};
-ghost use Rattle.std.specs.Ordering.{nat_cmp};
-ghost use Rattle.std.specs.Cmp.Lexicographic.{slice_cmp};
-ghost use Rattle.series_index.specs.Known.{AreKnown};
-ghost use Rattle.series_index.specs.Listed.{known_of, metrics_at, at_place};
-ghost use Rattle.series_index.specs.Seen.{is_same};
+ghost use Rattle.std.specs.{Prelude.{◌≡◌, ◌++◌, ℕ, List, IfOk, OnOk}, List.Sorted.IsStrictlySortedBy, Map.{keys_of, lookup}, Ordering.nat_cmp, Cmp.Lexicographic.slice_cmp};
+ghost use Rattle.series_index.specs.{Known.AreKnown, Listed.{known_of, metrics_at, at_place}, Seen.is_same};
 
 use crate::NoMemory;
 use crate::metrics::MetricIndex;

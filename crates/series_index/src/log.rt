@@ -1,8 +1,6 @@
 //! The positions of a series, into which values are placed when the positions are asked for.
 ghost use Rattle.std.specs.Prelude.{◌≡◌, ◌+◌, ◌≤◌, ◌||◌, List, [], length, not, nat_lt, drop, filter, OnOk, OnErr, IfOk, IfSome};
-ghost use Rattle.segment_model.specs.Segments.{Position, values_of};
-ghost use Rattle.segment_model.specs.Limits.{WithinLimits};
-ghost use Rattle.segment_model.specs.Edits.{inserted, removed, has_commit};
+ghost use Rattle.segment_model.specs.{Segments.{Position, values_of}, Limits.WithinLimits, Edits.{inserted, removed, has_commit}};
 ghost use Rattle.series_index.specs.Log.{observed, all_placed, is_of_step, MayBePlaced, HaveRoom};
 
 use crate::NoMemory;

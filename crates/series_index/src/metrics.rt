@@ -1,6 +1,5 @@
 //! The series of one test, by metric.
-ghost use Rattle.std.specs.Prelude.{◌≡◌, ℕ, List, [], if◌then◌else◌, IfOk, OnOk, OnErr, option_copied};
-ghost use Rattle.std.specs.Map.{lookup};
+ghost use Rattle.std.specs.{Prelude.{◌≡◌, ℕ, List, [], if◌then◌else◌, IfOk, OnOk, OnErr, option_copied}, Map.lookup};
 ghost use Rattle.series_index.specs.Seen.{is_same, seen_of, with_sample, taken_out, HasRoom};
 
 use crate::NoMemory;

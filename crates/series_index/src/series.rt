@@ -1,11 +1,9 @@
 //! The series of a machine, by test and metric: samples put in and taken out.
-ghost use Rattle.std.specs.Prelude.{◌≡◌, [], if◌then◌else◌, OnOk, OnErr, All, length, unwrap_or, option_copied, IfOk};
-ghost use Rattle.std.specs.List.{list_any};
+ghost use Rattle.std.specs.{Prelude.{◌≡◌, [], if◌then◌else◌, OnOk, OnErr, All, length, unwrap_or, option_copied, IfOk}, List.list_any};
 ghost use Rattle.segment_model.specs.Limits.{IsSmall};
 ghost use Rattle.sample_model.specs.Samples.{Measurement};
 ghost use Rattle.history_model.specs.Runs.{Series, is_of};
-ghost use Rattle.series_index.specs.Seen.{seen, unseen, is_series, with_sample, without, undone, taken_out, HasRoom};
-ghost use Rattle.series_index.specs.Taken.{of_series, with_samples, HasRoomFor};
+ghost use Rattle.series_index.specs.{Seen.{seen, unseen, is_series, with_sample, without, undone, taken_out, HasRoom}, Taken.{of_series, with_samples, HasRoomFor}};
 
 use crate::NoMemory;
 use crate::metrics::MetricIndex;
@@ -32,8 +30,7 @@ impl Model for SeriesIndex {
 
     ghost Value = { List (List ℕ × List (List ℕ × Tracked)) };
 
-    ghost use Rattle.std.specs.Prelude.{◌≡◌};
-    ghost use Rattle.std.specs.Map.{keys_of};
+    ghost use Rattle.std.specs.{Prelude.◌≡◌, Map.keys_of};
 
     ghost view = { λ s. s.tests.items };
 

@@ -1,12 +1,8 @@
 -- Points have one list of distances.
 use Rattle.std.proofs.Common.{◌≡◌, ℕ, suc, ℤ, ◌+◌, ◌<◌, List, [], ◌∷◌, ◌++◌, length, refl, sym, ap, ◌∙◌, inl, inr, arith, ◌-ℤ◌, unsigned_abs}
-use Rattle.std.specs.Prelude.{slice_index}
-use Rattle.std.proofs.lemmas.Bool.{cases_lt}
-use Rattle.std.proofs.lemmas.List.{length-append, get_or_append_left, get_or_push}
-use Rattle.segment_model.specs.Segments.{Position, segment}
-use Rattle.segment_model.specs.Laws.{CentreIsUnique}
-use Rattle.series_noise.specs.Noise.{IsDistance, IsNoise}
-use Rattle.series_noise.proofs.Ordered.{one-median}
+use Rattle.std.{specs.Prelude.slice_index, proofs.lemmas.Bool.cases_lt, proofs.lemmas.List.{length-append, get_or_append_left, get_or_push}}
+use Rattle.segment_model.specs.{Segments.{Position, segment}, Laws.CentreIsUnique}
+use Rattle.series_noise.{specs.Noise.{IsDistance, IsNoise}, proofs.Ordered.one-median}
 
 -- ---- one distance more
 pub one-more : (P : ℕ → ℕ → Type 0) (xs : List ℕ) (x i : ℕ) → length xs ≡ i → ((k : ℕ) → k < i → P k (slice_index xs k)) → P i x

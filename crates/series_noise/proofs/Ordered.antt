@@ -1,10 +1,7 @@
 -- A list has one order in which it rises.
 use Rattle.std.proofs.Common.{◌≡◌, ℕ, suc, ◌-◌, ◌/◌, ◌<◌, ◌≤◌, cond, List, [], ◌∷◌, length, refl, sym, ap, ◌∙◌, inl, inr, arith}
-use Rattle.std.specs.Prelude.{slice_index, nat_le, sum_by}
-use Rattle.std.specs.List.Sorted.{IsNonDecreasing}
-use Rattle.std.proofs.lemmas.Bool.{cases_order, le-leb, lt-leb}
-use Rattle.std.proofs.lemmas.List.Sorted.{sum_by-IsPermutation}
-use Rattle.std.proofs.lemmas.List.Sums.{sum_by-cons}
+use Rattle.std.{specs.Prelude.{slice_index, nat_le, sum_by}, specs.List.Sorted.IsNonDecreasing, proofs.lemmas.Bool.{cases_order, le-leb, lt-leb}}
+use Rattle.std.proofs.lemmas.List.{Sorted.sum_by-IsPermutation, Sums.sum_by-cons}
 use Rattle.series_noise.specs.Noise.{IsLowerMedian}
 
 -- 1 for a number up to c, else 0

@@ -1,12 +1,7 @@
 -- Within the limits no distance is above 2 * 10^16, and so no noise.
-use Rattle.std.proofs.Common.{◌≡◌, ℕ, ℤ, ◌+◌, ◌-◌, ◌*◌, ◌/◌, ◌^◌, ◌<◌, ◌≤◌, List, length, subst, arith, ◌-ℤ◌, unsigned_abs, All}
-use Rattle.std.specs.Prelude.{slice_index}
-use Rattle.std.proofs.lemmas.Int.{ints}
-use Rattle.std.proofs.lemmas.List.{get_or_default}
-use Rattle.std.proofs.lemmas.List.Sorted.{All-permutation, length_permutation}
-use Rattle.segment_model.specs.Segments.{Position, segment, IsCentre}
-use Rattle.segment_model.specs.Limits.{WithinLimits}
-use Rattle.segment_model.specs.Computed.{sum_of, centre_by_division}
+use Rattle.std.{proofs.Common.{◌≡◌, ℕ, ℤ, ◌+◌, ◌-◌, ◌*◌, ◌/◌, ◌^◌, ◌<◌, ◌≤◌, List, length, subst, arith, ◌-ℤ◌, unsigned_abs, All}, specs.Prelude.slice_index}
+use Rattle.std.proofs.lemmas.{Int.ints, List.get_or_default, List.Sorted.{All-permutation, length_permutation}}
+use Rattle.segment_model.specs.{Segments.{Position, segment, IsCentre}, Limits.WithinLimits, Computed.{sum_of, centre_by_division}}
 use Rattle.segment_model.specs.Laws.{SegmentHasValue, SegmentIsWithinLimits, SmallSumsAreInRange, DivisionGivesCentre, DivisionIsInRange, CentreIsUnique}
 use Rattle.series_noise.specs.Noise.{IsDistance, AreDistances, IsNoise}
 

@@ -1,6 +1,5 @@
 -- The noise of a series: the lower median of how far each position's centre is from the one before it.
-use Rattle.std.specs.Prelude.{◌≡◌, ℕ, ℤ, ◌+◌, ◌-◌, ◌/◌, ◌<◌, List, length, slice_index, unsigned_abs, ◌-ℤ◌}
-use Rattle.std.specs.List.Sorted.{IsPermutation, IsNonDecreasing}
+use Rattle.std.specs.{Prelude.{◌≡◌, ℕ, ℤ, ◌+◌, ◌-◌, ◌/◌, ◌<◌, List, length, slice_index, unsigned_abs, ◌-ℤ◌}, List.Sorted.{IsPermutation, IsNonDecreasing}}
 use Rattle.segment_model.specs.Segments.{Position, segment, IsCentre}
 
 -- how far position i + 1 is from position i, counted from 0: the magnitude of the difference of their own centres

@@ -1,20 +1,14 @@
 -- Private: no public contract cites this. What main does for workers of each kind, if there are some.
 use Rattle.std.proofs.Common.{arith, ◌≡◌, ◌≢◌, ℕ, zero, suc, Bool, true, false, List, [], ◌∷◌, ◌++◌, length, take, drop, Ok, Err, refl, sym, ap, subst, ◌∙◌}
-use Rattle.std.specs.Prelude.{◌&&◌, OnOk, Result, is_ok}
-use Rattle.std.specs.List.{AllByRecursion, AllZip}
-use Rattle.std.proofs.lemmas.List.{length-map}
+use Rattle.std.{specs.Prelude.{◌&&◌, OnOk, Result, is_ok}, specs.List.{AllByRecursion, AllZip}, proofs.lemmas.List.length-map}
 use Rattle.std.proofs.lemmas.Slice.Zip.{AllZip-long}
 use Rattle.track_outside.specs.declared.runner.Runner as runner
 use Rattle.command_words.specs.Plans.{Plan}
 use Rattle.history_model.specs.declared.entries.Author.TheVariants.{Recompute}
 use Rattle.track_model.specs.Tracks.{Track}
-use Rattle.worker_crew.specs.Recomputing.{AddsPublications}
-use Rattle.worker_crew.specs.Work.{Work}
-use Rattle.worker_crew.specs.Fitting.{IsUnasked}
-use Rattle.worker_crew.specs.Sights.{tracks_of}
+use Rattle.worker_crew.specs.{Recomputing.AddsPublications, Work.Work, Fitting.IsUnasked, Sights.tracks_of}
 use Rattle.worker_crew.specs.Runs.{BisectsEach, BisectsLast, IsNew, RecomputesLast, Tally, runners_by}
-use Rattle.shared_run.specs.Crews.{Finishes}
-use Rattle.shared_run.proofs.Running.{whole-of}
+use Rattle.shared_run.{specs.Crews.Finishes, proofs.Running.whole-of}
 
 pub recomputes-none : (workers : ℕ) (old : List Track) → workers ≡ 0 → RecomputesLast workers old old
 recomputes-none workers old none = subst (λ (n : ℕ). RecomputesLast n old old) (sym none) refl

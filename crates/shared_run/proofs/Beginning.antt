@@ -1,24 +1,15 @@
 -- Private: no public contract cites this. The machines that a run begins with are different, and what they have was kept.
 use Rattle.std.proofs.Common.{◌≡◌, ℕ, Bool, true, false, cond, inr, List, [], ◌∷◌, ◌++◌, map, Option, Some, None, refl, sym, ap, subst, ◌∙◌}
-use Rattle.std.specs.Prelude.{bytes_eq, find, is_some, if◌then◌else◌}
-use Rattle.std.specs.List.{AllByRecursion, AllZip}
-use Rattle.std.specs.Cmp.Lexicographic.{nat_list_eq_equiv}
+use Rattle.std.specs.{Prelude.{bytes_eq, find, is_some, if◌then◌else◌}, List.{AllByRecursion, AllZip}, Cmp.Lexicographic.nat_list_eq_equiv}
 use Rattle.track_outside.specs.declared.keeper.Keeper as keeper
 use Rattle.command_words.specs.Plans.{Plan}
 use Rattle.history_model.specs.declared.entries.Author.TheVariants as author
-use Rattle.history_model.specs.declared.entries.Entry.{Entry}
-use Rattle.history_model.specs.declared.entries.Placed.{Placed}
-use Rattle.history_model.specs.Entries.{entries_of}
+use Rattle.history_model.specs.{declared.entries.Entry.Entry, declared.entries.Placed.Placed, Entries.entries_of}
 use Rattle.track_model.specs.Tracks.{Track}
-use Rattle.keep_rows.specs.Kept.{kept, kept_entries, kept_of}
-use Rattle.keep_rows.specs.Machines.{AreDifferent, IsOther, is_track, names_of}
-use Rattle.worker_crew.specs.Rooms.{IsPassOf}
-use Rattle.worker_crew.specs.Sights.{Home, IsFirstOf, Sight}
-use Rattle.worker_crew.specs.Gathered.{AreKept}
+use Rattle.keep_rows.specs.{Kept.{kept, kept_entries, kept_of}, Machines.{AreDifferent, IsOther, is_track, names_of}, Loading.Stored}
+use Rattle.worker_crew.specs.{Rooms.IsPassOf, Sights.{Home, IsFirstOf, Sight}, Gathered.AreKept}
 use Rattle.worker_crew.specs.Seats as seats
-use Rattle.keep_rows.specs.Loading.{Stored}
-use Rattle.shared_run.specs.Beginnings.{AreStored, Begins, MayBeStarted, WasStarted}
-use Rattle.shared_run.specs.Lists.{listed_track, with_listed, with_machine}
+use Rattle.shared_run.specs.{Beginnings.{AreStored, Begins, MayBeStarted, WasStarted}, Lists.{listed_track, with_listed, with_machine}}
 
 -- ---- names
 other-last : (name machine : List ℕ) (tracks : List Track) → bytes_eq machine name ≡ false → AllByRecursion (IsOther name) (names_of tracks)

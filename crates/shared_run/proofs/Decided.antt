@@ -1,13 +1,10 @@
 -- Private: no public contract cites this. The three ways in which a run's end is decided.
 use Rattle.std.proofs.Common.{◌≡◌, ◌≢◌, ℕ, zero, suc, ◌<◌, ◌+◌, inl, inr, List, [], ◌∷◌, length, get_or, Some, Ok, Err, refl, sym, arith}
-use Rattle.std.specs.Prelude.{◌⊎◌, slice_get, Contains, Result}
-use Rattle.std.specs.List.{AllByRecursion}
+use Rattle.std.specs.{Prelude.{◌⊎◌, slice_get, Contains, Result}, List.AllByRecursion}
 use Rattle.script_loop.specs.declared.stop.Stop.{Stop}
 use Rattle.script_loop.specs.declared.stop.Stop.TheVariants as script
-use Rattle.shared_run.specs.declared.stop.RunStop.{RunStop}
+use Rattle.shared_run.{specs.declared.stop.RunStop.RunStop, specs.Stops.{Decides, IsFirstStop, NoneStopped, WantsMemory}, proofs.Stopped.found_first}
 use Rattle.shared_run.specs.declared.stop.RunStop.TheVariants as run
-use Rattle.shared_run.specs.Stops.{Decides, IsFirstStop, NoneStopped, WantsMemory}
-use Rattle.shared_run.proofs.Stopped.{found_first}
 
 abbrev pub End : Type 0
 End = Result (Unit {0}) Stop

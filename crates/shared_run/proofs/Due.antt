@@ -1,29 +1,23 @@
 -- Private: no public contract cites this. What is due comes, unless memory was wanting or an object failed.
 use Rattle.std.proofs.Common.{◌≡◌, ◌≢◌, ℕ, zero, suc, ◌+◌, ◌<◌, ◌≤◌, inl, inr, Bool, true, false, List, [], ◌∷◌, ◌++◌, length, Option, Some, None, Ok, Err, refl, sym, ap, subst, ◌∙◌, arith, length-append}
-use Rattle.std.specs.Prelude.{◌⊎◌, Result, take, slice_get, find, is_some, if◌then◌else◌, IfSome, IsSome}
-use Rattle.std.proofs.lemmas.Bool.{cases_lt}
+use Rattle.std.{specs.Prelude.{◌⊎◌, Result, take, slice_get, find, is_some, if◌then◌else◌, IfSome, IsSome}, proofs.lemmas.Bool.cases_lt}
 use Rattle.std.proofs.lemmas.Option.{slice_get_within}
 use Rattle.command_words.specs.Plans.{Plan}
 use Rattle.store_rows.specs.Laws.{HasOneOutcome}
-use Rattle.keep_rows.specs.Loading.{Stored, nothing_stored, Makes, IsFirstBad, LeadTo}
-use Rattle.keep_rows.specs.Machines.{is_track}
-use Rattle.metric_table.specs.Limits.{most}
-use Rattle.metric_table.specs.declared.limits.Limit.TheVariants.{Machines}
+use Rattle.keep_rows.specs.{Loading.{Stored, nothing_stored, Makes, IsFirstBad, LeadTo}, Machines.is_track}
+use Rattle.metric_table.specs.{Limits.most, declared.limits.Limit.TheVariants.Machines}
 use Rattle.play_fits.specs.Workers.{Asked}
-use Rattle.request_reader.specs.Reading.{OneReading}
-use Rattle.request_reader.specs.Scripts.{Ending, end, cut_off, unfinished, IsScript, input_limit}
+use Rattle.request_reader.specs.{Reading.OneReading, Scripts.{Ending, end, cut_off, unfinished, IsScript, input_limit}}
 use Rattle.request_words.specs.Bodies.{Item}
 use Rattle.script_loop.specs.declared.stop.Stop.{Stop}
 use Rattle.script_loop.specs.declared.stop.Stop.TheVariants as stop
 use Rattle.track_model.specs.Tracks.{Track}
 use Rattle.track_outside.specs.declared.keeper.Keeper as keeper
-use Rattle.shared_run.specs.declared.stop.RunStop.{RunStop}
+use Rattle.shared_run.specs.{declared.stop.RunStop.RunStop, Beginnings.{AreStored, NoneCause}}
 use Rattle.shared_run.specs.declared.stop.RunStop.TheVariants as run
-use Rattle.shared_run.specs.Beginnings.{AreStored, NoneCause}
 use Rattle.shared_run.specs.Endings as endings
 use Rattle.shared_run.specs.Endings.{EndsAsDue, EndsLate, EndsRun, HasFailed, IsBadStore, IsDue, Objects, StoreGives, Told}
-use Rattle.shared_run.specs.Lists.{IsFull, IsFullAt, listed_track, with_listed, with_machine}
-use Rattle.shared_run.specs.Ran.{NotBegun}
+use Rattle.shared_run.specs.{Lists.{IsFull, IsFullAt, listed_track, with_listed, with_machine}, Ran.NotBegun}
 
 -- ---- scripts
 one-ending : OneReading → (bytes : List ℕ) (items others : List Item) (ending other : Ending) → IsScript bytes items ending → IsScript bytes others other → ending ≡ other

@@ -1,25 +1,17 @@
 -- Private: no public contract cites this. What each script of a run read and wrote: how it ended, and how often its files failed.
 use Rattle.std.proofs.Common.{◌≡◌, ◌≢◌, ℕ, zero, suc, ◌<◌, ◌≤◌, ◌+◌, inl, inr, Bool, cond, List, [], ◌∷◌, length, map, Option, Some, None, Ok, Err, refl, sym, ap, subst, ◌∙◌, arith}
-use Rattle.std.proofs.lemmas.Bool.{lt-ltb}
-use Rattle.std.proofs.lemmas.List.{append_cancel_right}
+use Rattle.std.proofs.lemmas.{Bool.lt-ltb, List.append_cancel_right}
 use Rattle.std.specs.Prelude.{◌⊎◌, slice_get, slice_index_or, AllPairs, Result, codes, not, count_by, nat_lt, if◌then◌else◌, option_and_then, IfSome}
-use Rattle.std.specs.List.{AllByRecursion, AllZip}
-use Rattle.std.proofs.lemmas.List.Sums.{sum_by-cons}
-use Rattle.track_outside.specs.Counts.{Rose}
-use Rattle.track_outside.specs.Named.{NamedBytes, bytes_at}
+use Rattle.std.{specs.List.{AllByRecursion, AllZip}, proofs.lemmas.List.Sums.sum_by-cons}
+use Rattle.track_outside.specs.{Counts.Rose, Named.{NamedBytes, bytes_at}}
 use Rattle.track_outside.specs.declared.source.Source as source
 use Rattle.track_outside.specs.declared.sink.Sink as sink
 use Rattle.command_words.specs.Plans.{transcript_of}
 use Rattle.request_words.specs.Bodies.{Item}
-use Rattle.script_files.specs.declared.open.OpenScript.{OpenScript}
-use Rattle.script_files.specs.Opening.{IsOpen}
-use Rattle.script_files.specs.Closing.{AreApart, failed_inputs, failed_outputs}
-use Rattle.script_loop.specs.Endings.{HasRead, HasWritten}
-use Rattle.script_loop.specs.declared.stop.Stop.{Stop}
+use Rattle.script_files.specs.{declared.open.OpenScript.OpenScript, Opening.IsOpen, Closing.{AreApart, failed_inputs, failed_outputs}}
+use Rattle.script_loop.specs.{Endings.{HasRead, HasWritten}, declared.stop.Stop.Stop}
 use Rattle.script_loop.specs.declared.stop.Stop.TheVariants as stop
-use Rattle.worker_crew.specs.Played.{in_full}
-use Rattle.worker_crew.specs.Sights.{Home, Sight}
-use Rattle.worker_crew.specs.Players.{Playing, Plays, end_of, open_of, players_from}
+use Rattle.worker_crew.specs.{Played.in_full, Sights.{Home, Sight}, Players.{Playing, Plays, end_of, open_of, players_from}}
 
 -- ---- lists
 pub some-same : {A : Type 0} (x y : A) → Some x ≡ Some y → x ≡ y

@@ -1,16 +1,11 @@
 -- Private: no public contract cites this. How a run ends where its scripts weren't begun.
-use Rattle.std.proofs.Common.{◌≡◌, ◌≢◌, inl, inr, List, Err, refl, sym, subst, ◌∙◌}
-use Rattle.std.specs.Prelude.{Result}
-use Rattle.std.specs.List.{AllByRecursion}
+use Rattle.std.{proofs.Common.{◌≡◌, ◌≢◌, inl, inr, List, Err, refl, sym, subst, ◌∙◌}, specs.Prelude.Result, specs.List.AllByRecursion}
 use Rattle.command_words.specs.Plans.{Plan}
 use Rattle.play_fits.specs.Workers.{Asked}
 use Rattle.worker_crew.specs.Fitting.{IsUnasked}
-use Rattle.shared_run.specs.declared.stop.RunStop.{RunStop}
+use Rattle.shared_run.specs.{declared.stop.RunStop.RunStop, Beginnings.{MayBeStarted, NoneCause, WasStarted}, Endings.{Objects, Told, EndsEarly}, Ran.NotRun}
 use Rattle.shared_run.specs.declared.stop.RunStop.TheVariants as run
-use Rattle.shared_run.specs.Beginnings.{MayBeStarted, NoneCause, WasStarted}
 use Rattle.shared_run.specs.Endings as endings
-use Rattle.shared_run.specs.Endings.{Objects, Told, EndsEarly}
-use Rattle.shared_run.specs.Ran.{NotRun}
 use Rattle.shared_run.proofs.Beginning.{once-started}
 
 -- an error that isn't one is another

@@ -1,8 +1,6 @@
 -- Private: no public contract cites this. The scripts that were run at a room fit the journals that it leaves.
 use Rattle.std.proofs.Common.{◌≤◌, ◌++◌, take, ap₂, ◌≡◌, ℕ, ◌+◌, inl, inr, Bool, true, false, List, [], ◌∷◌, length, map, Option, Some, None, refl, sym, ap, subst, ◌∙◌, arith}
-use Rattle.std.specs.Prelude.{◌⊎◌, zip, Result, option_and_then, IfSome}
-use Rattle.std.specs.List.{AllByRecursion, AllZip}
-use Rattle.std.proofs.lemmas.List.{length-map, length-take}
+use Rattle.std.{specs.Prelude.{◌⊎◌, zip, Result, option_and_then, IfSome}, specs.List.{AllByRecursion, AllZip}, proofs.lemmas.List.{length-map, length-take}}
 use Rattle.std.proofs.lemmas.Slice.Zip.{AllZip-long}
 use Rattle.track_outside.specs.Named.{NamedBytes, bytes_at}
 use Rattle.track_outside.specs.declared.files.Files as files
@@ -11,35 +9,18 @@ use Rattle.track_outside.specs.declared.source.Source as source
 use Rattle.track_outside.specs.declared.sink.Sink as sink
 use Rattle.command_words.specs.Plans.{Plan, AreScripts, transcript_of}
 use Rattle.track_model.specs.Tracks.{Track}
-use Rattle.script_files.specs.declared.open.OpenScript.{OpenScript}
-use Rattle.script_files.specs.Opening.{IsOpen}
-use Rattle.script_files.specs.Closing.{HaveWritten}
+use Rattle.script_files.specs.{declared.open.OpenScript.OpenScript, Opening.IsOpen, Closing.HaveWritten}
 use Rattle.script_loop.specs.declared.stop.Stop.{Stop}
-use Rattle.worker_crew.specs.Rooms.{AreSame, IsPassOf, IsWhole}
-use Rattle.worker_crew.specs.Sights.{EndsWhole, Home, IsFirstOf, Sight}
-use Rattle.play_fits.specs.Fits.{Fits, Play}
-use Rattle.play_fits.specs.Scripts.{Exchange, IsWritten}
-use Rattle.play_fits.specs.Quiet.{IsQuiet}
-use Rattle.worker_crew.specs.Played.{in_full}
-use Rattle.worker_crew.specs.Fitting.{ArePlayedFrom}
-use Rattle.worker_crew.specs.Gathered.{AreKept}
-use Rattle.worker_crew.specs.Seats.{AreDifferent, Seat}
+use Rattle.worker_crew.specs.{Rooms.{AreSame, IsPassOf, IsWhole}, Sights.{EndsWhole, Home, IsFirstOf, Sight}, Played.in_full, Fitting.ArePlayedFrom}
+use Rattle.play_fits.specs.{Fits.{Fits, Play}, Scripts.{Exchange, IsWritten}, Quiet.IsQuiet}
+use Rattle.worker_crew.specs.{Gathered.AreKept, Seats.{AreDifferent, Seat}, Shared.JoinsAll, Laws.{RunOfPlayersFits, RunOfPlayersIsQuiet}, Runs.RunsPlayers}
 use Rattle.worker_crew.specs.Shared as shared
-use Rattle.worker_crew.specs.Shared.{JoinsAll}
-use Rattle.worker_crew.specs.Laws.{RunOfPlayersFits, RunOfPlayersIsQuiet}
-use Rattle.worker_crew.specs.Runs.{RunsPlayers}
-use Rattle.worker_crew.specs.Last.{HasQuietSeries}
-use Rattle.worker_crew.specs.Seated.{AreSeated, BisectorsSit, RecomputersSit, SeatsShare, bisect_seat, recompute_seat}
-use Rattle.worker_crew.specs.Whole.{CrewRuns, RunsCrew}
+use Rattle.worker_crew.specs.{Last.HasQuietSeries, Seated.{AreSeated, BisectorsSit, RecomputersSit, SeatsShare, bisect_seat, recompute_seat}}
+use Rattle.worker_crew.specs.{Whole.{CrewRuns, RunsCrew}, Workers.Working, Players.{IsOfRoom, Playing, Plays, end_of, open_of, pass_of, players_from}}
 use Rattle.worker_crew.specs.Workers as workers
-use Rattle.worker_crew.specs.Workers.{Working}
-use Rattle.worker_crew.specs.Players.{IsOfRoom, Playing, Plays, end_of, open_of, pass_of, players_from}
 use Rattle.shared_run.specs.Endings as endings
-use Rattle.shared_run.specs.Endings.{Told}
-use Rattle.shared_run.specs.Crews.{AreNew, RanCrew, RanIn, asked_by, word_of}
-use Rattle.shared_run.specs.Ran.{Ran}
-use Rattle.shared_run.proofs.Running.{of-room, shorter, still-of-room}
-use Rattle.shared_run.proofs.EachRun.{all-run, script-told, transcripts-apart}
+use Rattle.shared_run.specs.{Endings.Told, Crews.{AreNew, RanCrew, RanIn, asked_by, word_of}, Ran.Ran}
+use Rattle.shared_run.proofs.{Running.{of-room, shorter, still-of-room}, EachRun.{all-run, script-told, transcripts-apart}}
 
 -- ---- bytes that the files tell, or don't
 less-told : (P : List ℕ → Type 0) (one other : Option (List ℕ)) → (other ≡ None) ⊎ (other ≡ one) → IfSome one P → IfSome other P

@@ -1,51 +1,29 @@
 -- Private: no public contract cites this. How a run ends behind its scripts, by which stop decides.
 use Rattle.std.proofs.Common.{◌≡◌, ◌≢◌, ℕ, suc, ◌<◌, ◌≤◌, ◌+◌, ◌-◌, ◌^◌, inl, inr, Bool, true, false, List, [], ◌∷◌, ◌++◌, length, map, Option, Some, None, Ok, Err, refl, sym, ap, subst, ◌∙◌, arith}
-use Rattle.std.specs.Prelude.{◌⊎◌, slice_get, option_map, Contains, Result, count_by, not, IfSome, IsSome, OnOk}
-use Rattle.std.specs.List.{AllByRecursion, AllZip}
-use Rattle.std.proofs.lemmas.Bool.{cases_lt}
-use Rattle.std.proofs.lemmas.List.{length-map}
-use Rattle.std.proofs.lemmas.Option.{slice_get_within, get_or_from_slice_get}
-use Rattle.std.proofs.lemmas.Slice.Zip.{AllZip-long}
-use Rattle.track_outside.specs.Calls.{Took, FailedIn, TookPart}
-use Rattle.track_outside.specs.Counts.{Rose}
-use Rattle.track_outside.specs.Kept.{with_more}
-use Rattle.track_outside.specs.Named.{Call}
+use Rattle.std.specs.{Prelude.{◌⊎◌, slice_get, option_map, Contains, Result, count_by, not, IfSome, IsSome, OnOk}, List.{AllByRecursion, AllZip}}
+use Rattle.std.proofs.lemmas.{Bool.cases_lt, List.length-map, Option.{slice_get_within, get_or_from_slice_get}, Slice.Zip.AllZip-long}
+use Rattle.track_outside.specs.{Calls.{Took, FailedIn, TookPart}, Counts.Rose, Kept.with_more, Named.Call}
 use Rattle.track_outside.specs.declared.sink.Sink as sink
 use Rattle.track_outside.specs.declared.source.Source as source
 use Rattle.track_outside.specs.declared.runner.Runner as runner
 use Rattle.command_words.specs.Plans.{Plan, AreScripts}
-use Rattle.metric_table.specs.Limits.{most}
-use Rattle.metric_table.specs.declared.limits.Limit.TheVariants.{Machines}
+use Rattle.metric_table.specs.{Limits.most, declared.limits.Limit.TheVariants.Machines}
 use Rattle.track_model.specs.Tracks.{Track}
 use Rattle.keep_rows.specs.Rows.{new_rows}
 use Rattle.journal_text.specs.Journals.{journals_text}
 use Rattle.request_reader.specs.Scripts.{Ending, end, cut_off, unfinished, IsScript}
-use Rattle.script_files.specs.declared.open.OpenScript.{OpenScript}
-use Rattle.script_files.specs.Opening.{calls_for}
-use Rattle.script_files.specs.Closing.{RoseBy, failed_inputs, failed_outputs}
-use Rattle.script_loop.specs.Endings.{HasRead, HasWritten}
-use Rattle.script_loop.specs.declared.stop.Stop.{Stop}
+use Rattle.script_files.specs.{declared.open.OpenScript.OpenScript, Opening.calls_for, Closing.{RoseBy, failed_inputs, failed_outputs}}
+use Rattle.script_loop.specs.{Endings.{HasRead, HasWritten}, declared.stop.Stop.Stop}
 use Rattle.script_loop.specs.declared.stop.Stop.TheVariants as stop
-use Rattle.worker_crew.specs.Sights.{Home, Sight}
-use Rattle.play_fits.specs.Fits.{Fits}
-use Rattle.play_fits.specs.Quiet.{IsQuiet}
-use Rattle.play_fits.specs.Workers.{Asked}
-use Rattle.worker_crew.specs.Played.{in_full}
-use Rattle.worker_crew.specs.Gathered.{AreKept}
-use Rattle.worker_crew.specs.Seats.{AreDifferent}
-use Rattle.worker_crew.specs.Players.{Playing, Plays, end_of, open_of, players_from}
-use Rattle.worker_crew.proofs.Gathered.{mapped-at, mapped-from}
-use Rattle.shared_run.specs.declared.stop.RunStop.{RunStop}
+use Rattle.worker_crew.specs.{Sights.{Home, Sight}, Played.in_full, Gathered.AreKept, Seats.AreDifferent}
+use Rattle.play_fits.specs.{Fits.Fits, Quiet.IsQuiet, Workers.Asked}
+use Rattle.worker_crew.{specs.Players.{Playing, Plays, end_of, open_of, players_from}, proofs.Gathered.{mapped-at, mapped-from}}
+use Rattle.shared_run.specs.{declared.stop.RunStop.RunStop, Beginnings.{Begins, Keeps, WasStarted}, Endings.{Objects, Told, EndsLate, EndsRun}}
 use Rattle.shared_run.specs.declared.stop.RunStop.TheVariants as run
-use Rattle.shared_run.specs.Beginnings.{Begins, Keeps, WasStarted}
 use Rattle.shared_run.specs.Endings as endings
-use Rattle.shared_run.specs.Endings.{Objects, Told, EndsLate, EndsRun}
-use Rattle.shared_run.specs.Leaving.{WritesText}
-use Rattle.shared_run.specs.Crews.{AreNew, RanIn, asked_by}
-use Rattle.shared_run.specs.Stops.{Decides, NoneStopped, WantsMemory}
+use Rattle.shared_run.specs.{Leaving.WritesText, Crews.{AreNew, RanIn, asked_by}, Stops.{Decides, NoneStopped, WantsMemory}}
 use Rattle.shared_run.proofs.Beginning.{first-different, first-kept, room-different, was-started}
-use Rattle.shared_run.proofs.Decided.{Decided, FirstDecides, LaterDecides, MemoryDecides, decided, not-in}
-use Rattle.shared_run.proofs.Fitted.{Laws, run-fits, run-quiet}
+use Rattle.shared_run.proofs.{Decided.{Decided, FirstDecides, LaterDecides, MemoryDecides, decided, not-in}, Fitted.{Laws, run-fits, run-quiet}}
 use Rattle.shared_run.proofs.Taken.{failed-part, took-part}
 use Rattle.shared_run.proofs.EachRun.{WasRun, all-failed, all-run, input-counts, left-is, output-counts, rose-some, some-same, there-at, zip-at}
 

@@ -1,28 +1,18 @@
 -- Private: no public contract cites this. Scripts that were opened, seated, played and closed.
 use Rattle.std.proofs.Common.{◌≡◌, ◌<◌, ◌+◌, ℕ, List, [], ◌∷◌, ◌++◌, length, map, take, drop, refl, sym, ap, subst, ◌∙◌, Option, Some, None, Ok, Err, arith, append-nil}
-use Rattle.std.specs.Prelude.{Result, option_map, IsSome, IfErr, IsErrAnd}
-use Rattle.std.specs.List.{AllByRecursion, AllZip}
-use Rattle.std.specs.Io.KnownBytes.{append_known}
+use Rattle.std.specs.{Prelude.{Result, option_map, IsSome, IfErr, IsErrAnd}, List.{AllByRecursion, AllZip}, Io.KnownBytes.append_known}
 use Rattle.track_outside.specs.Named.{Call, NamedBytes, bytes_at}
 use Rattle.track_outside.specs.declared.files.Files as files
 use Rattle.track_outside.specs.declared.source.Source as source
 use Rattle.track_outside.specs.declared.sink.Sink as sink
-use Rattle.script_files.specs.declared.open.OpenFault.{OpenFault as Fault}
+use Rattle.script_files.specs.{declared.open.OpenFault.OpenFault as Fault, declared.open.OpenScript.OpenScript, Opening.{Asks, IsOpen, calls_for}}
 use Rattle.script_files.specs.declared.open.OpenFault.TheVariants as fault
-use Rattle.script_files.specs.declared.open.OpenScript.{OpenScript}
-use Rattle.script_files.specs.Opening.{Asks, IsOpen, calls_for}
 use Rattle.script_files.specs.Closing.{AreClosable, IsClosable}
-use Rattle.script_loop.specs.Endings.{HasWritten}
-use Rattle.script_loop.specs.declared.stop.Stop.{Stop}
+use Rattle.script_loop.specs.{Endings.HasWritten, declared.stop.Stop.Stop}
 use Rattle.script_loop.specs.declared.stop.Stop.TheVariants as stop
-use Rattle.worker_crew.specs.Rooms.{IsPassOf, badge}
-use Rattle.worker_crew.specs.Sights.{Home, Sight}
-use Rattle.worker_crew.specs.Seats.{AreDifferent, IsSeated}
+use Rattle.worker_crew.specs.{Rooms.{IsPassOf, badge}, Sights.{Home, Sight}, Seats.{AreDifferent, IsSeated}}
 use Rattle.worker_crew.specs.Players.{CanPlay, IsOfRoom, Playing, Plays, open_of, players_from}
-use Rattle.shared_run.specs.declared.stop.RunStop.{RunStop}
-use Rattle.shared_run.specs.declared.stop.RunStop.TheVariants.{NoMemory}
-use Rattle.shared_run.specs.Causes.{open_stop}
-use Rattle.shared_run.specs.Ran.{NotBegun}
+use Rattle.shared_run.specs.{declared.stop.RunStop.RunStop, declared.stop.RunStop.TheVariants.NoMemory, Causes.open_stop, Ran.NotBegun}
 
 -- ---- early
 calls-some : (scripts : List (List ℕ)) → 0 < length scripts → 0 < length (calls_for scripts)

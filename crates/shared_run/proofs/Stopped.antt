@@ -1,6 +1,5 @@
 -- Items that are, or aren't, in a list.
-use Rattle.std.proofs.Common.{◌≡◌, ◌↔◌, ℕ, zero, suc, ◌<◌, Bool, List, ◌∷◌, length, get_or, arith}
-use Rattle.std.specs.Prelude.{Contains, IsTrue}
+use Rattle.std.{proofs.Common.{◌≡◌, ◌↔◌, ℕ, zero, suc, ◌<◌, Bool, List, ◌∷◌, length, get_or, arith}, specs.Prelude.{Contains, IsTrue}}
 
 module _ {X : Type 0} where
   pub found_first : (x y : X) (xs : List X) → x ≡ y → Contains (x ∷ xs) y

@@ -1,9 +1,7 @@
 -- Private: no public contract cites this. What the output took of the journals' text, where all of it isn't known to be there.
-use Rattle.std.proofs.Common.{◌≡◌, ℕ, List, [], ◌∷◌, length, Ok, Err, refl, sym, ap, ◌∙◌, arith}
-use Rattle.std.specs.Prelude.{Result, take}
+use Rattle.std.{proofs.Common.{◌≡◌, ℕ, List, [], ◌∷◌, length, Ok, Err, refl, sym, ap, ◌∙◌, arith}, specs.Prelude.{Result, take}}
 use Rattle.std.specs.Io.KnownBytes.{append_known}
-use Rattle.track_outside.specs.Calls.{Took, FailedIn, TookPart}
-use Rattle.track_outside.specs.declared.out_error.OutError.{OutError}
+use Rattle.track_outside.specs.{Calls.{Took, FailedIn, TookPart}, declared.out_error.OutError.OutError}
 use Rattle.track_outside.specs.declared.out_error.OutError.TheVariants as error
 use Rattle.track_outside.specs.declared.sink.Sink as sink
 use Rattle.journal_text.specs.Writing.{Writes}

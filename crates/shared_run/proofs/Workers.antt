@@ -1,14 +1,9 @@
 -- Private: no public contract cites this. Workers that were seated, run and joined again.
-use Rattle.std.proofs.Common.{◌≡◌, ◌+◌, ℕ, List, [], ◌∷◌, ◌++◌, length, map, take, drop, refl, ap, subst, arith}
-use Rattle.std.specs.List.{AllByRecursion}
+use Rattle.std.{proofs.Common.{◌≡◌, ◌+◌, ℕ, List, [], ◌∷◌, ◌++◌, length, map, take, drop, refl, ap, subst, arith}, specs.List.AllByRecursion}
 use Rattle.std.proofs.lemmas.List.{length-append, take-append-drop}
 use Rattle.side_by_side.specs.Runs.{AllWorked}
 use Rattle.track_outside.specs.declared.runner.Runner as runner
-use Rattle.worker_crew.specs.Rooms.{IsPassOf}
-use Rattle.worker_crew.specs.Sights.{Home, Sight, splitting}
-use Rattle.worker_crew.specs.Seats.{Seat}
-use Rattle.worker_crew.specs.Shared.{SplitsAll}
-use Rattle.worker_crew.specs.Seated.{bisect_seat, recompute_seat}
+use Rattle.worker_crew.specs.{Rooms.IsPassOf, Sights.{Home, Sight, splitting}, Seats.Seat, Shared.SplitsAll, Seated.{bisect_seat, recompute_seat}}
 use Rattle.worker_crew.specs.Workers.{Bisects, HaveWorked, IsOfRoom, IsSeated, Working, workers_from}
 
 pub workers-long : (room : List Home) (word : List ℕ) (n : ℕ) (passes : List (List Sight)) → length (workers_from room word n passes) ≡ length passes

@@ -1,16 +1,12 @@
 -- The machines that a shared run begins with, and what became of the keeper.
 use Rattle.std.specs.Prelude.{◌≡◌, ◌≢◌, ℕ, List, [], ◌∷◌, Option, Some, None, IfSome, IsSome, Result, Ok, Err}
-use Rattle.track_outside.specs.Counts.{Rose}
-use Rattle.track_outside.specs.Kept.{with_more}
+use Rattle.track_outside.specs.{Counts.Rose, Kept.with_more}
 use Rattle.track_outside.specs.declared.keeper.Keeper as keeper
 use Rattle.command_words.specs.Plans.{Plan}
 use Rattle.track_model.specs.Tracks.{Track}
 use Rattle.store_rows.specs.Faults.{MayHaveName}
-use Rattle.keep_rows.specs.Kept.{AreKept}
-use Rattle.keep_rows.specs.Loading.{Stored, nothing_stored, LeadTo, IsFirstBad}
-use Rattle.keep_rows.specs.Rows.{new_rows}
-use Rattle.shared_run.specs.declared.stop.RunStop.{RunStop}
-use Rattle.shared_run.specs.declared.stop.RunStop.TheVariants.{NoMemory, StoreFault, BadStore, Full}
+use Rattle.keep_rows.specs.{Kept.AreKept, Loading.{Stored, nothing_stored, LeadTo, IsFirstBad}, Rows.new_rows}
+use Rattle.shared_run.specs.declared.stop.RunStop.{RunStop, TheVariants.{NoMemory, StoreFault, BadStore, Full}}
 use Rattle.shared_run.specs.Lists.{with_listed, IsFullAt}
 
 -- what a store has: nothing where none is named, else the machines and the version that its rows lead to, where they are told

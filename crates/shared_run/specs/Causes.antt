@@ -3,8 +3,7 @@ use Rattle.store_rows.specs.declared.append.AppendFault.{AppendFault}
 use Rattle.store_rows.specs.declared.append.AppendFault.TheVariants as append
 use Rattle.script_files.specs.declared.open.OpenFault.{OpenFault as Fault}
 use Rattle.script_files.specs.declared.open.OpenFault.TheVariants as opening
-use Rattle.shared_run.specs.declared.stop.RunStop.{RunStop}
-use Rattle.shared_run.specs.declared.stop.RunStop.TheVariants.{NoMemory, StoreFault, OpenFault, CreateFault}
+use Rattle.shared_run.specs.declared.stop.RunStop.{RunStop, TheVariants.{NoMemory, StoreFault, OpenFault, CreateFault}}
 
 abbrev pub append_stop : AppendFault → RunStop
 append_stop append.KeepFault = StoreFault

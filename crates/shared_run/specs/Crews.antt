@@ -1,6 +1,5 @@
 -- The scripts and the workers of a run, from the first pass before they are seated to the machines that main leaves.
-use Rattle.std.specs.Prelude.{◌≡◌, ℕ, ◌≤◌, Bool, true, List, [], ◌++◌, length, map, take, drop, unwrap_or, Result}
-use Rattle.std.specs.List.{AllByRecursion, AllZip}
+use Rattle.std.specs.{Prelude.{◌≡◌, ℕ, ◌≤◌, Bool, true, List, [], ◌++◌, length, map, take, drop, unwrap_or, Result}, List.{AllByRecursion, AllZip}}
 use Rattle.track_outside.specs.declared.files.Files as files
 use Rattle.track_outside.specs.declared.source.Source as source
 use Rattle.track_outside.specs.declared.sink.Sink as sink
@@ -9,16 +8,11 @@ use Rattle.command_words.specs.Plans.{Plan}
 use Rattle.script_loop.specs.declared.stop.Stop.{Stop}
 use Rattle.side_by_side.specs.Runs.{AllWorked}
 use Rattle.track_model.specs.Tracks.{Track}
-use Rattle.worker_crew.specs.Rooms.{IsPassOf}
-use Rattle.worker_crew.specs.Sights.{EndsWhole, Home, IsFirstOf, Sight}
+use Rattle.worker_crew.specs.{Rooms.IsPassOf, Sights.{EndsWhole, Home, IsFirstOf, Sight}, Shared.{JoinsAll, SplitsAll}, Runs.{DoesLast, IsNew, runners_by}}
 use Rattle.play_fits.specs.Workers.{Asked}
-use Rattle.worker_crew.specs.Shared.{JoinsAll, SplitsAll}
 use Rattle.worker_crew.specs.Players as players
-use Rattle.worker_crew.specs.Runs.{DoesLast, IsNew, runners_by}
-use Rattle.worker_crew.specs.Last.{HasQuietJobs, HasQuietSeries}
-use Rattle.worker_crew.specs.Whole.{tallies}
+use Rattle.worker_crew.specs.{Last.{HasQuietJobs, HasQuietSeries}, Whole.tallies, Workers.{Bisects, Recomputes, Working, workers_from}}
 use Rattle.worker_crew.specs.Workers as workers
-use Rattle.worker_crew.specs.Workers.{Bisects, Recomputes, Working, workers_from}
 use Rattle.shared_run.specs.Ran.{HasLegalHistory, Ran}
 
 -- the word of a plan's test

@@ -1,35 +1,25 @@
 -- How a shared run ends, on its objects: before its scripts began, or behind them.
 use Rattle.std.specs.Prelude.{◌≡◌, ◌≢◌, ◌⊎◌, ℕ, ◌+◌, ◌-◌, ◌^◌, ◌<◌, ◌≤◌, Bool, true, not, List, [], ◌++◌, length, map, zip, count_by, slice_get, Option, Some, None, option_map, option_and_then, unwrap_or, IsSome, Result, Ok, Err}
 use Rattle.std.specs.List.{AllByRecursion, AllZip}
-use Rattle.track_outside.specs.Calls.{Took, FailedIn, TookPart}
-use Rattle.track_outside.specs.Counts.{Rose}
-use Rattle.track_outside.specs.Named.{Call, bytes_at}
+use Rattle.track_outside.specs.{Calls.{Took, FailedIn, TookPart}, Counts.Rose, Named.{Call, bytes_at}}
 use Rattle.track_outside.specs.declared.files.Files as files
 use Rattle.track_outside.specs.declared.source.Source as source
 use Rattle.track_outside.specs.declared.sink.Sink as sink
 use Rattle.track_outside.specs.declared.keeper.Keeper as keeper
 use Rattle.command_words.specs.Plans.{Plan, transcript_of}
-use Rattle.metric_table.specs.Limits.{most}
-use Rattle.metric_table.specs.declared.limits.Limit.TheVariants.{Machines}
+use Rattle.metric_table.specs.{Limits.most, declared.limits.Limit.TheVariants.Machines}
 use Rattle.track_model.specs.Tracks.{Track}
 use Rattle.keep_rows.specs.Loading.{Stored, nothing_stored, LeadTo, IsFirstBad}
 use Rattle.journal_text.specs.Journals.{journals_text}
 use Rattle.request_words.specs.Bodies.{Item}
 use Rattle.request_reader.specs.Scripts.{Ending, end, cut_off, unfinished, IsScript}
-use Rattle.play_fits.specs.Fits.{Play, Played, Fits}
-use Rattle.play_fits.specs.Quiet.{IsQuiet}
-use Rattle.play_fits.specs.Workers.{Asked}
+use Rattle.play_fits.specs.{Fits.{Play, Played, Fits}, Quiet.IsQuiet, Workers.Asked}
 use Rattle.worker_crew.specs.Fitting.{IsUnasked}
-use Rattle.script_files.specs.declared.open.OpenScript.{OpenScript}
-use Rattle.script_files.specs.Opening.{Asks, IsOpen, calls_for}
-use Rattle.script_files.specs.Closing.{Closes}
+use Rattle.script_files.specs.{declared.open.OpenScript.OpenScript, Opening.{Asks, IsOpen, calls_for}, Closing.Closes}
 use Rattle.script_loop.specs.declared.stop.Stop.{Stop}
 use Rattle.script_loop.specs.declared.stop.Stop.TheVariants as script
-use Rattle.shared_run.specs.declared.stop.RunStop.{RunStop}
-use Rattle.shared_run.specs.declared.stop.RunStop.TheVariants.{NoMemory, StoreFault, BadStore, Full, Script, WriteFault}
-use Rattle.shared_run.specs.Beginnings.{Begins, Keeps, NoneCause, StartsAtMost, WasStarted}
-use Rattle.shared_run.specs.Lists.{IsFullAt}
-use Rattle.shared_run.specs.Ran.{NotBegun}
+use Rattle.shared_run.specs.declared.stop.RunStop.{RunStop, TheVariants.{NoMemory, StoreFault, BadStore, Full, Script, WriteFault}}
+use Rattle.shared_run.specs.{Beginnings.{Begins, Keeps, NoneCause, StartsAtMost, WasStarted}, Lists.IsFullAt, Ran.NotBegun}
 
 -- the objects of a run, beside its runners
 pub record Objects (F O K : Type 0) : Type 0 where

@@ -2,8 +2,7 @@
 use Rattle.std.specs.Prelude.{ℕ, List, Result, Ok, Err}
 use Rattle.track_outside.specs.Calls.{Took, FailedIn, TookPart}
 use Rattle.track_outside.specs.declared.sink.Sink as sink
-use Rattle.shared_run.specs.declared.stop.RunStop.{RunStop}
-use Rattle.shared_run.specs.declared.stop.RunStop.TheVariants.{NoMemory, StoreFault, WriteFault}
+use Rattle.shared_run.specs.declared.stop.RunStop.{RunStop, TheVariants.{NoMemory, StoreFault, WriteFault}}
 
 -- what the output took of the text: all of it, unless it failed or memory was wanting
 abbrev pub WritesText : {O : Type 0} → sink.Ghosts O → O → O → List ℕ → Result (Unit {0}) RunStop → Type 0

@@ -1,7 +1,6 @@
 -- The machines that a list adds to those of a store.
 use Rattle.std.specs.Prelude.{◌≡◌, ℕ, ◌+◌, false, if◌then◌else◌, List, [], ◌∷◌, ◌++◌, length, take, find, fold, is_some, slice_get, Some, None}
-use Rattle.metric_table.specs.Limits.{most}
-use Rattle.metric_table.specs.declared.limits.Limit.TheVariants.{Machines}
+use Rattle.metric_table.specs.{Limits.most, declared.limits.Limit.TheVariants.Machines}
 use Rattle.track_model.specs.Tracks.{Track, new_track}
 use Rattle.keep_rows.specs.Machines.{is_track}
 

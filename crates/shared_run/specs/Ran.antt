@@ -1,21 +1,15 @@
 -- The scripts of a run, from where they are opened to where all are closed again.
-use Rattle.std.specs.Prelude.{◌≡◌, ◌⊎◌, ◌<◌, ℕ, List, length, map, take, option_map, ◌++◌, Result, Ok, Err}
-use Rattle.std.specs.List.{AllZip}
+use Rattle.std.specs.{Prelude.{◌≡◌, ◌⊎◌, ◌<◌, ℕ, List, length, map, take, option_map, ◌++◌, Result, Ok, Err}, List.AllZip}
 use Rattle.track_outside.specs.declared.files.Files as files
 use Rattle.track_outside.specs.declared.source.Source as source
 use Rattle.track_outside.specs.declared.sink.Sink as sink
-use Rattle.script_files.specs.declared.open.OpenScript.{OpenScript}
+use Rattle.script_files.specs.{declared.open.OpenScript.OpenScript, Opening.{Asks, IsOpen, calls_for}, Closing.{Closes, HaveWritten, AreApart}}
 use Rattle.script_files.specs.declared.open.OpenFault.TheVariants as fault
-use Rattle.script_files.specs.Opening.{Asks, IsOpen, calls_for}
-use Rattle.script_files.specs.Closing.{Closes, HaveWritten, AreApart}
 use Rattle.script_loop.specs.declared.stop.Stop.{Stop}
-use Rattle.history_model.specs.Allowed.{Legal}
-use Rattle.history_model.specs.Entries.{entries_of}
+use Rattle.history_model.specs.{Allowed.Legal, Entries.entries_of}
 use Rattle.track_model.specs.Tracks.{Track}
-use Rattle.worker_crew.specs.Sights.{Home, Sight}
-use Rattle.worker_crew.specs.Players.{Playing, Plays, end_of, open_of, players_from}
-use Rattle.shared_run.specs.declared.stop.RunStop.{RunStop}
-use Rattle.shared_run.specs.declared.stop.RunStop.TheVariants.{CreateFault, NoMemory, OpenFault}
+use Rattle.worker_crew.specs.{Sights.{Home, Sight}, Players.{Playing, Plays, end_of, open_of, players_from}}
+use Rattle.shared_run.specs.declared.stop.RunStop.{RunStop, TheVariants.{CreateFault, NoMemory, OpenFault}}
 
 -- each script was opened and its transcript created, each was played at a seat of its own with one of these passes, and all
 -- was closed

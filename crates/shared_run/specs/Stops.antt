@@ -2,8 +2,7 @@
 use Rattle.std.specs.Prelude.{◌≡◌, ◌⊎◌, ℕ, ◌+◌, ◌<◌, List, slice_get, Contains, Some, Result, Ok, Err}
 use Rattle.script_loop.specs.declared.stop.Stop.{Stop}
 use Rattle.script_loop.specs.declared.stop.Stop.TheVariants as script
-use Rattle.shared_run.specs.declared.stop.RunStop.{RunStop}
-use Rattle.shared_run.specs.declared.stop.RunStop.TheVariants.{NoMemory, Script}
+use Rattle.shared_run.specs.declared.stop.RunStop.{RunStop, TheVariants.{NoMemory, Script}}
 
 -- memory was wanting in some part
 abbrev pub WantsMemory : List (Result (Unit {0}) Stop) → Result (Unit {0}) RunStop → Type 0

@@ -1,8 +1,6 @@
 //! The scripts of a run, and its workers beside them.
-ghost use Rattle.std.specs.Prelude.{◌≤◌, length};
-ghost use Rattle.std.specs.List.{AllByRecursion, AllZip};
-ghost use Rattle.worker_crew.specs.Players.{CanPlay, Plays};
-ghost use Rattle.worker_crew.specs.Workers.{HaveWorked, IsSeated, Recomputes};
+ghost use Rattle.std.specs.{Prelude.{◌≤◌, length}, List.{AllByRecursion, AllZip}};
+ghost use Rattle.worker_crew.specs.{Players.{CanPlay, Plays}, Workers.{HaveWorked, IsSeated, Recomputes}};
 
 use std::sync::Wait;
 use std::thread::Threads;

@@ -1,10 +1,6 @@
 //! What is left of the workers' work once the room is closed.
-ghost use Rattle.std.specs.Prelude.{◌≡◌, ◌≤◌, ◌&&◌, [], true, length, vec_capacity};
-ghost use Rattle.std.specs.List.{AllByRecursion};
-ghost use Rattle.worker_crew.specs.Sights.{tracks_of};
-ghost use Rattle.worker_crew.specs.Runs.{BisectsLast, RecomputesLast};
-ghost use Rattle.worker_crew.specs.Last.{HasQuietJobs, HasQuietSeries};
-ghost use Rattle.worker_crew.specs.Whole.{tallies};
+ghost use Rattle.std.specs.{Prelude.{◌≡◌, ◌≤◌, ◌&&◌, [], true, length, vec_capacity}, List.AllByRecursion};
+ghost use Rattle.worker_crew.specs.{Sights.tracks_of, Runs.{BisectsLast, RecomputesLast}, Last.{HasQuietJobs, HasQuietSeries}, Whole.tallies};
 ghost use Rattle.shared_run.specs.Crews.{Finishes};
 
 use crate::run::word_in;

@@ -1,15 +1,11 @@
 //! The journals of a run, written, and their new rows added to the store.
-ghost use Rattle.std.specs.Prelude.{◌≡◌, ◌≤◌, IsSome, None, false, OnOk, Ok, Err};
-ghost use Rattle.std.specs.List.{AllByRecursion};
-ghost use Rattle.track_outside.specs.Counts.{Rose};
-ghost use Rattle.track_outside.specs.Kept.{with_more};
+ghost use Rattle.std.specs.{Prelude.{◌≡◌, ◌≤◌, IsSome, None, false, OnOk, Ok, Err}, List.AllByRecursion};
+ghost use Rattle.track_outside.specs.{Counts.Rose, Kept.with_more};
 ghost use Rattle.command_words.specs.Texts.{shown_if};
 ghost use Rattle.keep_rows.specs.Rows.{new_rows};
 ghost use Rattle.journal_text.specs.Journals.{journals_text};
 ghost use Rattle.shared_run.specs.declared.stop.RunStop.TheVariants as stop;
-ghost use Rattle.shared_run.specs.Leaving.{WritesText};
-ghost use Rattle.shared_run.specs.Ran.{HasLegalHistory};
-ghost use Rattle.shared_run.specs.Stops.{NoneStopped};
+ghost use Rattle.shared_run.specs.{Leaving.WritesText, Ran.HasLegalHistory, Stops.NoneStopped};
 
 use crate::stop::{RunStop, first_stop};
 use journal_text::write_journals;

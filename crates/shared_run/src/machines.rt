@@ -3,10 +3,8 @@ ghost use Rattle.std.specs.Prelude.{◌≡◌, ◌≢◌, ◌≤◌, ℕ, false,
 ghost use Rattle.command_words.specs.Texts.{shown_if};
 ghost use Rattle.shared_run.specs.Beginnings.{AreStored, Begins, MayBeStarted, NoneCause, StoreCause, WasStarted};
 ghost use Rattle.shared_run.specs.declared.stop.RunStop.TheVariants as stop;
-ghost use Rattle.shared_run.specs.Lists.{with_listed, with_machine, IsFull, IsFullAt};
-ghost use Rattle.shared_run.specs.declared.machines.ListFault.TheVariants.{Full};
-ghost use Rattle.metric_table.specs.Limits.{most};
-ghost use Rattle.metric_table.specs.declared.limits.Limit.TheVariants.{Machines};
+ghost use Rattle.shared_run.specs.{Lists.{with_listed, with_machine, IsFull, IsFullAt}, declared.machines.ListFault.TheVariants.Full};
+ghost use Rattle.metric_table.specs.{Limits.most, declared.limits.Limit.TheVariants.Machines};
 
 use crate::stop::RunStop;
 use command_words::PlayPlan;

@@ -1,10 +1,8 @@
 //! The scripts and the workers of a run, at once on its machines.
 ghost use Rattle.std.specs.Prelude.{◌≡◌, ◌≤◌, length, IfOk, IfErr, OnErr};
 ghost use Rattle.command_words.specs.Plans.{AreScripts};
-ghost use Rattle.worker_crew.specs.Rooms.{IsFirst, IsPassOf};
-ghost use Rattle.worker_crew.specs.Seats.{AreDifferent};
-ghost use Rattle.shared_run.specs.Crews.{RanCrew, SplitsFor, word_of};
-ghost use Rattle.shared_run.specs.Ran.{NotBegun};
+ghost use Rattle.worker_crew.specs.{Rooms.{IsFirst, IsPassOf}, Seats.AreDifferent};
+ghost use Rattle.shared_run.specs.{Crews.{RanCrew, SplitsFor, word_of}, Ran.NotBegun};
 
 use crate::crew::run_crew;
 use crate::stop::RunStop;

@@ -1,12 +1,9 @@
 //! A shared run, from the machines of its store and its list to its journals.
 ghost use Rattle.std.specs.Prelude.{◌≡◌, ◌≤◌, length, IfOk, IfErr, OnErr};
-ghost use Rattle.metric_table.specs.Limits.{most};
-ghost use Rattle.metric_table.specs.declared.limits.Limit.TheVariants.{Machines};
+ghost use Rattle.metric_table.specs.{Limits.most, declared.limits.Limit.TheVariants.Machines};
 ghost use Rattle.command_words.specs.Plans.{AreScripts};
 ghost use Rattle.keep_rows.specs.Machines.{AreDifferent, names_of};
-ghost use Rattle.shared_run.specs.Crews.{AreNew, RanIn, asked_by};
-ghost use Rattle.shared_run.specs.Endings.{EndsAsDue, EndsRun};
-ghost use Rattle.shared_run.specs.Ran.{NotRun};
+ghost use Rattle.shared_run.specs.{Crews.{AreNew, RanIn, asked_by}, Endings.{EndsAsDue, EndsRun}, Ran.NotRun};
 
 use crate::finishing::{both, finish};
 use crate::leaving::{histories_law, leave_journals};

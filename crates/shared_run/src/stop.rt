@@ -1,9 +1,7 @@
 //! Why a shared run ends as it does, and which of several stops decides.
 ghost use Rattle.std.specs.Prelude.{◌≡◌, ◌↔◌, ◌<◌, ◌^◌, length, Contains, IsTrue, IfSome, IfNone, Err};
 ghost use Rattle.script_loop.specs.declared.stop.Stop.TheVariants as script;
-ghost use Rattle.shared_run.specs.Causes.{append_stop, open_stop};
-ghost use Rattle.shared_run.specs.declared.stop.RunStop.{RunStop};
-ghost use Rattle.shared_run.specs.Stops.{Decides, IsFirstStop, NoneStopped};
+ghost use Rattle.shared_run.specs.{Causes.{append_stop, open_stop}, declared.stop.RunStop.RunStop, Stops.{Decides, IsFirstStop, NoneStopped}};
 
 use script_files::OpenFault;
 use script_loop::Stop;

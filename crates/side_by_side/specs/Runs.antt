@@ -1,6 +1,5 @@
 -- Jobs that can be run, and what running them makes of them.
-use Rattle.std.specs.Prelude.{◌≡◌, List, length, zip}
-use Rattle.std.specs.List.{AllByRecursion, AllZip}
+use Rattle.std.specs.{Prelude.{◌≡◌, List, length, zip}, List.{AllByRecursion, AllZip}}
 
 -- each job can be run
 abbrev pub AllCanRun : {J : Type 0} → (J → Type 0) → List J → Type 0

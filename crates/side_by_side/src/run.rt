@@ -1,6 +1,5 @@
 //! Running jobs at once.
-ghost use Rattle.std.specs.List.{AllZip};
-ghost use Rattle.std.specs.Thread.{IsSync};
+ghost use Rattle.std.specs.{List.AllZip, Thread.IsSync};
 ghost use Rattle.side_by_side.specs.Runs.{AllCanRun, AllCanWork, AllWorked};
 
 use crate::job::{Job, Worker};

@@ -1,8 +1,6 @@
 -- Rows that lead to one value at most have one outcome.
-use Rattle.std.proofs.Common.{◌≡◌, ℕ, suc, zero, ◌-◌, List, [], ◌∷◌, take, refl, sym, ap, ◌∙◌, subst, arith, Some}
-use Rattle.std.specs.Prelude.{slice_get}
-use Rattle.store_rows.specs.Loading.{LeadsTo}
-use Rattle.store_rows.specs.Laws.{IsDetermined, HasOneOutcome}
+use Rattle.std.{proofs.Common.{◌≡◌, ℕ, suc, zero, ◌-◌, List, [], ◌∷◌, take, refl, sym, ap, ◌∙◌, subst, arith, Some}, specs.Prelude.slice_get}
+use Rattle.store_rows.specs.{Loading.LeadsTo, Laws.{IsDetermined, HasOneOutcome}}
 
 one_value : {S : Type 0} (does : S → List ℕ → S → Type 0) → IsDetermined does → (before : S) (rows : List (List ℕ)) (one other : S)
     → LeadsTo does before rows one → LeadsTo does before rows other → one ≡ other

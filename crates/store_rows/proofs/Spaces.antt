@@ -1,7 +1,6 @@
 -- The first space of bytes that are a word without one, a space, and more.
 use Rattle.std.proofs.Common.{◌≡◌, inl, inr, ℕ, suc, zero, ◌+◌, ◌<◌, List, [], ◌∷◌, ◌++◌, length, get_or, take, drop, refl, sym, ap, ◌∙◌, arith, All}
-use Rattle.std.specs.Prelude.{slice_index}
-use Rattle.std.proofs.lemmas.Bool.{cases_order}
+use Rattle.std.{specs.Prelude.slice_index, proofs.lemmas.Bool.cases_order}
 use Rattle.line_text.specs.Names.{MayStand}
 
 space_stands : (word text : List ℕ) → get_or (word ++ 32 ∷ text) (length word) 0 ≡ 32

@@ -2,9 +2,7 @@
 use Rattle.std.proofs.Common.{◌≡◌, ℕ, List, ◌∷◌, ◌++◌, get_or, drop, arith, sym, ap, ◌∙◌}
 use Rattle.percent_encoding.specs.Percent.{percent_decode}
 use Rattle.line_text.specs.Names.{spelling, IsName, NamesAreSpelledBack}
-use Rattle.store_rows.specs.Rows.{machine_row, entry_row, row_text}
-use Rattle.store_rows.specs.Laws.{RowsAreUnique}
-use Rattle.store_rows.proofs.Spaces.{one_parting}
+use Rattle.store_rows.{specs.Rows.{machine_row, entry_row, row_text}, specs.Laws.RowsAreUnique, proofs.Spaces.one_parting}
 
 -- names with one spelling are one
 one_name : NamesAreSpelledBack → (one other : List ℕ) → IsName one → IsName other → spelling one ≡ spelling other → one ≡ other

@@ -1,7 +1,6 @@
 -- What a keeper's answer makes of a load.
 use Rattle.std.specs.Prelude.{◌≡◌, ◌⊎◌, ℕ, List, [], ◌∷◌, Option}
-use Rattle.track_outside.specs.Kept.{with_more}
-use Rattle.track_outside.specs.declared.out_error.OutError.{OutError}
+use Rattle.track_outside.specs.{Kept.with_more, declared.out_error.OutError.OutError}
 use Rattle.track_outside.specs.declared.out_error.OutError.TheVariants as out
 use Rattle.store_rows.specs.declared.load.LoadFault.{LoadFault}
 use Rattle.store_rows.specs.declared.load.LoadFault.TheVariants as fault

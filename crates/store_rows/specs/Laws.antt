@@ -1,7 +1,6 @@
 -- What holds of rows, whatever they stand for.
 use Rattle.std.specs.Prelude.{◌≡◌, ℕ, List}
-use Rattle.store_rows.specs.Rows.{Row, IsRowOf}
-use Rattle.store_rows.specs.Loading.{LeadsTo, IsBad}
+use Rattle.store_rows.specs.{Rows.{Row, IsRowOf}, Loading.{LeadsTo, IsBad}}
 
 -- bytes are one row at most
 abbrev pub RowsAreUnique : Type 0

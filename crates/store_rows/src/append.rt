@@ -1,7 +1,6 @@
 //! New rows that are added to a keeper, all at once.
 ghost use Rattle.std.specs.Prelude.{◌≡◌, ◌++◌, ◌≤◌, ℕ, List, flat_map, OnOk, OnErr};
-ghost use Rattle.track_outside.specs.Counts.{Rose};
-ghost use Rattle.track_outside.specs.Kept.{bytes_of, with_more};
+ghost use Rattle.track_outside.specs.{Counts.Rose, Kept.{bytes_of, with_more}};
 ghost use Rattle.store_rows.specs.declared.append.AppendFault.TheVariants as fault;
 
 use crate::NoMemory;

@@ -1,10 +1,7 @@
 //! Rows that are read from a keeper, one after another.
 ghost use Rattle.std.specs.Prelude.{◌≡◌, ◌≢◌, ℕ, ◌≤◌, [], ◌∷◌, length, IfSome, OnOk};
-ghost use Rattle.track_outside.specs.Counts.{Rose};
-ghost use Rattle.track_outside.specs.Kept.{with_more};
-ghost use Rattle.store_rows.specs.Faults.{MayHaveName, load_fault};
-ghost use Rattle.store_rows.specs.Laws.{IsDetermined, HasOneOutcome};
-ghost use Rattle.store_rows.specs.Loading.{LeadsTo, IsBad, Takes, IsRefused};
+ghost use Rattle.track_outside.specs.{Counts.Rose, Kept.with_more};
+ghost use Rattle.store_rows.specs.{Faults.{MayHaveName, load_fault}, Laws.{IsDetermined, HasOneOutcome}, Loading.{LeadsTo, IsBad, Takes, IsRefused}};
 ghost use Rattle.store_rows.specs.declared.load.LoadFault.TheVariants as fault;
 
 use crate::restored::Restored;

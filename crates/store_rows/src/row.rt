@@ -1,8 +1,7 @@
 //! The text of a row, both ways.
 ghost use Rattle.std.specs.Prelude.{◌≡◌, ◌≢◌, ◌↔◌, ℕ, ◌<◌, ◌+◌, List, ◌∷◌, ◌++◌, drop, length, slice_index, IsTrue, IfOk, IfSome, IfNone};
 ghost use Rattle.line_text.specs.Names.{spelling, IsName};
-ghost use Rattle.store_rows.specs.Laws.{RowsAreUnique};
-ghost use Rattle.store_rows.specs.Rows.{Row, machine_row, entry_row, row_text, row_at, IsRowOf};
+ghost use Rattle.store_rows.specs.{Laws.RowsAreUnique, Rows.{Row, machine_row, entry_row, row_text, row_at, IsRowOf}};
 ghost use Rattle.store_rows.specs.declared.row.RowFault.TheVariants as fault;
 
 use crate::NoMemory;

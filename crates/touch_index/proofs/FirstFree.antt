@@ -1,21 +1,10 @@
 -- The first free series of a list of marks that is in order.
 use Rattle.std.proofs.Common.{◌≡◌, ℕ, true, false, cond, [], ◌∷◌, refl, sym, ap, subst, ◌∙◌, inl, inr, Option, Some, None}
-use Rattle.std.specs.declared.cmp.Ordering.TheVariants.{Less}
-use Rattle.std.specs.Ordering.{is_eq, is_lt, ordering_reverse}
-use Rattle.std.specs.Cmp.{IsTotalOrder}
-use Rattle.std.specs.List.{AllByRecursion}
-use Rattle.std.specs.List.Sorted.{IsStrictlySortedBy}
-use Rattle.std.specs.Map.{keys_of}
-use Rattle.std.proofs.lemmas.Bool.{cases_Bool}
-use Rattle.std.proofs.lemmas.Cmp.{tied_itself}
-use Rattle.touch_index.specs.contracts.key.SeriesKeyOrd.TheImpl.Laws.{total-law}
-use Rattle.touch_index.specs.Free.{free_or, first_free}
-use Rattle.touch_index.specs.Marks.{Entries, key_cmp, mark_of, IsFirstFree, NoneIsFree}
-use Rattle.touch_index.specs.declared.key.SeriesKey.{SeriesKey}
-use Rattle.touch_index.specs.declared.mark.Claim.{Claim}
-use Rattle.touch_index.specs.declared.mark.Claim.TheVariants.{Free, Taken, Refused}
-use Rattle.touch_index.specs.declared.mark.Mark.{Mark}
-use Rattle.touch_index.proofs.Keys.{same-key}
+use Rattle.std.specs.{declared.cmp.Ordering.TheVariants.Less, Ordering.{is_eq, is_lt, ordering_reverse}, Cmp.IsTotalOrder, List.AllByRecursion}
+use Rattle.std.{specs.List.Sorted.IsStrictlySortedBy, specs.Map.keys_of, proofs.lemmas.Bool.cases_Bool, proofs.lemmas.Cmp.tied_itself}
+use Rattle.touch_index.specs.{contracts.key.SeriesKeyOrd.TheImpl.Laws.total-law, Free.{free_or, first_free}}
+use Rattle.touch_index.specs.{Marks.{Entries, key_cmp, mark_of, IsFirstFree, NoneIsFree}, declared.key.SeriesKey.SeriesKey, declared.mark.Claim.Claim}
+use Rattle.touch_index.{specs.declared.mark.Claim.TheVariants.{Free, Taken, Refused}, specs.declared.mark.Mark.Mark, proofs.Keys.same-key}
 
 total : IsTotalOrder key_cmp
 total = total-law

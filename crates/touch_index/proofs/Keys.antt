@@ -1,14 +1,8 @@
 -- Keys that are the same are equal.
-use Rattle.std.proofs.Common.{◌≡◌, ℕ, true, List, refl, sym, ap₂, ◌∙◌}
-use Rattle.std.specs.Prelude.{bytes_eq}
-use Rattle.std.specs.declared.cmp.Ordering.{Ordering}
-use Rattle.std.specs.declared.cmp.Ordering.TheVariants.{Less, Equal, Greater}
-use Rattle.std.specs.Ordering.{nat_cmp, is_eq, ordering_then}
-use Rattle.std.specs.Cmp.Lexicographic.{slice_cmp}
-use Rattle.std.proofs.lemmas.Map.Text.{is_eq-slice_cmp}
-use Rattle.std.proofs.lemmas.Slice.Eq.{bytes_eq-Decides}
-use Rattle.touch_index.specs.Marks.{key_cmp}
-use Rattle.touch_index.specs.declared.key.SeriesKey.{SeriesKey}
+use Rattle.std.{proofs.Common.{◌≡◌, ℕ, true, List, refl, sym, ap₂, ◌∙◌}, specs.Prelude.bytes_eq, specs.declared.cmp.Ordering.Ordering}
+use Rattle.std.specs.{declared.cmp.Ordering.TheVariants.{Less, Equal, Greater}, Ordering.{nat_cmp, is_eq, ordering_then}, Cmp.Lexicographic.slice_cmp}
+use Rattle.std.proofs.lemmas.{Map.Text.is_eq-slice_cmp, Slice.Eq.bytes_eq-Decides}
+use Rattle.touch_index.specs.{Marks.key_cmp, declared.key.SeriesKey.SeriesKey}
 
 pub both : (x y : Ordering) → is_eq (ordering_then x y) ≡ true → (is_eq x ≡ true) × (is_eq y ≡ true)
 both Less y h = absurd (cc)

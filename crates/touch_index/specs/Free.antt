@@ -1,8 +1,6 @@
 -- The first free series of a list of marks.
 use Rattle.std.specs.Prelude.{ℕ, [], ◌∷◌, Option, Some, None}
-use Rattle.touch_index.specs.Marks.{Entries}
-use Rattle.touch_index.specs.declared.key.SeriesKey.{SeriesKey}
-use Rattle.touch_index.specs.declared.mark.Claim.{Claim}
+use Rattle.touch_index.specs.{Marks.Entries, declared.key.SeriesKey.SeriesKey, declared.mark.Claim.Claim}
 use Rattle.touch_index.specs.declared.mark.Claim.TheVariants.{Free, Taken, Refused}
 
 -- the series with its touch where it is free, else what comes first behind it

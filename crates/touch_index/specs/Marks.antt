@@ -1,13 +1,7 @@
 -- What an index keeps of each series.
-use Rattle.std.specs.Prelude.{◌≡◌, ◌≢◌, ℕ, false, List, Option, Some, None}
-use Rattle.std.specs.declared.cmp.Ordering.{Ordering}
-use Rattle.std.specs.Ordering.{nat_cmp, is_eq, is_lt, ordering_then}
-use Rattle.std.specs.Cmp.Lexicographic.{slice_cmp}
-use Rattle.std.specs.Map.{lookup}
-use Rattle.touch_index.specs.declared.key.SeriesKey.{SeriesKey}
-use Rattle.touch_index.specs.declared.mark.Claim.{Claim}
-use Rattle.touch_index.specs.declared.mark.Claim.TheVariants.{Free, Taken, Refused}
-use Rattle.touch_index.specs.declared.mark.Mark.{Mark}
+use Rattle.std.specs.{Prelude.{◌≡◌, ◌≢◌, ℕ, false, List, Option, Some, None}, declared.cmp.Ordering.Ordering, Ordering.{nat_cmp, is_eq, is_lt, ordering_then}}
+use Rattle.std.specs.{Cmp.Lexicographic.slice_cmp, Map.lookup}
+use Rattle.touch_index.specs.declared.{key.SeriesKey.SeriesKey, mark.Claim.Claim, mark.Claim.TheVariants.{Free, Taken, Refused}, mark.Mark.Mark}
 
 -- the series that have marks, in their order
 abbrev pub Entries : Type 0

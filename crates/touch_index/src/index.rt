@@ -1,9 +1,6 @@
 //! The marks of series, in their order.
-ghost use Rattle.std.specs.Prelude.{◌≡◌, ◌<◌, [], if◌then◌else◌, IfOk, IfSome, IfNone, OnOk, OnErr, IsSome, Some, None, length};
-ghost use Rattle.std.specs.Ordering.{is_eq};
-ghost use Rattle.touch_index.specs.Marks.{Entries, key_cmp, mark_of, touched_mark, with_claim, IsFirstFree, NoneIsFree};
-ghost use Rattle.touch_index.specs.Free.{first_free};
-ghost use Rattle.touch_index.specs.declared.key.SeriesKey.{SeriesKey};
+ghost use Rattle.std.specs.{Prelude.{◌≡◌, ◌<◌, [], if◌then◌else◌, IfOk, IfSome, IfNone, OnOk, OnErr, IsSome, Some, None, length}, Ordering.is_eq};
+ghost use Rattle.touch_index.specs.{Marks.{Entries, key_cmp, mark_of, touched_mark, with_claim, IsFirstFree, NoneIsFree}, Free.first_free, declared.key.SeriesKey.SeriesKey};
 
 use crate::NoMemory;
 use crate::key::SeriesKey;

@@ -1,15 +1,9 @@
 -- What isn't behind the last publication of a series isn't behind a later one.
 use Rattle.std.proofs.Common.{◌≡◌, ℕ, ◌+◌, true, false, cond, ◌&&◌, List, [], ◌∷◌, ◌++◌, length, refl, ap, subst, ◌∙◌, inl, inr, Option, Some, None, arith}
-use Rattle.std.specs.Prelude.{bytes_eq}
-use Rattle.std.proofs.lemmas.Bool.{cases_Bool}
-use Rattle.std.proofs.lemmas.Bool.Decides.{nat_tests}
-use Rattle.history_model.specs.declared.entries.Entry.{Entry}
+use Rattle.std.{specs.Prelude.bytes_eq, proofs.lemmas.Bool.cases_Bool, proofs.lemmas.Bool.Decides.nat_tests}
+use Rattle.history_model.specs.{declared.entries.Entry.Entry, declared.publication.Publication.Publication, Allowed.Allowed}
 use Rattle.history_model.specs.declared.entries.Entry.TheVariants as entry
-use Rattle.history_model.specs.declared.publication.Publication.{Publication}
-use Rattle.history_model.specs.Allowed.{Allowed}
-use Rattle.history_model.specs.Laws.{PublicationIsLast, PublicationStays}
-use Rattle.history_model.specs.Publications.{IsUpTo, last_publication, publication_of}
-use Rattle.history_model.specs.Runs.{Series}
+use Rattle.history_model.specs.{Laws.{PublicationIsLast, PublicationStays}, Publications.{IsUpTo, last_publication, publication_of}, Runs.Series}
 use Rattle.history_model.proofs.OfKind.{by-kind, published-of}
 use Rattle.touch_model.specs.Stale.{is_behind}
 

@@ -1,15 +1,9 @@
 -- In a legal history a run is accepted before it is retracted.
 use Rattle.std.proofs.Common.{◌≡◌, ℕ, zero, suc, ◌+◌, true, false, List, [], ◌∷◌, ◌++◌, length, take, drop, refl, sym, ap, subst, ◌∙◌, Option, Some, None}
-use Rattle.std.specs.Prelude.{IsSome, find, option_to_list, slice_get}
-use Rattle.std.specs.Option.{option_or}
-use Rattle.std.proofs.lemmas.List.{append-nil, append_assoc, take-append-drop}
-use Rattle.std.proofs.lemmas.List.Folds.{find-append}
-use Rattle.history_model.specs.declared.entries.Acceptance.{Acceptance}
-use Rattle.history_model.specs.declared.entries.Entry.{Entry}
-use Rattle.history_model.specs.declared.entries.Entry.TheVariants.{Retract}
-use Rattle.history_model.specs.Allowed.{Allowed, AllowedAfter, Legal}
-use Rattle.history_model.specs.Laws.{AcceptancesGrow}
-use Rattle.history_model.specs.Runs.{acceptance, acceptances, accepted, is_run}
+use Rattle.std.specs.{Prelude.{IsSome, find, option_to_list, slice_get}, Option.option_or}
+use Rattle.std.proofs.lemmas.List.{append-nil, append_assoc, take-append-drop, Folds.find-append}
+use Rattle.history_model.specs.declared.entries.{Acceptance.Acceptance, Entry.Entry, Entry.TheVariants.Retract}
+use Rattle.history_model.specs.{Allowed.{Allowed, AllowedAfter, Legal}, Laws.AcceptancesGrow, Runs.{acceptance, acceptances, accepted, is_run}}
 
 -- each entry of a legal history is allowed after those before it
 allowed-at : (before es : List Entry) (k : ℕ) (e : Entry) → AllowedAfter before es → slice_get es k ≡ Some e → Allowed (before ++ take k es) e

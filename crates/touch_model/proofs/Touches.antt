@@ -1,8 +1,7 @@
 -- The last touch of a series, as a history grows.
 use Rattle.std.proofs.Common.{◌≡◌, ℕ, ◌+◌, ◌≤◌, Bool, true, false, cond, List, [], ◌∷◌, ◌++◌, length, sym, ap, ◌∙◌, arith}
 use Rattle.std.proofs.lemmas.List.{append-nil, append_assoc, length-append}
-use Rattle.history_model.specs.declared.entries.Entry.{Entry}
-use Rattle.history_model.specs.Runs.{Series}
+use Rattle.history_model.specs.{declared.entries.Entry.Entry, Runs.Series}
 use Rattle.touch_model.specs.Touches.{touches, last_touch_from, last_touch}
 
 push : (before : List Entry) (s : Series) (step : ℕ) (es : List Entry) (e : Entry)

@@ -1,13 +1,8 @@
 -- What holds of touches in all histories.
-use Rattle.std.specs.Prelude.{◌≡◌, ◌≤◌, ℕ, ◌+◌, Bool, false, ◌||◌, if◌then◌else◌, List, [], ◌∷◌, ◌++◌, length, take, slice_get, Some}
-use Rattle.std.specs.List.{list_any}
-use Rattle.history_model.specs.declared.entries.Entry.{Entry}
-use Rattle.history_model.specs.declared.entries.Entry.TheVariants.{Accept, Retract}
-use Rattle.history_model.specs.Allowed.{Allowed, Legal}
-use Rattle.history_model.specs.Publications.{last_publication}
-use Rattle.history_model.specs.Runs.{Series, accepted, is_known, is_of}
-use Rattle.touch_model.specs.Touches.{touches, last_touch}
-use Rattle.touch_model.specs.Stale.{is_behind}
+use Rattle.std.specs.{Prelude.{◌≡◌, ◌≤◌, ℕ, ◌+◌, Bool, false, ◌||◌, if◌then◌else◌, List, [], ◌∷◌, ◌++◌, length, take, slice_get, Some}, List.list_any}
+use Rattle.history_model.specs.{declared.entries.Entry.Entry, declared.entries.Entry.TheVariants.{Accept, Retract}, Allowed.{Allowed, Legal}}
+use Rattle.history_model.specs.{Publications.last_publication, Runs.{Series, accepted, is_known, is_of}}
+use Rattle.touch_model.specs.{Touches.{touches, last_touch}, Stale.is_behind}
 
 -- an entry that touches a series is its last touch; every other one leaves it
 abbrev pub TouchesGrow : Type 0

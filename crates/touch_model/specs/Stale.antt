@@ -1,8 +1,6 @@
 -- Which series are stale.
 use Rattle.std.specs.Prelude.{ℕ, Bool, true, ◌&&◌, nat_lt, List, Option, Some, None}
-use Rattle.history_model.specs.declared.entries.Entry.{Entry}
-use Rattle.history_model.specs.declared.publication.Publication.{Publication}
-use Rattle.history_model.specs.Publications.{last_publication}
+use Rattle.history_model.specs.{declared.entries.Entry.Entry, declared.publication.Publication.Publication, Publications.last_publication}
 use Rattle.history_model.specs.Runs.{Series, is_known}
 use Rattle.touch_model.specs.Touches.{last_touch}
 

@@ -1,9 +1,6 @@
 -- Which entries touch a series.
-use Rattle.std.specs.Prelude.{ℕ, ◌+◌, Bool, false, if◌then◌else◌, List, [], ◌∷◌, ◌++◌, length, bytes_eq, Option, Some, None}
-use Rattle.std.specs.List.{list_any}
-use Rattle.history_model.specs.declared.entries.Acceptance.{Acceptance}
-use Rattle.history_model.specs.declared.entries.Entry.{Entry}
-use Rattle.history_model.specs.declared.entries.Entry.TheVariants.{Accept, Retract, Tune}
+use Rattle.std.specs.{Prelude.{ℕ, ◌+◌, Bool, false, if◌then◌else◌, List, [], ◌∷◌, ◌++◌, length, bytes_eq, Option, Some, None}, List.list_any}
+use Rattle.history_model.specs.declared.entries.{Acceptance.Acceptance, Entry.Entry, Entry.TheVariants.{Accept, Retract, Tune}}
 use Rattle.history_model.specs.Runs.{Series, accepted, is_of}
 
 -- whether an accepted run has a sample of the series

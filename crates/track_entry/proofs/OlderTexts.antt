@@ -1,15 +1,10 @@
 -- A setting's text of version 2 is that of version 1 with its least length behind it; the texts of other kinds stay.
 use Rattle.std.proofs.Common.{◌≡◌, ◌≢◌, ℕ, List, [], ◌∷◌, ◌++◌, codes, decimal, sym, ap, ◌∙◌, subst, append_assoc, append-nil, arith, slice_index_or, inl, inr}
-use Rattle.std.specs.Fmt.{digits, signed_decimal}
-use Rattle.std.proofs.lemmas.List.{append_cancel_right}
-use Rattle.std.proofs.lemmas.Bool.{cases_eq}
+use Rattle.std.{specs.Fmt.{digits, signed_decimal}, proofs.lemmas.List.append_cancel_right, proofs.lemmas.Bool.cases_eq}
 use Rattle.line_text.specs.Names.{spelling}
-use Rattle.history_model.specs.declared.entries.Entry.{Entry}
-use Rattle.history_model.specs.declared.entries.Entry.TheVariants.{Commit, Accept, Retract, Tune, Publish, Regression, Job}
-use Rattle.history_model.specs.declared.events.RegressionEvent.TheVariants.{Raise, Move}
-use Rattle.history_model.specs.declared.events.JobEvent.TheVariants.{Begin, Answer, GiveUp}
-use Rattle.track_entry.specs.Texts.{next, spaced, entry_text, SpellsEntry, IsOneEntry}
-use Rattle.track_entry.specs.Versions.{words_v1, IsOfV1, SpellsV1, IsOneEntryV1}
+use Rattle.history_model.specs.declared.entries.Entry.{Entry, TheVariants.{Commit, Accept, Retract, Tune, Publish, Regression, Job}}
+use Rattle.history_model.specs.declared.events.{RegressionEvent.TheVariants.{Raise, Move}, JobEvent.TheVariants.{Begin, Answer, GiveUp}}
+use Rattle.track_entry.specs.{Texts.{next, spaced, entry_text, SpellsEntry, IsOneEntry}, Versions.{words_v1, IsOfV1, SpellsV1, IsOneEntryV1}}
 
 -- the first byte of a text
 abbrev first : List ℕ → ℕ

@@ -1,11 +1,8 @@
 -- Entries with the same parts are the same.
 use Rattle.std.proofs.Common.{◌≡◌, ℕ, ℤ, List}
 use Rattle.sample_model.specs.Samples.{Measurement}
-use Rattle.history_model.specs.declared.entries.Entry.TheVariants.{Accept, Tune, Publish, Regression}
-use Rattle.history_model.specs.declared.events.Raised.{Raised}
-use Rattle.history_model.specs.declared.events.RegressionEvent.TheVariants.{Raise}
-use Rattle.history_model.specs.declared.publication.Publication.{Publication}
-use Rattle.history_model.specs.declared.run.Run.{Run}
+use Rattle.history_model.specs.declared.{entries.Entry.TheVariants.{Accept, Tune, Publish, Regression}, events.Raised.Raised}
+use Rattle.history_model.specs.declared.{events.RegressionEvent.TheVariants.Raise, publication.Publication.Publication, run.Run.Run}
 
 pub same_tune : {metric other : List ℕ} {penalty penalty' : ℤ} {len len' : ℕ} → metric ≡ other → penalty ≡ penalty' → len ≡ len' → Tune metric penalty len ≡ Tune other penalty' len'
 same_tune names penalties lengths = λ i. Tune (names i) (penalties i) (lengths i)

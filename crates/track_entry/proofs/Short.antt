@@ -1,20 +1,12 @@
 -- The metrics that a legal history names are short, since each is that of a sample, or of a penalty.
 use Rattle.std.proofs.Common.{◌≡◌, ℕ, zero, suc, ◌+◌, ◌≤◌, inl, inr, Bool, true, false, ◌&&◌, ◌||◌, List, [], ◌∷◌, ◌++◌, length, take, subst}
-use Rattle.std.specs.Prelude.{bytes_eq}
-use Rattle.std.specs.List.{AllByRecursion, list_any}
-use Rattle.std.proofs.lemmas.Bool.{cases_Bool}
-use Rattle.std.proofs.lemmas.List.Elements.{recursion_from_All}
+use Rattle.std.{specs.Prelude.bytes_eq, specs.List.{AllByRecursion, list_any}, proofs.lemmas.Bool.cases_Bool, proofs.lemmas.List.Elements.recursion_from_All}
 use Rattle.std.proofs.lemmas.Slice.Eq.{bytes_eq-Decides}
 use Rattle.sample_model.specs.Samples.{Measurement, IsSample, AreSamples}
-use Rattle.history_model.specs.declared.entries.Acceptance.{Acceptance}
-use Rattle.history_model.specs.declared.entries.Entry.{Entry}
-use Rattle.history_model.specs.declared.entries.Entry.TheVariants.{Accept, Tune, Publish, Regression}
-use Rattle.history_model.specs.declared.events.RegressionEvent.TheVariants.{Raise, Move}
-use Rattle.history_model.specs.Allowed.{AllowedAfter, MayFollow}
-use Rattle.history_model.specs.Entries.{chosen_from}
+use Rattle.history_model.specs.declared.entries.{Acceptance.Acceptance, Entry.Entry, Entry.TheVariants.{Accept, Tune, Publish, Regression}}
+use Rattle.history_model.specs.{declared.events.RegressionEvent.TheVariants.{Raise, Move}, Allowed.{AllowedAfter, MayFollow}, Entries.chosen_from}
 use Rattle.history_model.specs.Runs.{Series, acceptance, is_of}
-use Rattle.track_entry.specs.Texts.{HasShortMetric}
-use Rattle.track_entry.specs.Laws.{LegalIsShort}
+use Rattle.track_entry.specs.{Texts.HasShortMetric, Laws.LegalIsShort}
 
 -- the samples of a run that the entry accepts are samples
 abbrev HasSamples : Entry → Type 0

@@ -3,16 +3,13 @@ use Rattle.std.specs.Prelude.{ℕ, ℤ, pos, neg_ℤ, ◌==◌, if◌then◌else
 use Rattle.std.specs.Str.Parse.{digits_value}
 use Rattle.percent_encoding.specs.Percent.{percent_decode}
 use Rattle.sample_model.specs.Samples.{Measurement}
-use Rattle.history_model.specs.declared.entries.Entry.{Entry}
-use Rattle.history_model.specs.declared.entries.Entry.TheVariants.{Commit, Accept, Retract, Tune, Publish, Regression, Job}
+use Rattle.history_model.specs.declared.entries.Entry.{Entry, TheVariants.{Commit, Accept, Retract, Tune, Publish, Regression, Job}}
 use Rattle.history_model.specs.declared.events.RegressionEvent.TheVariants as regression
 use Rattle.history_model.specs.declared.events.JobEvent.TheVariants as job
-use Rattle.regression_state.specs.Moves.{word}
-use Rattle.regression_state.specs.declared.states.State.{State}
+use Rattle.regression_state.specs.{Moves.word, declared.states.State.State}
 use Rattle.regression_state.specs.declared.states.State.TheVariants.{Detected, Staged, Active, NotToBeFixed, Ignored, Verify, Fixed}
-use Rattle.track_entry.specs.declared.kind.Kind.{Kind}
+use Rattle.track_entry.specs.{declared.kind.Kind.Kind, Kinds.kind_in}
 use Rattle.track_entry.specs.declared.kind.Kind.TheVariants as kind
-use Rattle.track_entry.specs.Kinds.{kind_in}
 
 abbrev pub value_of : List ℕ → ℤ
 value_of word = if slice_index word 0 == 45 then neg_ℤ (pos (digits_value 10 (drop 1 word))) else pos (digits_value 10 word)

@@ -4,8 +4,7 @@ use Rattle.history_model.specs.declared.entries.Entry.{Entry}
 use Rattle.history_model.specs.declared.entries.Entry.TheVariants as entry
 use Rattle.history_model.specs.declared.events.RegressionEvent.TheVariants as regression
 use Rattle.history_model.specs.declared.events.JobEvent.TheVariants as job
-use Rattle.track_entry.specs.declared.kind.Kind.{Kind}
-use Rattle.track_entry.specs.declared.kind.Kind.TheVariants.{Commit, Accept, Retract, Tune, Publish, Raise, Move, Begin, Answer, GiveUp}
+use Rattle.track_entry.specs.declared.kind.Kind.{Kind, TheVariants.{Commit, Accept, Retract, Tune, Publish, Raise, Move, Begin, Answer, GiveUp}}
 
 -- the kind of which this is the word
 abbrev pub kind_in : List ℕ → Option Kind

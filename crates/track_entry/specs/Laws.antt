@@ -1,8 +1,6 @@
 -- What holds of the entries of all legal histories.
-use Rattle.std.specs.Prelude.{List}
-use Rattle.std.specs.List.{AllByRecursion}
-use Rattle.history_model.specs.declared.entries.Entry.{Entry}
-use Rattle.history_model.specs.Allowed.{Legal}
+use Rattle.std.specs.{Prelude.List, List.AllByRecursion}
+use Rattle.history_model.specs.{declared.entries.Entry.Entry, Allowed.Legal}
 use Rattle.track_entry.specs.Texts.{HasShortMetric}
 
 -- each entry of a legal history names a short metric, if it names one

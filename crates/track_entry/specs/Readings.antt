@@ -1,16 +1,11 @@
 -- No public contract cites this. What a reader of words gives.
 use Rattle.std.specs.Prelude.{◌≡◌, ℕ, ℤ, List, drop, Result, Ok, Err}
-use Rattle.history_model.specs.declared.entries.Entry.{Entry}
+use Rattle.history_model.specs.declared.{entries.Entry.Entry, events.Raised.Raised, publication.Publication.Publication, run.Run.Run}
 use Rattle.history_model.specs.declared.entries.Entry.TheVariants as entry
-use Rattle.history_model.specs.declared.events.Raised.{Raised}
 use Rattle.history_model.specs.declared.events.RegressionEvent.TheVariants as regression
 use Rattle.history_model.specs.declared.events.JobEvent.TheVariants as job
-use Rattle.history_model.specs.declared.publication.Publication.{Publication}
-use Rattle.history_model.specs.declared.run.Run.{Run}
 use Rattle.regression_state.specs.declared.states.State.{State}
-use Rattle.track_entry.specs.declared.fault.EntryFault.{EntryFault}
-use Rattle.track_entry.specs.declared.fault.EntryFault.TheVariants.{NotEntry, NoMemory}
-use Rattle.track_entry.specs.declared.kind.Kind.{Kind}
+use Rattle.track_entry.specs.declared.{fault.EntryFault.EntryFault, fault.EntryFault.TheVariants.{NotEntry, NoMemory}, kind.Kind.Kind}
 use Rattle.track_entry.specs.declared.kind.Kind.TheVariants.{Commit, Accept, Retract, Tune, Publish, Raise, Move, Begin, Answer, GiveUp}
 use Rattle.track_entry.specs.Texts.{entry_words, IsEntry}
 

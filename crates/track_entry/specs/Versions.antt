@@ -1,9 +1,7 @@
 -- The text of an entry in version 1, in which a setting has no least length.
-use Rattle.std.specs.Prelude.{◌≡◌, ℕ, List, [], ◌∷◌, codes}
-use Rattle.std.specs.Fmt.{signed_decimal}
+use Rattle.std.specs.{Prelude.{◌≡◌, ℕ, List, [], ◌∷◌, codes}, Fmt.signed_decimal}
 use Rattle.line_text.specs.Names.{spelling}
-use Rattle.history_model.specs.declared.entries.Entry.{Entry}
-use Rattle.history_model.specs.declared.entries.Entry.TheVariants.{Tune}
+use Rattle.history_model.specs.declared.entries.Entry.{Entry, TheVariants.Tune}
 use Rattle.track_entry.specs.Texts.{spaced, entry_words, IsEntry}
 
 -- the words of an entry: those of version 2, but for a setting

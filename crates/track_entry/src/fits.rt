@@ -1,8 +1,7 @@
 //! What the types keep of an entry.
 ghost use Rattle.std.specs.Prelude.{◌^◌, ◌<◌, ◌≤◌, All, length};
 ghost use Rattle.history_model.specs.declared.entries.Entry.TheVariants as entry;
-ghost use Rattle.track_entry.specs.Texts.{HasShortMetric, IsEntry, IsPublication};
-ghost use Rattle.track_entry.specs.Laws.{LegalIsShort};
+ghost use Rattle.track_entry.specs.{Texts.{HasShortMetric, IsEntry, IsPublication}, Laws.LegalIsShort};
 
 use history_model::{Entry, JobEvent, Publication, RegressionEvent};
 

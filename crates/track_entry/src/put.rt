@@ -1,6 +1,5 @@
 //! The text of an entry, written.
-ghost use Rattle.std.specs.Prelude.{◌≡◌, ◌++◌, OnOk, OnErr, flat_map, map, decimal, length};
-ghost use Rattle.std.specs.Fmt.{signed_decimal};
+ghost use Rattle.std.specs.{Prelude.{◌≡◌, ◌++◌, OnOk, OnErr, flat_map, map, decimal, length}, Fmt.signed_decimal};
 ghost use Rattle.history_model.specs.declared.entries.Entry.TheVariants as entry;
 ghost use Rattle.line_text.specs.Names.{spelling};
 ghost use Rattle.track_entry.specs.Texts.{next, sample_words, entry_text};

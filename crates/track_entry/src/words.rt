@@ -1,14 +1,9 @@
 //! Single words of an entry: names, numbers, values and samples.
-ghost use Rattle.std.specs.Prelude.{◌≡◌, ℕ, ℤ, FitsSigned, ◌^◌, ◌<◌, ◌≤◌, List, [], ◌∷◌, ◌++◌, length, drop, decimal, unsigned_abs, IfOk};
-ghost use Rattle.std.specs.Fmt.{signed_decimal};
-ghost use Rattle.std.specs.Int.{w128};
-ghost use Rattle.line_text.specs.Lines.{words_of};
-ghost use Rattle.line_text.specs.Names.{IsName, spelling};
-ghost use Rattle.regression_state.specs.Moves.{word};
-ghost use Rattle.regression_state.specs.declared.states.State.{State as AState};
+ghost use Rattle.std.specs.{Prelude.{◌≡◌, ℕ, ℤ, FitsSigned, ◌^◌, ◌<◌, ◌≤◌, List, [], ◌∷◌, ◌++◌, length, drop, decimal, unsigned_abs, IfOk}, Fmt.signed_decimal, Int.w128};
+ghost use Rattle.line_text.specs.{Lines.words_of, Names.{IsName, spelling}};
+ghost use Rattle.regression_state.specs.{Moves.word, declared.states.State.State as AState};
 ghost use Rattle.sample_model.specs.Samples.{Measurement, IsSample};
-ghost use Rattle.track_entry.specs.Texts.{sample_words};
-ghost use Rattle.track_entry.specs.Readings.{Reads};
+ghost use Rattle.track_entry.specs.{Texts.sample_words, Readings.Reads};
 
 use crate::fault::EntryFault;
 use line_text::{Name, Names, names_law, next_word, read_i64, read_i128, read_u64};

@@ -1,16 +1,11 @@
 -- The jobs of a history by number, and what a job takes.
 use Rattle.std.proofs.Common.{◌≡◌, ℕ, zero, suc, ◌+◌, ◌-◌, ◌≤◌, cond, List, [], ◌∷◌, length, set, refl, sym, ap, subst, ◌∙◌, Option, Some, None, arith, eq-eqb}
-use Rattle.std.specs.Prelude.{slice_get}
-use Rattle.std.specs.List.{cons_option}
-use Rattle.bisect_core.specs.Bisections.{Bisection, answer_to, asked_by}
-use Rattle.bisect_core.specs.Turns.{tested}
+use Rattle.std.specs.{Prelude.slice_get, List.cons_option}
+use Rattle.bisect_core.specs.{Bisections.{Bisection, answer_to, asked_by}, Turns.tested, declared.outcome.Outcome.Outcome}
 use Rattle.bisect_core.specs.declared.outcome.Answered.TheVariants as answered
-use Rattle.bisect_core.specs.declared.outcome.Outcome.{Outcome}
 use Rattle.bisect_core.specs.declared.outcome.Outcome.TheVariants.{Asks, Found, Undecided, Faulted}
-use Rattle.history_model.specs.declared.entries.Entry.{Entry}
+use Rattle.history_model.specs.{declared.entries.Entry.Entry, declared.events.JobEvent.TheVariants.Answer, Entries.chosen_from}
 use Rattle.history_model.specs.declared.entries.Entry.TheVariants as entry
-use Rattle.history_model.specs.declared.events.JobEvent.TheVariants.{Answer}
-use Rattle.history_model.specs.Entries.{chosen_from}
 use Rattle.history_model.specs.Jobs.{Begun, begins, begun, said, asked, jobs, job_in, place_asked, standing_from}
 
 put-in : (js : List Bisection) (k : ℕ) (before after : Bisection) → slice_get js k ≡ Some before → slice_get (set js k after) k ≡ Some after

@@ -1,29 +1,22 @@
 -- What a change of a publication comes to that is raised as a regression.
 use Rattle.std.proofs.Common.{◌≡◌, ℕ, ◌+◌, ◌-◌, ◌<◌, ◌≤◌, true, false, not, List, [], ◌∷◌, length, sym, ap, ◌∙◌, Option, Some, None}
-use Rattle.std.specs.Prelude.{take, slice_index, nat_le}
-use Rattle.std.proofs.lemmas.Bool.{and_parts, leb-true}
+use Rattle.std.{specs.Prelude.{take, slice_index, nat_le}, proofs.lemmas.Bool.{and_parts, leb-true}}
 use Rattle.metric_table.specs.Limits.{most}
 use Rattle.metric_table.specs.declared.limits.Limit.TheVariants as limit
 use Rattle.segment_model.specs.Limits.{commits_of}
 use Rattle.segment_cost.specs.declared.done.Done.{Done}
-use Rattle.history_model.specs.declared.entries.Entry.{Entry}
+use Rattle.history_model.specs.{declared.entries.Entry.Entry, declared.events.Raised.Raised, Positions.positions, Regressions.{is_number, regressions}}
 use Rattle.history_model.specs.declared.entries.Entry.TheVariants as entry
-use Rattle.history_model.specs.declared.events.Raised.{Raised}
 use Rattle.history_model.specs.declared.events.RegressionEvent.TheVariants as event
-use Rattle.history_model.specs.Positions.{positions}
-use Rattle.history_model.specs.Regressions.{is_number, regressions}
 use Rattle.history_model.specs.Runs.{Series}
 use Rattle.publication_index.specs.Kept.{series_of}
 use Rattle.request_model.specs.declared.replies.Answer.{Answer}
 use Rattle.request_model.specs.declared.replies.Answer.TheVariants as answer
 use Rattle.request_model.specs.declared.replies.Refusal.TheVariants as refusal
 use Rattle.track_model.specs.Following as following
-use Rattle.track_model.specs.Laws.{StepsAreFull, StepIsAdded}
-use Rattle.track_model.specs.Outcomes.{Outcome, refuses, refusal_if, unless, adds_within}
-use Rattle.track_replay.specs.Made.{publication_from, IsMadeFrom}
+use Rattle.track_model.specs.{Laws.{StepsAreFull, StepIsAdded}, Outcomes.{Outcome, refuses, refusal_if, unless, adds_within}}
+use Rattle.track_replay.{specs.Made.{publication_from, IsMadeFrom}, specs.State.IsLast, proofs.Published.tells-last}
 use Rattle.track_follow.specs.Raised.{raised_from}
-use Rattle.track_replay.specs.State.{IsLast}
-use Rattle.track_replay.proofs.Published.{tells-last}
 
 pub range : (count number : ℕ) → is_number count number ≡ true → (1 ≤ number) × (number ≤ count)
 range count number is =

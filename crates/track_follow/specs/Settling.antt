@@ -1,18 +1,11 @@
 -- What becomes of something that a worker says of a place of a job.
 use Rattle.std.specs.Prelude.{◌≡◌, ℕ, ◌+◌, [], ◌∷◌, length, Option, Some, None}
-use Rattle.metric_table.specs.declared.limits.Limit.{Limit}
-use Rattle.metric_table.specs.declared.limits.Limit.TheVariants.{Steps}
-use Rattle.bisect_core.specs.Bisections.{Bisection, answer_to}
-use Rattle.bisect_core.specs.declared.outcome.Answered.{Answered}
+use Rattle.metric_table.specs.declared.limits.Limit.{Limit, TheVariants.Steps}
+use Rattle.bisect_core.specs.{Bisections.{Bisection, answer_to}, declared.outcome.Answered.Answered}
 use Rattle.bisect_core.specs.declared.outcome.Answered.TheVariants as answered
-use Rattle.history_model.specs.declared.entries.Author.{Author}
-use Rattle.history_model.specs.declared.entries.Entry.{Entry}
+use Rattle.history_model.specs.declared.{entries.Author.Author, entries.Entry.Entry, events.JobEvent.JobEvent, events.JobEvent.TheVariants.{Answer, GiveUp}}
 use Rattle.history_model.specs.declared.entries.Entry.TheVariants as entry
-use Rattle.history_model.specs.declared.events.JobEvent.{JobEvent}
-use Rattle.history_model.specs.declared.events.JobEvent.TheVariants.{Answer, GiveUp}
-use Rattle.history_model.specs.Allowed.{first_passed}
-use Rattle.history_model.specs.Entries.{entries_of}
-use Rattle.history_model.specs.Jobs.{jobs, job_in}
+use Rattle.history_model.specs.{Allowed.first_passed, Entries.entries_of, Jobs.{jobs, job_in}}
 use Rattle.track_model.specs.Tracks.{Track, with_entry}
 use Rattle.track_follow.specs.declared.settling.Settled.{Settled}
 use Rattle.track_follow.specs.declared.settling.Settled.TheVariants as settled

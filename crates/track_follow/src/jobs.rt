@@ -1,14 +1,10 @@
 //! Bisections: how one is begun, answered and resumed, and what is told of it.
 ghost use Rattle.std.specs.Prelude.{◌≡◌, ◌+◌, [], ◌∷◌, ◌++◌, IfOk, OnErr, Some, length};
-ghost use Rattle.history_model.specs.Allowed.{Allowed};
-ghost use Rattle.history_model.specs.Commits.{number_of};
-ghost use Rattle.history_model.specs.Entries.{entries_of};
-ghost use Rattle.history_model.specs.Jobs.{MayHappen, asked, job_in, jobs};
+ghost use Rattle.history_model.specs.{Allowed.Allowed, Commits.number_of, Entries.entries_of, Jobs.{MayHappen, asked, job_in, jobs}};
 ghost use Rattle.history_model.specs.declared.entries.Entry.TheVariants as entry;
 ghost use Rattle.history_model.specs.declared.events.JobEvent.TheVariants as job_event;
 ghost use Rattle.track_model.specs.Following as following;
-ghost use Rattle.track_model.specs.Replies.{reply_of};
-ghost use Rattle.track_model.specs.Tracks.{IsStep};
+ghost use Rattle.track_model.specs.{Replies.reply_of, Tracks.IsStep};
 
 use crate::NoMemory;
 use bisect_core::Job;

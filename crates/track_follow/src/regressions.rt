@@ -3,8 +3,7 @@ ghost use Rattle.std.specs.Prelude.{◌≡◌, ◌≤◌, IfOk, OnErr, None, len
 ghost use Rattle.history_model.specs.Entries.{entries_of};
 ghost use Rattle.history_model.specs.Regressions as regression;
 ghost use Rattle.track_model.specs.Following as following;
-ghost use Rattle.track_model.specs.Outcomes.{Outcome};
-ghost use Rattle.track_model.specs.Tracks.{IsStep};
+ghost use Rattle.track_model.specs.{Outcomes.Outcome, Tracks.IsStep};
 ghost use Rattle.track_follow.specs.Raised.{raised_from};
 
 use crate::NoMemory;

@@ -3,9 +3,7 @@ ghost use Rattle.std.specs.Prelude.{◌≡◌, ◌<◌, [], ◌∷◌, IfOk, IsS
 ghost use Rattle.metric_table.specs.Limits.{most};
 ghost use Rattle.metric_table.specs.declared.limits.Limit.TheVariants as limit;
 ghost use Rattle.bisect_core.specs.Bisections as bisection;
-ghost use Rattle.history_model.specs.Allowed.{Allowed, first_passed};
-ghost use Rattle.history_model.specs.Entries.{entries_of};
-ghost use Rattle.history_model.specs.Jobs.{job_in, jobs};
+ghost use Rattle.history_model.specs.{Allowed.{Allowed, first_passed}, Entries.entries_of, Jobs.{job_in, jobs}};
 ghost use Rattle.history_model.specs.declared.entries.Entry.TheVariants as entry;
 ghost use Rattle.track_follow.specs.Settling.{IsPut, IsSettled, said_of};
 

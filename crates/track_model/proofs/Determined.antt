@@ -1,32 +1,20 @@
 -- A request comes to one outcome.
 use Rattle.std.proofs.Common.{◌≡◌, ℕ, ℤ, pos, ◌*◌, ◌<◌, Bool, true, false, List, map, length, get_or, refl, sym, ap, subst, ◌∙◌, Option, Some, None, arith}
 use Rattle.std.specs.Prelude.{max, nat_lt, slice_index, IsTrue, ◌↔◌}
-use Rattle.segment_model.specs.Segments.{Position, segment}
-use Rattle.segment_model.specs.Cuts.{place_before, place_behind}
-use Rattle.segment_model.specs.Laws.{CentreIsUnique}
+use Rattle.segment_model.specs.{Segments.{Position, segment}, Cuts.{place_before, place_behind}, Laws.CentreIsUnique}
 use Rattle.metric_table.specs.Table.{row_of}
-use Rattle.change_list.specs.Certificate.{OneCertificate}
-use Rattle.change_list.specs.Cert.{Cert}
-use Rattle.change_list.specs.Changes.{IsWorse, IsChange, AreChanges}
-use Rattle.change_list.specs.declared.change.Change.{Change}
+use Rattle.change_list.specs.{Certificate.OneCertificate, Cert.Cert, Changes.{IsWorse, IsChange, AreChanges}, declared.change.Change.Change}
 use Rattle.series_noise.specs.Noise.{OneNoise}
-use Rattle.history_model.specs.declared.entries.Entry.{Entry}
-use Rattle.history_model.specs.declared.publication.Publication.{Publication}
-use Rattle.history_model.specs.Penalties.{penalty_of, length_of}
-use Rattle.history_model.specs.Positions.{positions}
-use Rattle.history_model.specs.Publications.{last_publication, spoken_of}
-use Rattle.history_model.specs.Runs.{Series, is_known}
+use Rattle.history_model.specs.{declared.entries.Entry.Entry, declared.publication.Publication.Publication, Penalties.{penalty_of, length_of}}
+use Rattle.history_model.specs.{Positions.positions, Publications.{last_publication, spoken_of}, Runs.{Series, is_known}}
 use Rattle.request_model.specs.declared.requests.Request.{Request}
 use Rattle.request_model.specs.declared.requests.Request.TheVariants as request
 use Rattle.request_model.specs.declared.replies.Answer.TheVariants as answer
-use Rattle.track_model.specs.Following.{raise}
+use Rattle.track_model.specs.{Following.raise, Outcomes.{Outcome, tells}}
 use Rattle.track_model.specs.Forms as forms
-use Rattle.track_model.specs.Outcomes.{Outcome, tells}
 use Rattle.track_model.specs.Publishing.{OfKnown, OfPublished, OfFactor, OfMany, publication, publish, redone_since, segmented, IsPublished, named, TellsChanges, TellsCertificate, is_factor, IsCalibrated}
-use Rattle.track_model.specs.Tracks.{ComesTo}
+use Rattle.track_model.{specs.Tracks.ComesTo, proofs.Orders.same-items, proofs.Reports.one-report}
 use Rattle.report_model.specs.declared.pages.Pages.{Pages}
-use Rattle.track_model.proofs.Orders.{same-items}
-use Rattle.track_model.proofs.Reports.{one-report}
 
 -- what comes to one outcome
 abbrev IsOne : (Outcome → Type 0) → Type 0

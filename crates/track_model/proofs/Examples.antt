@@ -1,22 +1,15 @@
 -- Worked scripts, answered by the definitions alone.
-use Rattle.std.proofs.Common.{◌≡◌, ℕ, pos, Bool, true, false, List, [], ◌∷◌, ◌++◌, refl}
-use Rattle.std.specs.Prelude.{codes, Option, Some, None}
-use Rattle.request_model.specs.declared.runs.RunLine.{RunLine}
+use Rattle.std.{proofs.Common.{◌≡◌, ℕ, pos, Bool, true, false, List, [], ◌∷◌, ◌++◌, refl}, specs.Prelude.{codes, Option, Some, None}}
+use Rattle.request_model.specs.declared.{runs.RunLine.RunLine, requests.Request.Request, replies.Answer.Answer, replies.Reply.Reply}
 use Rattle.segment_model.specs.Segments.{Position}
-use Rattle.history_model.specs.declared.entries.Entry.{Entry}
+use Rattle.history_model.specs.{declared.entries.Entry.Entry, Runs.Series, Positions.positions}
 use Rattle.history_model.specs.declared.entries.Entry.TheVariants as entry
-use Rattle.request_model.specs.declared.requests.Request.{Request}
 use Rattle.request_model.specs.declared.requests.Request.TheVariants as request
-use Rattle.request_model.specs.declared.replies.Answer.{Answer}
 use Rattle.request_model.specs.declared.replies.Answer.TheVariants as answer
 use Rattle.request_model.specs.declared.replies.Refusal.TheVariants as refusal
-use Rattle.request_model.specs.declared.replies.Reply.{Reply}
 use Rattle.sample_model.specs.Samples.{Measurement}
-use Rattle.history_model.specs.Runs.{Series}
-use Rattle.history_model.specs.Positions.{positions}
 use Rattle.track_model.specs.Forms as forms
-use Rattle.track_model.specs.Outcomes.{Outcome}
-use Rattle.track_model.specs.Replies.{reply_of}
+use Rattle.track_model.specs.{Outcomes.Outcome, Replies.reply_of}
 
 -- ---- the requests about one declared machine, answered one after another
 after : List Entry → Option Entry → List Entry

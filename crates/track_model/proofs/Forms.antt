@@ -1,22 +1,15 @@
 -- Where a form comes to a limit, and what it adds elsewhere.
 use Rattle.std.proofs.Common.{◌≡◌, ℕ, ℤ, ◌+◌, ◌<◌, ◌≤◌, List, [], ◌∷◌, ◌++◌, length, refl, ap, ◌∙◌, arith, Option}
-use Rattle.std.specs.Prelude.{Some, None, find, option_map}
-use Rattle.std.proofs.lemmas.List.{length-append}
+use Rattle.std.{specs.Prelude.{Some, None, find, option_map}, proofs.lemmas.List.length-append}
 use Rattle.metric_table.specs.Limits.{most}
 use Rattle.metric_table.specs.declared.limits.Limit.TheVariants as limit
-use Rattle.history_model.specs.declared.entries.Declaration.{Declaration}
-use Rattle.history_model.specs.declared.entries.Entry.{Entry}
+use Rattle.history_model.specs.{declared.entries.Declaration.Declaration, declared.entries.Entry.Entry, Allowed.{Allowed, KeepsLimits}}
 use Rattle.history_model.specs.declared.entries.Entry.TheVariants as entry
 use Rattle.request_model.specs.declared.replies.Answer.TheVariants as answer
 use Rattle.request_model.specs.declared.replies.Refusal.TheVariants as refusal
-use Rattle.history_model.specs.Allowed.{Allowed, KeepsLimits}
-use Rattle.history_model.specs.Commits.{declarations, has_number, has_name}
-use Rattle.history_model.specs.Laws.{DeclarationsGrow, FirstPassed, FirstKept, LimitsAfterCommit}
+use Rattle.history_model.specs.{Commits.{declarations, has_number, has_name}, Laws.{DeclarationsGrow, FirstPassed, FirstKept, LimitsAfterCommit}}
 use Rattle.track_model.specs.Forms as forms
-use Rattle.track_model.specs.Laws.{CommitFits}
-use Rattle.track_model.specs.Outcomes.{refuses}
-use Rattle.track_model.proofs.Rows.{first-none, option_map-none}
-use Rattle.track_model.proofs.Steps.{steps-full, step-added}
+use Rattle.track_model.{specs.Laws.CommitFits, specs.Outcomes.refuses, proofs.Rows.{first-none, option_map-none}, proofs.Steps.{steps-full, step-added}}
 
 free-pair : (commits : List Declaration) (number : ℕ) (name : List ℕ) → forms.commit_refusal commits number name ≡ None
     → (find (has_number number) commits ≡ None) × (find (has_name name) commits ≡ None)

@@ -1,9 +1,6 @@
 -- Lists that are equal: item by item, and those in a strict order with the same members.
 use Rattle.std.proofs.Common.{◌≡◌, ◌⊎◌, inl, inr, ℕ, suc, ◌<◌, Ordering, Less, List, [], ◌∷◌, length, get_or, refl, sym, ap, subst, ◌∙◌, arith}
-use Rattle.std.specs.Cmp.{IsTotalOrder}
-use Rattle.std.specs.Prelude.{Contains}
-use Rattle.std.specs.List.Sorted.{IsStrictlySortedBy}
-use Rattle.std.proofs.lemmas.Map.Keys.{sorted_tail}
+use Rattle.std.{specs.Cmp.IsTotalOrder, specs.Prelude.Contains, specs.List.Sorted.IsStrictlySortedBy, proofs.lemmas.Map.Keys.sorted_tail}
 use Rattle.history_model.proofs.Members.{here, behind, either, none-in-nil, later, not-both}
 
 pub same-items : {A : Type 0} (xs ys : List A) → length xs ≡ length ys → ((i : ℕ) (d : A) → i < length xs → get_or xs i d ≡ get_or ys i d) → xs ≡ ys

@@ -1,27 +1,18 @@
 -- What may become of a regression: a move of which nothing is refused, and a change of the last publication of a series.
-use Rattle.std.proofs.Common.{◌≡◌, ℕ, ◌-◌, ◌≤◌, ◌<◌, true, not, List, length, subst, arith}
-use Rattle.std.specs.Prelude.{nat_le, slice_index, Some, None}
+use Rattle.std.{proofs.Common.{◌≡◌, ℕ, ◌-◌, ◌≤◌, ◌<◌, true, not, List, length, subst, arith}, specs.Prelude.{nat_le, slice_index, Some, None}}
 use Rattle.std.proofs.lemmas.Bool.{and_parts, leb-true, not-false}
 use Rattle.metric_table.specs.Limits.{most}
 use Rattle.metric_table.specs.declared.limits.Limit.TheVariants as limit
 use Rattle.segment_model.specs.Limits.{commits_of}
-use Rattle.regression_state.specs.Moves.{is_move}
-use Rattle.regression_state.specs.declared.states.State.{State}
-use Rattle.history_model.specs.declared.entries.Entry.{Entry}
+use Rattle.regression_state.specs.{Moves.is_move, declared.states.State.State}
+use Rattle.history_model.specs.{declared.entries.Entry.Entry, declared.publication.Publication.Publication, Allowed.{Allowed, KeepsLimits, Legal}}
 use Rattle.history_model.specs.declared.entries.Entry.TheVariants as entry
 use Rattle.history_model.specs.declared.events.RegressionEvent.TheVariants as event
-use Rattle.history_model.specs.declared.publication.Publication.{Publication}
-use Rattle.history_model.specs.Allowed.{Allowed, KeepsLimits, Legal}
-use Rattle.history_model.specs.Followed.{IsBetweenDeclared, CutsAreBetweenDeclared, LimitsAfterRegression}
-use Rattle.history_model.specs.Laws.{LastStands}
-use Rattle.history_model.specs.Positions.{positions}
-use Rattle.history_model.specs.Publications.{last_publication, spoken_of}
-use Rattle.history_model.specs.Regressions.{is_number, regressions, state_of}
-use Rattle.history_model.specs.Runs.{Series, is_known}
+use Rattle.history_model.specs.{Followed.{IsBetweenDeclared, CutsAreBetweenDeclared, LimitsAfterRegression}, Laws.LastStands, Positions.positions}
+use Rattle.history_model.specs.{Publications.{last_publication, spoken_of}, Regressions.{is_number, regressions, state_of}, Runs.{Series, is_known}}
 use Rattle.request_model.specs.declared.replies.Refusal.TheVariants as refusal
 use Rattle.track_model.specs.Following as following
-use Rattle.track_model.specs.Outcomes.{refusal_if}
-use Rattle.track_model.proofs.Rows.{first-none, passes}
+use Rattle.track_model.{specs.Outcomes.refusal_if, proofs.Rows.{first-none, passes}}
 
 module _ (limits : LimitsAfterRegression) (h : List Entry) (keeps : KeepsLimits h) (room : length h < most limit.Steps) where
   pub move-allowed : (number : ℕ) (state : State) → following.move_refusal h number state ≡ None → Allowed h (entry.Regression (event.Move number state))

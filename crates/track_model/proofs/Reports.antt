@@ -1,25 +1,12 @@
 -- The pages of a machine are determined.
-use Rattle.std.proofs.Common.{◌≡◌, ℕ, ℤ, Bool, List, [], ◌∷◌, map, length, refl, sym, ap, subst, ◌∙◌, Option, Some, None, arith}
-use Rattle.std.specs.Prelude.{All}
-use Rattle.std.specs.Cmp.{IsTotalOrder}
-use Rattle.std.proofs.lemmas.Cmp.{nat_list_cmp_total, on_total, then_total}
-use Rattle.std.proofs.lemmas.List.Elements.{All-head, All-tail}
-use Rattle.segment_model.specs.Segments.{Position, segment, values_of}
-use Rattle.segment_model.specs.Laws.{CentreIsUnique}
-use Rattle.report_model.specs.declared.items.SeriesLine.{SeriesLine}
-use Rattle.report_model.specs.declared.items.RegressionLine.{RegressionLine}
-use Rattle.report_model.specs.declared.items.JobLine.{JobLine}
-use Rattle.report_model.specs.declared.pages.Pages.{Pages}
-use Rattle.history_model.specs.declared.entries.Entry.{Entry}
-use Rattle.history_model.specs.declared.publication.Publication.{Publication}
-use Rattle.history_model.specs.Positions.{positions}
-use Rattle.history_model.specs.Publications.{last_publication, spoken_of}
-use Rattle.history_model.specs.Runs.{Series}
-use Rattle.history_model.specs.SeriesOrder.{series_cmp}
-use Rattle.segment_model.specs.Cuts.{place_before}
+use Rattle.std.{proofs.Common.{◌≡◌, ℕ, ℤ, Bool, List, [], ◌∷◌, map, length, refl, sym, ap, subst, ◌∙◌, Option, Some, None, arith}, specs.Prelude.All}
+use Rattle.std.{specs.Cmp.IsTotalOrder, proofs.lemmas.Cmp.{nat_list_cmp_total, on_total, then_total}, proofs.lemmas.List.Elements.{All-head, All-tail}}
+use Rattle.segment_model.specs.{Segments.{Position, segment, values_of}, Laws.CentreIsUnique, Cuts.place_before}
+use Rattle.report_model.specs.declared.{items.SeriesLine.SeriesLine, items.RegressionLine.RegressionLine, items.JobLine.JobLine, pages.Pages.Pages}
+use Rattle.history_model.specs.{declared.entries.Entry.Entry, declared.publication.Publication.Publication, Positions.positions}
+use Rattle.history_model.specs.{Publications.{last_publication, spoken_of}, Runs.Series, SeriesOrder.series_cmp}
 use Rattle.change_list.specs.Last.{IsLastCentre}
-use Rattle.track_model.specs.Reports.{IsOfLast, IsSeriesLine, AreSeriesLines, IsReport, series_in}
-use Rattle.track_model.proofs.Orders.{same-members}
+use Rattle.track_model.{specs.Reports.{IsOfLast, IsSeriesLine, AreSeriesLines, IsReport, series_in}, proofs.Orders.same-members}
 
 one-centre : CentreIsUnique → (points : List Position) (cuts : List ℕ) (a b : Option ℤ) → IsLastCentre points cuts a → IsLastCentre points cuts b → a ≡ b
 one-centre unique points cuts None None p q = refl

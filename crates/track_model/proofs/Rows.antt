@@ -1,8 +1,6 @@
 -- A row of refusals of which none comes.
-use Rattle.std.proofs.Common.{◌≡◌, Bool, true, false, List, ◌∷◌, refl, Option}
-use Rattle.std.specs.Prelude.{Some, None, option_map}
-use Rattle.request_model.specs.declared.replies.Answer.{Answer}
-use Rattle.request_model.specs.declared.replies.Refusal.{Refusal}
+use Rattle.std.{proofs.Common.{◌≡◌, Bool, true, false, List, ◌∷◌, refl, Option}, specs.Prelude.{Some, None, option_map}}
+use Rattle.request_model.specs.declared.replies.{Answer.Answer, Refusal.Refusal}
 use Rattle.track_model.specs.Outcomes.{first, refusal_if}
 
 pub first-none : (o : Option Answer) (os : List (Option Answer)) → first (o ∷ os) ≡ None → (o ≡ None) × (first os ≡ None)

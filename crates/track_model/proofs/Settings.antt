@@ -1,8 +1,5 @@
 -- Two settings are one where their penalties and their least lengths are.
-use Rattle.std.proofs.Common.{◌≡◌, true, ◌==◌}
-use Rattle.std.specs.Ordering.{int_eq}
-use Rattle.std.proofs.lemmas.Bool.{and_parts, eqb-true}
-use Rattle.std.proofs.lemmas.Bool.Decides.{Decides-int_eq}
+use Rattle.std.{proofs.Common.{◌≡◌, true, ◌==◌}, specs.Ordering.int_eq, proofs.lemmas.Bool.{and_parts, eqb-true}, proofs.lemmas.Bool.Decides.Decides-int_eq}
 use Rattle.history_model.specs.declared.setting.Setting.{Setting}
 use Rattle.track_model.specs.Tracks.{is_setting}
 

@@ -1,14 +1,11 @@
 -- A setting of which nothing is refused is in range, and its metric is short enough.
-use Rattle.std.proofs.Common.{◌≡◌, ℕ, ℤ, pos, negsuc, ◌≤◌, ◌^◌, true, false, not, ◌&&◌, List, length, refl, ap₂, arith, nat_lt}
-use Rattle.std.specs.Prelude.{None, nat_le}
-use Rattle.std.proofs.lemmas.Bool.{and_parts, not-false, leb-true, le-leb, le-ltb, ltb-false}
-use Rattle.std.proofs.lemmas.Int.{ints}
+use Rattle.std.{proofs.Common.{◌≡◌, ℕ, ℤ, pos, negsuc, ◌≤◌, ◌^◌, true, false, not, ◌&&◌, List, length, refl, ap₂, arith, nat_lt}, specs.Prelude.{None, nat_le}}
+use Rattle.std.proofs.lemmas.{Bool.{and_parts, not-false, leb-true, le-leb, le-ltb, ltb-false}, Int.ints}
 use Rattle.metric_table.specs.Table.{IsPenalty}
 use Rattle.segment_model.specs.Limits.{IsLength}
 use Rattle.request_model.specs.declared.replies.Refusal.TheVariants as refusal
 use Rattle.track_model.specs.Forms as forms
-use Rattle.track_model.specs.Outcomes.{refusal_if}
-use Rattle.track_model.proofs.Rows.{first-none, passes}
+use Rattle.track_model.{specs.Outcomes.refusal_if, proofs.Rows.{first-none, passes}}
 
 in-range : (z : ℤ) → forms.is_penalty z ≡ true → IsPenalty z
 in-range (pos n) is = let le = leb-true n (10 ^ 36) is in (omega (arith, ints), omega (arith, ints, le))

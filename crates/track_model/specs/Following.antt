@@ -2,31 +2,21 @@
 use Rattle.std.specs.Prelude.{◌≡◌, ℕ, ◌+◌, ◌-◌, Bool, true, false, not, nat_lt, ◌==◌, List, [], ◌∷◌, ◌++◌, length, slice_index, is_none, unwrap_or, Option, Some, None}
 use Rattle.metric_table.specs.declared.limits.Limit.TheVariants.{Jobs, Steps}
 use Rattle.segment_model.specs.Limits.{commits_of}
-use Rattle.bisect_core.specs.Bisections.{Bisection, is_open, asked_by}
-use Rattle.bisect_core.specs.declared.outcome.Outcome.{Outcome as Standing}
+use Rattle.bisect_core.specs.{Bisections.{Bisection, is_open, asked_by}, declared.outcome.Outcome.Outcome as Standing}
 use Rattle.bisect_core.specs.declared.outcome.Outcome.TheVariants.{Asks, Found, Undecided, Faulted}
-use Rattle.regression_state.specs.Moves.{is_move}
-use Rattle.regression_state.specs.declared.states.State.{State}
+use Rattle.regression_state.specs.{Moves.is_move, declared.states.State.State}
 use Rattle.report_model.specs.declared.told.Told.{Told}
 use Rattle.report_model.specs.declared.told.Told.TheVariants as told_as
-use Rattle.history_model.specs.declared.entries.Entry.{Entry}
+use Rattle.history_model.specs.declared.{entries.Entry.Entry, events.JobEvent.JobEvent, events.Raised.Raised, publication.Publication.Publication}
 use Rattle.history_model.specs.declared.entries.Entry.TheVariants as entry
-use Rattle.history_model.specs.declared.events.JobEvent.{JobEvent}
 use Rattle.history_model.specs.declared.events.JobEvent.TheVariants as job_event
-use Rattle.history_model.specs.declared.events.Raised.{Raised}
 use Rattle.history_model.specs.declared.events.RegressionEvent.TheVariants as event
-use Rattle.history_model.specs.declared.publication.Publication.{Publication}
-use Rattle.history_model.specs.Commits.{number_of, name_of}
-use Rattle.history_model.specs.Jobs.{jobs, job_in}
-use Rattle.history_model.specs.Positions.{positions}
-use Rattle.history_model.specs.Publications.{last_publication, spoken_of}
-use Rattle.history_model.specs.Regressions.{regressions, state_of, is_number}
-use Rattle.history_model.specs.Runs.{Series, is_known}
+use Rattle.history_model.specs.{Commits.{number_of, name_of}, Jobs.{jobs, job_in}, Positions.positions, Publications.{last_publication, spoken_of}}
+use Rattle.history_model.specs.{Regressions.{regressions, state_of, is_number}, Runs.{Series, is_known}}
 use Rattle.request_model.specs.declared.replies.Answer.{Answer}
 use Rattle.request_model.specs.declared.replies.Answer.TheVariants as answer
 use Rattle.request_model.specs.declared.replies.Refusal.TheVariants as refusal
-use Rattle.track_model.specs.Outcomes.{Outcome, tells, refuses, refusal_if, first, unless, adds_within}
-use Rattle.track_model.specs.Publishing.{OfKnown, OfPublished}
+use Rattle.track_model.specs.{Outcomes.{Outcome, tells, refuses, refusal_if, first, unless, adds_within}, Publishing.{OfKnown, OfPublished}}
 
 -- ---- regress M TEST METRIC CHANGE
 

@@ -1,20 +1,14 @@
 -- What each form of request comes to on the history of its machine: its refusals in their order, then its effect.
 use Rattle.std.specs.Prelude.{ℕ, ℤ, pos, negsuc, ◌^◌, Bool, not, ◌&&◌, nat_le, nat_lt, if◌then◌else◌, List, [], ◌∷◌, map, length, find, option_map, is_none, unwrap_or, bytes_eq, codes, Option, Some, None, false}
 use Rattle.metric_table.specs.declared.limits.Limit.TheVariants.{Commits, Steps}
-use Rattle.history_model.specs.declared.entries.Acceptance.{Acceptance}
-use Rattle.history_model.specs.declared.entries.Declaration.{Declaration}
-use Rattle.history_model.specs.declared.entries.Entry.{Entry}
+use Rattle.history_model.specs.declared.{entries.Acceptance.Acceptance, entries.Declaration.Declaration, entries.Entry.Entry, run.Run.Run}
 use Rattle.history_model.specs.declared.entries.Entry.TheVariants as entry
-use Rattle.request_model.specs.declared.replies.Answer.{Answer}
+use Rattle.request_model.specs.declared.{replies.Answer.Answer, runs.RunLine.RunLine}
 use Rattle.request_model.specs.declared.replies.Answer.TheVariants as answer
 use Rattle.request_model.specs.declared.replies.Refusal.TheVariants as refusal
-use Rattle.request_model.specs.declared.runs.RunLine.{RunLine}
-use Rattle.history_model.specs.declared.run.Run.{Run}
 use Rattle.sample_model.specs.Samples.{Measurement}
-use Rattle.history_model.specs.Commits.{declarations, has_number, has_name, number_of, name_of}
-use Rattle.history_model.specs.Penalties.{length_of}
-use Rattle.history_model.specs.Runs.{Retraction, acceptances, accepted, retracted, same_run}
-use Rattle.history_model.specs.Allowed.{run_limits}
+use Rattle.history_model.specs.{Commits.{declarations, has_number, has_name, number_of, name_of}, Penalties.length_of}
+use Rattle.history_model.specs.{Runs.{Retraction, acceptances, accepted, retracted, same_run}, Allowed.run_limits}
 use Rattle.track_model.specs.Outcomes.{Outcome, tells, refusal_if, first, unless, adds_within}
 
 -- ---- commit M NUMBER NAME

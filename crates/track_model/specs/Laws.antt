@@ -3,25 +3,18 @@
 use Rattle.std.specs.Prelude.{◌≡◌, ◌≤◌, ◌<◌, ◌↔◌, ◌+◌, ℕ, ℤ, true, List, [], ◌∷◌, ◌++◌, length, IsSome, Some, None}
 use Rattle.metric_table.specs.Limits.{most}
 use Rattle.metric_table.specs.declared.limits.Limit.TheVariants as limit
-use Rattle.history_model.specs.declared.entries.Entry.{Entry}
+use Rattle.history_model.specs.{declared.entries.Entry.Entry, Allowed.{Allowed, KeepsLimits, Legal, MayFollow}, Commits.{declarations, name_of}}
 use Rattle.history_model.specs.declared.entries.Entry.TheVariants as entry
 use Rattle.history_model.specs.declared.events.JobEvent.TheVariants as job_event
 use Rattle.history_model.specs.declared.events.RegressionEvent.TheVariants as event
 use Rattle.regression_state.specs.declared.states.State.{State}
-use Rattle.history_model.specs.Allowed.{Allowed, KeepsLimits, Legal, MayFollow}
-use Rattle.history_model.specs.Commits.{declarations, name_of}
-use Rattle.history_model.specs.Jobs.{jobs, asked, open_count}
-use Rattle.history_model.specs.Runs.{Series, accepted, is_known, retracted}
+use Rattle.history_model.specs.{Jobs.{jobs, asked, open_count}, Runs.{Series, accepted, is_known, retracted}, declared.publication.Publication.Publication}
 use Rattle.request_model.specs.declared.replies.Answer.TheVariants as answer
 use Rattle.request_model.specs.declared.replies.Refusal.TheVariants as refusal
 use Rattle.track_model.specs.Following as following
 use Rattle.track_model.specs.Forms as forms
-use Rattle.track_model.specs.Outcomes.{Outcome, refuses, adds_within}
-use Rattle.track_model.specs.Publishing.{publish}
-use Rattle.track_model.specs.Tracks.{ComesTo}
-use Rattle.request_model.specs.declared.requests.Request.{Request}
-use Rattle.request_model.specs.declared.replies.Answer.{Answer}
-use Rattle.history_model.specs.declared.publication.Publication.{Publication}
+use Rattle.track_model.specs.{Outcomes.{Outcome, refuses, adds_within}, Publishing.publish, Tracks.ComesTo}
+use Rattle.request_model.specs.declared.{requests.Request.Request, replies.Answer.Answer}
 use Rattle.history_model.specs.Publications.{cut_count, last_publication, MayPublish}
 
 -- ---- commit

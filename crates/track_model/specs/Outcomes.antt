@@ -1,12 +1,8 @@
 -- What a request comes to: an answer, and the entry that it adds, if any.
 use Rattle.std.specs.Prelude.{Bool, if◌then◌else◌, List, [], ◌∷◌, Option, Some, None}
 use Rattle.metric_table.specs.declared.limits.Limit.{Limit}
-use Rattle.history_model.specs.declared.entries.Entry.{Entry}
-use Rattle.request_model.specs.declared.replies.Answer.{Answer}
-use Rattle.request_model.specs.declared.replies.Answer.TheVariants.{Refused}
-use Rattle.request_model.specs.declared.replies.Refusal.{Refusal}
-use Rattle.request_model.specs.declared.replies.Refusal.TheVariants.{Full}
-use Rattle.history_model.specs.Allowed.{first_passed}
+use Rattle.history_model.specs.{declared.entries.Entry.Entry, Allowed.first_passed}
+use Rattle.request_model.specs.declared.replies.{Answer.Answer, Answer.TheVariants.Refused, Refusal.Refusal, Refusal.TheVariants.Full}
 
 pub record Outcome : Type 0 where
   pub answer : Answer

@@ -2,22 +2,13 @@
 -- relation, since a best cut list is one list among all.
 use Rattle.std.specs.Prelude.{◌≡◌, ℕ, pos, ◌*◌, ◌-◌, Bool, true, false, nat_lt, ◌&&◌, nat_le, max, if◌then◌else◌, List, [], ◌∷◌, map, length, take, unwrap_or, Option, Some, None}
 use Rattle.metric_table.specs.declared.limits.Limit.TheVariants.{Cuts, Steps}
-use Rattle.change_list.specs.Certificate.{StandsFor}
-use Rattle.change_list.specs.Cert.{Cert}
-use Rattle.change_list.specs.Changes.{AreChanges}
-use Rattle.change_list.specs.declared.change.Change.{Change}
+use Rattle.change_list.specs.{Certificate.StandsFor, Cert.Cert, Changes.AreChanges, declared.change.Change.Change}
 use Rattle.series_noise.specs.Noise.{IsNoise}
 use Rattle.point_list.specs.Places.{common}
-use Rattle.history_model.specs.declared.entries.Entry.{Entry}
+use Rattle.history_model.specs.{declared.entries.Entry.Entry, declared.publication.Publication.Publication, Commits.name_of, Penalties.{penalty_of, length_of}}
 use Rattle.history_model.specs.declared.entries.Entry.TheVariants as entry
-use Rattle.history_model.specs.declared.publication.Publication.{Publication}
-use Rattle.history_model.specs.Commits.{name_of}
-use Rattle.history_model.specs.Penalties.{penalty_of, length_of}
-use Rattle.history_model.specs.Positions.{positions}
-use Rattle.history_model.specs.Publications.{IsBaseAt, last_publication, spoken_of}
-use Rattle.history_model.specs.Runs.{Series, is_known}
-use Rattle.request_model.specs.declared.changes.NamedChange.{NamedChange}
-use Rattle.request_model.specs.declared.replies.Answer.{Answer}
+use Rattle.history_model.specs.{Positions.positions, Publications.{IsBaseAt, last_publication, spoken_of}, Runs.{Series, is_known}}
+use Rattle.request_model.specs.declared.{changes.NamedChange.NamedChange, replies.Answer.Answer}
 use Rattle.request_model.specs.declared.replies.Answer.TheVariants as answer
 use Rattle.request_model.specs.declared.replies.Refusal.TheVariants as refusal
 use Rattle.track_model.specs.Forms as forms

@@ -1,25 +1,14 @@
 -- What a report says of a machine, on its history.
-use Rattle.std.specs.Prelude.{◌≡◌, ◌↔◌, ℕ, ℤ, ◌+◌, Bool, true, List, [], ◌∷◌, length, map, All, Contains, Option, Some, None}
-use Rattle.std.specs.List.Sorted.{IsStrictlySortedBy}
+use Rattle.std.specs.{Prelude.{◌≡◌, ◌↔◌, ℕ, ℤ, ◌+◌, Bool, true, List, [], ◌∷◌, length, map, All, Contains, Option, Some, None}, List.Sorted.IsStrictlySortedBy}
 use Rattle.segment_model.specs.Segments.{values_of}
 use Rattle.bisect_core.specs.Bisections.{Bisection}
 use Rattle.change_list.specs.Last.{IsLastCentre}
-use Rattle.report_model.specs.declared.items.SeriesLine.{SeriesLine}
-use Rattle.report_model.specs.declared.items.RegressionLine.{RegressionLine}
-use Rattle.report_model.specs.declared.items.JobLine.{JobLine}
-use Rattle.report_model.specs.declared.pages.Pages.{Pages}
-use Rattle.history_model.specs.declared.entries.Entry.{Entry}
-use Rattle.history_model.specs.declared.events.Raised.{Raised}
-use Rattle.history_model.specs.declared.publication.Publication.{Publication}
-use Rattle.history_model.specs.Jobs.{jobs}
-use Rattle.history_model.specs.Positions.{positions}
-use Rattle.history_model.specs.Publications.{last_publication, spoken_of}
-use Rattle.history_model.specs.Regressions.{regressions, state_of}
-use Rattle.history_model.specs.Runs.{Series, is_known}
+use Rattle.report_model.specs.declared.{items.SeriesLine.SeriesLine, items.RegressionLine.RegressionLine, items.JobLine.JobLine, pages.Pages.Pages}
+use Rattle.history_model.specs.{declared.entries.Entry.Entry, declared.events.Raised.Raised, declared.publication.Publication.Publication, Jobs.jobs}
+use Rattle.history_model.specs.{Positions.positions, Publications.{last_publication, spoken_of}, Regressions.{regressions, state_of}, Runs.{Series, is_known}}
 use Rattle.history_model.specs.SeriesOrder.{series_cmp}
 use Rattle.request_model.specs.declared.replies.Answer.TheVariants as answer
-use Rattle.track_model.specs.Following.{named_by, told_of}
-use Rattle.track_model.specs.Outcomes.{Outcome, tells}
+use Rattle.track_model.specs.{Following.{named_by, told_of}, Outcomes.{Outcome, tells}}
 
 -- ---- series
 

@@ -1,29 +1,18 @@
 -- A machine with its history, and what a request makes of it.
 use Rattle.std.specs.Prelude.{◌≡◌, ◌≢◌, ℕ, ◌==◌, Bool, true, ◌&&◌, if◌then◌else◌, List, [], ◌∷◌, ◌++◌, Option, Some, None}
-use Rattle.std.specs.Coded.{Coded, code_by, coded×, coded_list, coded_ℕ}
+use Rattle.std.specs.{Coded.{Coded, code_by, coded×, coded_list, coded_ℕ}, Ordering.int_eq}
 use Rattle.std.specs.FinSet as set
 use mathlib.Core.Path.{refl}
-use Rattle.std.specs.Ordering.{int_eq}
-use Rattle.history_model.specs.SeriesOrder.{series_cmp}
-use Rattle.history_model.specs.declared.entries.Author.{Author}
-use Rattle.history_model.specs.declared.entries.Entry.{Entry}
-use Rattle.history_model.specs.declared.entries.Placed.{Placed}
-use Rattle.request_model.specs.declared.replies.Reply.{Reply}
-use Rattle.history_model.specs.Entries.{entries_of}
+use Rattle.history_model.specs.{SeriesOrder.series_cmp, declared.entries.Author.Author, declared.entries.Entry.Entry, declared.entries.Placed.Placed}
+use Rattle.request_model.specs.declared.{replies.Reply.Reply, requests.Request.Request}
+use Rattle.history_model.specs.{Entries.entries_of, declared.setting.Setting.Setting, Runs.Series, declared.publication.Publication.Publication}
 use Rattle.track_model.specs.Following as following
 use Rattle.track_model.specs.Forms as forms
-use Rattle.track_model.specs.Outcomes.{Outcome, tells}
-use Rattle.track_model.specs.Publishing.{CalibrateComesTo, SegmentComesTo, ChangesComeTo, VerifyComesTo}
-use Rattle.track_model.specs.Reports.{ReportComesTo}
-use Rattle.request_model.specs.declared.requests.Request.{Request}
+use Rattle.track_model.specs.{Outcomes.{Outcome, tells}, Publishing.{CalibrateComesTo, SegmentComesTo, ChangesComeTo, VerifyComesTo}, Reports.ReportComesTo}
 use Rattle.request_model.specs.declared.requests.Request.TheVariants as request
 use Rattle.request_model.specs.declared.replies.Answer.TheVariants as answer
-use Rattle.history_model.specs.declared.setting.Setting.{Setting}
-use Rattle.history_model.specs.Runs.{Series}
 use Rattle.history_model.specs.declared.entries.Entry.TheVariants as entry
-use Rattle.history_model.specs.declared.publication.Publication.{Publication}
-use Rattle.history_model.specs.Penalties.{setting_of}
-use Rattle.history_model.specs.Publications.{last_publication, published, spoken_of}
+use Rattle.history_model.specs.{Penalties.setting_of, Publications.{last_publication, published, spoken_of}}
 use Rattle.track_model.specs.Replies.{reply_of}
 
 -- a machine, whether the store had it, its history, and the series whose tables are home

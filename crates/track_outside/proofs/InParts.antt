@@ -1,10 +1,7 @@
 -- What a sink took of bytes that are written in parts.
 use Rattle.std.proofs.Common.{◌≡◌, ℕ, ◌+◌, ◌≤◌, List, [], ◌++◌, length, take, Option, None, Some, refl, sym, ap, ◌∙◌, arith, append_assoc, append-nil, length-append}
-use Rattle.std.specs.Io.KnownBytes.{append_known}
-use Rattle.std.proofs.lemmas.List.{take-append-le}
-use Rattle.std.proofs.Math.Seq.{take-append-add}
-use Rattle.track_outside.specs.declared.sink.Sink.{Ghosts}
-use Rattle.track_outside.specs.Calls.{Took, TookFront, FailedIn, TookPart}
+use Rattle.std.{specs.Io.KnownBytes.append_known, proofs.lemmas.List.take-append-le, proofs.Math.Seq.take-append-add}
+use Rattle.track_outside.specs.{declared.sink.Sink.Ghosts, Calls.{Took, TookFront, FailedIn, TookPart}}
 
 append_known-append : (before : Option (List ℕ)) (part more : List ℕ) → append_known (append_known before part) more ≡ append_known before (part ++ more)
 append_known-append None part more = refl

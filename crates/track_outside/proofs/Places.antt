@@ -1,11 +1,7 @@
 -- The first place of a name, and what is read there.
 use Rattle.std.proofs.Common.{◌≡◌, ℕ, zero, suc, ◌+◌, ◌<◌, ◌≤◌, true, false, inl, inr, List, [], ◌∷◌, length, get_or, set, Some, refl, sym, ap, ◌∙◌, arith}
-use Rattle.std.specs.Prelude.{bytes_eq}
-use Rattle.std.proofs.lemmas.Bool.{cases_Bool, cases_order}
-use Rattle.std.proofs.lemmas.Slice.Eq.{bytes_eq-Decides}
-use Rattle.track_outside.specs.Named.{NamedBytes, bytes_at, with_bytes}
-use Rattle.track_outside.specs.declared.mem_files.MemFile.{MemFile}
-use Rattle.track_outside.specs.Folders.{file_of, files_of, IsPlace, IsAbsent}
+use Rattle.std.{specs.Prelude.bytes_eq, proofs.lemmas.Bool.{cases_Bool, cases_order}, proofs.lemmas.Slice.Eq.bytes_eq-Decides}
+use Rattle.track_outside.specs.{Named.{NamedBytes, bytes_at, with_bytes}, declared.mem_files.MemFile.MemFile, Folders.{file_of, files_of, IsPlace, IsAbsent}}
 
 -- no place below i has the name
 abbrev pub NoneBelow : List ℕ → List NamedBytes → ℕ → Type 0

@@ -1,7 +1,6 @@
 -- A repeated list, and how it is moved piece by piece.
 use Rattle.std.proofs.Common.{◌≡◌, ℕ, zero, suc, ◌+◌, ◌-◌, ◌<◌, ◌≤◌, List, [], ◌∷◌, ◌++◌, length, take, drop, refl, sym, ap, ◌∙◌, arith, length-drop}
-use Rattle.std.proofs.lemmas.List.{take-append-drop, take-append-le, drop-drop, drop-append-le}
-use Rattle.std.proofs.Math.Seq.{take-append_seam, drop-append_seam}
+use Rattle.std.proofs.{lemmas.List.{take-append-drop, take-append-le, drop-drop, drop-append-le}, Math.Seq.{take-append_seam, drop-append_seam}}
 use Rattle.std.specs.List.{repeat}
 
 pub repeat-empty : (n : ℕ) (xs : List ℕ) → length xs ≡ 0 → repeat n xs ≡ []

@@ -1,8 +1,6 @@
 -- What a runner of tests was asked, and what an ask makes of a runner in memory.
 use Rattle.std.specs.Prelude.{◌≡◌, ◌⊎◌, ℕ, List, [], ◌∷◌, ◌++◌, Option, Some, None, Result, Ok, Err, Contains, bytes_eq, codes, decimal, if◌then◌else◌, map, option_map}
-use Rattle.track_outside.specs.Counts.{one_more}
-use Rattle.track_outside.specs.declared.out_error.OutError.{OutError}
-use Rattle.track_outside.specs.declared.out_error.OutError.TheVariants.{Failed, NoMemory}
+use Rattle.track_outside.specs.{Counts.one_more, declared.out_error.OutError.OutError, declared.out_error.OutError.TheVariants.{Failed, NoMemory}}
 
 -- an ask: the word of the test, the name of the commit, and the status, None where it failed
 pub record Ask : Type 0 where

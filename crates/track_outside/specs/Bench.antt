@@ -1,8 +1,6 @@
 -- No public contract cites this. A runner in memory as its verdicts and asks.
 use Rattle.std.specs.Prelude.{List, map, string_bytes}
-use Rattle.track_outside.specs.Asked.{Ask, Verdict}
-use Rattle.track_outside.specs.declared.mem_runner.KeptVerdict.{KeptVerdict}
-use Rattle.track_outside.specs.declared.mem_runner.NotedAsk.{NotedAsk}
+use Rattle.track_outside.specs.{Asked.{Ask, Verdict}, declared.mem_runner.KeptVerdict.KeptVerdict, declared.mem_runner.NotedAsk.NotedAsk}
 
 abbrev pub verdict_in : KeptVerdict → Verdict
 verdict_in kept = record { commit = string_bytes kept.commit; status = kept.status }

@@ -1,8 +1,6 @@
 -- No public contract cites this. Files in memory as their names and calls.
 use Rattle.std.specs.Prelude.{◌≡◌, ℕ, ◌<◌, List, [], ◌∷◌, ◌++◌, map, length, slice_set, slice_index_or, Some, None}
-use Rattle.track_outside.specs.declared.mem_files.MemFile.{MemFile}
-use Rattle.track_outside.specs.declared.mem_files.NotedCall.{NotedCall}
-use Rattle.track_outside.specs.Named.{NamedBytes, Call, bytes_at, with_bytes}
+use Rattle.track_outside.specs.{declared.mem_files.MemFile.MemFile, declared.mem_files.NotedCall.NotedCall, Named.{NamedBytes, Call, bytes_at, with_bytes}}
 
 abbrev pub file_of : MemFile → NamedBytes
 file_of file = record { name = file.name.items; bytes = file.bytes.items }

@@ -1,9 +1,6 @@
 -- What a keeper of rows tells, and what its calls make of it.
-use Rattle.std.specs.Prelude.{◌≡◌, ℕ, List, [], ◌∷◌, ◌++◌, Option, Result, Ok, Err, Contains, length, option_map, map, Vec}
-use Rattle.std.specs.declared.alloc.Global.{Global}
-use Rattle.track_outside.specs.Counts.{one_more}
-use Rattle.track_outside.specs.declared.source.Failed.{Failed as Fault}
-use Rattle.track_outside.specs.declared.out_error.OutError.{OutError}
+use Rattle.std.specs.{Prelude.{◌≡◌, ℕ, List, [], ◌∷◌, ◌++◌, Option, Result, Ok, Err, Contains, length, option_map, map, Vec}, declared.alloc.Global.Global}
+use Rattle.track_outside.specs.{Counts.one_more, declared.source.Failed.Failed as Fault, declared.out_error.OutError.OutError}
 use Rattle.track_outside.specs.declared.out_error.OutError.TheVariants.{Failed, NoMemory}
 
 -- the bytes of rows

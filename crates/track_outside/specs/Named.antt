@@ -1,8 +1,6 @@
 -- What files tell: the bytes of each name, and the calls that were made.
 use Rattle.std.specs.Prelude.{◌≡◌, ◌⊎◌, Contains, ℕ, zero, suc, Bool, true, false, bytes_eq, if◌then◌else◌, List, [], ◌∷◌, ◌++◌, Option, Some, None, Result, Ok, Err, option_map}
-use Rattle.track_outside.specs.Counts.{one_more}
-use Rattle.track_outside.specs.Memory.{Input, Output, new_input, named_output}
-use Rattle.track_outside.specs.declared.out_error.OutError.{OutError}
+use Rattle.track_outside.specs.{Counts.one_more, Memory.{Input, Output, new_input, named_output}, declared.out_error.OutError.OutError}
 use Rattle.track_outside.specs.declared.out_error.OutError.TheVariants.{Failed, NoMemory}
 
 -- a name that is there, with its bytes

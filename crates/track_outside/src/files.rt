@@ -1,7 +1,6 @@
 //! The trait of names that inputs are opened by, and outputs created.
 ghost use Rattle.std.specs.Prelude.{◌≡◌, ℕ, ◌<◌, ◌≤◌, List, [], Option, true, false, option_map, IsSome, IsNone, IfOk, IfSome, IfNone, OnOk, OnErr};
-ghost use Rattle.track_outside.specs.Counts.{Rose};
-ghost use Rattle.track_outside.specs.Named.{NamedBytes, Call, bytes_at, with_bytes, with_call};
+ghost use Rattle.track_outside.specs.{Counts.Rose, Named.{NamedBytes, Call, bytes_at, with_bytes, with_call}};
 ghost use Rattle.track_outside.specs.declared.out_error.OutError.TheVariants as error;
 
 use crate::out_error::OutError;

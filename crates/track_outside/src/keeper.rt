@@ -1,7 +1,6 @@
 //! The trait of what keeps rows.
 ghost use Rattle.std.specs.Prelude.{◌≡◌, ℕ, ◌-◌, ◌≤◌, List, Option, Some, length, slice_get, IfOk, IfSome, OnOk, OnErr};
-ghost use Rattle.track_outside.specs.Counts.{Rose};
-ghost use Rattle.track_outside.specs.Kept.{bytes_of, with_more, with_name};
+ghost use Rattle.track_outside.specs.{Counts.Rose, Kept.{bytes_of, with_more, with_name}};
 ghost use Rattle.track_outside.specs.declared.out_error.OutError.TheVariants as error;
 
 use crate::out_error::OutError;

@@ -1,8 +1,6 @@
 //! Files in memory.
 ghost use Rattle.std.specs.Prelude.{◌≡◌, ◌↔◌, ◌<◌, ◌≤◌, [], ◌∷◌, ◌++◌, Some, None, vec_len, vec_capacity, option_map, IsTrue, IsSome, IfOk, IfSome, IfNone, OnOk, OnErr};
-ghost use Rattle.track_outside.specs.Memory.{new_input};
-ghost use Rattle.track_outside.specs.Named.{bytes_at, with_bytes, Opens, Creates, raised_by};
-ghost use Rattle.track_outside.specs.Folders.{files_of, calls_of, IsPlace, IsAbsent};
+ghost use Rattle.track_outside.specs.{Memory.new_input, Named.{bytes_at, with_bytes, Opens, Creates, raised_by}, Folders.{files_of, calls_of, IsPlace, IsAbsent}};
 
 use crate::NoMemory;
 use crate::fault_count::{PlannedFaults, count_fault};
@@ -42,8 +40,7 @@ pub struct MemFiles {
 }
 
 impl Model for MemFiles {
-    ghost use Rattle.track_outside.specs.Named.{Folder};
-    ghost use Rattle.track_outside.specs.Folders.{files_of, calls_of};
+    ghost use Rattle.track_outside.specs.{Named.Folder, Folders.{files_of, calls_of}};
 
     ghost Value = { Folder };
 

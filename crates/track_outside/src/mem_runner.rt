@@ -1,7 +1,6 @@
 //! Runners of tests in memory.
 ghost use Rattle.std.specs.Prelude.{◌≡◌, ◌<◌, ◌≤◌, [], ◌∷◌, ◌++◌, length, slice_get, vec_len, vec_capacity, string_bytes, codes, decimal, Some, IfOk, IfSome, IfNone};
-ghost use Rattle.track_outside.specs.Asked.{Asks, verdict_on, verdicts_of};
-ghost use Rattle.track_outside.specs.Bench.{verdict_in, verdicts_in, asks_in};
+ghost use Rattle.track_outside.specs.{Asked.{Asks, verdict_on, verdicts_of}, Bench.{verdict_in, verdicts_in, asks_in}};
 
 use crate::NoMemory;
 use crate::fault_count::{PlannedFaults, count_fault};
@@ -35,8 +34,7 @@ pub struct MemRunner {
 }
 
 impl Model for MemRunner {
-    ghost use Rattle.track_outside.specs.Asked.{Bench};
-    ghost use Rattle.track_outside.specs.Bench.{verdicts_in, asks_in};
+    ghost use Rattle.track_outside.specs.{Asked.Bench, Bench.{verdicts_in, asks_in}};
 
     ghost Value = { Bench };
 

@@ -1,8 +1,5 @@
 //! Sources that give a pattern many times.
-ghost use Rattle.std.specs.Prelude.{◌≡◌, ◌<◌, List, [], Some, length, take, IfOk, IsOk};
-ghost use Rattle.std.specs.List.{repeat};
-ghost use Rattle.std.specs.Io.{ReadsAtMost};
-ghost use Rattle.std.specs.Io.KnownBytes.{prepend_known};
+ghost use Rattle.std.specs.{Prelude.{◌≡◌, ◌<◌, List, [], Some, length, take, IfOk, IsOk}, List.repeat, Io.ReadsAtMost, Io.KnownBytes.prepend_known};
 
 use crate::NoMemory;
 use crate::source::{Failed, Source};
@@ -21,8 +18,7 @@ pub struct RepeatSource {
 }
 
 impl Model for RepeatSource {
-    ghost use Rattle.std.specs.Prelude.{ℕ, ◌<◌, List, length, drop};
-    ghost use Rattle.std.specs.List.{repeat};
+    ghost use Rattle.std.specs.{Prelude.{ℕ, ◌<◌, List, length, drop}, List.repeat};
 
     ghost Value = { List ℕ };
 

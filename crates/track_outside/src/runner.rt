@@ -1,7 +1,6 @@
 //! The trait of what runs tests of commits.
 ghost use Rattle.std.specs.Prelude.{◌≡◌, ℕ, ◌≤◌, List, Option};
-ghost use Rattle.track_outside.specs.Counts.{Rose};
-ghost use Rattle.track_outside.specs.Asked.{Ask, after_ask};
+ghost use Rattle.track_outside.specs.{Counts.Rose, Asked.{Ask, after_ask}};
 ghost use Rattle.track_outside.specs.declared.out_error.OutError.TheVariants as error;
 
 use crate::out_error::OutError;

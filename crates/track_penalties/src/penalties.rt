@@ -2,9 +2,7 @@
 ghost use Rattle.std.specs.Prelude.{◌≡◌, ◌*◌, ◌^◌, ◌≤◌, max, pos, IfOk, OnErr};
 ghost use Rattle.history_model.specs.Entries.{entries_of};
 ghost use Rattle.track_model.specs.Forms as forms;
-ghost use Rattle.track_model.specs.Outcomes.{Outcome};
-ghost use Rattle.track_model.specs.Publishing.{CalibrateComesTo};
-ghost use Rattle.track_model.specs.Tracks.{IsStep};
+ghost use Rattle.track_model.specs.{Outcomes.Outcome, Publishing.CalibrateComesTo, Tracks.IsStep};
 
 use crate::NoMemory;
 use history_model::{Author, Entry, limits_law};

@@ -1,30 +1,17 @@
 -- Which events of regressions and of jobs are allowed, as the indexes tell it.
 use Rattle.std.proofs.Common.{◌≡◌, ℕ, zero, suc, ◌+◌, ◌<◌, ◌≤◌, true, false, cond, List, [], ◌∷◌, ◌++◌, length, refl, sym, ap, ◌∙◌, Some, None, arith}
-use Rattle.std.specs.Prelude.{slice_get}
-use Rattle.std.proofs.lemmas.Bool.{le-leb, lt-leb}
-use Rattle.std.proofs.lemmas.List.{length-append, length-map}
+use Rattle.std.{specs.Prelude.slice_get, proofs.lemmas.Bool.{le-leb, lt-leb}, proofs.lemmas.List.{length-append, length-map}}
 use Rattle.std.proofs.lemmas.Option.{slice_get_within}
 use Rattle.metric_table.specs.Limits.{most}
 use Rattle.metric_table.specs.declared.limits.Limit.TheVariants as limit
-use Rattle.history_model.specs.declared.entries.Entry.{Entry}
+use Rattle.history_model.specs.declared.{entries.Entry.Entry, entries.Placed.Placed, events.JobEvent.JobEvent}
 use Rattle.history_model.specs.declared.entries.Entry.TheVariants as entry
-use Rattle.history_model.specs.declared.entries.Placed.{Placed}
-use Rattle.history_model.specs.declared.events.JobEvent.{JobEvent}
-use Rattle.history_model.specs.declared.events.JobEvent.TheVariants.{Begin, Answer, GiveUp}
-use Rattle.history_model.specs.declared.events.Raised.{Raised}
-use Rattle.history_model.specs.declared.events.RegressionEvent.{RegressionEvent}
-use Rattle.history_model.specs.Allowed.{Allowed, KeepsLimits}
-use Rattle.history_model.specs.Entries.{entries_of}
-use Rattle.history_model.specs.Followed.{LimitsAfterRegression, LimitsAfterJob, LimitsAfterTurn, IsTurnOf}
-use Rattle.history_model.specs.Jobs.{jobs, asked, open_count, MayHappen}
-use Rattle.history_model.specs.Regressions.{regressions, state_of, is_number, MayBecome}
-use Rattle.follow_index.specs.declared.regressions.Followed.{Followed}
-use Rattle.follow_index.specs.Followed.{followed, followed_from}
-use Rattle.follow_index.specs.Numbered.{followed_in}
-use Rattle.machine_state.specs.Following.{state_if}
+use Rattle.history_model.specs.declared.events.{JobEvent.TheVariants.{Begin, Answer, GiveUp}, Raised.Raised, RegressionEvent.RegressionEvent}
+use Rattle.history_model.specs.{Allowed.{Allowed, KeepsLimits}, Entries.entries_of, Followed.{LimitsAfterRegression, LimitsAfterJob, LimitsAfterTurn, IsTurnOf}}
+use Rattle.history_model.specs.{Jobs.{jobs, asked, open_count, MayHappen}, Regressions.{regressions, state_of, is_number, MayBecome}}
+use Rattle.follow_index.specs.{declared.regressions.Followed.Followed, Followed.{followed, followed_from}, Numbered.followed_in}
+use Rattle.machine_state.{specs.Following.state_if, proofs.Followed.followed-length, proofs.Series.no-more}
 use Rattle.track_replay.specs.Replays.{IsAllowance}
-use Rattle.machine_state.proofs.Followed.{followed-length}
-use Rattle.machine_state.proofs.Series.{no-more}
 
 steps-kept : (h : List Entry) (e : Entry) → Allowed h e → length h < most limit.Steps
 steps-kept h e allowed =

@@ -1,27 +1,17 @@
 -- Which entries are allowed, as the indexes tell it.
 use Rattle.std.proofs.Common.{◌≡◌, ℕ, ℤ, ◌+◌, ◌≤◌, Bool, true, false, cond, ◌&&◌, List, [], ◌∷◌, ◌++◌, length, refl, sym, ap, ◌∙◌, Option, Some, None, is_some, arith, inl, inr, nat_lt}
-use Rattle.std.specs.Prelude.{IsSome, is_none, option_map}
-use Rattle.std.proofs.lemmas.Bool.{cases_Bool, lt-ltb, ltb-true}
-use Rattle.std.proofs.lemmas.List.{length-append}
-use Rattle.metric_table.specs.Limits.{most}
-use Rattle.metric_table.specs.declared.limits.Limit.{Limit}
+use Rattle.std.{specs.Prelude.{IsSome, is_none, option_map}, proofs.lemmas.Bool.{cases_Bool, lt-ltb, ltb-true}, proofs.lemmas.List.length-append}
+use Rattle.metric_table.specs.{Limits.most, declared.limits.Limit.Limit}
 use Rattle.metric_table.specs.declared.limits.Limit.TheVariants as limit
-use Rattle.history_model.specs.declared.entries.Acceptance.{Acceptance}
-use Rattle.history_model.specs.declared.entries.Entry.{Entry}
+use Rattle.history_model.specs.{declared.entries.Acceptance.Acceptance, declared.entries.Entry.Entry, Allowed.{KeepsLimits, count_of, first_passed}}
 use Rattle.history_model.specs.declared.entries.Entry.TheVariants as entry
-use Rattle.history_model.specs.Allowed.{KeepsLimits, count_of, first_passed}
-use Rattle.history_model.specs.Commits.{declaration, declarations, number_of, name_of}
+use Rattle.history_model.specs.{Commits.{declaration, declarations, number_of, name_of}, Runs.{Retraction, accepted, retracted}}
 use Rattle.machine_state.specs.Forms as forms
-use Rattle.machine_state.specs.Outcomes.{first, refusal_if}
+use Rattle.machine_state.{specs.Outcomes.{first, refusal_if}, specs.Laws.TuneMayFollow, proofs.Series.no-more}
 use Rattle.request_model.specs.declared.replies.Answer.TheVariants as answer
 use Rattle.request_model.specs.declared.replies.Refusal.TheVariants as refusal
-use Rattle.history_model.specs.Runs.{Retraction, accepted, retracted}
-use Rattle.history_model.proofs.Chosen.{chosen-push}
-use Rattle.history_model.specs.Laws.{LimitsAfterCommit, LimitsAfterRetract, LimitsAfterTune}
-use Rattle.machine_state.specs.Laws.{TuneMayFollow}
-use Rattle.track_replay.specs.Replays.{IsAllowance, commit_fits, retraction_fits, tuning_fits}
-use Rattle.track_replay.proofs.Retractions.{free-run}
-use Rattle.machine_state.proofs.Series.{no-more}
+use Rattle.history_model.{proofs.Chosen.chosen-push, specs.Laws.{LimitsAfterCommit, LimitsAfterRetract, LimitsAfterTune}}
+use Rattle.track_replay.{specs.Replays.{IsAllowance, commit_fits, retraction_fits, tuning_fits}, proofs.Retractions.free-run}
 
 both : (a b : Bool) → (a && b) ≡ true → (a ≡ true) × (b ≡ true)
 both true b h = (refl, h)

@@ -1,19 +1,13 @@
 -- Which retractions are refused, as the stored runs tell it.
-use Rattle.std.proofs.Common.{◌≡◌, ℕ, List, [], ◌∷◌, refl, sym, ap, ◌∙◌, Option, inl, inr, ◌⊎◌}
-use Rattle.std.specs.Prelude.{Some, None, find, option_map, is_none, IsSome}
-use Rattle.history_model.specs.declared.entries.Acceptance.{Acceptance}
-use Rattle.history_model.specs.declared.entries.Entry.{Entry}
+use Rattle.std.{proofs.Common.{◌≡◌, ℕ, List, [], ◌∷◌, refl, sym, ap, ◌∙◌, Option, inl, inr, ◌⊎◌}, specs.Prelude.{Some, None, find, option_map, is_none, IsSome}}
+use Rattle.history_model.specs.declared.entries.{Acceptance.Acceptance, Entry.Entry}
 use Rattle.request_model.specs.declared.replies.Answer.{Answer}
 use Rattle.request_model.specs.declared.replies.Answer.TheVariants as answer
 use Rattle.request_model.specs.declared.replies.Refusal.TheVariants as refusal
-use Rattle.machine_state.specs.Outcomes.{refusal_if, first}
-use Rattle.history_model.specs.Runs.{Retraction, accepted, retracted, takes_back, is_run, acceptances, retractions}
+use Rattle.machine_state.{specs.Outcomes.{refusal_if, first}, proofs.Rows.{first-none, option_map-none}, specs.Indexes.{stored, stored_runs}}
+use Rattle.history_model.{specs.Runs.{Retraction, accepted, retracted, takes_back, is_run, acceptances, retractions}, proofs.Lists.{find-passes, same-bytes}}
 use Rattle.machine_state.specs.Forms as forms
-use Rattle.history_model.proofs.Lists.{find-passes, same-bytes}
-use Rattle.machine_state.proofs.Rows.{first-none, option_map-none}
-use Rattle.sample_store.specs.declared.store.Stored.{Stored}
-use Rattle.sample_store.specs.Runs.{names}
-use Rattle.machine_state.specs.Indexes.{stored, stored_runs}
+use Rattle.sample_store.specs.{declared.store.Stored.Stored, Runs.names}
 use Rattle.machine_state.proofs.Marks.{look-up}
 
 -- a run may be retracted where nothing is refused

@@ -1,18 +1,12 @@
 -- What the limits say of a run more, limit by limit.
-use Rattle.std.proofs.Common.{◌≡◌, ◌+◌, ◌<◌, ◌≤◌, false, List, [], ◌∷◌, ◌++◌, length, ◌∙◌, Option, Some, None, arith, inl, inr}
-use Rattle.std.specs.Prelude.{filter}
+use Rattle.std.{proofs.Common.{◌≡◌, ◌+◌, ◌<◌, ◌≤◌, false, List, [], ◌∷◌, ◌++◌, length, ◌∙◌, Option, Some, None, arith, inl, inr}, specs.Prelude.filter}
 use Rattle.std.proofs.lemmas.Bool.{cases_lt}
-use Rattle.metric_table.specs.Limits.{most}
-use Rattle.metric_table.specs.declared.limits.Limit.{Limit}
+use Rattle.metric_table.specs.{Limits.most, declared.limits.Limit.Limit}
 use Rattle.metric_table.specs.declared.limits.Limit.TheVariants as limit
-use Rattle.segment_model.specs.Segments.{values_of}
-use Rattle.segment_model.specs.Edits.{has_commit}
-use Rattle.history_model.specs.declared.entries.Entry.{Entry}
+use Rattle.segment_model.specs.{Segments.values_of, Edits.has_commit}
+use Rattle.history_model.specs.{declared.entries.Entry.Entry, declared.run.Run.Run, Allowed.{KeepsLimits, count_of, first_passed, run_limits}}
 use Rattle.history_model.specs.declared.entries.Entry.TheVariants as entry
-use Rattle.history_model.specs.declared.run.Run.{Run}
-use Rattle.history_model.specs.Allowed.{KeepsLimits, count_of, first_passed, run_limits}
-use Rattle.history_model.specs.Laws.{CountsAfterAccept, SamplesFit, PositionsFit, FirstKept, FirstPassed}
-use Rattle.history_model.specs.Positions.{positions}
+use Rattle.history_model.specs.{Laws.{CountsAfterAccept, SamplesFit, PositionsFit, FirstKept, FirstPassed}, Positions.positions}
 use Rattle.history_model.specs.Runs.{Series, is_of, acceptances, retracted, known_series, new_series, sample_count}
 
 -- there are so few steps, runs and samples that the next limits decide

@@ -2,13 +2,9 @@
 use Rattle.std.specs.Prelude.{◌≡◌, ◌↔◌, ℕ, ℤ, ◌+◌, Bool, ◌&&◌, nat_lt, if◌then◌else◌, IsTrue, List, [], ◌∷◌, ◌++◌, length, is_none, Option, Some, None}
 use Rattle.metric_table.specs.Limits.{most}
 use Rattle.metric_table.specs.declared.limits.Limit.TheVariants as limit
-use Rattle.history_model.specs.declared.entries.Author.TheVariants.{Kept}
-use Rattle.history_model.specs.declared.entries.Entry.{Entry}
-use Rattle.history_model.specs.Allowed.{Allowed}
-use Rattle.history_model.specs.Commits.{declarations, number_of, name_of}
-use Rattle.history_model.specs.Entries.{entries_of}
+use Rattle.history_model.specs.{declared.entries.Author.TheVariants.Kept, declared.entries.Entry.Entry, Allowed.Allowed}
+use Rattle.history_model.specs.{Commits.{declarations, number_of, name_of}, Entries.entries_of, Runs.known_series}
 use Rattle.machine_state.specs.Forms as forms
-use Rattle.history_model.specs.Runs.{known_series}
 use Rattle.machine_state.specs.Tracks.{Track, with_entry}
 
 -- the entry was added exactly where it was allowed; else nothing changed

@@ -1,12 +1,8 @@
 -- What the limits say of a run more.
 use Rattle.std.specs.Prelude.{◌≡◌, List, length, Some, None}
-use Rattle.history_model.specs.declared.entries.Entry.{Entry}
+use Rattle.history_model.specs.{declared.entries.Entry.Entry, declared.run.Run.Run, Allowed.{first_passed, run_limits}, Runs.new_series}
 use Rattle.history_model.specs.declared.entries.Entry.TheVariants as entry
-use Rattle.history_model.specs.declared.run.Run.{Run}
-use Rattle.history_model.specs.Allowed.{first_passed, run_limits}
-use Rattle.history_model.specs.Runs.{new_series}
-use Rattle.track_replay.specs.declared.verdict.Verdict.{Verdict}
-use Rattle.track_replay.specs.declared.verdict.Verdict.TheVariants.{Full, Fits}
+use Rattle.track_replay.specs.declared.verdict.Verdict.{Verdict, TheVariants.{Full, Fits}}
 
 -- the first limit that the history would pass with the run, or the number of series that it makes known
 abbrev pub IsVerdict : List Entry → Run → Verdict → Type 0

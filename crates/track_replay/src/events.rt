@@ -1,10 +1,7 @@
 //! Which events of regressions and of bisections are allowed.
 ghost use Rattle.std.specs.Prelude.{◌≡◌, ◌↔◌, [], ◌∷◌, ◌++◌, IfOk, IsTrue, Some};
 ghost use Rattle.bisect_core.specs.Bisections.{asked_by};
-ghost use Rattle.history_model.specs.Followed.{IsTurnOf};
-ghost use Rattle.history_model.specs.Entries.{entries_of};
-ghost use Rattle.history_model.specs.Jobs.{MayHappen, asked, jobs, open_count};
-ghost use Rattle.history_model.specs.Regressions.{MayBecome};
+ghost use Rattle.history_model.specs.{Followed.IsTurnOf, Entries.entries_of, Jobs.{MayHappen, asked, jobs, open_count}, Regressions.MayBecome};
 ghost use Rattle.history_model.specs.declared.entries.Entry.TheVariants as entry;
 ghost use Rattle.history_model.specs.declared.events.JobEvent.TheVariants as job_event;
 ghost use Rattle.history_model.specs.declared.events.RegressionEvent.TheVariants as regression_event;

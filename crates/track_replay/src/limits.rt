@@ -1,7 +1,6 @@
 //! What the limits say of a run more.
 ghost use Rattle.std.specs.Prelude.{◌≡◌, IfOk, None};
-ghost use Rattle.history_model.specs.Entries.{entries_of};
-ghost use Rattle.history_model.specs.Runs.{retracted};
+ghost use Rattle.history_model.specs.{Entries.entries_of, Runs.retracted};
 ghost use Rattle.track_replay.specs.Verdicts.{IsVerdict};
 
 use crate::NoMemory;

@@ -1,26 +1,14 @@
 -- The commits beside each change of a publication are declared.
 use Rattle.std.proofs.Common.{ℕ, zero, suc, ◌+◌, ◌-◌, ◌<◌, Bool, true, false, cond, List, [], ◌∷◌, length, map, take, All, sym, subst, Option, Some, None, arith}
-use Rattle.std.specs.Prelude.{IsSome, slice_index, nat_lt, nat_eq, filter}
-use Rattle.std.specs.List.{cons_option}
-use Rattle.std.proofs.lemmas.List.{length-map}
-use Rattle.std.proofs.lemmas.List.Elements.{All-nil, All-cons, All-head, All-tail, All-append, All-filter, All-map}
-use Rattle.std.proofs.lemmas.List.Concat.{flat_map-cons}
-use Rattle.segment_model.specs.Segments.{Position}
-use Rattle.segment_model.specs.Brought.{Brought, in_place, rising, position_at, positions_of}
-use Rattle.segment_model.specs.Cuts.{RisesBetween}
-use Rattle.segment_model.proofs.CutLists.{places-rise}
-use Rattle.segment_model.specs.Limits.{commits_of}
+use Rattle.std.{specs.Prelude.{IsSome, slice_index, nat_lt, nat_eq, filter}, specs.List.cons_option, proofs.lemmas.List.length-map}
+use Rattle.std.proofs.lemmas.List.{Elements.{All-nil, All-cons, All-head, All-tail, All-append, All-filter, All-map}, Concat.flat_map-cons}
+use Rattle.segment_model.specs.{Segments.Position, Brought.{Brought, in_place, rising, position_at, positions_of}, Cuts.RisesBetween}
+use Rattle.segment_model.{proofs.CutLists.places-rise, specs.Limits.commits_of}
 use Rattle.sample_model.specs.Samples.{Measurement}
-use Rattle.change_list.specs.Changes.{AreChanges}
-use Rattle.change_list.specs.declared.change.Change.{Change}
+use Rattle.change_list.specs.{Changes.AreChanges, declared.change.Change.Change}
 use Rattle.segment_cost.specs.declared.done.Done.{Done}
-use Rattle.history_model.specs.declared.entries.Acceptance.{Acceptance}
-use Rattle.history_model.specs.declared.entries.Entry.{Entry}
-use Rattle.history_model.specs.Allowed.{Legal}
-use Rattle.history_model.specs.Commits.{declarations, name_of}
-use Rattle.history_model.specs.Entries.{chosen_from}
-use Rattle.history_model.specs.Laws.{RunsHaveCommits}
-use Rattle.history_model.specs.Positions.{brought_by, brought, positions}
+use Rattle.history_model.specs.{declared.entries.Acceptance.Acceptance, declared.entries.Entry.Entry, Allowed.Legal, Commits.{declarations, name_of}}
+use Rattle.history_model.specs.{Entries.chosen_from, Laws.RunsHaveCommits, Positions.{brought_by, brought, positions}}
 use Rattle.history_model.specs.Runs.{Series, is_of, acceptance, acceptances, retractions, live_of}
 use Rattle.publication_index.specs.Kept.{series_of}
 use Rattle.track_reports.specs.Lines.{HasNames}

@@ -1,26 +1,14 @@
 -- The lines made of a state's regressions and bisections are those of its history.
-use Rattle.std.proofs.Common.{◌≡◌, ℕ, ◌+◌, suc, List, [], ◌∷◌, get_or, All, refl, ap, ◌∙◌}
-use Rattle.std.specs.Prelude.{IfOk, IsSome, Result, Ok, Err}
-use Rattle.std.proofs.lemmas.List.Elements.{All-nil, All-cons, All-head, All-tail}
-use Rattle.std.proofs.lemmas.Option.{slice_get-get_or}
-use Rattle.bisect_core.specs.Bisections.{Bisection}
-use Rattle.bisect_core.specs.declared.outcome.Outcome.{Outcome as Standing}
+use Rattle.std.{proofs.Common.{◌≡◌, ℕ, ◌+◌, suc, List, [], ◌∷◌, get_or, All, refl, ap, ◌∙◌}, specs.Prelude.{IfOk, IsSome, Result, Ok, Err}}
+use Rattle.std.proofs.lemmas.{List.Elements.{All-nil, All-cons, All-head, All-tail}, Option.slice_get-get_or}
+use Rattle.bisect_core.specs.{Bisections.Bisection, declared.outcome.Outcome.Outcome as Standing}
 use Rattle.bisect_core.specs.declared.outcome.Outcome.TheVariants as standing
 use Rattle.follow_index.specs.Followed.{followed_from}
-use Rattle.history_model.specs.Allowed.{Legal}
-use Rattle.history_model.specs.Commits.{declarations, name_of}
-use Rattle.history_model.specs.Followed.{IsNamed, JobsAreNamed}
-use Rattle.history_model.specs.Jobs.{jobs}
-use Rattle.history_model.specs.Regressions.{state_of}
-use Rattle.history_model.specs.declared.entries.Declaration.{Declaration}
-use Rattle.history_model.specs.declared.entries.Entry.{Entry}
-use Rattle.history_model.specs.declared.events.Raised.{Raised}
+use Rattle.history_model.specs.{Allowed.Legal, Commits.{declarations, name_of}, Followed.{IsNamed, JobsAreNamed}, Jobs.jobs, Regressions.state_of}
+use Rattle.history_model.specs.declared.{entries.Declaration.Declaration, entries.Entry.Entry, events.Raised.Raised}
 use Rattle.report_lines.specs.NumberedLines.{HasEnds, HasNamed, HasNames, followed_line, told_at, told_line}
-use Rattle.report_model.specs.declared.items.JobLine.{JobLine}
-use Rattle.report_model.specs.declared.items.RegressionLine.{RegressionLine}
-use Rattle.report_model.specs.declared.told.Told.{Told}
-use Rattle.track_model.specs.Following.{told_by}
-use Rattle.track_model.specs.Reports.{job_line, numbered, regression_line}
+use Rattle.report_model.specs.declared.{items.JobLine.JobLine, items.RegressionLine.RegressionLine, told.Told.Told}
+use Rattle.track_model.specs.{Following.told_by, Reports.{job_line, numbered, regression_line}}
 
 -- ---- regressions
 abbrev Ends : List Entry → Raised → Type 0

@@ -1,30 +1,17 @@
 -- What is told of the last publication.
 use Rattle.std.proofs.Common.{◌≡◌, ℕ, List, map, ap, subst}
 use Rattle.segment_model.specs.Segments.{Position}
-use Rattle.segment_cost.specs.declared.cert.Cert.{Cert}
-use Rattle.segment_cost.specs.declared.done.Done.{Done}
-use Rattle.history_model.specs.declared.entries.Entry.{Entry}
-use Rattle.history_model.specs.declared.publication.Publication.{Publication}
-use Rattle.history_model.specs.Entries.{entries_of}
-use Rattle.history_model.specs.Publications.{last_publication}
+use Rattle.segment_cost.specs.declared.{cert.Cert.Cert, done.Done.Done}
+use Rattle.history_model.specs.{declared.entries.Entry.Entry, declared.publication.Publication.Publication, Entries.entries_of, Publications.last_publication}
 use Rattle.history_model.specs.Runs.{Series, is_known}
-use Rattle.change_list.specs.Changes.{AreChanges}
-use Rattle.change_list.specs.declared.change.Change.{Change}
-use Rattle.request_model.specs.declared.changes.NamedChange.{NamedChange}
-use Rattle.request_model.specs.declared.replies.Answer.{Answer}
+use Rattle.change_list.specs.{Changes.AreChanges, declared.change.Change.Change}
+use Rattle.request_model.specs.declared.{changes.NamedChange.NamedChange, replies.Answer.Answer, replies.Refusal.Refusal, replies.Reply.Reply}
 use Rattle.request_model.specs.declared.replies.Answer.TheVariants as answer
-use Rattle.request_model.specs.declared.replies.Refusal.{Refusal}
-use Rattle.request_model.specs.declared.replies.Reply.{Reply}
 use Rattle.publication_index.specs.Kept.{series_of}
-use Rattle.track_model.specs.Outcomes.{Outcome, refuses, tells}
-use Rattle.track_model.specs.Publishing.{named, OfKnown, OfPublished, TellsChanges, TellsCertificate}
-use Rattle.track_model.specs.Replies.{reply_of}
+use Rattle.track_model.specs.{Outcomes.{Outcome, refuses, tells}, Publishing.{named, OfKnown, OfPublished, TellsChanges, TellsCertificate}, Replies.reply_of}
 use Rattle.track_model.specs.Tracks.{Track, IsTold}
-use Rattle.machine_state.specs.Made.{publication_from, IsMadeFrom}
-use Rattle.machine_state.specs.State.{HasNone, IsLast}
-use Rattle.machine_state.proofs.Published.{tells-last, tells-none}
-use Rattle.machine_state.proofs.Publishing.{made-stands}
-use Rattle.machine_state.proofs.Told.{only-told}
+use Rattle.machine_state.{specs.Made.{publication_from, IsMadeFrom}, specs.State.{HasNone, IsLast}, proofs.Published.{tells-last, tells-none}}
+use Rattle.machine_state.proofs.{Publishing.made-stands, Told.only-told}
 
 pub certified : (h : List Entry) (s : Series) (done : Done) → IsMadeFrom h done → series_of done ≡ s → (cert : Cert) → cert ≡ done.cert
     → TellsCertificate h s (publication_from done) (tells (answer.Verified done.version cert))

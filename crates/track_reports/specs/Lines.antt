@@ -2,8 +2,7 @@
 use Rattle.std.specs.Prelude.{List, [], unwrap_or, IsSome}
 use Rattle.change_list.specs.declared.change.Change.{Change}
 use Rattle.request_model.specs.declared.changes.NamedChange.{NamedChange}
-use Rattle.history_model.specs.declared.entries.Declaration.{Declaration}
-use Rattle.history_model.specs.Commits.{name_in}
+use Rattle.history_model.specs.{declared.entries.Declaration.Declaration, Commits.name_in}
 
 -- a change, its commits by name
 abbrev pub named_by : List Declaration → Change → NamedChange

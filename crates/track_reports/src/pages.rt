@@ -1,11 +1,7 @@
 //! The pages of a machine.
 ghost use Rattle.std.specs.Prelude.{◌≡◌, IfOk};
-ghost use Rattle.history_model.specs.Entries.{entries_of};
-ghost use Rattle.history_model.specs.Jobs.{jobs};
-ghost use Rattle.history_model.specs.Regressions.{regressions};
-ghost use Rattle.track_model.specs.Outcomes.{Outcome};
-ghost use Rattle.track_model.specs.Reports.{AreSeriesLines, ReportComesTo, job_line, numbered, regression_line};
-ghost use Rattle.track_model.specs.Tracks.{IsTold};
+ghost use Rattle.history_model.specs.{Entries.entries_of, Jobs.jobs, Regressions.regressions};
+ghost use Rattle.track_model.specs.{Outcomes.Outcome, Reports.{AreSeriesLines, ReportComesTo, job_line, numbered, regression_line}, Tracks.IsTold};
 
 use crate::NoMemory;
 use history_model::{jobs_law, regressions_law};

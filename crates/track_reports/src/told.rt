@@ -1,9 +1,7 @@
 //! What is told of a series' last publication: its changes, and its certificate.
 ghost use Rattle.std.specs.Prelude.{◌≡◌, All, IfOk, map};
 ghost use Rattle.history_model.specs.Entries.{entries_of};
-ghost use Rattle.track_model.specs.Outcomes.{Outcome};
-ghost use Rattle.track_model.specs.Publishing.{ChangesComeTo, VerifyComesTo};
-ghost use Rattle.track_model.specs.Tracks.{IsTold};
+ghost use Rattle.track_model.specs.{Outcomes.Outcome, Publishing.{ChangesComeTo, VerifyComesTo}, Tracks.IsTold};
 ghost use Rattle.track_reports.specs.Lines.{named_by, HasNames};
 
 use crate::NoMemory;

@@ -1,15 +1,10 @@
 -- The first machine that has something to take.
 use Rattle.std.proofs.Common.{◌≡◌, ℕ, zero, suc, ◌+◌, ◌<◌, ◌≤◌, List, [], ◌∷◌, ◌++◌, length, take, drop, set, get_or, refl, sym, ap, subst, ◌∙◌, Some, None, arith}
-use Rattle.std.specs.Prelude.{slice_get}
-use Rattle.std.specs.List.{AllZip}
-use Rattle.std.proofs.lemmas.List.{length-map}
-use Rattle.track_room.specs.Rooms.{AreSame, IsPassOf, badge}
-use Rattle.track_room.specs.Sights.{Home, Sight, SeesMore, Visits}
+use Rattle.std.{specs.Prelude.slice_get, specs.List.AllZip, proofs.lemmas.List.length-map}
+use Rattle.track_room.specs.{Rooms.{AreSame, IsPassOf, badge}, Sights.{Home, Sight, SeesMore, Visits}, Taking.{OfSeen, TakesAt, seen_of}}
 use Rattle.history_model.specs.declared.entries.Entry.{Entry}
 use Rattle.track_state.specs.Work.{Work}
-use Rattle.track_room.specs.Taking.{OfSeen, TakesAt, seen_of}
-use Rattle.track_room.proofs.Places.{zip-push}
-use Rattle.track_room.proofs.Standing.{all-same, all-sees-set, get-at, same-map, sees-badge, set-at, still-of}
+use Rattle.track_room.proofs.{Places.zip-push, Standing.{all-same, all-sees-set, get-at, same-map, sees-badge, set-at, still-of}}
 
 -- ---- parts of a list
 get-drop : {A : Type 0} (xs : List A) (i : ℕ) → slice_get xs i ≡ slice_get (drop i xs) 0

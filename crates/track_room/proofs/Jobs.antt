@@ -1,10 +1,7 @@
 -- A job that is there stays there.
 use Rattle.std.proofs.Common.{◌≡◌, ℕ, zero, suc, true, false, ◌+◌, ◌<◌, ◌≤◌, List, [], ◌∷◌, ◌++◌, length, refl, ap, arith, Option, Some, None}
-use Rattle.std.specs.Prelude.{IsSome, slice_get}
-use Rattle.std.specs.List.{cons_option}
-use Rattle.history_model.specs.declared.entries.Entry.{Entry}
-use Rattle.history_model.specs.Entries.{chosen_from}
-use Rattle.history_model.specs.Jobs.{Begun, begun, begins, job_in, jobs, standing_from}
+use Rattle.std.specs.{Prelude.{IsSome, slice_get}, List.cons_option}
+use Rattle.history_model.specs.{declared.entries.Entry.Entry, Entries.chosen_from, Jobs.{Begun, begun, begins, job_in, jobs, standing_from}}
 
 more-option : {A : Type 0} (o : Option A) (xs ys : List A) → length xs ≤ length ys → length (cons_option o xs) ≤ length (cons_option o ys)
 more-option None xs ys le = le

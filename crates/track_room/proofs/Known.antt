@@ -3,13 +3,10 @@ use Rattle.std.specs.FinSet as set
 use Rattle.std.proofs.Common.{◌≡◌, ℕ, List, [], ◌∷◌, refl, sym, ap, subst, ◌∙◌, Option, Some, None}
 use Rattle.atomic_table.specs.Seated.{TableId}
 use Rattle.history_model.specs.declared.entries.Placed.{Placed}
-use Rattle.history_lock.specs.declared.view.Marked.{Marked}
-use Rattle.history_lock.specs.declared.lock.Pass.{Pass}
-use Rattle.history_lock.specs.Marks.{AreBy, Follows, unmarked, entries}
+use Rattle.history_lock.specs.{declared.view.Marked.Marked, declared.lock.Pass.Pass, Marks.{AreBy, Follows, unmarked, entries}}
 use Rattle.history_lock.specs.Passes as passes
-use Rattle.track_room.specs.declared.guarded.Owner.{Owner}
+use Rattle.track_room.specs.{declared.guarded.Owner.Owner, Inside.{owner_of, machine_in, kept_in, sight_of}}
 use Rattle.track_model.specs.Tracks.{Track}
-use Rattle.track_room.specs.Inside.{owner_of, machine_in, kept_in, sight_of}
 use Rattle.track_room.specs.Sights.{Home, Sight, Ends, EndsWhole, IsFirstOf, Joins, seeing}
 
 entries-unmarked : (es : List Placed) → entries (unmarked es) ≡ es

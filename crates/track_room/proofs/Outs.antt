@@ -1,12 +1,9 @@
 -- Which passes are out.
 use Rattle.std.proofs.Common.{◌≡◌, ℕ, zero, suc, ◌+◌, ◌<◌, inl, inr, List, [], ◌∷◌, ◌++◌, length, map, get_or, refl, sym, ap, subst, ◌∙◌, arith}
-use Rattle.std.specs.List.{AllByRecursion, AllZip}
-use Rattle.std.proofs.lemmas.Bool.{cases_lt}
-use Rattle.std.proofs.lemmas.List.{get_or-map, length-map, map-append}
+use Rattle.std.{specs.List.{AllByRecursion, AllZip}, proofs.lemmas.Bool.cases_lt, proofs.lemmas.List.{get_or-map, length-map, map-append}}
 use Rattle.history_lock.specs.Marks.{IsNoneOf}
 use Rattle.track_model.specs.Tracks.{Track}
-use Rattle.track_room.specs.Rooms.{AreSame, IsSplitBack}
-use Rattle.track_room.specs.Sights.{Sight, IsFirstOf, IsWholeSight, splitting, split_off}
+use Rattle.track_room.specs.{Rooms.{AreSame, IsSplitBack}, Sights.{Sight, IsFirstOf, IsWholeSight, splitting, split_off}}
 use Rattle.track_room.specs.Whole.{JoinComesBack, NoneIsOut, NoneOutIsWhole, SplitBackStays, SplitGoesOut, WorkStaysOut, marks_at}
 
 -- ---- marks

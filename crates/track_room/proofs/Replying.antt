@@ -1,26 +1,14 @@
 -- Replies on what a pass has seen.
 use Rattle.std.proofs.Common.{◌≡◌, ◌≢◌, false, ℕ, ◌+◌, ◌≤◌, inl, inr, List, [], ◌∷◌, ◌++◌, length, take, append-nil, refl, sym, ap, ◌∙◌, Option, Some, None, arith}
-use Rattle.std.specs.Prelude.{slice_get}
-use Rattle.std.proofs.lemmas.List.{length-append, length-map, take-append-le, take-map, take_at}
-use Rattle.history_model.specs.declared.entries.Author.{Author}
-use Rattle.history_model.specs.declared.entries.Entry.{Entry}
-use Rattle.history_model.specs.declared.entries.Placed.{Placed}
-use Rattle.history_model.specs.Entries.{entries_of}
-use Rattle.history_lock.specs.declared.view.Marked.{Marked}
-use Rattle.history_lock.specs.Marks.{entries}
-use Rattle.request_model.specs.declared.requests.Request.{Request}
+use Rattle.std.{specs.Prelude.slice_get, proofs.lemmas.List.{length-append, length-map, take-append-le, take-map, take_at}}
+use Rattle.history_model.specs.{declared.entries.Author.Author, declared.entries.Entry.Entry, declared.entries.Placed.Placed, Entries.entries_of}
+use Rattle.history_lock.specs.{declared.view.Marked.Marked, Marks.entries}
+use Rattle.request_model.specs.{declared.requests.Request.Request, declared.replies.Reply.Reply, Requests.machine_of}
 use Rattle.request_model.specs.declared.requests.Request.TheVariants as request
-use Rattle.request_model.specs.declared.replies.Reply.{Reply}
-use Rattle.track_model.specs.Counts.{is_segment}
-use Rattle.track_model.specs.Outcomes.{Outcome}
+use Rattle.track_model.specs.{Counts.is_segment, Outcomes.Outcome, Replies.reply_of, Tracks.{Track, ComesTo, IsStep, with_added}}
 use Rattle.track_state.specs.Work.{Work, bare, history_of}
-use Rattle.track_model.specs.Replies.{reply_of}
-use Rattle.request_model.specs.Requests.{machine_of}
-use Rattle.track_model.specs.Tracks.{Track, ComesTo, IsStep, with_added}
 use Rattle.play_model.specs.Replies.{first_of, ComesBehind, ComesToBeside, Adds, Tells}
-use Rattle.track_room.specs.Sights.{Sight, AddsOne, AddsOneAtMost, SeesMore, track_of}
-use Rattle.track_room.specs.Asked.{IsReplied}
-use Rattle.track_room.proofs.Visiting.{no-entry, only-sees}
+use Rattle.track_room.{specs.Sights.{Sight, AddsOne, AddsOneAtMost, SeesMore, track_of}, specs.Asked.IsReplied, proofs.Visiting.{no-entry, only-sees}}
 
 -- what a request that isn't about a version comes to alone it comes to beside others
 pub beside : (version : List Entry) (base : ℕ) (h : List Entry) (q : Request) (o : Outcome) → ((machine : List ℕ) → q ≢ request.Machine machine)

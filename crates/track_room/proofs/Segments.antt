@@ -2,40 +2,20 @@
 use Rattle.std.proofs.Common.{◌≡◌, false, ℕ, List, [], ◌∷◌, ◌++◌, append_assoc, length, take, sym, ap, subst, ◌∙◌, arith, inl, inr}
 use Rattle.std.proofs.lemmas.List.{length-map, map-append}
 use Rattle.segment_cost.specs.declared.done.Done.{Done}
-use Rattle.history_lock.specs.declared.view.Marked.{Marked}
-use Rattle.history_lock.specs.Marks.{AreByOthers, entries}
-use Rattle.history_model.specs.declared.entries.Author.{Author}
-use Rattle.history_model.specs.declared.entries.Entry.{Entry}
-use Rattle.history_model.specs.declared.entries.Placed.{Placed}
-use Rattle.history_model.specs.Allowed.{Legal}
-use Rattle.history_model.specs.Entries.{entries_of}
-use Rattle.history_model.specs.Runs.{Series, is_known}
+use Rattle.history_lock.specs.{declared.view.Marked.Marked, Marks.{AreByOthers, entries}}
+use Rattle.history_model.specs.{declared.entries.Author.Author, declared.entries.Entry.Entry, declared.entries.Placed.Placed, Allowed.Legal, Entries.entries_of}
+use Rattle.history_model.specs.{Runs.{Series, is_known}, Publications.last_publication, Laws.{LastStands, VersionsStay}}
 use Rattle.publication_index.specs.Kept.{series_of}
 use Rattle.request_model.specs.declared.requests.Request.TheVariants as request
 use Rattle.request_model.specs.declared.replies.Refusal.TheVariants as refusal
 use Rattle.request_model.specs.declared.replies.Reply.{Reply}
-use Rattle.track_model.specs.Outcomes.{Outcome, refuses}
-use Rattle.track_model.specs.Publishing.{IsPublishedFrom, OfLatest, SegmentComesFrom, later}
-use Rattle.track_model.specs.Tracks.{Track}
-use Rattle.history_model.specs.Publications.{last_publication}
-use Rattle.track_state.specs.Made.{IsMadeFrom}
-use Rattle.track_state.specs.Snapshots.{IsRedone, IsTakenAt}
-use Rattle.track_state.specs.Begun.TheVariants.{Known, Unknown}
-use Rattle.track_state.specs.Redone.{Redone}
-use Rattle.track_state.specs.Snapshot.{Snapshot}
-use Rattle.track_state.proofs.Segmenting.{made-from, series-is}
-use Rattle.track_state.proofs.Publishing.{made-later}
-use Rattle.track_state.proofs.Snapped.{bare-taken, entries-taken}
-use Rattle.track_state.specs.Work.{Work, bare, history_of}
-use Rattle.track_state.proofs.Told.{unknown}
-use Rattle.history_model.specs.Laws.{LastStands, VersionsStay}
-use Rattle.track_room.specs.Asked.{IsReplied}
-use Rattle.track_room.specs.Sights.{Sight, SeesMore, Visits, own_marks, seeing}
-use Rattle.track_state.specs.Work.{series_of as series_of_key}
+use Rattle.track_model.specs.{Outcomes.{Outcome, refuses}, Publishing.{IsPublishedFrom, OfLatest, SegmentComesFrom, later}, Tracks.Track}
+use Rattle.track_state.specs.{Made.IsMadeFrom, Snapshots.{IsRedone, IsTakenAt}, Begun.TheVariants.{Known, Unknown}, Redone.Redone, Snapshot.Snapshot}
+use Rattle.track_state.proofs.{Segmenting.{made-from, series-is}, Publishing.made-later, Snapped.{bare-taken, entries-taken}}
+use Rattle.track_state.{specs.Work.{Work, bare, history_of}, proofs.Told.unknown, specs.Work.series_of as series_of_key}
+use Rattle.track_room.specs.{Asked.IsReplied, Sights.{Sight, SeesMore, Visits, own_marks, seeing}, Taking.{IsTaken, OfSeen, seen_of}}
 use Rattle.track_state.specs.declared.taking.TakenSeries.{TakenSeries}
-use Rattle.track_room.specs.Taking.{IsTaken, OfSeen, seen_of}
-use Rattle.track_room.specs.Visits.{Begins, Finishes, IsFound, Stays}
-use Rattle.track_room.proofs.Replying.{replied, seen-entries, sees-long, step-seen}
+use Rattle.track_room.{specs.Visits.{Begins, Finishes, IsFound, Stays}, proofs.Replying.{replied, seen-entries, sees-long, step-seen}}
 use Rattle.track_room.proofs.Visiting.{bare-finished, entries-append, stays-sees, visits-as}
 
 -- the history that a pass finds is what it has seen, and then entries of others

@@ -1,10 +1,8 @@
 -- A room may be shared by threads, and a pass of it may go to another thread: what they hold may, down to the least part. A
 -- search for all of it at once comes to no end, so each larger part is found by itself.
-use Rattle.atomic_table.proofs.Rights.{right_send}
-use Rattle.atomic_table.proofs.Sent.{seat_keyless, shares_keyless}
+use Rattle.atomic_table.{proofs.Rights.right_send, proofs.Sent.{seat_keyless, shares_keyless}, specs.declared.shared.TableRule.Ghosts}
 use Rattle.atomic_table.specs.contracts.shared.Seat as Seat
 use Rattle.atomic_table.specs.contracts.shared.Shared as Shared
-use Rattle.atomic_table.specs.declared.shared.TableRule.{Ghosts}
 use Rattle.follow_index.specs.contracts.jobs.JobIndex as JobIndex
 use Rattle.follow_index.specs.contracts.regressions.RegressionIndex as RegressionIndex
 use Rattle.history_model.specs.contracts.entries.Placed as Placed
@@ -19,11 +17,10 @@ use Rattle.publication_index.specs.contracts.published.PublicationIndex as Publi
 use Rattle.sample_store.specs.contracts.store.SampleStore as SampleStore
 use Rattle.segment_cost.specs.contracts.square.Square as Square
 use Rattle.series_index.specs.contracts.series.SeriesIndex as SeriesIndex
-use Rattle.std.proofs.Crossing.{crosses, frees}
+use Rattle.std.{proofs.Crossing.{crosses, frees}, specs.contracts.impls.GlobalAllocator.TheImpl.ghosts}
 use Rattle.std.proofs.MapsCrossing as maps
 use Rattle.std.proofs.MapsCrossingOver as over
 use Rattle.std.specs.contracts.alloc.Global as Heap
-use Rattle.std.specs.contracts.impls.GlobalAllocator.TheImpl.{ghosts}
 use Rattle.touch_index.specs.contracts.index.TouchIndex as TouchIndex
 use Rattle.track_room.specs.contracts.guarded.Guarded as Guarded
 use Rattle.track_room.specs.contracts.machine.MachineLock as MachineLock

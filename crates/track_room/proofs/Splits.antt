@@ -1,12 +1,10 @@
 -- Passes of which some were split, and joined back.
 use Rattle.std.proofs.Common.{◌≡◌, ℕ, zero, suc, ◌+◌, ◌<◌, ◌≤◌, ◌⊎◌, inl, inr, List, [], ◌∷◌, ◌++◌, length, map, take, drop, get_or, refl, sym, ap, ap₂, subst, ◌∙◌, arith}
-use Rattle.std.specs.List.{AllZip}
-use Rattle.std.proofs.lemmas.Bool.{cases_lt}
+use Rattle.std.{specs.List.AllZip, proofs.lemmas.Bool.cases_lt}
 use Rattle.history_lock.specs.declared.view.Marked.{Marked}
 use Rattle.history_model.specs.declared.entries.Placed.{Placed}
-use Rattle.track_room.specs.Rooms.{IsFirst, IsSplitBack, JoinsEach, split_back}
+use Rattle.track_room.specs.{Rooms.{IsFirst, IsSplitBack, JoinsEach, split_back}, Sights.{Home, Sight, IsFirstOf, Joins, splitting, split_off}}
 use Rattle.track_model.specs.Tracks.{Track}
-use Rattle.track_room.specs.Sights.{Home, Sight, IsFirstOf, Joins, splitting, split_off}
 
 abbrev pub homes : List Sight → List Home
 homes ss = map (λ (s : Sight). s.home) ss

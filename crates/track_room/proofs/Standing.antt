@@ -1,21 +1,15 @@
 -- Places of a room and of its passes.
 use Rattle.std.proofs.Common.{◌≡◌, ◌≢◌, ℕ, zero, suc, Bool, true, false, List, [], ◌∷◌, append-nil, drop, get_or, set, length, ◌<◌, arith, refl, sym, ap, ap₂, subst, ◌∙◌, Some, None, inl, inr}
-use Rattle.std.specs.Prelude.{◌||◌, bytes_eq, slice_get, unwrap_or, map, Result, Ok, Err, IfOk, OnErr}
-use Rattle.std.specs.List.{list_any, AllByRecursion, AllZip}
+use Rattle.std.specs.{Prelude.{◌||◌, bytes_eq, slice_get, unwrap_or, map, Result, Ok, Err, IfOk, OnErr}, List.{list_any, AllByRecursion, AllZip}}
 use Rattle.std.proofs.lemmas.Slice.Eq.{bytes_eq-Decides}
 use Rattle.history_lock.specs.declared.view.Marked.{Marked}
-use Rattle.history_model.specs.declared.entries.Placed.{Placed}
-use Rattle.history_model.specs.declared.entries.Author.{Author}
-use Rattle.request_model.specs.declared.replies.Reply.{Reply}
-use Rattle.request_model.specs.declared.requests.Request.{Request}
+use Rattle.history_model.specs.declared.entries.{Placed.Placed, Author.Author}
+use Rattle.request_model.specs.{declared.replies.Reply.Reply, declared.requests.Request.Request, Requests.machine_of}
 use Rattle.request_model.specs.declared.requests.Request.TheVariants as request
 use Rattle.request_model.specs.declared.replies.Refusal.TheVariants as refusal
-use Rattle.request_model.specs.Requests.{machine_of}
 use Rattle.play_model.specs.Replies.{is_of_history, why_apart}
-use Rattle.track_room.specs.Asked.{Asks, AsksBy, IsReplied, names_of}
-use Rattle.track_room.specs.Rooms.{IsFirst, IsPassOf, badge}
+use Rattle.track_room.specs.{Asked.{Asks, AsksBy, IsReplied, names_of}, Rooms.{IsFirst, IsPassOf, badge}, Sights.{Home, Sight, SeesMore, Visits, seeing}}
 use Rattle.track_state.specs.Work.{Work}
-use Rattle.track_room.specs.Sights.{Home, Sight, SeesMore, Visits, seeing}
 use Rattle.track_room.proofs.Segments.{sees-again}
 
 some-same : {A : Type 0} (x y : A) → Some x ≡ Some y → x ≡ y

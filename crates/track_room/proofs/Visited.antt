@@ -1,12 +1,7 @@
 -- What becomes of a machine at its place of a room, by what was done to it.
-use Rattle.std.proofs.Common.{List, sym, subst}
-use Rattle.std.specs.Prelude.{IfOk, OnErr, Result, Ok, Err}
-use Rattle.std.specs.List.{AllZip}
+use Rattle.std.{proofs.Common.{List, sym, subst}, specs.Prelude.{IfOk, OnErr, Result, Ok, Err}, specs.List.AllZip}
 use Rattle.track_state.specs.Work.{Work}
-use Rattle.track_room.specs.Asked.{ChangesAt}
-use Rattle.track_room.specs.Sights.{Sight, SeesMore, Visits}
-use Rattle.track_room.specs.Visits.{DoesOrStays}
-use Rattle.track_room.proofs.Standing.{sees-at}
+use Rattle.track_room.{specs.Asked.ChangesAt, specs.Sights.{Sight, SeesMore, Visits}, specs.Visits.DoesOrStays, proofs.Standing.sees-at}
 use Rattle.track_room.proofs.Visiting.{visits-err, visits-ok}
 
 module _ (place : _) (old new : List Sight) where

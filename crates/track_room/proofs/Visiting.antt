@@ -1,43 +1,23 @@
 -- A pass that enters a lock and leaves it, as what it knows of the machine.
 use Rattle.std.proofs.Common.{◌≡◌, ℕ, inl, inr, List, [], ◌∷◌, ◌++◌, length, refl, sym, ap, subst, ◌∙◌, Option, Some, None, arith}
-use Rattle.std.specs.Prelude.{IfOk, OnErr, OnOk, Result, Ok, Err}
-use Rattle.std.proofs.lemmas.List.{length-append}
+use Rattle.std.{specs.Prelude.{IfOk, OnErr, OnOk, Result, Ok, Err}, proofs.lemmas.List.length-append}
 use Rattle.atomic_table.specs.Seated.{TableId}
-use Rattle.history_model.specs.declared.entries.Author.{Author}
-use Rattle.history_model.specs.declared.entries.Entry.{Entry}
-use Rattle.history_model.specs.declared.entries.Placed.{Placed}
-use Rattle.history_lock.specs.declared.view.Marked.{Marked}
-use Rattle.history_lock.specs.declared.lock.Pass.{Pass}
-use Rattle.history_lock.specs.Marks.{Follows, marked, entries}
+use Rattle.history_model.specs.{declared.entries.Author.Author, declared.entries.Entry.Entry, declared.entries.Placed.Placed, Runs.Series, Allowed.first_passed}
+use Rattle.history_lock.specs.{declared.view.Marked.Marked, declared.lock.Pass.Pass, Marks.{Follows, marked, entries}}
 use Rattle.history_lock.specs.Passes as passes
-use Rattle.history_model.specs.Runs.{Series}
-use Rattle.request_model.specs.declared.replies.Answer.{Answer}
-use Rattle.request_model.specs.declared.replies.Reply.{Reply}
-use Rattle.track_model.specs.Outcomes.{Outcome}
-use Rattle.track_model.specs.Tracks.{Track, IsFinishStep, IsStep, with_added, with_finished}
-use Rattle.track_state.specs.Work.{Work, bare}
-use Rattle.metric_table.specs.declared.limits.Limit.{Limit}
-use Rattle.metric_table.specs.declared.limits.Limit.TheVariants.{Steps}
-use Rattle.bisect_core.specs.Bisections.{answer_to}
-use Rattle.bisect_core.specs.declared.outcome.Answered.{Answered}
+use Rattle.request_model.specs.declared.replies.{Answer.Answer, Reply.Reply}
+use Rattle.track_model.specs.{Outcomes.Outcome, Tracks.{Track, IsFinishStep, IsStep, with_added, with_finished}, Publishing.later}
+use Rattle.track_state.specs.{Work.{Work, bare}, Made.entry_of, Publications.{IsAdded, IsPublished, IsTaken, passed}, Published.Published}
+use Rattle.metric_table.specs.declared.limits.Limit.{Limit, TheVariants.Steps}
+use Rattle.bisect_core.specs.{Bisections.answer_to, declared.outcome.Answered.Answered}
 use Rattle.bisect_core.specs.declared.outcome.Answered.TheVariants as answered
 use Rattle.segment_cost.specs.declared.done.Done.{Done}
-use Rattle.history_model.specs.Allowed.{first_passed}
-use Rattle.history_model.specs.Entries.{entries_of}
-use Rattle.history_model.specs.Publications.{last_publication}
+use Rattle.history_model.specs.{Entries.entries_of, Publications.last_publication}
 use Rattle.publication_index.specs.Kept.{series_of}
-use Rattle.track_model.specs.Publishing.{later}
-use Rattle.track_state.specs.Made.{entry_of}
-use Rattle.track_state.specs.Publications.{IsAdded, IsPublished, IsTaken, passed}
-use Rattle.track_state.specs.Published.{Published}
-use Rattle.track_state.specs.Settling.{IsPut, IsSettled, entry_said}
+use Rattle.track_state.specs.{Settling.{IsPut, IsSettled, entry_said}, Settled.Settled}
 use Rattle.track_state.specs.Settling as settling
-use Rattle.track_state.specs.Settled.{Settled}
-use Rattle.track_room.specs.Visits.{DoesOrStays, Grows, IsFound, Stays}
-use Rattle.track_room.specs.declared.guarded.Owner.{Owner}
-use Rattle.track_room.specs.Inside.{owner_of, sight_of}
-use Rattle.track_room.specs.Sights.{Sight, AddsOneAtMost, SeesMore, Visits, seeing, track_of}
-use Rattle.track_room.proofs.Known.{made, track_at}
+use Rattle.track_room.specs.{Visits.{DoesOrStays, Grows, IsFound, Stays}, declared.guarded.Owner.Owner, Inside.{owner_of, sight_of}}
+use Rattle.track_room.{specs.Sights.{Sight, AddsOneAtMost, SeesMore, Visits, seeing, track_of}, proofs.Known.{made, track_at}}
 
 -- ---- a machine that grows by one entry at most
 

@@ -1,11 +1,8 @@
 -- What a request to a room is answered, and what its pass knows then.
 use Rattle.std.specs.Prelude.{◌≡◌, ◌⊎◌, ℕ, Bool, true, false, List, length, map, slice_get, slice_set, Some}
 use Rattle.history_model.specs.declared.entries.Author.{Author}
-use Rattle.request_model.specs.declared.requests.Request.{Request}
-use Rattle.request_model.specs.declared.replies.Reply.{Reply}
-use Rattle.track_model.specs.Outcomes.{refuses}
-use Rattle.track_model.specs.Replies.{apart}
-use Rattle.request_model.specs.Requests.{machine_of}
+use Rattle.request_model.specs.{declared.requests.Request.Request, declared.replies.Reply.Reply, Requests.machine_of}
+use Rattle.track_model.specs.{Outcomes.refuses, Replies.apart}
 use Rattle.play_model.specs.Replies.{Adds, Tells, is_of_history, why_apart}
 use Rattle.track_room.specs.Sights.{Home, Sight, SeesMore, AddsOne, track_of}
 

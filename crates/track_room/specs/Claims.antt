@@ -1,13 +1,9 @@
 -- The claims of those who took a series.
-use Rattle.std.specs.Prelude.{◌≡◌, ℕ, List, Option, option_map}
-use Rattle.std.specs.List.{AllZip}
+use Rattle.std.specs.{Prelude.{◌≡◌, ℕ, List, Option, option_map}, List.AllZip}
 use Rattle.segment_cost.specs.declared.done.Done.{Done}
 use Rattle.touch_index.specs.declared.key.SeriesKey.{SeriesKey}
-use Rattle.track_state.specs.Snapshot.{Snapshot}
-use Rattle.track_state.specs.declared.taking.TakenSeries.{TakenSeries}
-use Rattle.track_room.specs.Asked.{ChangesAt}
-use Rattle.track_room.specs.Sights.{Sight, SeesMore, Visits}
-use Rattle.track_room.specs.Taking.{Releases}
+use Rattle.track_state.specs.{Snapshot.Snapshot, declared.taking.TakenSeries.TakenSeries}
+use Rattle.track_room.specs.{Asked.ChangesAt, Sights.{Sight, SeesMore, Visits}, Taking.Releases}
 
 -- a claim on a series of the machine at a place
 pub record Claimed : Type 0 where

@@ -3,9 +3,8 @@ use Rattle.std.specs.Prelude.{◌≡◌, ℕ, Bool, false, List, [], Option, Som
 use Rattle.history_model.specs.declared.entries.Placed.{Placed}
 use Rattle.history_lock.specs.Passes as passes
 use Rattle.history_lock.specs.declared.lock.Pass.{Pass}
-use Rattle.track_room.specs.declared.guarded.Owner.{Owner}
+use Rattle.track_room.specs.{declared.guarded.Owner.Owner, Sights.Sight}
 use Rattle.track_model.specs.Tracks.{Track}
-use Rattle.track_room.specs.Sights.{Sight}
 
 -- whose state it is
 abbrev pub owner_of : Track → Owner

@@ -1,7 +1,6 @@
 -- What the clauses of a room say of its passes. A room is seen as the locks of its machines, and a pass of a room as what it
 -- knows of each, in the room's order.
-use Rattle.std.specs.Prelude.{◌≡◌, ◌⊎◌, ℕ, ◌+◌, ◌<◌, ◌≤◌, List, [], ◌∷◌, length, map, slice_index_or}
-use Rattle.std.specs.List.{AllByRecursion}
+use Rattle.std.specs.{Prelude.{◌≡◌, ◌⊎◌, ℕ, ◌+◌, ◌<◌, ◌≤◌, List, [], ◌∷◌, length, map, slice_index_or}, List.AllByRecursion}
 use Rattle.history_lock.specs.Marks.{HaveMarksUpTo}
 use Rattle.track_room.specs.Sights.{Home, Sight, IsWholeSight, Joins, seeing}
 

@@ -2,8 +2,7 @@
 use Rattle.std.specs.Prelude.{◌≡◌, ℕ, ◌+◌, ◌<◌, ◌≤◌, ◌⊎◌, Bool, List, [], ◌∷◌, ◌++◌, Some, map}
 use Rattle.atomic_table.specs.Seated.{TableId}
 use Rattle.history_model.specs.declared.entries.Placed.{Placed}
-use Rattle.history_lock.specs.declared.view.Marked.{Marked}
-use Rattle.history_lock.specs.Marks.{IsNoneOf, AreBy, AreByOthers, IsLongerOf, marked, entries}
+use Rattle.history_lock.specs.{declared.view.Marked.Marked, Marks.{IsNoneOf, AreBy, AreByOthers, IsLongerOf, marked, entries}}
 use Rattle.std.specs.FinSet as set
 use Rattle.track_model.specs.Tracks.{Track}
 use Rattle.track_state.specs.Work.{Work, bare}

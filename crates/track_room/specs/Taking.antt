@@ -1,23 +1,13 @@
 -- What is taken of a machine that a pass has seen, and what becomes of what is handed in.
-use Rattle.std.specs.Prelude.{◌≡◌, ℕ, ◌+◌, List, take, drop, slice_get, IsSome, Option, Some, None}
-use Rattle.std.specs.List.{AllZip}
+use Rattle.std.specs.{Prelude.{◌≡◌, ℕ, ◌+◌, List, take, drop, slice_get, IsSome, Option, Some, None}, List.AllZip}
 use Rattle.segment_cost.specs.declared.done.Done.{Done}
-use Rattle.history_model.specs.declared.entries.Author.{Author}
-use Rattle.history_model.specs.declared.entries.Entry.{Entry}
-use Rattle.history_model.specs.Allowed.{Legal}
-use Rattle.history_model.specs.Entries.{entries_of}
-use Rattle.history_model.specs.Jobs.{jobs, job_in}
-use Rattle.touch_index.specs.declared.key.SeriesKey.{SeriesKey}
-use Rattle.touch_index.specs.declared.mark.Claim.TheVariants.{Free}
-use Rattle.track_state.specs.Settled.{Settled}
+use Rattle.history_model.specs.{declared.entries.Author.Author, declared.entries.Entry.Entry, Allowed.Legal, Entries.entries_of, Jobs.{jobs, job_in}}
+use Rattle.touch_index.specs.declared.{key.SeriesKey.SeriesKey, mark.Claim.TheVariants.Free}
+use Rattle.track_state.specs.{Settled.Settled, Snapshots.IsTakenAt, Published.Published, Work.{Work, ClaimBecomes, history_of, series_of}}
 use Rattle.track_model.specs.Tracks.{Track}
-use Rattle.track_state.specs.Snapshots.{IsTakenAt}
-use Rattle.track_state.specs.Published.{Published}
 use Rattle.track_state.specs.Questions as questions
 use Rattle.track_state.specs.Taking as taking
-use Rattle.track_state.specs.Work.{Work, ClaimBecomes, history_of, series_of}
-use Rattle.track_state.specs.declared.questions.Question.{Question}
-use Rattle.track_state.specs.declared.taking.TakenSeries.{TakenSeries}
+use Rattle.track_state.specs.declared.{questions.Question.Question, taking.TakenSeries.TakenSeries}
 use Rattle.track_room.specs.Sights.{Sight, Visits, track_of}
 
 -- the history that the pass has seen

@@ -1,19 +1,12 @@
 -- No public contract cites this. What is done to a machine between entering its lock and leaving it.
 use Rattle.std.specs.FinSet as set
 use Rattle.std.specs.Prelude.{◌≡◌, ◌⊎◌, ◌++◌, ◌∷◌, [], IfOk, OnErr, Result}
-use Rattle.history_model.specs.declared.entries.Author.{Author}
-use Rattle.history_model.specs.declared.entries.Placed.{Placed}
-use Rattle.history_model.specs.Allowed.{Legal}
-use Rattle.history_model.specs.Runs.{Series}
-use Rattle.request_model.specs.declared.requests.Request.{Request}
-use Rattle.request_model.specs.declared.replies.Reply.{Reply}
+use Rattle.history_model.specs.{declared.entries.Author.Author, declared.entries.Placed.Placed, Allowed.Legal, Runs.Series}
+use Rattle.request_model.specs.declared.{requests.Request.Request, replies.Reply.Reply}
 use Rattle.segment_cost.specs.declared.done.Done.{Done}
-use Rattle.track_model.specs.Outcomes.{Outcome}
-use Rattle.track_model.specs.Tracks.{ComesTo, IsStep, Track}
-use Rattle.track_state.specs.Beside.{IsBegun}
-use Rattle.track_state.specs.Begun.{Begun}
+use Rattle.track_model.specs.{Outcomes.Outcome, Tracks.{ComesTo, IsStep, Track}}
+use Rattle.track_state.specs.{Beside.IsBegun, Begun.Begun, Work.{Work, bare, history_of}}
 use Rattle.track_state.specs.Taking as taking
-use Rattle.track_state.specs.Work.{Work, bare, history_of}
 use Rattle.track_room.specs.Sights.{Sight, SeesMore, track_of}
 
 -- a request is answered

@@ -1,10 +1,8 @@
 -- Which passes are out: how it is known that the first pass is whole once all that were split from it were joined into it.
-use Rattle.std.specs.Prelude.{◌≡◌, ℕ, ◌<◌, ◌≤◌, List, [], ◌∷◌, ◌++◌, length, map, slice_index_or}
-use Rattle.std.specs.List.{AllZip}
+use Rattle.std.specs.{Prelude.{◌≡◌, ℕ, ◌<◌, ◌≤◌, List, [], ◌∷◌, ◌++◌, length, map, slice_index_or}, List.AllZip}
 use Rattle.history_lock.specs.Marks.{IsNoneOf}
 use Rattle.track_model.specs.Tracks.{Track}
-use Rattle.track_room.specs.Rooms.{AreSame, IsSplitBack, IsWhole, JoinsEach}
-use Rattle.track_room.specs.Sights.{Sight, IsFirstOf, splitting, split_off}
+use Rattle.track_room.specs.{Rooms.{AreSame, IsSplitBack, IsWhole, JoinsEach}, Sights.{Sight, IsFirstOf, splitting, split_off}}
 
 -- what is known of the k-th machine
 abbrev at : ℕ → Sight → List Sight → Sight

@@ -3,8 +3,7 @@ ghost use Rattle.std.specs.Prelude.{◌≡◌, IfOk, OnErr};
 ghost use Rattle.request_model.specs.declared.requests.Request.TheVariants as request;
 ghost use Rattle.request_model.specs.Requests.{machine_of};
 ghost use Rattle.track_model.specs.Tracks.{IsAsked};
-ghost use Rattle.track_room.specs.Asked.{IsReplied};
-ghost use Rattle.track_room.specs.Sights.{SeesMore};
+ghost use Rattle.track_room.specs.{Asked.IsReplied, Sights.SeesMore};
 
 use crate::NoMemory;
 use crate::machine::{MachineLock, MachinePass};

@@ -1,11 +1,7 @@
 //! The end of a room.
-ghost use Rattle.std.specs.Prelude.{◌≡◌, ◌≤◌, [], IfOk, IfErr, IsOkAnd, length, vec_capacity};
-ghost use Rattle.std.specs.List.{AllZip};
-ghost use Rattle.metric_table.specs.Limits.{most};
-ghost use Rattle.metric_table.specs.declared.limits.Limit.TheVariants.{Machines};
-ghost use Rattle.track_room.specs.Closing.{IsCause};
-ghost use Rattle.track_room.specs.Rooms.{IsPassOf, IsWhole};
-ghost use Rattle.track_room.specs.Sights.{Ends, EndsWhole, tracks_of};
+ghost use Rattle.std.specs.{Prelude.{◌≡◌, ◌≤◌, [], IfOk, IfErr, IsOkAnd, length, vec_capacity}, List.AllZip};
+ghost use Rattle.metric_table.specs.{Limits.most, declared.limits.Limit.TheVariants.Machines};
+ghost use Rattle.track_room.specs.{Closing.IsCause, Rooms.{IsPassOf, IsWhole}, Sights.{Ends, EndsWhole, tracks_of}};
 
 use crate::machine::{MachineLock, MachinePass};
 use history_lock::InUse;

@@ -2,8 +2,7 @@
 ghost use Rattle.std.specs.Prelude.{◌≡◌, ◌≢◌, ◌≤◌, ◌-◌, ◌^◌, ◌↔◌, IfOk, IfErr, OnOk, OnErr, IsErr, IsOkAnd, bytes_eq};
 ghost use Rattle.history_lock.specs.Marks.{HaveMarksUpTo};
 ghost use Rattle.track_state.specs.Work.{Work};
-ghost use Rattle.track_room.specs.Sights.{IsFirstOf, IsWholeSight, Ends, EndsWhole, Joins, Visits, splitting, split_off};
-ghost use Rattle.track_room.specs.Visits.{IsFound};
+ghost use Rattle.track_room.specs.{Sights.{IsFirstOf, IsWholeSight, Ends, EndsWhole, Joins, Visits, splitting, split_off}, Visits.IsFound};
 
 use crate::NoMemory;
 use crate::act::Act;

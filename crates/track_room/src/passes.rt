@@ -1,8 +1,6 @@
 //! The passes of several machines' locks, split and joined together.
-ghost use Rattle.std.specs.Prelude.{◌≡◌, ℕ, ◌≤◌, ◌++◌, [], IfOk, OnOk, OnErr, length, map, take, drop};
-ghost use Rattle.std.specs.List.{AllZip};
-ghost use Rattle.track_room.specs.Rooms.{HaveGivenMarks, IsFirst, IsPassOf, IsSplitBack, JoinsEach};
-ghost use Rattle.track_room.specs.Sights.{splitting, split_off};
+ghost use Rattle.std.specs.{Prelude.{◌≡◌, ℕ, ◌≤◌, ◌++◌, [], IfOk, OnOk, OnErr, length, map, take, drop}, List.AllZip};
+ghost use Rattle.track_room.specs.{Rooms.{HaveGivenMarks, IsFirst, IsPassOf, IsSplitBack, JoinsEach}, Sights.{splitting, split_off}};
 
 use crate::NoMemory;
 use crate::machine::{MachineLock, MachinePass};

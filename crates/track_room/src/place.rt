@@ -1,6 +1,5 @@
 //! Where a machine stands in a room.
-ghost use Rattle.std.specs.Prelude.{◌≡◌, IfSome, IfNone, bytes_eq, false};
-ghost use Rattle.std.specs.List.{list_any};
+ghost use Rattle.std.specs.{Prelude.{◌≡◌, IfSome, IfNone, bytes_eq, false}, List.list_any};
 ghost use Rattle.track_room.specs.Asked.{IsNamedAt, names_of};
 
 use crate::machine::MachineLock;

@@ -1,12 +1,7 @@
 //! Machines that running scripts share, and what each of these knows of them.
-ghost use Rattle.std.specs.Prelude.{◌≡◌, ◌≤◌, IfOk, IfErr, IsOkAnd, OnOk, OnErr, length, map};
-ghost use Rattle.std.specs.List.{AllZip};
-ghost use Rattle.metric_table.specs.Limits.{most};
-ghost use Rattle.metric_table.specs.declared.limits.Limit.TheVariants.{Machines};
-ghost use Rattle.track_room.specs.Asked.{Asks};
-ghost use Rattle.track_room.specs.Closing.{IsCause};
-ghost use Rattle.track_room.specs.Rooms.{AreSame, HaveGivenMarks, IsFirst, IsPassOf, IsSplitBack, IsWhole, JoinsEach};
-ghost use Rattle.track_room.specs.Sights.{Ends, EndsWhole, IsFirstOf, SeesMore, splitting, split_off, tracks_of};
+ghost use Rattle.std.specs.{Prelude.{◌≡◌, ◌≤◌, IfOk, IfErr, IsOkAnd, OnOk, OnErr, length, map}, List.AllZip};
+ghost use Rattle.metric_table.specs.{Limits.most, declared.limits.Limit.TheVariants.Machines};
+ghost use Rattle.track_room.specs.{Asked.Asks, Closing.IsCause, Rooms.{AreSame, HaveGivenMarks, IsFirst, IsPassOf, IsSplitBack, IsWhole, JoinsEach}, Sights.{Ends, EndsWhole, IsFirstOf, SeesMore, splitting, split_off, tracks_of}};
 
 use crate::NoMemory;
 use crate::closing::{CloseFault, close_each};
@@ -30,8 +25,7 @@ pub struct Room {
 
 impl Model for Room {
     ghost use Rattle.std.specs.Prelude.{◌≡◌, ◌≤◌, List, [], length, vec_capacity};
-    ghost use Rattle.metric_table.specs.Limits.{most};
-    ghost use Rattle.metric_table.specs.declared.limits.Limit.TheVariants.{Machines};
+    ghost use Rattle.metric_table.specs.{Limits.most, declared.limits.Limit.TheVariants.Machines};
     ghost use Rattle.track_room.specs.Sights.{Home};
 
     ghost Value = { List Home };

@@ -1,6 +1,5 @@
 //! Machines with claims, which a room takes and gives back, and machines without.
-ghost use Rattle.std.specs.Prelude.{◌≡◌, ◌≤◌, ◌+◌, ◌++◌, [], length, map, vec_capacity, IfOk};
-ghost use Rattle.std.specs.Vec.Iter.{into_iter_items};
+ghost use Rattle.std.specs.{Prelude.{◌≡◌, ◌≤◌, ◌+◌, ◌++◌, [], length, map, vec_capacity, IfOk}, Vec.Iter.into_iter_items};
 ghost use Rattle.track_room.specs.Sights.{tracks_of};
 ghost use Rattle.track_state.specs.Work as work;
 

@@ -2,9 +2,7 @@
 ghost use Rattle.std.specs.Prelude.{◌≡◌, IfOk, IfSome, List, Option};
 ghost use Rattle.history_model.specs.declared.entries.Entry.{Entry};
 ghost use Rattle.track_state.specs.Work.{Work, history_of};
-ghost use Rattle.track_room.specs.Sights.{SeesMore, Visits};
-ghost use Rattle.track_room.specs.Taking.{seen_of};
-ghost use Rattle.track_room.specs.Visits.{DoesOrStays, Stays};
+ghost use Rattle.track_room.specs.{Sights.{SeesMore, Visits}, Taking.seen_of, Visits.{DoesOrStays, Stays}};
 
 use crate::NoMemory;
 use crate::act::Act;

@@ -58,10 +58,8 @@ pub(crate) struct Publishing {
 
 impl Act for Publishing {
     ghost use Rattle.publication_index.specs.Standing.{table_for};
-    ghost use Rattle.track_state.specs.Made.{IsMadeFrom};
-    ghost use Rattle.track_state.specs.Work.{history_of};
-    ghost use Rattle.track_room.specs.Taking.{Publishes};
-    ghost use Rattle.track_room.specs.Visits.{DoesOrStays};
+    ghost use Rattle.track_state.specs.{Made.IsMadeFrom, Work.history_of};
+    ghost use Rattle.track_room.specs.{Taking.Publishes, Visits.DoesOrStays};
 
     type Told = Result<Published, NoMemory>;
 
@@ -104,8 +102,7 @@ pub(crate) struct Settling<'a> {
 
 impl<'a> Act for Settling<'a> {
     ghost use Rattle.track_state.specs.Work.{history_of};
-    ghost use Rattle.track_room.specs.Taking.{HasJob, Settles};
-    ghost use Rattle.track_room.specs.Visits.{DoesOrStays};
+    ghost use Rattle.track_room.specs.{Taking.{HasJob, Settles}, Visits.DoesOrStays};
 
     type Told = Result<Settled, NoMemory>;
 

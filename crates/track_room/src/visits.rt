@@ -67,8 +67,7 @@ pub(crate) struct Finishing {
 
 impl Act for Finishing {
     ghost use Rattle.publication_index.specs.Standing.{table_for};
-    ghost use Rattle.track_state.specs.Made.{IsMadeFrom};
-    ghost use Rattle.track_state.specs.Work.{history_of};
+    ghost use Rattle.track_state.specs.{Made.IsMadeFrom, Work.history_of};
     ghost use Rattle.track_room.specs.Visits.{Finishes, DoesOrStays};
 
     type Told = Result<Reply, NoMemory>;

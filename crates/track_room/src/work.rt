@@ -1,17 +1,9 @@
 //! What workers take of a room, and what they hand in.
-ghost use Rattle.std.specs.Prelude.{◌≡◌, ◌<◌, ◌≤◌, IfOk, IfSome, OnErr, Some, length, slice_get};
-ghost use Rattle.std.specs.List.{AllZip};
-ghost use Rattle.metric_table.specs.Limits.{most};
-ghost use Rattle.metric_table.specs.declared.limits.Limit.TheVariants.{Machines};
+ghost use Rattle.std.specs.{Prelude.{◌≡◌, ◌<◌, ◌≤◌, IfOk, IfSome, OnErr, Some, length, slice_get}, List.AllZip};
+ghost use Rattle.metric_table.specs.{Limits.most, declared.limits.Limit.TheVariants.Machines};
 ghost use Rattle.publication_index.specs.Standing.{table_for};
-ghost use Rattle.track_state.specs.Made.{IsMadeFrom};
-ghost use Rattle.track_room.specs.Asked.{ChangesAt};
-ghost use Rattle.track_room.specs.Claims.{all_placed, taken_with, EndsClaim, IsOf};
-ghost use Rattle.track_room.specs.Rooms.{AreSame, IsPassOf};
-ghost use Rattle.track_room.specs.Sights.{SeesMore, Sight, Visits};
-ghost use Rattle.track_state.specs.Work.{Work};
-ghost use Rattle.track_room.specs.Visits.{IsFound};
-ghost use Rattle.track_room.specs.Taking.{HasJob, IsQuestion, IsTaken, OfSeen, Publishes, Releases, Settles, TakesFirst, TakesJob, TakesSeries};
+ghost use Rattle.track_state.specs.{Made.IsMadeFrom, Work.Work};
+ghost use Rattle.track_room.specs.{Asked.ChangesAt, Claims.{all_placed, taken_with, EndsClaim, IsOf}, Rooms.{AreSame, IsPassOf}, Sights.{SeesMore, Sight, Visits}, Visits.IsFound, Taking.{HasJob, IsQuestion, IsTaken, OfSeen, Publishes, Releases, Settles, TakesFirst, TakesJob, TakesSeries}};
 
 use crate::NoMemory;
 use crate::act::Act;

@@ -1,29 +1,18 @@
 -- What a segmentation begins with, and with which base.
 use Rattle.std.proofs.Common.{◌≡◌, ℕ, zero, suc, ℤ, Bool, true, false, cond, List, [], ◌∷◌, take, refl, sym, ap, subst, ◌∙◌, ◌⊎◌, inl, inr, Option, Some, None, true≢false, arith}
-use Rattle.std.specs.Prelude.{nat_lt, unwrap_or}
+use Rattle.std.{specs.Prelude.{nat_lt, unwrap_or}, specs.List.{Any, last_or}, proofs.Math.Logic.∥∥₁_elim, proofs.lemmas.Bool.{cases_Bool, ltb-false}}
 use Rattle.std.specs.FinSet as set
-use Rattle.std.specs.List.{Any, last_or}
-use Rattle.std.proofs.Math.Logic.{∥∥₁_elim}
 use denote.Struct.Props.{props}
-use Rattle.std.proofs.lemmas.Bool.{cases_Bool, ltb-false}
-use Rattle.segment_model.specs.Segments.{Position}
-use Rattle.segment_model.specs.Values.{values_by_position}
+use Rattle.segment_model.specs.{Segments.Position, Values.values_by_position}
 use Rattle.segment_cost.specs.declared.done.Done.{Done}
 use Rattle.pelt_core.specs.Seen.{Tabled, table_of}
 use Rattle.publication_index.proofs.Standing.{same-table}
-use Rattle.history_model.specs.declared.entries.Entry.{Entry}
-use Rattle.history_model.specs.declared.publication.Publication.{Publication}
-use Rattle.history_model.specs.Allowed.{Legal}
-use Rattle.history_model.specs.Entries.{entries_of}
-use Rattle.history_model.specs.Laws.{LastStands, KnownStays}
-use Rattle.history_model.specs.Penalties.{setting_of}
-use Rattle.history_model.specs.Publications.{last_publication, publications_of, published, IsBaseAt, IsUpTo}
-use Rattle.history_model.specs.Runs.{Series, is_known}
-use Rattle.track_model.specs.Tracks.{Track, is_setting, base_of, version_at}
-use Rattle.track_model.proofs.Settings.{setting-is}
+use Rattle.history_model.specs.{declared.entries.Entry.Entry, declared.publication.Publication.Publication, Allowed.Legal, Entries.entries_of}
+use Rattle.history_model.specs.{Laws.{LastStands, KnownStays}, Penalties.setting_of}
+use Rattle.history_model.specs.{Publications.{last_publication, publications_of, published, IsBaseAt, IsUpTo}, Runs.{Series, is_known}}
+use Rattle.track_model.{specs.Tracks.{Track, is_setting, base_of, version_at}, proofs.Settings.setting-is}
 use Rattle.machine_state.specs.State.{IsKept}
-use Rattle.track_series.specs.Begun.{Begins}
-use Rattle.track_series.specs.Publications.{later}
+use Rattle.track_series.specs.{Begun.Begins, Publications.later}
 
 -- ---- what a type says of its table
 pub begins-some : (base : ℕ) (old : List Position) (z : ℤ) (len : ℕ) (t : Tabled) → ∥ Begins base old z len (Some t) ∥₁ → t ≡ table_of (values_by_position old) z len

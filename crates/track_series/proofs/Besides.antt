@@ -1,34 +1,20 @@
 -- What a segmentation of a version comes to on a longer history.
-use Rattle.std.proofs.Common.{◌≡◌, ℕ, ◌+◌, true, List, length, take, refl, sym, ap, subst, ◌∙◌, Option, Some, None}
-use Rattle.std.proofs.lemmas.List.{length-take-le}
+use Rattle.std.proofs.{Common.{◌≡◌, ℕ, ◌+◌, true, List, length, take, refl, sym, ap, subst, ◌∙◌, Option, Some, None}, lemmas.List.length-take-le}
 use Rattle.metric_table.specs.declared.limits.Limit.{Limit}
 use Rattle.segment_model.specs.Segments.{Position}
-use Rattle.segment_cost.specs.Certificate.{StandsFor}
-use Rattle.segment_cost.specs.declared.done.Done.{Done}
-use Rattle.history_model.specs.declared.entries.Author.{Author}
-use Rattle.history_model.specs.declared.entries.Entry.{Entry}
-use Rattle.history_model.specs.declared.publication.Publication.{Publication}
-use Rattle.history_model.specs.Entries.{entries_of}
-use Rattle.history_model.specs.Laws.{KnownStays}
-use Rattle.history_model.specs.Penalties.{penalty_of, length_of}
-use Rattle.history_model.specs.declared.setting.Setting.{Setting}
-use Rattle.history_model.specs.Positions.{positions}
-use Rattle.history_model.specs.Publications.{IsBaseAt, last_publication}
-use Rattle.history_model.specs.Runs.{Series, is_known}
+use Rattle.segment_cost.specs.{Certificate.StandsFor, declared.done.Done.Done}
+use Rattle.history_model.specs.{declared.entries.Author.Author, declared.entries.Entry.Entry, declared.publication.Publication.Publication, Entries.entries_of}
+use Rattle.history_model.specs.{Laws.KnownStays, Penalties.{penalty_of, length_of}, declared.setting.Setting.Setting, Positions.positions}
+use Rattle.history_model.specs.{Publications.{IsBaseAt, last_publication}, Runs.{Series, is_known}}
 use Rattle.publication_index.specs.Kept.{series_of}
-use Rattle.request_model.specs.declared.replies.Answer.{Answer}
+use Rattle.request_model.specs.declared.replies.{Answer.Answer, Reply.Reply}
 use Rattle.request_model.specs.declared.replies.Refusal.TheVariants as refusal
-use Rattle.request_model.specs.declared.replies.Reply.{Reply}
 use Rattle.track_model.specs.Outcomes.{Outcome, added_unless, refuses}
-use Rattle.track_model.specs.Publishing.{IsPublishedFrom, OfLatest, SegmentComesFrom, publication, publish, redone_since, segmented}
-use Rattle.track_model.specs.Replies.{reply_of}
+use Rattle.track_model.specs.{Publishing.{IsPublishedFrom, OfLatest, SegmentComesFrom, publication, publish, redone_since, segmented}, Replies.reply_of}
 use Rattle.track_model.specs.Tracks.{Track, IsFinishStep}
-use Rattle.machine_state.specs.Made.{IsMadeFrom, entry_of, publication_from}
-use Rattle.track_series.specs.Beside.{reply_told}
-use Rattle.track_series.specs.Publications.{IsAdded, IsPublished, IsTaken, later, passed}
-use Rattle.track_series.specs.declared.publishing.Published.{Published}
+use Rattle.machine_state.{specs.Made.{IsMadeFrom, entry_of, publication_from}, proofs.Told.known}
+use Rattle.track_series.specs.{Beside.reply_told, Publications.{IsAdded, IsPublished, IsTaken, later, passed}, declared.publishing.Published.Published}
 use Rattle.track_series.specs.declared.publishing.Published.TheVariants as published
-use Rattle.machine_state.proofs.Told.{known}
 use Rattle.track_series.proofs.Segmenting.{not-stale}
 
 module _ (stays : KnownStays) (old : Track) (author : Author) (done : Done) (made : IsMadeFrom (entries_of old.history) done) (new : Track) (reply : Reply) (told : Answer)

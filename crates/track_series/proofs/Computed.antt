@@ -1,11 +1,7 @@
 -- The certificate of a table of points.
-use Rattle.std.proofs.Common.{◌≡◌, ℕ, ℤ, List, length}
-use Rattle.std.proofs.lemmas.List.{length-map}
-use Rattle.segment_model.specs.Segments.{Position, position_values}
-use Rattle.segment_model.specs.Computed.{least_sum_of}
-use Rattle.segment_model.specs.Values.{values_by_position, cost_between}
-use Rattle.segment_cost.specs.declared.cert.Cert.{Cert}
-use Rattle.segment_cost.specs.Certificate.{IsCertificate, squares_between}
+use Rattle.std.proofs.{Common.{◌≡◌, ℕ, ℤ, List, length}, lemmas.List.length-map}
+use Rattle.segment_model.specs.{Segments.{Position, position_values}, Computed.least_sum_of, Values.{values_by_position, cost_between}}
+use Rattle.segment_cost.specs.{declared.cert.Cert.Cert, Certificate.{IsCertificate, squares_between}}
 use Rattle.pelt_core.specs.Seen.{Tabled, table_of}
 
 pub of-points : (points : List Position) (b : ℤ) (len : ℕ) (cert : Cert) (t : Tabled) → t ≡ table_of (values_by_position points) b len

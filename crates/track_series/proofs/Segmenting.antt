@@ -1,45 +1,25 @@
 -- What a segmentation comes to.
 use Rattle.std.proofs.Common.{◌≡◌, ℕ, ◌+◌, ◌-◌, true, false, cond, List, length, take, refl, sym, ap, ap₂, subst, ◌∙◌, Option, Some, None, inl, inr, arith}
-use Rattle.std.specs.Prelude.{nat_eq, not, ◌&&◌}
+use Rattle.std.{specs.Prelude.{nat_eq, not, ◌&&◌}, specs.Ordering.eq_by_cmp, proofs.lemmas.Bool.cases_Bool, proofs.Math.Seq.take-length}
 use Rattle.std.specs.FinSet as set
-use Rattle.std.specs.Ordering.{eq_by_cmp}
-use Rattle.std.proofs.lemmas.Bool.{cases_Bool}
-use Rattle.std.proofs.Math.Seq.{take-length}
 use Rattle.metric_table.specs.declared.limits.Limit.{Limit}
 use Rattle.segment_model.specs.Segments.{Position}
-use Rattle.segment_cost.specs.Certificate.{StandsFor}
-use Rattle.segment_cost.specs.declared.done.Done.{Done}
+use Rattle.segment_cost.specs.{Certificate.StandsFor, declared.done.Done.Done}
 use Rattle.point_list.specs.Places.{common}
-use Rattle.history_model.specs.declared.entries.Author.{Author}
-use Rattle.history_model.specs.declared.entries.Entry.{Entry}
-use Rattle.history_model.specs.declared.publication.Publication.{Publication}
-use Rattle.history_model.specs.Allowed.{Legal}
-use Rattle.history_model.specs.Entries.{entries_of}
-use Rattle.history_model.specs.Laws.{LastStands}
-use Rattle.history_model.specs.Penalties.{setting_of, penalty_of, length_of}
-use Rattle.history_model.specs.Positions.{positions}
-use Rattle.history_model.specs.Publications.{last_publication, IsBaseAt, IsUpTo}
-use Rattle.history_model.specs.Runs.{Series, is_known}
-use Rattle.history_model.specs.SeriesOrder.{series_cmp}
-use Rattle.request_model.specs.declared.replies.Answer.{Answer}
+use Rattle.history_model.specs.{declared.entries.Author.Author, declared.entries.Entry.Entry, declared.publication.Publication.Publication, Allowed.Legal}
+use Rattle.history_model.specs.{Entries.entries_of, Laws.LastStands, Penalties.{setting_of, penalty_of, length_of}, Positions.positions}
+use Rattle.history_model.specs.{Publications.{last_publication, IsBaseAt, IsUpTo}, Runs.{Series, is_known}, SeriesOrder.series_cmp}
+use Rattle.request_model.specs.declared.replies.{Answer.Answer, Reply.Reply}
 use Rattle.request_model.specs.declared.replies.Answer.TheVariants as answer
 use Rattle.request_model.specs.declared.replies.Refusal.TheVariants as refusal
-use Rattle.request_model.specs.declared.replies.Reply.{Reply}
-use Rattle.publication_index.specs.Kept.{series_of}
-use Rattle.publication_index.proofs.Homes.{series-total}
-use Rattle.track_model.specs.Outcomes.{tells, added_unless}
-use Rattle.track_model.specs.Publishing.{SegmentComesTo, IsPublished, publication, publish, redone_since, segmented}
-use Rattle.track_model.specs.Replies.{reply_of}
-use Rattle.track_model.specs.Tracks.{Track, IsSameButTables, IsSegmentStep, base_of, with_entry, with_home, with_publication, with_taken}
-use Rattle.machine_state.specs.Made.{publication_from, entry_of, setting_in, IsMadeFrom}
+use Rattle.publication_index.{specs.Kept.series_of, proofs.Homes.series-total}
+use Rattle.track_model.specs.{Outcomes.{tells, added_unless}, Publishing.{SegmentComesTo, IsPublished, publication, publish, redone_since, segmented}}
+use Rattle.track_model.specs.{Replies.reply_of, Tracks.{Track, IsSameButTables, IsSegmentStep, base_of, with_entry, with_home, with_publication, with_taken}}
+use Rattle.machine_state.{specs.Made.{publication_from, entry_of, setting_in, IsMadeFrom}, proofs.Told.known}
 use Rattle.history_model.specs.declared.setting.Setting.{Setting}
 use Rattle.track_model.proofs.Settings.{same-setting}
-use Rattle.track_series.specs.Publications.{IsAdded}
-use Rattle.track_series.specs.Snapshots.{IsTakenAt, IsRedone}
+use Rattle.track_series.specs.{Publications.IsAdded, Snapshots.{IsTakenAt, IsRedone}, declared.redone.Redone.Redone, declared.snapshot.Snapshot.Snapshot}
 use Rattle.track_series.specs.declared.publishing.Published.TheVariants as published
-use Rattle.track_series.specs.declared.redone.Redone.{Redone}
-use Rattle.track_series.specs.declared.snapshot.Snapshot.{Snapshot}
-use Rattle.machine_state.proofs.Told.{known}
 use Rattle.track_series.proofs.Beginning.{base-lawful}
 
 -- ---- a track once a segmentation took its table

@@ -1,7 +1,6 @@
 -- What a segmentation begins with.
 use Rattle.std.specs.Prelude.{◌≡◌, ℕ, ℤ, List, [], Option, Some, None}
-use Rattle.segment_model.specs.Segments.{Position}
-use Rattle.segment_model.specs.Values.{values_by_position}
+use Rattle.segment_model.specs.{Segments.Position, Values.values_by_position}
 use Rattle.pelt_core.specs.Seen.{Tabled, table_of}
 
 -- a table is that of the old positions; where there is none, there is no base and there are no such positions

@@ -1,17 +1,9 @@
 -- A segmentation that was begun, and what is replied once it was handed in.
 use Rattle.std.specs.Prelude.{◌≡◌, false, List}
-use Rattle.history_model.specs.declared.entries.Entry.{Entry}
-use Rattle.history_model.specs.Entries.{entries_of}
-use Rattle.history_model.specs.Runs.{Series, is_known}
-use Rattle.request_model.specs.declared.replies.Answer.{Answer}
-use Rattle.request_model.specs.declared.replies.Refusal.TheVariants.{Full, Stale, UnknownSeries}
-use Rattle.request_model.specs.declared.replies.Reply.{Reply}
-use Rattle.track_model.specs.Outcomes.{refuses}
-use Rattle.track_model.specs.Replies.{reply_of}
-use Rattle.track_model.specs.Tracks.{Track}
-use Rattle.track_series.specs.declared.beside.Begun.{Begun}
-use Rattle.track_series.specs.declared.beside.Begun.TheVariants.{Known, Unknown}
-use Rattle.track_series.specs.declared.publishing.Published.{Published}
+use Rattle.history_model.specs.{declared.entries.Entry.Entry, Entries.entries_of, Runs.{Series, is_known}}
+use Rattle.request_model.specs.declared.replies.{Answer.Answer, Refusal.TheVariants.{Full, Stale, UnknownSeries}, Reply.Reply}
+use Rattle.track_model.specs.{Outcomes.refuses, Replies.reply_of, Tracks.Track}
+use Rattle.track_series.specs.declared.{beside.Begun.Begun, beside.Begun.TheVariants.{Known, Unknown}, publishing.Published.Published}
 use Rattle.track_series.specs.declared.publishing.Published.TheVariants as published
 use Rattle.track_series.specs.Snapshots.{IsTakenAt}
 

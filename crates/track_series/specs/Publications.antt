@@ -1,12 +1,8 @@
 -- What becomes of a finished segmentation that is handed in.
 use Rattle.std.specs.Prelude.{◌≡◌, ℕ, ◌+◌, List, [], ◌∷◌, length, Option, Some, None}
-use Rattle.metric_table.specs.declared.limits.Limit.{Limit}
-use Rattle.metric_table.specs.declared.limits.Limit.TheVariants.{Steps, Cuts}
+use Rattle.metric_table.specs.declared.limits.Limit.{Limit, TheVariants.{Steps, Cuts}}
 use Rattle.segment_cost.specs.declared.done.Done.{Done}
-use Rattle.history_model.specs.declared.entries.Author.{Author}
-use Rattle.history_model.specs.declared.entries.Entry.{Entry}
-use Rattle.history_model.specs.Allowed.{first_passed}
-use Rattle.history_model.specs.Entries.{entries_of}
+use Rattle.history_model.specs.{declared.entries.Author.Author, declared.entries.Entry.Entry, Allowed.first_passed, Entries.entries_of}
 use Rattle.history_model.specs.Publications.{last_publication}
 use Rattle.publication_index.specs.Kept.{series_of}
 pub use Rattle.track_model.specs.Publishing.{later}

@@ -2,14 +2,10 @@
 use Rattle.std.specs.Prelude.{◌≡◌, ◌-◌, true, false, length, take, Option, Some, None}
 use Rattle.segment_cost.specs.Certificate.{StandsFor}
 use Rattle.point_list.specs.Places.{common}
-use Rattle.history_model.specs.Entries.{entries_of}
-use Rattle.history_model.specs.Penalties.{penalty_of, length_of}
-use Rattle.history_model.specs.Positions.{positions}
-use Rattle.history_model.specs.Runs.{Series, is_known}
+use Rattle.history_model.specs.{Entries.entries_of, Penalties.{penalty_of, length_of}, Positions.positions, Runs.{Series, is_known}}
 use Rattle.publication_index.specs.Standing.{table_for}
 use Rattle.track_model.specs.Tracks.{Track, base_of}
-use Rattle.track_series.specs.declared.redone.Redone.{Redone}
-use Rattle.track_series.specs.declared.snapshot.Snapshot.{Snapshot}
+use Rattle.track_series.specs.declared.{redone.Redone.Redone, snapshot.Snapshot.Snapshot}
 
 -- the series with its positions and the setting of its metric, at the history's length; and the positions of its base
 pub record IsTakenAt (t : Track) (s : Series) (x : Snapshot) : Type 0 where

@@ -1,14 +1,10 @@
 //! A segmentation beside others: it is begun on one history, and finished on that or a longer one.
 ghost use Rattle.std.specs.Prelude.{◌≡◌, IfOk, OnErr, OnOk, take};
 ghost use Rattle.history_model.specs.Entries.{entries_of};
-ghost use Rattle.publication_index.specs.Kept.{series_of};
-ghost use Rattle.publication_index.specs.Standing.{table_for};
-ghost use Rattle.track_model.specs.Outcomes.{Outcome};
-ghost use Rattle.track_model.specs.Publishing.{SegmentComesFrom};
-ghost use Rattle.track_model.specs.Tracks.{IsFinishStep, with_taken};
+ghost use Rattle.publication_index.specs.{Kept.series_of, Standing.table_for};
+ghost use Rattle.track_model.specs.{Outcomes.Outcome, Publishing.SegmentComesFrom, Tracks.{IsFinishStep, with_taken}};
 ghost use Rattle.machine_state.specs.Made.{IsMadeFrom};
-ghost use Rattle.track_series.specs.Beside.{IsBegun, reply_told};
-ghost use Rattle.track_series.specs.Publications.{IsPublished};
+ghost use Rattle.track_series.specs.{Beside.{IsBegun, reply_told}, Publications.IsPublished};
 
 use crate::NoMemory;
 use crate::publishing::{Published, publish};

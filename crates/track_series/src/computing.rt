@@ -1,10 +1,8 @@
 //! The best segmentation of a snapshot, from the table that it begins with.
 ghost use Rattle.std.specs.Prelude.{◌≡◌, ◌+◌, ◌<◌, ◌≤ℤ◌, ◌^◌, IfOk, pos};
-ghost use Rattle.segment_model.specs.Limits.{IsLength};
-ghost use Rattle.segment_model.specs.Values.{values_by_position};
+ghost use Rattle.segment_model.specs.{Limits.IsLength, Values.values_by_position};
 ghost use Rattle.pelt_core.specs.Seen.{table_of};
-ghost use Rattle.track_series.specs.Begun.{Begins};
-ghost use Rattle.track_series.specs.Snapshots.{IsRedone};
+ghost use Rattle.track_series.specs.{Begun.Begins, Snapshots.IsRedone};
 
 use crate::NoMemory;
 use crate::redone::Redone;

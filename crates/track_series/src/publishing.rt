@@ -1,9 +1,7 @@
 //! Publications of finished segmentations.
 ghost use Rattle.std.specs.Prelude.{◌≡◌, IfOk, OnErr};
-ghost use Rattle.history_model.specs.Entries.{entries_of};
-ghost use Rattle.history_model.specs.Publications.{IsUpTo, last_publication};
-ghost use Rattle.publication_index.specs.Kept.{series_of};
-ghost use Rattle.publication_index.specs.Standing.{table_for};
+ghost use Rattle.history_model.specs.{Entries.entries_of, Publications.{IsUpTo, last_publication}};
+ghost use Rattle.publication_index.specs.{Kept.series_of, Standing.table_for};
 ghost use Rattle.machine_state.specs.Made.{IsMadeFrom, publication_from};
 ghost use Rattle.track_series.specs.Publications.{IsAdded, IsPublished, later, passed};
 

@@ -1,10 +1,7 @@
 //! Segmentations of series: what is segmented, and what is told of it.
 ghost use Rattle.std.specs.Prelude.{◌≡◌, IfOk, OnOk, OnErr, length};
 ghost use Rattle.history_model.specs.Entries.{entries_of};
-ghost use Rattle.track_model.specs.Counts.{CountsOf};
-ghost use Rattle.track_model.specs.Outcomes.{Outcome};
-ghost use Rattle.track_model.specs.Publishing.{SegmentComesTo, segmented};
-ghost use Rattle.track_model.specs.Tracks.{IsSameButTables, IsSegmentStep, base_of, with_taken};
+ghost use Rattle.track_model.specs.{Counts.CountsOf, Outcomes.Outcome, Publishing.{SegmentComesTo, segmented}, Tracks.{IsSameButTables, IsSegmentStep, base_of, with_taken}};
 ghost use Rattle.track_series.specs.Snapshots.{IsSnapshot};
 
 use crate::NoMemory;

@@ -1,26 +1,15 @@
 -- The marks of series, as entries are looked at and as the history grows.
 use Rattle.std.proofs.Common.{◌≡◌, ℕ, ◌+◌, ◌≤◌, Bool, true, false, cond, ◌&&◌, ◌||◌, List, [], ◌∷◌, ◌++◌, length, take, drop, refl, sym, ap, subst, ◌∙◌, inl, inr, Option, Some, None, arith}
-use Rattle.std.specs.Prelude.{nat_lt, slice_get}
-use Rattle.std.proofs.lemmas.Bool.{cases_Bool}
-use Rattle.std.proofs.lemmas.Bool.Decides.{nat_tests}
+use Rattle.std.{specs.Prelude.{nat_lt, slice_get}, proofs.lemmas.Bool.cases_Bool, proofs.lemmas.Bool.Decides.nat_tests}
 use Rattle.std.proofs.lemmas.List.{append-nil, append_assoc, length-append, length-take-le, take-append-drop, take-append-le, take_all, take_more}
 use Rattle.std.proofs.lemmas.Option.{slice_get_within, get_or_from_slice_get}
-use Rattle.history_model.specs.declared.entries.Entry.{Entry}
-use Rattle.history_model.specs.Allowed.{Allowed}
-use Rattle.history_model.specs.Laws.{KnownStays}
+use Rattle.history_model.specs.{declared.entries.Entry.Entry, Allowed.Allowed, Laws.KnownStays, declared.publication.Publication.Publication}
 use Rattle.history_model.specs.declared.entries.Entry.TheVariants as entry
-use Rattle.history_model.specs.declared.publication.Publication.{Publication}
-use Rattle.history_model.specs.Publications.{last_publication}
-use Rattle.history_model.specs.Runs.{Series, is_known}
-use Rattle.touch_index.specs.Marks.{Entries, mark_of, touched_claim, touched_mark}
-use Rattle.touch_index.specs.declared.mark.Claim.{Claim}
-use Rattle.touch_index.specs.declared.mark.Claim.TheVariants.{Free, Taken, Refused}
-use Rattle.touch_index.specs.declared.mark.Mark.{Mark}
-use Rattle.touch_model.specs.Laws.{TouchesGrow, TouchesArePast, KnownGrows, LatestStays, brings}
-use Rattle.touch_model.specs.Stale.{is_behind, is_stale}
-use Rattle.touch_model.specs.Touches.{touches, last_touch}
-use Rattle.track_state.specs.Covering.{IsMark, Fits, Covers, AreTouched, SomeAreTouched, MakeSame, IsTest}
-use Rattle.track_state.specs.Work.{key_of, claim_by}
+use Rattle.history_model.specs.{Publications.last_publication, Runs.{Series, is_known}}
+use Rattle.touch_index.specs.{Marks.{Entries, mark_of, touched_claim, touched_mark}, declared.mark.Claim.Claim}
+use Rattle.touch_index.specs.declared.mark.{Claim.TheVariants.{Free, Taken, Refused}, Mark.Mark}
+use Rattle.touch_model.specs.{Laws.{TouchesGrow, TouchesArePast, KnownGrows, LatestStays, brings}, Stale.{is_behind, is_stale}, Touches.{touches, last_touch}}
+use Rattle.track_state.specs.{Covering.{IsMark, Fits, Covers, AreTouched, SomeAreTouched, MakeSame, IsTest}, Work.{key_of, claim_by}}
 
 -- ---- claims that were touched
 twice : (c : Claim) → touched_claim (touched_claim c) ≡ touched_claim c

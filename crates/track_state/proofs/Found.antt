@@ -1,18 +1,12 @@
 -- Which series an entry touches, by what is found of it.
 use Rattle.std.proofs.Common.{◌≡◌, ℕ, Bool, true, false, ◌&&◌, ◌||◌, List, [], ◌∷◌, refl, sym, ap, ap₂, subst, ◌∙◌, inl, inr, Option, Some, None}
-use Rattle.std.specs.Prelude.{◌↔◌, Contains, bytes_eq, find, option_map}
-use Rattle.std.proofs.lemmas.Bool.{and_parts, cases_Bool}
-use Rattle.std.proofs.lemmas.Slice.Eq.{bytes_eq-Decides}
-use Rattle.history_model.specs.declared.entries.Acceptance.{Acceptance}
-use Rattle.history_model.specs.declared.entries.Entry.{Entry}
+use Rattle.std.{specs.Prelude.{◌↔◌, Contains, bytes_eq, find, option_map}, proofs.lemmas.Bool.{and_parts, cases_Bool}, proofs.lemmas.Slice.Eq.bytes_eq-Decides}
+use Rattle.history_model.specs.declared.entries.{Acceptance.Acceptance, Entry.Entry}
 use Rattle.history_model.specs.declared.entries.Entry.TheVariants as entry
-use Rattle.history_model.specs.Runs.{Series, accepted, is_known, retractions, same_series}
-use Rattle.history_model.proofs.Members.{behind, either, here, none-in-nil}
-use Rattle.sample_store.specs.Runs.{names}
-use Rattle.sample_store.specs.declared.store.Stored.{Stored}
+use Rattle.history_model.{specs.Runs.{Series, accepted, is_known, retractions, same_series}, proofs.Members.{behind, either, here, none-in-nil}}
+use Rattle.sample_store.specs.{Runs.names, declared.store.Stored.Stored}
 use Rattle.touch_model.specs.Touches.{has_sample}
-use Rattle.track_step.specs.Indexes.{stored, stored_runs}
-use Rattle.track_step.proofs.Marks.{look-up}
+use Rattle.track_step.{specs.Indexes.{stored, stored_runs}, proofs.Marks.look-up}
 use Rattle.track_state.specs.Touching.{named, sampled, touched_by}
 
 -- ---- a run that is retracted

@@ -1,40 +1,21 @@
 -- The marks once a finished segmentation was handed in.
-use Rattle.history_model.proofs.Chosen.{entries-push}
+use Rattle.history_model.{proofs.Chosen.entries-push, specs.declared.entries.Author.Author, specs.declared.entries.Entry.Entry}
 use Rattle.std.proofs.Common.{◌≡◌, ◌≢◌, ℕ, ◌+◌, ◌≤◌, true, false, cond, ◌&&◌, List, [], ◌∷◌, ◌++◌, length, refl, sym, ap, subst, ◌∙◌, inl, inr, Option, Some, None, arith}
-use Rattle.std.specs.Prelude.{nat_lt}
-use Rattle.std.specs.Ordering.{is_eq}
-use Rattle.std.proofs.lemmas.Bool.{cases_Bool}
-use Rattle.std.proofs.lemmas.List.{append-nil, append_assoc}
+use Rattle.std.{specs.Prelude.nat_lt, specs.Ordering.is_eq, proofs.lemmas.Bool.cases_Bool, proofs.lemmas.List.{append-nil, append_assoc}}
 use Rattle.metric_table.specs.declared.limits.Limit.{Limit}
 use Rattle.segment_cost.specs.declared.done.Done.{Done}
-use Rattle.history_model.specs.declared.entries.Author.{Author}
-use Rattle.history_model.specs.declared.entries.Entry.{Entry}
-use Rattle.history_model.specs.declared.publication.Publication.{Publication}
-use Rattle.history_model.specs.Allowed.{Allowed, AllowedAfter, Legal}
-use Rattle.history_model.specs.Entries.{entries_of}
-use Rattle.history_model.specs.Laws.{KnownStays}
-use Rattle.history_model.specs.Publications.{last_publication}
-use Rattle.history_model.specs.Runs.{Series, is_known, same_series}
+use Rattle.history_model.specs.{declared.publication.Publication.Publication, Allowed.{Allowed, AllowedAfter, Legal}, Entries.entries_of, Laws.KnownStays}
+use Rattle.history_model.specs.{Publications.last_publication, Runs.{Series, is_known, same_series}}
 use Rattle.publication_index.specs.Kept.{series_of as series_of_done}
-use Rattle.touch_index.specs.Marks.{Entries, key_cmp, mark_of, touched_claim, with_claim}
-use Rattle.touch_index.specs.declared.key.SeriesKey.{SeriesKey}
-use Rattle.touch_index.specs.declared.mark.Claim.{Claim}
-use Rattle.touch_index.specs.declared.mark.Claim.TheVariants.{Free, Refused}
-use Rattle.touch_index.specs.declared.mark.Mark.{Mark}
-use Rattle.touch_model.specs.Laws.{KnownGrows, LatestStays, TouchesArePast, TouchesGrow}
-use Rattle.touch_model.specs.Stale.{is_behind}
-use Rattle.touch_model.specs.Touches.{last_touch}
+use Rattle.touch_index.specs.{Marks.{Entries, key_cmp, mark_of, touched_claim, with_claim}, declared.key.SeriesKey.SeriesKey, declared.mark.Claim.Claim}
+use Rattle.touch_index.specs.declared.mark.{Claim.TheVariants.{Free, Refused}, Mark.Mark}
+use Rattle.touch_model.specs.{Laws.{KnownGrows, LatestStays, TouchesArePast, TouchesGrow}, Stale.is_behind, Touches.last_touch}
 use Rattle.track_model.specs.Tracks.{Track}
-use Rattle.track_step.specs.Publications.{IsAdded, IsPublished, IsTaken, later, passed}
-use Rattle.track_step.specs.Published.{Published}
+use Rattle.track_step.specs.{Publications.{IsAdded, IsPublished, IsTaken, later, passed}, Published.Published, Made.{entry_of, publication_from}, State.IsKept}
 use Rattle.track_step.specs.Published.TheVariants as published
-use Rattle.track_step.specs.Made.{entry_of, publication_from}
-use Rattle.track_step.specs.State.{IsKept}
-use Rattle.track_state.specs.Covering.{Covers, Fits, IsMark, IsMarked, IsRefusedBy, MakeSame}
-use Rattle.track_state.specs.Work.{claim_by, key_of, series_of}
+use Rattle.track_state.specs.{Covering.{Covers, Fits, IsMark, IsMarked, IsRefusedBy, MakeSame}, Work.{claim_by, key_of, series_of}}
 use Rattle.track_state.proofs.Covering.{all-taken, caught, claims-grown, covers-grown, either, not-less, not-less-is}
-use Rattle.track_state.proofs.Opening.{claimed-claims, claimed-covers, makes-free}
-use Rattle.track_state.proofs.Touching.{is_key, key-is, same-key}
+use Rattle.track_state.proofs.{Opening.{claimed-claims, claimed-covers, makes-free}, Touching.{is_key, key-is, same-key}}
 
 -- ---- a fresh series is given a mark
 module _ (h : List Entry) (a b : Entries) (covers : Covers h (length h) a) (k : SeriesKey) (known : is_known (series_of k) h ≡ true) (none : mark_of k a ≡ None)

@@ -1,15 +1,11 @@
 -- The first number of the open jobs that passes a test.
 use Rattle.std.proofs.Common.{◌≡◌, ℕ, zero, suc, ◌+◌, ◌≤◌, Bool, true, false, cond, not, List, [], ◌∷◌, refl, sym, ap, subst, ◌∙◌, inl, inr, Option, Some, None, arith}
-use Rattle.std.specs.Prelude.{IsSome, find, slice_get}
-use Rattle.std.proofs.lemmas.Bool.{cases_Bool}
-use Rattle.bisect_core.specs.Bisections.{Bisection, asked_by, is_open}
-use Rattle.bisect_core.specs.declared.outcome.Outcome.{Outcome}
+use Rattle.std.{specs.Prelude.{IsSome, find, slice_get}, proofs.lemmas.Bool.cases_Bool}
+use Rattle.bisect_core.specs.{Bisections.{Bisection, asked_by, is_open}, declared.outcome.Outcome.Outcome}
 use Rattle.bisect_core.specs.declared.outcome.Outcome.TheVariants.{Asks, Found, Undecided, Faulted}
 use Rattle.follow_index.specs.Numbered.{open_from, open_numbers}
-use Rattle.history_model.specs.declared.entries.Entry.{Entry}
-use Rattle.history_model.specs.Jobs.{asked, is_under_way, job_in, jobs, place_asked}
-use Rattle.track_state.specs.Questions.{IsFirstQuestion, IsQuestion, NoneIsAsked, is_claimed}
-use Rattle.track_state.specs.declared.questions.Question.{Question}
+use Rattle.history_model.specs.{declared.entries.Entry.Entry, Jobs.{asked, is_under_way, job_in, jobs, place_asked}}
+use Rattle.track_state.specs.{Questions.{IsFirstQuestion, IsQuestion, NoneIsAsked, is_claimed}, declared.questions.Question.Question}
 
 -- the job behind an item that was found, and none before it
 pub record IsFirstOpen (p : ℕ → Bool) (k : ℕ) (js : List Bisection) (n : ℕ) : Type 0 where

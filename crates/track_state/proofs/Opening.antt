@@ -1,22 +1,12 @@
 -- What is open by the marks, where all entries were looked at, and what a claim more or a mark less changes.
 use Rattle.std.proofs.Common.{◌≡◌, ℕ, ◌≤◌, true, false, cond, List, length, refl, sym, ap, subst, ◌∙◌, inl, inr, Option, Some, None, arith}
-use Rattle.std.specs.Prelude.{nat_lt}
-use Rattle.std.specs.Ordering.{is_eq}
-use Rattle.std.proofs.lemmas.Bool.{cases_Bool}
-use Rattle.history_model.specs.declared.entries.Entry.{Entry}
-use Rattle.history_model.specs.Publications.{last_publication}
-use Rattle.history_model.specs.Runs.{Series, same_series}
-use Rattle.touch_index.specs.Marks.{Entries, IsFirstFree, NoneIsFree, key_cmp, mark_of, touched_claim, with_claim}
-use Rattle.touch_index.specs.declared.key.SeriesKey.{SeriesKey}
-use Rattle.touch_index.specs.declared.mark.Claim.{Claim}
-use Rattle.touch_index.specs.declared.mark.Claim.TheVariants.{Free, Taken, Refused}
-use Rattle.touch_index.specs.declared.mark.Mark.{Mark}
-use Rattle.touch_model.specs.Stale.{is_behind, is_stale}
-use Rattle.touch_model.specs.Touches.{last_touch}
-use Rattle.track_state.specs.Covering.{Covers, Fits, IsMark, MakeSame}
-use Rattle.track_state.specs.Work.{IsFirstBy, IsOpenBy, NoneIsOpenBy, claim_by, key_of, series_of}
-use Rattle.track_state.proofs.Covering.{either, fresh-unmarked, marked-claim, marked-stale, unmarked-fresh}
-use Rattle.track_state.proofs.Touching.{is_key, key-is, same-key}
+use Rattle.std.{specs.Prelude.nat_lt, specs.Ordering.is_eq, proofs.lemmas.Bool.cases_Bool}
+use Rattle.history_model.specs.{declared.entries.Entry.Entry, Publications.last_publication, Runs.{Series, same_series}}
+use Rattle.touch_index.specs.{Marks.{Entries, IsFirstFree, NoneIsFree, key_cmp, mark_of, touched_claim, with_claim}, declared.key.SeriesKey.SeriesKey}
+use Rattle.touch_index.specs.declared.mark.{Claim.Claim, Claim.TheVariants.{Free, Taken, Refused}, Mark.Mark}
+use Rattle.touch_model.specs.{Stale.{is_behind, is_stale}, Touches.last_touch}
+use Rattle.track_state.specs.{Covering.{Covers, Fits, IsMark, MakeSame}, Work.{IsFirstBy, IsOpenBy, NoneIsOpenBy, claim_by, key_of, series_of}}
+use Rattle.track_state.proofs.{Covering.{either, fresh-unmarked, marked-claim, marked-stale, unmarked-fresh}, Touching.{is_key, key-is, same-key}}
 
 -- ---- what is open
 open-free : (h : List Entry) (t : Series) (o : Option Mark) → Fits h (length h) t o → is_stale h t ≡ true → claim_by h t o ≡ Free → (m : Mark) × (o ≡ Some m) × (m.claim ≡ Free)

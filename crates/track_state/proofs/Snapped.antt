@@ -1,16 +1,11 @@
 -- A machine once a snapshot of a series was taken.
 use Rattle.std.proofs.Common.{◌≡◌, Bool, List, ℕ, refl, ap, subst, ◌∙◌}
 use Rattle.std.specs.FinSet as set
-use Rattle.history_model.specs.declared.entries.Placed.{Placed}
-use Rattle.history_model.specs.Entries.{entries_of}
-use Rattle.history_model.specs.Runs.{Series}
+use Rattle.history_model.specs.{declared.entries.Placed.Placed, Entries.entries_of, Runs.Series, declared.entries.Entry.Entry}
 use Rattle.track_model.specs.Tracks.{IsSameButTables, Track, with_taken}
 use Rattle.track_step.proofs.Segmenting.{taken-history, taken-tables}
-use Rattle.history_model.specs.declared.entries.Entry.{Entry}
 use Rattle.touch_index.specs.Marks.{Entries, mark_of}
-use Rattle.track_state.specs.Covering.{MakeSame}
-use Rattle.track_state.specs.Taking.{IsBegunOn}
-use Rattle.track_state.specs.Work.{IsSame, Work, bare, claim_by, key_of}
+use Rattle.track_state.specs.{Covering.MakeSame, Taking.IsBegunOn, Work.{IsSame, Work, bare, claim_by, key_of}}
 
 -- its history is what it was
 pub entries-taken : (t : Track) (s : Series) (new : Track) → new ≡ with_taken s t → entries_of new.history ≡ entries_of t.history

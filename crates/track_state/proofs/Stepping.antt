@@ -1,24 +1,13 @@
 -- Claims after a request.
-use Rattle.history_model.proofs.Chosen.{entries-push}
+use Rattle.history_model.{proofs.Chosen.entries-push, specs.declared.entries.Author.Author, specs.declared.entries.Entry.Entry, specs.Allowed.{Allowed, Legal}}
 use Rattle.std.proofs.Common.{◌≡◌, ℕ, ◌+◌, cond, List, [], ◌∷◌, ◌++◌, length, refl, sym, ap, subst, ◌∙◌, inl, inr, Option, Some, None, arith}
-use Rattle.std.specs.Prelude.{nat_lt}
-use Rattle.std.proofs.lemmas.Bool.{cases_Bool}
-use Rattle.history_model.specs.declared.entries.Author.{Author}
-use Rattle.history_model.specs.declared.entries.Entry.{Entry}
-use Rattle.history_model.specs.Allowed.{Allowed, Legal}
-use Rattle.history_model.specs.Entries.{entries_of}
-use Rattle.history_model.specs.Laws.{KnownStays}
-use Rattle.history_model.specs.Runs.{Series}
-use Rattle.touch_index.specs.Marks.{Entries, mark_of, touched_claim}
-use Rattle.touch_index.specs.declared.mark.Claim.{Claim}
-use Rattle.touch_model.specs.Laws.{KnownGrows, LatestStays, TouchesArePast, TouchesGrow}
-use Rattle.touch_model.specs.Touches.{last_touch, touches}
+use Rattle.std.{specs.Prelude.nat_lt, proofs.lemmas.Bool.cases_Bool}
+use Rattle.history_model.specs.{Entries.entries_of, Laws.KnownStays, Runs.Series}
+use Rattle.touch_index.specs.{Marks.{Entries, mark_of, touched_claim}, declared.mark.Claim.Claim}
+use Rattle.touch_model.specs.{Laws.{KnownGrows, LatestStays, TouchesArePast, TouchesGrow}, Touches.{last_touch, touches}}
 use Rattle.track_model.specs.Tracks.{Track, with_added}
-use Rattle.track_state.specs.Covering.{Covers}
-use Rattle.track_state.specs.Work.{Work, claim_by, key_of}
-use Rattle.track_state.specs.Kept.{KeepsClaims}
-use Rattle.track_state.proofs.Covering.{claims-grown, covers-grown, less, not-less}
-use Rattle.track_state.proofs.Handed.{last-allowed}
+use Rattle.track_state.specs.{Covering.Covers, Work.{Work, claim_by, key_of}, Kept.KeepsClaims}
+use Rattle.track_state.proofs.{Covering.{claims-grown, covers-grown, less, not-less}, Handed.last-allowed}
 
 module _ (grow : TouchesGrow) (past : TouchesArePast) (known : KnownGrows) (stays : KnownStays) (latest : LatestStays)
     (author : Author) (old new : Track) (legal : Legal (entries_of new.history)) (seen : ℕ) (marks : Entries) (covers : Covers (entries_of old.history) seen marks) where

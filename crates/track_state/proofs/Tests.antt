@@ -1,19 +1,11 @@
 -- The test of an entry that is looked at tells the known series that it touches.
 use Rattle.std.proofs.Common.{◌≡◌, ℕ, ◌+◌, Bool, true, false, cond, ◌&&◌, ◌||◌, List, [], ◌∷◌, take, refl, sym, ap, ◌∙◌, inl, inr, Some}
-use Rattle.std.specs.Prelude.{find, slice_get, bytes_eq}
-use Rattle.std.specs.List.{list_any}
-use Rattle.std.proofs.lemmas.Bool.{cases_Bool}
-use Rattle.history_model.specs.declared.entries.Acceptance.{Acceptance}
-use Rattle.history_model.specs.declared.entries.Entry.{Entry}
+use Rattle.std.{specs.Prelude.{find, slice_get, bytes_eq}, specs.List.list_any, proofs.lemmas.Bool.cases_Bool}
+use Rattle.history_model.specs.{declared.entries.Acceptance.Acceptance, declared.entries.Entry.Entry, Allowed.Legal, Laws.KnownStays}
 use Rattle.history_model.specs.declared.entries.Entry.TheVariants as entry
-use Rattle.history_model.specs.Allowed.{Legal}
-use Rattle.history_model.specs.Laws.{KnownStays}
 use Rattle.history_model.specs.Runs.{Series, acceptances, accepted, is_known, is_of, is_run}
-use Rattle.touch_model.specs.Laws.{KnownGrows, RetractedStays, brings}
-use Rattle.touch_model.specs.Touches.{has_sample}
-use Rattle.track_state.specs.Covering.{IsTest}
-use Rattle.track_state.specs.Touching.{touched_by}
-use Rattle.track_state.proofs.Covering.{next}
+use Rattle.touch_model.specs.{Laws.{KnownGrows, RetractedStays, brings}, Touches.has_sample}
+use Rattle.track_state.{specs.Covering.IsTest, specs.Touching.touched_by, proofs.Covering.next}
 
 or-true : (b : Bool) → (b || true) ≡ true
 or-true true = refl

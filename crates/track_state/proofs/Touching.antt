@@ -1,25 +1,13 @@
 -- Series that are touched, one after another.
 use Rattle.std.proofs.Common.{◌≡◌, ℕ, ◌+◌, ◌<◌, Bool, true, false, cond, ◌&&◌, ◌||◌, List, length, take, drop, get_or, refl, sym, ap, ap₂, ◌∙◌, inl, inr, Option, Some, None}
-use Rattle.std.specs.Prelude.{bytes_eq, OnOk, Result, Ok, Err}
-use Rattle.std.specs.declared.alloc.AllocError.{AllocError}
-use Rattle.std.specs.List.{list_any}
-use Rattle.std.specs.declared.cmp.Ordering.{Ordering}
-use Rattle.std.specs.declared.cmp.Ordering.TheVariants.{Less, Equal, Greater}
-use Rattle.std.specs.Ordering.{nat_cmp, is_eq, ordering_then}
-use Rattle.std.specs.Cmp.Lexicographic.{slice_cmp}
-use Rattle.std.proofs.lemmas.Bool.{cases_Bool}
-use Rattle.std.proofs.lemmas.List.{take-append-drop}
-use Rattle.std.proofs.lemmas.List.Folds.{list_any-append, list_any_more}
-use Rattle.std.proofs.lemmas.Map.Text.{is_eq-slice_cmp}
+use Rattle.std.specs.{Prelude.{bytes_eq, OnOk, Result, Ok, Err}, declared.alloc.AllocError.AllocError, List.list_any, declared.cmp.Ordering.Ordering}
+use Rattle.std.specs.{declared.cmp.Ordering.TheVariants.{Less, Equal, Greater}, Ordering.{nat_cmp, is_eq, ordering_then}, Cmp.Lexicographic.slice_cmp}
+use Rattle.std.proofs.lemmas.{Bool.cases_Bool, List.take-append-drop, List.Folds.{list_any-append, list_any_more}, Map.Text.is_eq-slice_cmp}
 use Rattle.std.proofs.lemmas.Slice.Eq.{bytes_eq-Decides}
 use Rattle.history_model.specs.Runs.{Series}
-use Rattle.touch_index.specs.Marks.{Entries, key_cmp, mark_of, touched_claim, touched_mark}
-use Rattle.touch_index.specs.declared.key.SeriesKey.{SeriesKey}
-use Rattle.touch_index.specs.declared.mark.Claim.{Claim}
-use Rattle.touch_index.specs.declared.mark.Claim.TheVariants.{Free, Taken, Refused}
-use Rattle.touch_index.specs.declared.mark.Mark.{Mark}
-use Rattle.track_state.specs.Covering.{AreTouched, SomeAreTouched}
-use Rattle.track_state.specs.Work.{key_of}
+use Rattle.touch_index.specs.{Marks.{Entries, key_cmp, mark_of, touched_claim, touched_mark}, declared.key.SeriesKey.SeriesKey, declared.mark.Claim.Claim}
+use Rattle.touch_index.specs.declared.mark.{Claim.TheVariants.{Free, Taken, Refused}, Mark.Mark}
+use Rattle.track_state.specs.{Covering.{AreTouched, SomeAreTouched}, Work.key_of}
 
 -- ---- keys and series
 both : (x y : Ordering) → is_eq (ordering_then x y) ≡ (is_eq x && is_eq y)

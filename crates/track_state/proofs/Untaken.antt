@@ -1,22 +1,15 @@
 -- Machines of which no worker has taken a series or a job.
-use Rattle.std.proofs.Common.{◌≡◌, ℕ, Bool, true, false, [], refl, sym, ap, ◌∙◌, Option, Some, None}
-use Rattle.std.specs.Prelude.{nat_lt, if◌then◌else◌}
-use Rattle.history_model.specs.declared.entries.Author.{Author}
-use Rattle.history_model.specs.Runs.{Series, same_series}
+use Rattle.std.{proofs.Common.{◌≡◌, ℕ, Bool, true, false, [], refl, sym, ap, ◌∙◌, Option, Some, None}, specs.Prelude.{nat_lt, if◌then◌else◌}}
+use Rattle.history_model.specs.{declared.entries.Author.Author, Runs.{Series, same_series}}
 use Rattle.segment_cost.specs.declared.done.Done.{Done}
 use Rattle.publication_index.specs.Kept.{series_of as series_of_done}
-use Rattle.touch_index.specs.declared.mark.Claim.{Claim}
-use Rattle.touch_index.specs.declared.mark.Claim.TheVariants.{Free, Taken, Refused}
+use Rattle.touch_index.specs.declared.mark.Claim.{Claim, TheVariants.{Free, Taken, Refused}}
 use Rattle.touch_model.specs.Touches.{last_touch}
-use Rattle.track_step.specs.Settled.{Settled}
+use Rattle.track_step.specs.{Settled.Settled, Published.Published, Snapshot.Snapshot}
 use Rattle.track_step.specs.Settled.TheVariants as settled
 use Rattle.track_model.specs.Tracks.{Track}
-use Rattle.track_step.specs.Published.{Published}
 use Rattle.track_step.specs.Published.TheVariants as published
-use Rattle.track_step.specs.Snapshot.{Snapshot}
-use Rattle.track_state.specs.declared.questions.Question.{Question}
-use Rattle.track_state.specs.Questions.{Settles, jobs_after}
-use Rattle.track_state.specs.Taking.{Publishes, TakesStale, claim_after}
+use Rattle.track_state.specs.{declared.questions.Question.Question, Questions.{Settles, jobs_after}, Taking.{Publishes, TakesStale, claim_after}}
 use Rattle.track_state.specs.Work.{ClaimsStay, IsUntaken, Work, claim_on, history_of, unclaimed}
 
 free-is : Free ≡ Taken → ⊥

@@ -1,15 +1,10 @@
 -- No public contract cites this. What the marks of series tell of a history, of which so many first entries were
 -- looked at.
 use Rattle.std.specs.Prelude.{◌≡◌, ◌≤◌, ◌⊎◌, ℕ, Bool, true, false, nat_lt, ◌&&◌, if◌then◌else◌, List, length, take, Option, Some, None}
-use Rattle.history_model.specs.declared.entries.Entry.{Entry}
-use Rattle.history_model.specs.Publications.{last_publication}
-use Rattle.history_model.specs.Runs.{Series, is_known, same_series}
-use Rattle.touch_index.specs.Marks.{Entries, mark_of, touched_mark}
-use Rattle.touch_index.specs.declared.mark.Claim.TheVariants.{Free, Refused}
-use Rattle.touch_index.specs.declared.key.SeriesKey.{SeriesKey}
+use Rattle.history_model.specs.{declared.entries.Entry.Entry, Publications.last_publication, Runs.{Series, is_known, same_series}}
+use Rattle.touch_index.specs.{Marks.{Entries, mark_of, touched_mark}, declared.mark.Claim.TheVariants.{Free, Refused}, declared.key.SeriesKey.SeriesKey}
 use Rattle.touch_index.specs.declared.mark.Mark.{Mark}
-use Rattle.touch_model.specs.Stale.{is_behind}
-use Rattle.touch_model.specs.Touches.{touches, last_touch}
+use Rattle.touch_model.specs.{Stale.is_behind, Touches.{touches, last_touch}}
 use Rattle.track_state.specs.Work.{key_of, claim_by}
 
 -- a series is stale by the entries that were looked at

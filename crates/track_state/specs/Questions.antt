@@ -1,16 +1,11 @@
 -- The questions of open jobs, and what becomes of what is said of them.
-use Rattle.std.specs.Prelude.{◌≡◌, ◌≤◌, ℕ, Bool, true, false, not, ◌==◌, List, [], ◌∷◌, ◌++◌, filter, Option, Some, None}
-use Rattle.std.specs.List.{list_any}
+use Rattle.std.specs.{Prelude.{◌≡◌, ◌≤◌, ℕ, Bool, true, false, not, ◌==◌, List, [], ◌∷◌, ◌++◌, filter, Option, Some, None}, List.list_any}
 use Rattle.bisect_core.specs.Bisections.{Bisection, asked_by}
-use Rattle.history_model.specs.declared.entries.Author.{Author}
-use Rattle.history_model.specs.declared.entries.Entry.{Entry}
-use Rattle.history_model.specs.Jobs.{asked, job_in, jobs}
-use Rattle.track_step.specs.Settling.{IsSettled}
-use Rattle.track_step.specs.Settled.{Settled}
+use Rattle.history_model.specs.{declared.entries.Author.Author, declared.entries.Entry.Entry, Jobs.{asked, job_in, jobs}}
+use Rattle.track_step.specs.{Settling.IsSettled, Settled.Settled}
 use Rattle.track_step.specs.Settled.TheVariants as settled
 use Rattle.track_model.specs.Following.{asked_commit, named_by}
-use Rattle.track_state.specs.declared.questions.Question.{Question}
-use Rattle.track_state.specs.Work.{Work, ClaimsStay, IsSame, history_of}
+use Rattle.track_state.specs.{declared.questions.Question.Question, Work.{Work, ClaimsStay, IsSame, history_of}}
 
 -- an open job asks this place of its list, where this commit stands
 pub record IsQuestion (h : List Entry) (q : Question) : Type 0 where

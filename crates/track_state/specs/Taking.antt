@@ -1,21 +1,13 @@
 -- What is taken of a machine: a series that is stale, and what becomes of the claim when it is published.
 use Rattle.std.specs.Prelude.{◌≡◌, ℕ, true, false, nat_lt, if◌then◌else◌, take, Option, Some, None}
 use Rattle.segment_cost.specs.declared.done.Done.{Done}
-use Rattle.history_model.specs.declared.entries.Author.{Author}
-use Rattle.history_model.specs.Runs.{Series}
+use Rattle.history_model.specs.{declared.entries.Author.Author, Runs.Series}
 use Rattle.publication_index.specs.Kept.{series_of as series_of_done}
-use Rattle.touch_index.specs.declared.mark.Claim.{Claim}
-use Rattle.touch_index.specs.declared.mark.Claim.TheVariants.{Free, Taken, Refused}
-use Rattle.touch_model.specs.Touches.{last_touch}
+use Rattle.touch_index.specs.declared.mark.Claim.{Claim, TheVariants.{Free, Taken, Refused}}
+use Rattle.touch_model.specs.{Touches.last_touch, Stale.is_stale}
 use Rattle.request_model.specs.declared.replies.Reply.{Reply}
-use Rattle.track_model.specs.Outcomes.{Outcome}
-use Rattle.track_model.specs.Publishing.{SegmentComesFrom}
-use Rattle.track_model.specs.Tracks.{IsFinishStep, with_taken}
-use Rattle.track_step.specs.Publications.{IsPublished}
-use Rattle.track_step.specs.Snapshots.{IsTakenAt}
-use Rattle.track_step.specs.Snapshot.{Snapshot}
-use Rattle.touch_model.specs.Stale.{is_stale}
-use Rattle.track_step.specs.Published.{Published}
+use Rattle.track_model.specs.{Outcomes.Outcome, Publishing.SegmentComesFrom, Tracks.{IsFinishStep, with_taken}}
+use Rattle.track_step.specs.{Publications.IsPublished, Snapshots.IsTakenAt, Snapshot.Snapshot, Published.Published}
 use Rattle.track_step.specs.Published.TheVariants as published
 use Rattle.track_state.specs.declared.taking.TakenSeries.{TakenSeries}
 use Rattle.track_state.specs.Work.{Work, history_of, series_of, ClaimBecomes, ClaimsStay, IsSame, IsOpen, IsFirstOpen}

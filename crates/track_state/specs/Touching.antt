@@ -1,9 +1,7 @@
 -- No public contract cites this. Which known series an entry touches, as it is looked at.
-use Rattle.std.specs.Prelude.{ℕ, Bool, false, ◌&&◌, List, bytes_eq}
-use Rattle.std.specs.List.{list_any}
+use Rattle.std.specs.{Prelude.{ℕ, Bool, false, ◌&&◌, List, bytes_eq}, List.list_any}
 use Rattle.sample_model.specs.Samples.{Measurement}
-use Rattle.history_model.specs.declared.entries.Entry.{Entry}
-use Rattle.history_model.specs.declared.entries.Entry.TheVariants.{Accept, Retract, Tune}
+use Rattle.history_model.specs.declared.entries.Entry.{Entry, TheVariants.{Accept, Retract, Tune}}
 use Rattle.history_model.specs.Runs.{Series, accepted, is_known, is_of, same_series}
 use Rattle.touch_model.specs.Touches.{has_sample}
 

@@ -1,18 +1,10 @@
 -- A machine's state with what workers have taken of it: which series and jobs are claimed.
-use Rattle.std.specs.Prelude.{◌≡◌, ℕ, true, false, nat_lt, if◌then◌else◌, List, [], Option, Some, None}
+use Rattle.std.specs.{Prelude.{◌≡◌, ℕ, true, false, nat_lt, if◌then◌else◌, List, [], Option, Some, None}, Ordering.is_lt}
 use Rattle.std.specs.FinSet as set
-use Rattle.std.specs.Ordering.{is_lt}
-use Rattle.history_model.specs.declared.entries.Entry.{Entry}
-use Rattle.history_model.specs.Entries.{entries_of}
-use Rattle.history_model.specs.Runs.{Series, same_series}
-use Rattle.history_model.specs.SeriesOrder.{series_cmp}
-use Rattle.touch_index.specs.Marks.{Entries, mark_of, touched_claim}
-use Rattle.touch_index.specs.declared.key.SeriesKey.{SeriesKey}
-use Rattle.touch_index.specs.declared.mark.Claim.{Claim}
-use Rattle.touch_index.specs.declared.mark.Claim.TheVariants.{Free, Taken}
-use Rattle.touch_index.specs.declared.mark.Mark.{Mark}
-use Rattle.touch_model.specs.Stale.{is_stale}
-use Rattle.touch_model.specs.Touches.{last_touch}
+use Rattle.history_model.specs.{declared.entries.Entry.Entry, Entries.entries_of, Runs.{Series, same_series}, SeriesOrder.series_cmp}
+use Rattle.touch_index.specs.{Marks.{Entries, mark_of, touched_claim}, declared.key.SeriesKey.SeriesKey, declared.mark.Claim.Claim}
+use Rattle.touch_index.specs.declared.mark.{Claim.TheVariants.{Free, Taken}, Mark.Mark}
+use Rattle.touch_model.specs.{Stale.is_stale, Touches.last_touch}
 use Rattle.track_model.specs.Tracks.{Track, with_home}
 
 -- a machine without its tables: no history shows which of them are home

@@ -1,8 +1,7 @@
 //! How the index of touched series follows the history.
 ghost use Rattle.std.specs.Prelude.{◌≡◌, ◌<◌, ◌+◌, OnOk, OnErr, length, Some};
 ghost use Rattle.history_model.specs.Entries.{entries_of};
-ghost use Rattle.track_state.specs.Covering.{AreTouched, Covers, MakeSame, SomeAreTouched};
-ghost use Rattle.track_state.specs.Touching.{named, sampled, touched_by};
+ghost use Rattle.track_state.specs.{Covering.{AreTouched, Covers, MakeSame, SomeAreTouched}, Touching.{named, sampled, touched_by}};
 
 use crate::NoMemory;
 use history_model::{Entry, growth_law, publication_law};

@@ -1,17 +1,10 @@
 //! What becomes of a series that was taken.
 ghost use Rattle.std.specs.Prelude.{◌≡◌, IfOk, OnErr, OnOk, length, true, nat_lt, if◌then◌else◌, None};
-ghost use Rattle.history_model.specs.Entries.{entries_of};
-ghost use Rattle.history_model.specs.Publications.{last_publication};
-ghost use Rattle.history_model.specs.Runs.{is_known};
+ghost use Rattle.history_model.specs.{Entries.entries_of, Publications.last_publication, Runs.is_known};
 ghost use Rattle.publication_index.specs.Standing.{table_for};
 ghost use Rattle.touch_index.specs.declared.mark.Claim.TheVariants as claim;
-ghost use Rattle.track_step.specs.Made.{IsMadeFrom};
-ghost use Rattle.track_step.specs.Beside.{IsBegun};
-ghost use Rattle.track_step.specs.Published.{Published};
-ghost use Rattle.track_step.specs.Publications.{later};
-ghost use Rattle.track_state.specs.Covering.{Covers, IsMarked, IsRefusedBy, MakeSame};
-ghost use Rattle.track_state.specs.Taking.{Finishes, IsBegunOn, Publishes};
-ghost use Rattle.track_state.specs.Work.{ClaimBecomes, IsSame, history_of, series_of};
+ghost use Rattle.track_step.specs.{Made.IsMadeFrom, Beside.IsBegun, Published.Published, Publications.later};
+ghost use Rattle.track_state.specs.{Covering.{Covers, IsMarked, IsRefusedBy, MakeSame}, Taking.{Finishes, IsBegunOn, Publishes}, Work.{ClaimBecomes, IsSame, history_of, series_of}};
 
 use crate::NoMemory;
 use crate::catching::catch_up;

@@ -1,10 +1,7 @@
 //! The questions of open jobs.
 ghost use Rattle.std.specs.Prelude.{◌≡◌, IfOk, IsSome, OnErr, ◌==◌, filter, find, not};
-ghost use Rattle.history_model.specs.Entries.{entries_of};
-ghost use Rattle.history_model.specs.Jobs.{asked, job_in, jobs};
-ghost use Rattle.track_state.specs.Questions.{IsQuestion, Settles, TakesNext, is_claimed, jobs_after};
-ghost use Rattle.track_state.specs.Work.{history_of};
-ghost use Rattle.track_state.specs.Asking.{IsOpenQuestion};
+ghost use Rattle.history_model.specs.{Entries.entries_of, Jobs.{asked, job_in, jobs}};
+ghost use Rattle.track_state.specs.{Questions.{IsQuestion, Settles, TakesNext, is_claimed, jobs_after}, Work.history_of, Asking.IsOpenQuestion};
 
 use crate::NoMemory;
 use crate::state::TrackState;

@@ -1,13 +1,9 @@
 //! Requests answered, and kept entries added again, on a machine with claims.
 ghost use Rattle.std.specs.Prelude.{◌≡◌, IfOk, OnErr, OnOk, false};
-ghost use Rattle.track_model.specs.Counts.{is_segment};
-ghost use Rattle.track_model.specs.Outcomes.{Outcome};
+ghost use Rattle.track_model.specs.{Counts.is_segment, Outcomes.Outcome, Tracks.{ComesTo, IsStep}};
 ghost use Rattle.request_model.specs.Requests.{machine_of};
-ghost use Rattle.track_model.specs.Tracks.{ComesTo, IsStep};
-ghost use Rattle.track_step.specs.Made.{IsPlain};
-ghost use Rattle.track_step.specs.Replays.{IsReplayed};
-ghost use Rattle.track_state.specs.Kept.{KeepsClaims};
-ghost use Rattle.track_state.specs.Work.{history_of};
+ghost use Rattle.track_step.specs.{Made.IsPlain, Replays.IsReplayed};
+ghost use Rattle.track_state.specs.{Kept.KeepsClaims, Work.history_of};
 
 use crate::NoMemory;
 use crate::state::TrackState;

@@ -24,8 +24,7 @@ impl Model for TrackState {
     ghost use Rattle.history_model.specs.Entries.{entries_of};
     ghost use Rattle.std.specs.Coded.{codes};
     ghost use Rattle.track_model.specs.Tracks.{coded_home};
-    ghost use Rattle.track_state.specs.Work.{Work};
-    ghost use Rattle.track_state.specs.Covering.{Covers};
+    ghost use Rattle.track_state.specs.{Work.Work, Covering.Covers};
 
     ghost Value = { Work };
 

@@ -1,12 +1,9 @@
 //! The series that is taken next.
 ghost use Rattle.std.specs.Prelude.{◌≡◌, IfNone, IfOk, IfSome, OnErr, OnOk, length};
-ghost use Rattle.history_model.specs.Entries.{entries_of};
-ghost use Rattle.history_model.specs.Publications.{last_publication};
+ghost use Rattle.history_model.specs.{Entries.entries_of, Publications.last_publication};
 ghost use Rattle.touch_model.specs.Stale as stale;
-ghost use Rattle.track_state.specs.Covering.{Covers, MakeSame};
+ghost use Rattle.track_state.specs.{Covering.{Covers, MakeSame}, Taking.{IsBegunOn, Takes, TakesStale}, Work.{IsFirstBy, IsSame, NoneIsOpenBy, series_of}};
 ghost use Rattle.track_step.specs.Snapshots.{IsSnapshot};
-ghost use Rattle.track_state.specs.Taking.{IsBegunOn, Takes, TakesStale};
-ghost use Rattle.track_state.specs.Work.{IsFirstBy, IsSame, NoneIsOpenBy, series_of};
 
 use crate::NoMemory;
 use crate::catching::catch_up;

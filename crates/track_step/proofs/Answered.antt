@@ -1,15 +1,11 @@
 -- Requests that segment nothing, as answers to any.
-use Rattle.std.specs.Prelude.{IfOk, OnErr, Result, Ok, Err}
+use Rattle.std.{specs.Prelude.{IfOk, OnErr, Result, Ok, Err}, proofs.Common.{◌≡◌, ℕ, List, true, false, refl, sym, subst, ◌∙◌}}
 use Rattle.std.specs.FinSet as set
 use Rattle.publication_index.proofs.Homes.{series-total}
-use Rattle.std.proofs.Common.{◌≡◌, ℕ, List, true, false, refl, sym, subst, ◌∙◌}
-use Rattle.history_model.specs.declared.entries.Author.{Author}
-use Rattle.history_model.specs.Entries.{entries_of}
-use Rattle.request_model.specs.declared.replies.Reply.{Reply}
-use Rattle.request_model.specs.declared.requests.Request.{Request}
+use Rattle.history_model.specs.{declared.entries.Author.Author, Entries.entries_of}
+use Rattle.request_model.specs.declared.{replies.Reply.Reply, requests.Request.Request}
 use Rattle.request_model.specs.declared.requests.Request.TheVariants as request
-use Rattle.track_model.specs.Counts.{Counts, is_segment}
-use Rattle.track_model.specs.Outcomes.{Outcome}
+use Rattle.track_model.specs.{Counts.{Counts, is_segment}, Outcomes.Outcome}
 use Rattle.track_model.specs.Tracks.{Track, ComesTo, IsAnswered, IsSameButTables, IsStep, base_asked, with_answered, with_outcome}
 
 -- another request

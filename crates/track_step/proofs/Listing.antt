@@ -1,10 +1,7 @@
 -- The lines of the stored runs are those of the accepted runs.
-use Rattle.std.proofs.Common.{◌≡◌, List, [], ◌∷◌, map, refl, ap, ◌∙◌, Option, Some, None}
-use Rattle.std.specs.Prelude.{is_none, option_map}
-use Rattle.history_model.specs.declared.entries.Acceptance.{Acceptance}
-use Rattle.history_model.specs.declared.entries.Entry.{Entry}
+use Rattle.std.{proofs.Common.{◌≡◌, List, [], ◌∷◌, map, refl, ap, ◌∙◌, Option, Some, None}, specs.Prelude.{is_none, option_map}}
+use Rattle.history_model.specs.{declared.entries.Acceptance.Acceptance, declared.entries.Entry.Entry, Commits.declarations}
 use Rattle.request_model.specs.declared.runs.RunLine.{RunLine}
-use Rattle.history_model.specs.Commits.{declarations}
 use Rattle.track_model.specs.Forms.{run_line}
 use Rattle.history_model.specs.Runs.{Retraction, acceptances, retractions, retracted}
 use Rattle.track_follow.specs.Indexes.{stored, stored_runs}

@@ -1,15 +1,10 @@
 -- The form `submit`: what its refusals tell of a run that is new.
-use Rattle.std.proofs.Common.{◌≡◌, ℕ, List, [], ◌∷◌, refl, Option, Some, None}
-use Rattle.std.specs.Prelude.{IsSome, option_map, is_none, codes}
-use Rattle.history_model.specs.declared.entries.Entry.{Entry}
+use Rattle.std.{proofs.Common.{◌≡◌, ℕ, List, [], ◌∷◌, refl, Option, Some, None}, specs.Prelude.{IsSome, option_map, is_none, codes}}
+use Rattle.history_model.specs.{declared.entries.Entry.Entry, declared.run.Run.Run, Commits.number_of, Runs.accepted}
 use Rattle.request_model.specs.declared.replies.Answer.{Answer}
 use Rattle.request_model.specs.declared.replies.Refusal.TheVariants as refusal
-use Rattle.history_model.specs.declared.run.Run.{Run}
-use Rattle.history_model.specs.Commits.{number_of}
 use Rattle.track_model.specs.Forms as forms
-use Rattle.track_model.specs.Outcomes.{refusal_if}
-use Rattle.history_model.specs.Runs.{accepted}
-use Rattle.track_model.proofs.Rows.{first-none, option_map-none}
+use Rattle.track_model.{specs.Outcomes.refusal_if, proofs.Rows.{first-none, option_map-none}}
 
 pub free-submit : (h : List Entry) (machine commit : List ℕ) (new : Run) (stated : Option (List ℕ)) → forms.submit_refusal h machine commit new stated ≡ None
     → IsSome (number_of commit h) × (accepted new.run h ≡ None)

@@ -1,20 +1,16 @@
 -- What is told of a run whose name was accepted before.
-use Rattle.std.proofs.Common.{List, ◌≡◌, ◌+◌, Bool, true, false, cond, length, refl, ap, ◌∙◌, Option, Some, None, nat_lt}
-use Rattle.std.specs.Prelude.{option_map}
+use Rattle.std.{proofs.Common.{List, ◌≡◌, ◌+◌, Bool, true, false, cond, length, refl, ap, ◌∙◌, Option, Some, None, nat_lt}, specs.Prelude.option_map}
 use Rattle.metric_table.specs.Limits.{most}
 use Rattle.metric_table.specs.declared.limits.Limit.TheVariants as limit
-use Rattle.history_model.specs.declared.entries.Acceptance.{Acceptance}
-use Rattle.history_model.specs.declared.entries.Entry.{Entry}
+use Rattle.history_model.specs.declared.{entries.Acceptance.Acceptance, entries.Entry.Entry, run.Run.Run}
 use Rattle.request_model.specs.declared.replies.Answer.TheVariants as answer
 use Rattle.request_model.specs.declared.replies.Refusal.TheVariants as refusal
-use Rattle.history_model.specs.declared.run.Run.{Run}
 use Rattle.track_model.specs.Forms as forms
 use Rattle.history_model.specs.Runs.{accepted, retractions, same_run}
 use Rattle.sample_store.specs.Judged as judge
 use Rattle.sample_store.specs.Runs.{samples_in}
 use Rattle.sample_store.specs.declared.answers.Accepted.TheVariants as taken
-use Rattle.track_follow.specs.Indexes.{stored, stored_runs}
-use Rattle.track_follow.proofs.Marks.{look-up}
+use Rattle.track_follow.{specs.Indexes.{stored, stored_runs}, proofs.Marks.look-up}
 use Rattle.track_step.specs.Told.{told_of}
 
 pub told-by-judge : (h : List Entry) (new : Run) → told_of (judge.judged (stored_runs h) new) ≡ option_map (forms.told_again new) (accepted new.run h)

@@ -1,8 +1,7 @@
 -- No public contract cites this. A stored run as `runs` lists it.
 use Rattle.std.specs.Prelude.{List, [], length, is_none, unwrap_or}
-use Rattle.history_model.specs.declared.entries.Declaration.{Declaration}
+use Rattle.history_model.specs.{declared.entries.Declaration.Declaration, Commits.name_in}
 use Rattle.request_model.specs.declared.runs.RunLine.{RunLine}
-use Rattle.history_model.specs.Commits.{name_in}
 use Rattle.sample_store.specs.declared.store.Stored.{Stored}
 
 -- its name, that of its commit, how many samples it has, and whether it is live

@@ -1,7 +1,6 @@
 //! The requests that declare a commit and retract a run.
 ghost use Rattle.std.specs.Prelude.{◌≡◌, IfOk, OnErr};
-ghost use Rattle.history_model.specs.Commits.{declarations};
-ghost use Rattle.history_model.specs.Entries.{entries_of};
+ghost use Rattle.history_model.specs.{Commits.declarations, Entries.entries_of};
 ghost use Rattle.track_model.specs.Forms as forms;
 ghost use Rattle.track_model.specs.Tracks.{IsStep};
 

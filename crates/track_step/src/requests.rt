@@ -1,10 +1,8 @@
 //! The answer to any request about a machine.
 ghost use Rattle.std.specs.Prelude.{◌≡◌, IfOk, OnErr, false};
 ghost use Rattle.history_model.specs.Entries.{entries_of};
-ghost use Rattle.track_model.specs.Counts.{Counts, is_segment};
-ghost use Rattle.track_model.specs.Outcomes.{Outcome};
+ghost use Rattle.track_model.specs.{Counts.{Counts, is_segment}, Outcomes.Outcome, Tracks.{ComesTo, IsAnswered, IsSameButTables, IsStep}};
 ghost use Rattle.request_model.specs.Requests.{machine_of};
-ghost use Rattle.track_model.specs.Tracks.{ComesTo, IsAnswered, IsSameButTables, IsStep};
 
 use crate::NoMemory;
 use crate::commits::{commit, retract};

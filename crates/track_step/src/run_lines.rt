@@ -1,7 +1,6 @@
 //! The list of runs.
 ghost use Rattle.std.specs.Prelude.{◌≡◌, All, IfOk, IsSome, map};
-ghost use Rattle.history_model.specs.Commits.{name_in};
-ghost use Rattle.history_model.specs.Entries.{entries_of};
+ghost use Rattle.history_model.specs.{Commits.name_in, Entries.entries_of};
 ghost use Rattle.track_model.specs.Forms as forms;
 ghost use Rattle.track_model.specs.Replies.{reply_of};
 ghost use Rattle.sample_store.specs.declared.store.Stored.{Stored};

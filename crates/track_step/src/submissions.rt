@@ -1,7 +1,6 @@
 //! Submissions of runs.
 ghost use Rattle.std.specs.Prelude.{◌≡◌, ℕ, List, IfOk, OnErr, option_map, unwrap_or};
-ghost use Rattle.history_model.specs.Commits.{number_of};
-ghost use Rattle.history_model.specs.Entries.{entries_of};
+ghost use Rattle.history_model.specs.{Commits.number_of, Entries.entries_of};
 ghost use Rattle.track_model.specs.Forms as forms;
 ghost use Rattle.history_model.specs.Runs.{accepted};
 ghost use Rattle.track_model.specs.Tracks.{IsStep};

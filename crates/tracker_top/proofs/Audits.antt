@@ -3,17 +3,13 @@ use Rattle.std.proofs.Common.{◌≡◌, ℕ, ◌-◌, ◌≤◌, zero, suc, inl
 use Rattle.track_outside.specs.Calls.{Took, FailedIn}
 use Rattle.track_outside.specs.declared.files.Files as files
 use Rattle.track_outside.specs.declared.sink.Sink as sink
-use Rattle.audit_command.specs.declared.end.AuditEnd.{AuditEnd}
+use Rattle.audit_command.specs.{declared.end.AuditEnd.AuditEnd, Endings.{EndsFiles, EndsAudit as PutsAudit}, Opening.{files_of, names_of}}
 use Rattle.audit_model.specs.declared.verdict.AuditStop.TheVariants as stop
 use Rattle.audit_command.specs.declared.end.AuditEnd.TheVariants as audit
 use Rattle.audit_command.specs.declared.end.FileStop.TheVariants as unread
-use Rattle.audit_command.specs.Endings.{EndsFiles, EndsAudit as PutsAudit}
-use Rattle.audit_command.specs.Opening.{files_of, names_of}
 use Rattle.command_words.specs.Plans.{Files}
-use Rattle.tracker_top.specs.declared.status.Status.{Status}
-use Rattle.tracker_top.specs.declared.status.Status.TheVariants.{BadWords}
-use Rattle.tracker_top.specs.Audits.{EndsAudit, IsToldOf, audit_line, audit_status_of}
-use Rattle.tracker_top.specs.Plays.{script_name}
+use Rattle.tracker_top.specs.declared.status.Status.{Status, TheVariants.BadWords}
+use Rattle.tracker_top.specs.{Audits.{EndsAudit, IsToldOf, audit_line, audit_status_of}, Plays.script_name}
 
 -- an audit never ends as bad words do
 pub never-bad-audit : (why : AuditEnd) → audit_status_of why ≡ BadWords → ⊥

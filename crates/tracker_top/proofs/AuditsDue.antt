@@ -1,30 +1,19 @@
 -- That what is due of an audit comes.
 use Rattle.std.proofs.Common.{◌≡◌, ◌∙◌, ◌⊎◌, inl, inr, ℕ, ◌+◌, ◌-◌, ◌<◌, ◌≤◌, List, [], ◌∷◌, length, take, Option, None, Some, IfSome, refl, sym, ap, subst, arith}
-use Rattle.std.specs.Prelude.{sum_by, unwrap_or}
-use Rattle.std.specs.List.{AllZip}
-use Rattle.std.proofs.lemmas.Bool.{cases_order}
-use Rattle.std.proofs.lemmas.List.{take-take}
+use Rattle.std.{specs.Prelude.{sum_by, unwrap_or}, specs.List.AllZip, proofs.lemmas.Bool.cases_order, proofs.lemmas.List.take-take}
 use Rattle.std.proofs.lemmas.List.Sums.{sum_by-cons, sum_by-take-le}
-use Rattle.track_outside.specs.Counts.{Rose}
-use Rattle.track_outside.specs.Named.{NamedBytes, bytes_at}
+use Rattle.track_outside.specs.{Counts.Rose, Named.{NamedBytes, bytes_at}}
 use Rattle.track_outside.specs.declared.files.Files as files
 use Rattle.track_outside.specs.declared.sink.Sink as sink
-use Rattle.audit_model.specs.Verdicts.{IsCutOff, NoneCutOff}
-use Rattle.audit_model.specs.declared.heard.Heard.{Heard}
-use Rattle.audit_model.specs.declared.verdict.Verdict.{Verdict}
+use Rattle.audit_model.specs.{Verdicts.{IsCutOff, NoneCutOff}, declared.heard.Heard.Heard, declared.verdict.Verdict.Verdict}
 use Rattle.audit_model.specs.declared.verdict.Verdict.TheVariants as verdict
-use Rattle.audit_command.specs.Laws.{OneCutOff, OneVerdict}
-use Rattle.audit_command.specs.declared.end.AuditEnd.{AuditEnd}
+use Rattle.audit_command.specs.{Laws.{OneCutOff, OneVerdict}, declared.end.AuditEnd.AuditEnd}
 use Rattle.audit_model.specs.declared.verdict.AuditStop.TheVariants as stop
 use Rattle.audit_command.specs.declared.end.AuditEnd.TheVariants as audit
 use Rattle.audit_command.specs.declared.end.FileStop.TheVariants as unread
-use Rattle.audit_command.specs.Endings.{AreTexts, EndsAudit as PutsAudit, HasCause, HasText, IsOther, IsPastAt, size_of, texts_of}
-use Rattle.audit_command.specs.Opening.{names_of}
-use Rattle.command_words.specs.declared.command.Command.TheVariants.{Audit}
-use Rattle.command_words.specs.Commands.{AreNoCommand, AreOneCommand, IsSpelled}
-use Rattle.command_words.specs.Plans.{Files}
-use Rattle.tracker_top.specs.declared.status.Status.{Status}
-use Rattle.tracker_top.specs.declared.status.Status.TheVariants.{Done, BadWords, ReadFault, WriteFault, CutOff, InputTooLong, NoMemory, Differs}
+use Rattle.audit_command.specs.{Endings.{AreTexts, EndsAudit as PutsAudit, HasCause, HasText, IsOther, IsPastAt, size_of, texts_of}, Opening.names_of}
+use Rattle.command_words.specs.{declared.command.Command.TheVariants.Audit, Commands.{AreNoCommand, AreOneCommand, IsSpelled}, Plans.Files}
+use Rattle.tracker_top.specs.declared.status.Status.{Status, TheVariants.{Done, BadWords, ReadFault, WriteFault, CutOff, InputTooLong, NoMemory, Differs}}
 use Rattle.tracker_top.specs.Audits.{AuditsAsDue, TextsShow, EndsAudit, FilesShow, IsAuditDue, audit_status_of, verdict_status}
 
 -- ---- files have one text each

@@ -1,26 +1,18 @@
 -- What is answered by steps that are counted, without the count, and the count.
 use Rattle.std.proofs.Common.{◌≡◌, ◌≢◌, ℕ, ◌+◌, ◌^◌, ◌≤◌, false, List, [], ◌∷◌, Option, length, Result, Ok, Err, OnOk, refl, sym, ap, subst, arith}
 use Rattle.std.specs.List.{AllByRecursion}
-use Rattle.request_model.specs.declared.requests.Request.{Request}
-use Rattle.request_model.specs.declared.replies.Answer.{Answer}
+use Rattle.request_model.specs.declared.{requests.Request.Request, replies.Answer.Answer, replies.Refusal.Refusal, replies.Reply.Reply}
 use Rattle.request_model.specs.declared.replies.Answer.TheVariants as answer
-use Rattle.request_model.specs.declared.replies.Refusal.{Refusal}
-use Rattle.request_model.specs.declared.replies.Reply.{Reply}
 use Rattle.request_words.specs.Bodies.{Item}
 use Rattle.track_model.specs.Counts.{is_full}
-use Rattle.trial_script.specs.Counting.{Counted, Counting, counted}
-use Rattle.trial_script.specs.Sessions.{State, AnswersFor}
-use Rattle.script_loop.specs.declared.stop.Stop.{Stop}
+use Rattle.trial_script.specs.{Counting.{Counted, Counting, counted}, Sessions.{State, AnswersFor}, Counts.{NoneIsFull, RoseByRedone, SessionsCount}}
+use Rattle.script_loop.specs.{declared.stop.Stop.Stop, Folds.AreAnswers, Endings.{HasAnswered, HasRead, HasWritten, Stands}}
 use Rattle.script_loop.specs.declared.stop.Stop.TheVariants as stop
-use Rattle.script_loop.specs.Folds.{AreAnswers}
-use Rattle.script_loop.specs.Endings.{HasAnswered, HasRead, HasWritten, Stands}
-use Rattle.trial_script.specs.Counts.{NoneIsFull, RoseByRedone, SessionsCount}
 use Rattle.track_outside.specs.Calls.{GaveAtMost}
 use Rattle.track_outside.specs.declared.sink.Sink as sink
 use Rattle.track_outside.specs.declared.source.Source as source
 use Rattle.trial_script.specs.Accepted.{IsAccepted}
-use Rattle.tracker_top.specs.Answers.{AllBisectWell, AllPublishWell}
-use Rattle.tracker_top.specs.Endings.{AnswersScript}
+use Rattle.tracker_top.specs.{Answers.{AllBisectWell, AllPublishWell}, Endings.AnswersScript}
 
 -- where all stands as after the answers, so does what is seen of it
 pub stands-seen : {S T : Type 0} (see : S → T) (after now : S) (result : Result (Unit {0}) Stop) → Stands after now result → Stands (see after) (see now) result

@@ -1,46 +1,32 @@
 -- How a command ends, and that what is due comes.
 use Rattle.std.proofs.Common.{◌≡◌, ◌≢◌, ℕ, ◌≤◌, ◌⊎◌, inl, inr, List, [], ◌∷◌, Option, None, Some, Result, Ok, Err, OnOk, OnErr, IfSome, pos, refl, sym, ap, subst, ◌∙◌, arith}
-use Rattle.track_outside.specs.Counts.{Rose}
+use Rattle.track_outside.specs.{Counts.Rose, declared.source.Failed.Failed, Calls.{Took, FailedIn}, Kept.with_more}
 use Rattle.track_outside.specs.declared.source.Source as source
 use Rattle.track_outside.specs.declared.sink.Sink as sink
 use Rattle.track_outside.specs.declared.keeper.Keeper as keeper
-use Rattle.track_outside.specs.declared.source.Failed.{Failed}
-use Rattle.track_outside.specs.Calls.{Took, FailedIn}
 use Rattle.request_words.specs.Bodies.{Item}
 use Rattle.request_reader.specs.Scripts.{Ending, end, cut_off, unfinished, IsScript}
-use Rattle.script_loop.specs.declared.stop.Stop.{Stop as ScriptStop}
+use Rattle.script_loop.specs.{declared.stop.Stop.Stop as ScriptStop, Endings.{HasRead, HasWritten}, Outputs.IsOutput}
 use Rattle.script_loop.specs.declared.stop.Stop.TheVariants as script
-use Rattle.script_loop.specs.Endings.{HasRead, HasWritten}
-use Rattle.command_words.specs.declared.command.Command.{Command}
-use Rattle.command_words.specs.declared.command.CutPlan.{CutPlan}
-use Rattle.command_words.specs.declared.command.PathPlan.{PathPlan}
+use Rattle.command_words.specs.declared.command.{Command.Command, CutPlan.CutPlan, PathPlan.PathPlan}
 use Rattle.segment_model.specs.Segments.{Position}
 use Rattle.line_pieces.specs.declared.stop.Refusal.TheVariants as refusal
 use Rattle.line_pieces.specs.declared.stop.Stop.{Stop as LinesStop}
 use Rattle.line_pieces.specs.declared.stop.Stop.TheVariants as lines
-use Rattle.cut_lines.specs.Reading.{ArePointsWithin}
-use Rattle.cut_lines.specs.Stops.{BytesShowWithin}
-use Rattle.path_command.specs.Endings.{EndsPath as PutsPath, HasCause as HasPathCause}
-use Rattle.path_command.specs.declared.end.PathEnd.{PathEnd}
+use Rattle.cut_lines.specs.{Reading.ArePointsWithin, Stops.BytesShowWithin}
+use Rattle.path_command.specs.{Endings.{EndsPath as PutsPath, HasCause as HasPathCause}, declared.end.PathEnd.PathEnd}
 use Rattle.path_command.specs.declared.end.PathEnd.TheVariants as path
-use Rattle.tracker_top.specs.Paths.{path_status_of}
+use Rattle.tracker_top.specs.{Paths.path_status_of, declared.status.Status.Status}
 use Rattle.command_words.specs.declared.command.Command.TheVariants.{Cut, Apply, Gen, Trial, Play, Path, Hunt, Audit}
-use Rattle.tracker_top.specs.declared.status.Status.{Status}
 use Rattle.tracker_top.specs.declared.status.Status.TheVariants.{Done, BadWords, ReadFault, WriteFault, StoreFault, BadStore, CutOff, NoMemory, InputTooLong, BadLine, Full, Differs, TooFew}
 use Rattle.command_words.specs.Commands.{AreNoCommand, IsSpelled, AreOneCommand}
-use Rattle.trial_script.specs.Counts.{RoseByRedone}
+use Rattle.trial_script.specs.{Counts.RoseByRedone, Growth.{ComesBack, stored_after}, Sessions.{State, AnswersFor}}
 use Rattle.tracker_top.specs.Statuses.{AsksAudit, AsksHunt, AsksPlay, status_of, script_status_of, script_status, ended, CutShows, PathShows, ScriptShows, Shows, IsDue, OneStatusIsDue}
 use Rattle.tracker_top.specs.Text.{line_of}
 use Rattle.tracker_top.specs.Endings.{HasCause, EndsOutput, AnswersScript, Begins, WasStarted, Keeps, Prints, AppendCause, LoadCause, EndsSo, EndsScript, EndsApply, IsOfOutput, HasAsked, IsPlain, Ends, IsTold, Streams}
 use Rattle.tracker_top.specs.Answers.{IsCertificateText, state_of}
-use Rattle.track_outside.specs.Kept.{with_more}
-use Rattle.keep_rows.specs.Kept.{AreKept}
-use Rattle.keep_rows.specs.Loading.{Stored, LeadTo, IsFirstBad}
-use Rattle.keep_rows.specs.Rows.{new_rows}
-use Rattle.trial_script.specs.Growth.{ComesBack, stored_after}
+use Rattle.keep_rows.specs.{Kept.AreKept, Loading.{Stored, LeadTo, IsFirstBad}, Rows.new_rows}
 use Rattle.track_model.specs.Tracks.{Track}
-use Rattle.trial_script.specs.Sessions.{State, AnswersFor}
-use Rattle.script_loop.specs.Outputs.{IsOutput}
 use Rattle.series_gen.specs.Script.{script as script_of}
 
 -- ---- what is due comes

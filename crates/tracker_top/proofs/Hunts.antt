@@ -7,16 +7,11 @@ use Rattle.track_outside.specs.declared.runner.Runner as runner
 use Rattle.line_pieces.specs.declared.stop.Refusal.TheVariants as refusal
 use Rattle.line_pieces.specs.declared.stop.Stop.{Stop}
 use Rattle.line_pieces.specs.declared.stop.Stop.TheVariants as stop
-use Rattle.commit_lines.specs.Reading.{AreNamesOfInput}
-use Rattle.commit_lines.specs.Stops.{BytesShow, OneStop, OneListOfNames, NoStopOfNames}
-use Rattle.hunt_command.specs.Endings.{EndsHunt as PutsHunt, HasCause}
-use Rattle.tracker_top.specs.Statuses.{status_of}
-use Rattle.hunt_command.specs.declared.end.HuntEnd.{HuntEnd}
+use Rattle.commit_lines.specs.{Reading.AreNamesOfInput, Stops.{BytesShow, OneStop, OneListOfNames, NoStopOfNames}}
+use Rattle.hunt_command.specs.{Endings.{EndsHunt as PutsHunt, HasCause}, declared.end.HuntEnd.HuntEnd}
+use Rattle.tracker_top.specs.{Statuses.status_of, declared.status.Status.Status}
 use Rattle.hunt_command.specs.declared.end.HuntEnd.TheVariants as hunt
-use Rattle.command_words.specs.declared.command.HuntPlan.{HuntPlan}
-use Rattle.command_words.specs.declared.command.Command.TheVariants.{Hunt}
-use Rattle.command_words.specs.Commands.{AreNoCommand, IsSpelled}
-use Rattle.tracker_top.specs.declared.status.Status.{Status}
+use Rattle.command_words.specs.{declared.command.HuntPlan.HuntPlan, declared.command.Command.TheVariants.Hunt, Commands.{AreNoCommand, IsSpelled}}
 use Rattle.tracker_top.specs.declared.status.Status.TheVariants.{Done, BadWords, NoMemory, InputTooLong, BadLine, Full, TooFew}
 use Rattle.tracker_top.specs.Hunts.{HuntShows, HuntsAsDue, IsHuntDue, counted_status, hunt_status_of}
 

@@ -1,25 +1,15 @@
 -- What runners that weren't asked tell, the name of a script, and which word is the first.
 use Rattle.std.proofs.Common.{◌≡◌, ℕ, ◌-◌, ◌↔◌, Bool, true, IsTrue, String, string_bytes, zero, suc, ◌⊎◌, inl, inr, List, [], ◌∷◌, ◌++◌, All, drop, length, slice_get, take, Option, None, Some, IfSome, OnOk, OnErr, Result, Ok, Err, option_map, refl, sym, ap, subst, ◌∙◌, arith}
-use Rattle.std.specs.Borrow.{Bor}
-use Rattle.std.specs.Option.{option_copied}
-use Rattle.std.specs.Slice.{IsItemAt}
-use Rattle.std.proofs.lemmas.Option.{slice_get-get_or, slice_get-map, slice_get_past}
-use Rattle.command_words.specs.declared.command.Command.TheVariants.{Play}
-use Rattle.command_words.specs.Commands.{AreNoCommand, AreOneCommand, IsSpelled}
-use Rattle.command_words.specs.Texts.{shown, texts}
-use Rattle.command_words.specs.Plans.{Plan}
-use Rattle.shared_run.specs.declared.stop.RunStop.{RunStop}
+use Rattle.std.{specs.Borrow.Bor, specs.Option.option_copied, specs.Slice.IsItemAt, proofs.lemmas.Option.{slice_get-get_or, slice_get-map, slice_get_past}}
+use Rattle.command_words.specs.{declared.command.Command.TheVariants.Play, Commands.{AreNoCommand, AreOneCommand, IsSpelled}, Texts.{shown, texts}, Plans.Plan}
+use Rattle.shared_run.specs.{declared.stop.RunStop.RunStop, Crews.AreNew, Endings.{EndsAsDue, HasFailed, Objects, Told}}
 use Rattle.shared_run.specs.declared.stop.RunStop.TheVariants as run
 use Rattle.script_loop.specs.declared.stop.Stop.TheVariants as script
-use Rattle.shared_run.specs.Crews.{AreNew}
-use Rattle.shared_run.specs.Endings.{EndsAsDue, HasFailed, Objects, Told}
 use Rattle.track_outside.specs.Calls.{Took, FailedIn}
 use Rattle.track_outside.specs.declared.sink.Sink as sink
 use Rattle.track_outside.specs.declared.runner.Runner as runner
-use Rattle.tracker_top.specs.Plays.{IsNewRunner, IsToldIn, PlaysAsDue, line_in, run_status, script_name}
-use Rattle.tracker_top.specs.declared.status.Status.{Status}
-use Rattle.tracker_top.specs.declared.status.Status.TheVariants.{BadWords, NoMemory}
-use Rattle.tracker_top.specs.Statuses.{Asks}
+use Rattle.tracker_top.specs.{Plays.{IsNewRunner, IsToldIn, PlaysAsDue, line_in, run_status, script_name}, declared.status.Status.Status}
+use Rattle.tracker_top.specs.{declared.status.Status.TheVariants.{BadWords, NoMemory}, Statuses.Asks}
 
 none-or-empty : {A : Type 0} (known : Option (List A)) → IfSome known (λ asks. asks ≡ []) → (known ≡ None) ⊎ (known ≡ Some [])
 none-or-empty None is = inl refl

@@ -1,28 +1,19 @@
 -- How the answering of a script that is whole in memory ends.
 use Rattle.std.proofs.Common.{◌≡◌, ◌≢◌, ℕ, List, [], Some, Result, Ok, Err, IfSome, subst, sym, ap, ◌∙◌, arith, inl, refl}
-use Rattle.std.specs.List.{AllByRecursion, flat_map}
-use Rattle.std.proofs.lemmas.List.Elements.{All-nil}
+use Rattle.std.{specs.List.{AllByRecursion, flat_map}, proofs.lemmas.List.Elements.All-nil}
 use Rattle.track_outside.specs.declared.source.Source as source
 use Rattle.track_outside.specs.declared.sink.Sink as sink
 use Rattle.track_outside.proofs.InParts.{append_known-nil}
 use Rattle.reply_text.specs.Replies.{text_of}
 use Rattle.request_model.specs.declared.replies.Reply.{Reply}
 use Rattle.request_words.specs.Bodies.{Item}
-use Rattle.script_loop.specs.declared.stop.Stop.{Stop}
+use Rattle.script_loop.specs.{declared.stop.Stop.Stop, Folds.AreAnswers, Outputs.Out, Endings.{HasRead, HasAnswered, HasWritten}}
 use Rattle.script_loop.specs.declared.stop.Stop.TheVariants as stop
-use Rattle.trial_script.specs.Counting.{Counted, Counting, counted}
-use Rattle.trial_script.specs.Sessions.{State, AnswersFor, AnswersSome}
+use Rattle.trial_script.specs.{Counting.{Counted, Counting, counted}, Sessions.{State, AnswersFor, AnswersSome}, Counts.TrialsCount, Part.OneReplyEach}
 use Rattle.request_reader.specs.Scripts.{end, cut_off, unfinished}
-use Rattle.script_loop.specs.Folds.{AreAnswers}
-use Rattle.script_loop.specs.Outputs.{Out}
-use Rattle.trial_script.specs.Counts.{TrialsCount}
-use Rattle.trial_script.specs.Part.{OneReplyEach}
-use Rattle.script_loop.specs.Endings.{HasRead, HasAnswered, HasWritten}
-use Rattle.tracker_top.specs.declared.status.Status.TheVariants.{Done, NoMemory}
-use Rattle.tracker_top.specs.Answers.{new_state, PublishesWell, AllPublishWell}
-use Rattle.tracker_top.specs.Statuses.{script_status, script_status_of}
+use Rattle.tracker_top.specs.{declared.status.Status.TheVariants.{Done, NoMemory}, Answers.{new_state, PublishesWell, AllPublishWell}}
+use Rattle.tracker_top.{specs.Statuses.{script_status, script_status_of}, proofs.Counted.{none-full, without-count}}
 use Rattle.trial_script.specs.Accepted.{IsAccepted}
-use Rattle.tracker_top.proofs.Counted.{none-full, without-count}
 use Rattle.tracker_top.specs.Endings.{EndsWell, RefusesNone, HasAsked, IsOfOutput, RunsScript}
 
 not_done : (why : Stop) → script_status_of why ≢ Done

@@ -1,16 +1,13 @@
 -- Which text answers `cut`, what `apply` begins with, and what its machines publish and bisect.
 use Rattle.std.specs.Prelude.{◌≡◌, ℕ, List, [], All, Option, Bool, true, false, pos}
 use Rattle.segment_model.specs.Segments.{Position}
-use Rattle.segment_cost.specs.declared.cert.Cert.{Cert}
-use Rattle.segment_cost.specs.Certificate.{StandsFor}
+use Rattle.segment_cost.specs.{declared.cert.Cert.Cert, Certificate.StandsFor}
 use Rattle.absolute_cut.specs.Certificate.{StandsFor as StandsByDistances}
 use Rattle.command_words.specs.declared.command.CutPlan.{CutPlan}
 use Rattle.cut_lines.specs.Reading.{ArePointsOfInput}
 use Rattle.cost_certificate.specs.Text.{text_of}
 use Rattle.history_model.specs.declared.entries.Author.TheVariants as author
-use Rattle.history_model.specs.Entries.{entries_of}
-use Rattle.history_model.specs.Followed.{AllFinishWell}
-use Rattle.history_model.specs.Publications.{publications, Stands}
+use Rattle.history_model.specs.{Entries.entries_of, Followed.AllFinishWell, Publications.{publications, Stands}}
 use Rattle.track_model.specs.Tracks.{Track}
 use Rattle.trial_script.specs.Sessions.{State}
 

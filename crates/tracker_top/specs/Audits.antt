@@ -1,27 +1,17 @@
 -- How `audit` ends, on its objects, and the line that tells its status.
 use Rattle.std.specs.Prelude.{◌≡◌, ◌⊎◌, ℕ, List, [], ◌∷◌, ◌++◌, codes, decimal, Option, Some, None, IfSome}
-use Rattle.track_outside.specs.Calls.{Took, FailedIn}
-use Rattle.track_outside.specs.Counts.{Rose}
-use Rattle.track_outside.specs.Named.{NamedBytes}
+use Rattle.track_outside.specs.{Calls.{Took, FailedIn}, Counts.Rose, Named.NamedBytes}
 use Rattle.track_outside.specs.declared.files.Files as files
 use Rattle.track_outside.specs.declared.sink.Sink as sink
-use Rattle.audit_model.specs.Verdicts.{IsCutOff, IsVerdict, NoneCutOff}
-use Rattle.audit_model.specs.declared.heard.Heard.{Heard}
+use Rattle.audit_model.specs.{Verdicts.{IsCutOff, IsVerdict, NoneCutOff}, declared.heard.Heard.Heard, declared.verdict.Verdict.Verdict}
 use Rattle.audit_model.specs.declared.verdict.AuditStop.TheVariants as stop
-use Rattle.audit_model.specs.declared.verdict.Verdict.{Verdict}
 use Rattle.audit_model.specs.declared.verdict.Verdict.TheVariants as verdict
-use Rattle.audit_command.specs.declared.end.AuditEnd.{AuditEnd}
+use Rattle.audit_command.specs.{declared.end.AuditEnd.AuditEnd, Endings.{AreTexts, EndsFiles, EndsAudit as PutsAudit, IsPastAt}, Opening.names_of}
 use Rattle.audit_command.specs.declared.end.AuditEnd.TheVariants as audit
 use Rattle.audit_command.specs.declared.end.FileStop.TheVariants as unread
-use Rattle.audit_command.specs.Endings.{AreTexts, EndsFiles, EndsAudit as PutsAudit, IsPastAt}
-use Rattle.audit_command.specs.Opening.{names_of}
-use Rattle.command_words.specs.declared.command.Command.TheVariants.{Audit}
-use Rattle.command_words.specs.Commands.{AreNoCommand, IsSpelled}
-use Rattle.command_words.specs.Plans.{Files}
-use Rattle.tracker_top.specs.declared.status.Status.{Status}
-use Rattle.tracker_top.specs.declared.status.Status.TheVariants.{Done, BadWords, ReadFault, WriteFault, CutOff, NoMemory, InputTooLong, Differs}
-use Rattle.tracker_top.specs.Plays.{cut_line, long_line, script_name}
-use Rattle.tracker_top.specs.Text.{line_of}
+use Rattle.command_words.specs.{declared.command.Command.TheVariants.Audit, Commands.{AreNoCommand, IsSpelled}, Plans.Files}
+use Rattle.tracker_top.specs.declared.status.Status.{Status, TheVariants.{Done, BadWords, ReadFault, WriteFault, CutOff, NoMemory, InputTooLong, Differs}}
+use Rattle.tracker_top.specs.{Plays.{cut_line, long_line, script_name}, Text.line_of}
 
 -- ---- how it ends
 

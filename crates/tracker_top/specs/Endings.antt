@@ -1,40 +1,26 @@
 -- How a command ends, on its objects.
-use Rattle.std.specs.Io.KnownBytes.{IsAtEnd}
-use Rattle.std.specs.List.{AllByRecursion}
-use Rattle.trial_script.specs.Accepted.{IsAccepted}
+use Rattle.std.specs.{Io.KnownBytes.IsAtEnd, List.AllByRecursion}
+use Rattle.trial_script.specs.{Accepted.IsAccepted, Counts.{redone_by, RoseByRedone}, Part.IsPart, Growth.stored_after}
 use Rattle.std.specs.Prelude.{◌≡◌, ◌≢◌, ℕ, ◌+◌, ◌^◌, ◌≤◌, ◌⊎◌, List, [], ◌∷◌, Option, Some, None, Result, Ok, Err, IfSome, OnOk}
-use Rattle.track_outside.specs.Counts.{Rose}
+use Rattle.track_outside.specs.{Counts.Rose, Kept.with_more, Calls.{Took, FailedIn, IsUntouched, GaveAtMost}}
 use Rattle.track_outside.specs.declared.source.Source as source
 use Rattle.track_outside.specs.declared.sink.Sink as sink
 use Rattle.track_outside.specs.declared.keeper.Keeper as keeper
-use Rattle.track_outside.specs.Kept.{with_more}
 use Rattle.track_model.specs.Tracks.{Track}
 use Rattle.store_rows.specs.Faults.{MayHaveName}
-use Rattle.keep_rows.specs.Kept.{AreKept}
-use Rattle.keep_rows.specs.Loading.{Stored, nothing_stored, LeadTo, IsFirstBad}
-use Rattle.keep_rows.specs.Rows.{new_rows}
-use Rattle.track_outside.specs.Calls.{Took, FailedIn, IsUntouched, GaveAtMost}
+use Rattle.keep_rows.specs.{Kept.AreKept, Loading.{Stored, nothing_stored, LeadTo, IsFirstBad}, Rows.new_rows}
 use Rattle.cut_lines.specs.Stops.{GaveMayGoOn}
 use Rattle.request_words.specs.Bodies.{Item}
 use Rattle.request_reader.specs.Scripts.{Ending, end, IsScript}
-use Rattle.script_loop.specs.declared.stop.Stop.{Stop}
+use Rattle.script_loop.specs.{declared.stop.Stop.Stop, Endings.{HasRead, HasAnswered, HasWritten}, Outputs.{AsksFirst, Out}}
 use Rattle.script_loop.specs.declared.stop.Stop.TheVariants as stop
-use Rattle.script_loop.specs.Endings.{HasRead, HasAnswered, HasWritten}
-use Rattle.script_loop.specs.Outputs.{AsksFirst, Out}
-use Rattle.trial_script.specs.Counts.{redone_by, RoseByRedone}
-use Rattle.trial_script.specs.Part.{IsPart}
-use Rattle.trial_script.specs.Growth.{stored_after}
 use Rattle.trial_script.specs.Sessions.{State, AnswersFor, AnswersSome}
 use Rattle.series_gen.specs.Script.{script as script_of}
-use Rattle.command_words.specs.declared.command.Command.{Command}
-use Rattle.command_words.specs.declared.command.CutPlan.{CutPlan}
-use Rattle.command_words.specs.declared.command.Command.TheVariants.{Cut, Apply, Gen, Trial, Play, Path, Hunt, Audit}
+use Rattle.command_words.specs.declared.command.{Command.Command, CutPlan.CutPlan, Command.TheVariants.{Cut, Apply, Gen, Trial, Play, Path, Hunt, Audit}}
 use Rattle.tracker_top.specs.declared.status.Status.{Status}
 use Rattle.tracker_top.specs.declared.status.Status.TheVariants.{Done, BadWords, ReadFault, WriteFault, StoreFault, BadStore, NoMemory, Differs, TooFew}
 use Rattle.tracker_top.specs.Answers.{IsCertificateText, state_of, new_state, AllPublishWell, AllBisectWell}
-use Rattle.tracker_top.specs.Statuses.{CutShows, script_status, script_status_of}
-use Rattle.tracker_top.specs.Paths.{EndsPath}
-use Rattle.tracker_top.specs.Text.{line_of}
+use Rattle.tracker_top.specs.{Statuses.{CutShows, script_status, script_status_of}, Paths.EndsPath, Text.line_of}
 
 -- ---- cut
 

@@ -5,16 +5,11 @@ use Rattle.track_outside.specs.declared.source.Source as source
 use Rattle.track_outside.specs.declared.sink.Sink as sink
 use Rattle.track_outside.specs.declared.runner.Runner as runner
 use Rattle.line_pieces.specs.declared.stop.Stop.{Stop}
-use Rattle.commit_lines.specs.Reading.{AreNamesOf}
-use Rattle.commit_lines.specs.Stops.{BytesShow}
-use Rattle.hunt_command.specs.Endings.{EndsInput as LeavesInput, EndsHunt as PutsHunt}
-use Rattle.hunt_command.specs.declared.end.HuntEnd.{HuntEnd}
+use Rattle.commit_lines.specs.{Reading.AreNamesOf, Stops.BytesShow}
+use Rattle.hunt_command.specs.{Endings.{EndsInput as LeavesInput, EndsHunt as PutsHunt}, declared.end.HuntEnd.HuntEnd}
 use Rattle.hunt_command.specs.declared.end.HuntEnd.TheVariants as hunt
-use Rattle.command_words.specs.declared.command.HuntPlan.{HuntPlan}
-use Rattle.command_words.specs.declared.command.Command.TheVariants.{Hunt}
-use Rattle.command_words.specs.Commands.{AreNoCommand, IsSpelled}
-use Rattle.tracker_top.specs.declared.status.Status.{Status}
-use Rattle.tracker_top.specs.declared.status.Status.TheVariants.{Done, BadWords, WriteFault, NoMemory, TooFew}
+use Rattle.command_words.specs.{declared.command.HuntPlan.HuntPlan, declared.command.Command.TheVariants.Hunt, Commands.{AreNoCommand, IsSpelled}}
+use Rattle.tracker_top.specs.declared.status.Status.{Status, TheVariants.{Done, BadWords, WriteFault, NoMemory, TooFew}}
 use Rattle.tracker_top.specs.Statuses.{status_of}
 
 -- the status at which `hunt` ends so

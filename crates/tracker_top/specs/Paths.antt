@@ -3,12 +3,9 @@ use Rattle.std.specs.Prelude.{◌≡◌, pos}
 use Rattle.track_outside.specs.declared.source.Source as source
 use Rattle.track_outside.specs.declared.sink.Sink as sink
 use Rattle.command_words.specs.declared.command.PathPlan.{PathPlan}
-use Rattle.path_command.specs.Endings.{EndsInput as LeavesInput, EndsPath as PutsPath}
-use Rattle.path_command.specs.declared.end.PathEnd.{PathEnd}
+use Rattle.path_command.specs.{Endings.{EndsInput as LeavesInput, EndsPath as PutsPath}, declared.end.PathEnd.PathEnd}
 use Rattle.path_command.specs.declared.end.PathEnd.TheVariants as path
-use Rattle.tracker_top.specs.declared.status.Status.{Status}
-use Rattle.tracker_top.specs.declared.status.Status.TheVariants.{Done, WriteFault}
-use Rattle.tracker_top.specs.Statuses.{status_of}
+use Rattle.tracker_top.specs.{declared.status.Status.Status, declared.status.Status.TheVariants.{Done, WriteFault}, Statuses.status_of}
 
 -- the status at which `path` ends so
 abbrev pub path_status_of : PathEnd → Status

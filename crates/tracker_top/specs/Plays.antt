@@ -3,17 +3,13 @@ use Rattle.std.specs.Prelude.{◌≡◌, ◌⊎◌, ℕ, zero, suc, List, [], �
 use Rattle.track_outside.specs.Calls.{Took, FailedIn}
 use Rattle.track_outside.specs.declared.sink.Sink as sink
 use Rattle.track_outside.specs.declared.runner.Runner as runner
-use Rattle.command_words.specs.declared.command.Command.TheVariants.{Play}
-use Rattle.command_words.specs.Commands.{AreNoCommand, IsSpelled}
-use Rattle.command_words.specs.Plans.{Plan}
+use Rattle.command_words.specs.{declared.command.Command.TheVariants.Play, Commands.{AreNoCommand, IsSpelled}, Plans.Plan}
 use Rattle.play_fits.specs.Workers.{Asked}
-use Rattle.shared_run.specs.declared.stop.RunStop.{RunStop}
+use Rattle.shared_run.specs.{declared.stop.RunStop.RunStop, Endings.{EndsRun, HasFailed, IsDue, Objects, Told}}
 use Rattle.shared_run.specs.declared.stop.RunStop.TheVariants as run
-use Rattle.shared_run.specs.Endings.{EndsRun, HasFailed, IsDue, Objects, Told}
 use Rattle.tracker_top.specs.declared.status.Status.{Status}
 use Rattle.tracker_top.specs.declared.status.Status.TheVariants.{Done, BadWords, ReadFault, WriteFault, StoreFault, BadStore, CutOff, NoMemory, InputTooLong, Full}
-use Rattle.tracker_top.specs.Statuses.{stopped_status_of}
-use Rattle.tracker_top.specs.Text.{line_of}
+use Rattle.tracker_top.specs.{Statuses.stopped_status_of, Text.line_of}
 
 -- ---- statuses
 

@@ -6,20 +6,12 @@ use Rattle.track_outside.specs.declared.source.Source as source
 use Rattle.track_outside.specs.declared.sink.Sink as sink
 use Rattle.track_outside.specs.declared.keeper.Keeper as keeper
 use Rattle.track_outside.specs.declared.runner.Runner as runner
-use Rattle.command_words.specs.declared.command.Command.{Command}
-use Rattle.command_words.specs.declared.command.HuntPlan.{HuntPlan}
-use Rattle.command_words.specs.declared.command.Command.TheVariants.{Play, Hunt, Audit}
-use Rattle.command_words.specs.Commands.{AreNoCommand, IsSpelled}
-use Rattle.command_words.specs.Plans.{Files, Plan}
-use Rattle.shared_run.specs.Crews.{asked_by}
-use Rattle.shared_run.specs.Endings.{Objects, Told}
-use Rattle.tracker_top.specs.declared.status.Status.{Status}
-use Rattle.tracker_top.specs.declared.status.Status.TheVariants.{BadWords, NoMemory}
-use Rattle.tracker_top.specs.Audits.{AreFilesIn, AuditsAsDue, EndsAudit, IsToldOf}
-use Rattle.tracker_top.specs.Endings.{Ends, EndsUnbegun, IsTold, Streams}
-use Rattle.tracker_top.specs.Hunts.{AreAsBefore, EndsHunt, HuntsAsDue}
-use Rattle.tracker_top.specs.Plays.{AreNamesIn, AreUntouched, EndsPlay, IsToldIn, PlaysAsDue}
-use Rattle.tracker_top.specs.Statuses.{IsDue}
+use Rattle.command_words.specs.declared.command.{Command.Command, HuntPlan.HuntPlan, Command.TheVariants.{Play, Hunt, Audit}}
+use Rattle.command_words.specs.{Commands.{AreNoCommand, IsSpelled}, Plans.{Files, Plan}}
+use Rattle.shared_run.specs.{Crews.asked_by, Endings.{Objects, Told}}
+use Rattle.tracker_top.specs.declared.status.Status.{Status, TheVariants.{BadWords, NoMemory}}
+use Rattle.tracker_top.specs.{Audits.{AreFilesIn, AuditsAsDue, EndsAudit, IsToldOf}, Endings.{Ends, EndsUnbegun, IsTold, Streams}}
+use Rattle.tracker_top.specs.{Hunts.{AreAsBefore, EndsHunt, HuntsAsDue}, Plays.{AreNamesIn, AreUntouched, EndsPlay, IsToldIn, PlaysAsDue}, Statuses.IsDue}
 
 -- a command of one thread was run that opens and creates no file, or its words are none
 pub record RunsAlone {F I O K : Type 0} (g : source.Ghosts I) (h : sink.Ghosts O) (k : keeper.Ghosts K)

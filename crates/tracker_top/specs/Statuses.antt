@@ -8,15 +8,12 @@ use Rattle.script_loop.specs.declared.stop.Stop.TheVariants as script
 use Rattle.line_pieces.specs.declared.stop.Refusal.TheVariants as refusal
 use Rattle.line_pieces.specs.declared.stop.Stop.{Stop}
 use Rattle.line_pieces.specs.declared.stop.Stop.TheVariants as stop
-use Rattle.cut_lines.specs.Reading.{ArePointsWithin}
-use Rattle.cut_lines.specs.Stops.{BytesShowWithin}
-use Rattle.store_rows.specs.declared.append.AppendFault.{AppendFault}
+use Rattle.cut_lines.specs.{Reading.ArePointsWithin, Stops.BytesShowWithin}
+use Rattle.store_rows.specs.declared.{append.AppendFault.AppendFault, load.LoadFault.LoadFault}
 use Rattle.store_rows.specs.declared.append.AppendFault.TheVariants as append
-use Rattle.store_rows.specs.declared.load.LoadFault.{LoadFault}
 use Rattle.store_rows.specs.declared.load.LoadFault.TheVariants as load
 use Rattle.keep_rows.specs.Loading.{Stored, LeadTo, IsFirstBad}
-use Rattle.command_words.specs.declared.command.Command.{Command}
-use Rattle.command_words.specs.declared.command.Command.TheVariants.{Cut, Apply, Gen, Trial, Play, Path, Hunt, Audit}
+use Rattle.command_words.specs.declared.command.Command.{Command, TheVariants.{Cut, Apply, Gen, Trial, Play, Path, Hunt, Audit}}
 use Rattle.tracker_top.specs.declared.status.Status.{Status}
 use Rattle.tracker_top.specs.declared.status.Status.TheVariants.{Done, BadWords, ReadFault, WriteFault, StoreFault, BadStore, CutOff, NoMemory, InputTooLong, BadLine, Full, Differs, TooFew}
 use Rattle.command_words.specs.Commands.{IsSpelled, AreNoCommand}

@@ -1,12 +1,7 @@
 //! `audit`: whether the files of a shared run fit together.
 ghost use Rattle.std.specs.Prelude.{◌≡◌, ◌≢◌, ◌⊎◌, IfOk, IfSome, IfNone};
-ghost use Rattle.command_words.specs.declared.command.Command.TheVariants.{Audit};
-ghost use Rattle.command_words.specs.Commands.{AreNoCommand, IsSpelled};
-ghost use Rattle.command_words.specs.Plans.{Files as Named};
-ghost use Rattle.command_words.specs.Texts.{texts};
-ghost use Rattle.tracker_top.specs.declared.status.Status.{Status};
-ghost use Rattle.tracker_top.specs.Audits.{AreFilesIn, AuditsAsDue, EndsAudit, IsToldOf};
-ghost use Rattle.tracker_top.specs.Statuses.{AsksAudit};
+ghost use Rattle.command_words.specs.{declared.command.Command.TheVariants.Audit, Commands.{AreNoCommand, IsSpelled}, Plans.Files as Named, Texts.texts};
+ghost use Rattle.tracker_top.specs.{declared.status.Status.Status, Audits.{AreFilesIn, AuditsAsDue, EndsAudit, IsToldOf}, Statuses.AsksAudit};
 
 use crate::naming::put_audit_status;
 use crate::printing::put_status;

@@ -1,14 +1,7 @@
 //! `hunt`: a search by rounds of tests that run at once.
 ghost use Rattle.std.specs.Prelude.{◌≡◌, ◌≢◌, ◌≤◌, ◌⊎◌, All, length, IfOk, IfSome, IfNone};
-ghost use Rattle.command_words.specs.declared.command.Command.TheVariants.{Hunt};
-ghost use Rattle.command_words.specs.declared.command.HuntPlan.{HuntPlan};
-ghost use Rattle.command_words.specs.Commands.{AreNoCommand, IsSpelled};
-ghost use Rattle.command_words.specs.Texts.{texts};
-ghost use Rattle.tracker_top.specs.declared.status.Status.{Status};
-ghost use Rattle.tracker_top.specs.Endings.{IsTold};
-ghost use Rattle.tracker_top.specs.Hunts.{AreAsBefore, EndsHunt, HuntsAsDue};
-ghost use Rattle.tracker_top.specs.Plays.{IsNewRunner};
-ghost use Rattle.tracker_top.specs.Statuses.{AsksHunt};
+ghost use Rattle.command_words.specs.{declared.command.Command.TheVariants.Hunt, declared.command.HuntPlan.HuntPlan, Commands.{AreNoCommand, IsSpelled}, Texts.texts};
+ghost use Rattle.tracker_top.specs.{declared.status.Status.Status, Endings.IsTold, Hunts.{AreAsBefore, EndsHunt, HuntsAsDue}, Plays.IsNewRunner, Statuses.AsksHunt};
 
 use crate::printing::put_status;
 use crate::status::Status;

@@ -3,8 +3,7 @@ ghost use Rattle.std.specs.Prelude.{◌≡◌, [], ◌∷◌, ◌++◌, codes, d
 ghost use Rattle.audit_command.specs.Opening.{files_of, names_of};
 ghost use Rattle.command_words.specs.Texts.{shown};
 ghost use Rattle.track_outside.specs.Calls.{Took, FailedIn};
-ghost use Rattle.tracker_top.specs.Audits.{audit_line};
-ghost use Rattle.tracker_top.specs.Plays.{line_in, long_line, script_name};
+ghost use Rattle.tracker_top.specs.{Audits.audit_line, Plays.{line_in, long_line, script_name}};
 
 use crate::printing::{put_numbered, put_status};
 use crate::status::Status;

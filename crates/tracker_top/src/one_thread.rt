@@ -1,9 +1,7 @@
 //! A command of one thread, on its objects.
 ghost use Rattle.std.specs.Prelude.{◌≡◌};
 ghost use Rattle.command_words.specs.Texts.{texts};
-ghost use Rattle.tracker_top.specs.Endings.{streams};
-ghost use Rattle.tracker_top.specs.Runs.{RunsAlone, RunsAudit};
-ghost use Rattle.tracker_top.specs.Statuses.{AsksAudit, AsksHunt, AsksPlay};
+ghost use Rattle.tracker_top.specs.{Endings.streams, Runs.{RunsAlone, RunsAudit}, Statuses.{AsksAudit, AsksHunt, AsksPlay}};
 
 use crate::auditing::audit;
 use crate::status::Status;

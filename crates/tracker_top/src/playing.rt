@@ -1,13 +1,8 @@
 //! `play`: scripts that run at once.
 ghost use Rattle.std.specs.Prelude.{◌≡◌, ◌≢◌, ◌≤◌, ◌⊎◌, ℕ, List, All, length, IfOk, IfSome, IfNone};
-ghost use Rattle.command_words.specs.declared.command.Command.TheVariants.{Play};
-ghost use Rattle.command_words.specs.Commands.{AreNoCommand, IsSpelled};
-ghost use Rattle.command_words.specs.Plans.{Plan};
-ghost use Rattle.command_words.specs.Texts.{texts};
-ghost use Rattle.tracker_top.specs.declared.status.Status.{Status};
-ghost use Rattle.tracker_top.specs.Plays.{AreNamesIn, AreUntouched, EndsPlay, IsNewRunner, IsToldIn, PlaysAsDue};
+ghost use Rattle.command_words.specs.{declared.command.Command.TheVariants.Play, Commands.{AreNoCommand, IsSpelled}, Plans.Plan, Texts.texts};
+ghost use Rattle.tracker_top.specs.{declared.status.Status.Status, Plays.{AreNamesIn, AreUntouched, EndsPlay, IsNewRunner, IsToldIn, PlaysAsDue}, Statuses.AsksPlay};
 ghost use Rattle.shared_run.specs.Crews.{asked_by};
-ghost use Rattle.tracker_top.specs.Statuses.{AsksPlay};
 
 use crate::naming::put_play_status;
 use crate::status::Status;

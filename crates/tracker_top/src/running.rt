@@ -1,10 +1,7 @@
 //! The whole program, on its objects.
 ghost use Rattle.std.specs.Prelude.{◌≡◌, ◌≤◌, All, length};
 ghost use Rattle.command_words.specs.Texts.{texts};
-ghost use Rattle.tracker_top.specs.Plays.{IsNewRunner};
-ghost use Rattle.tracker_top.specs.Endings.{streams};
-ghost use Rattle.tracker_top.specs.Runs.{RunsAlone, RunsAudit, RunsHunt, RunsPlay};
-ghost use Rattle.tracker_top.specs.Statuses.{AsksAudit, AsksHunt, AsksPlay};
+ghost use Rattle.tracker_top.specs.{Plays.IsNewRunner, Endings.streams, Runs.{RunsAlone, RunsAudit, RunsHunt, RunsPlay}, Statuses.{AsksAudit, AsksHunt, AsksPlay}};
 
 use crate::hunting::hunt;
 use crate::one_thread::alone;

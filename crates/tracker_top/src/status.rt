@@ -1,12 +1,6 @@
 //! How a command ends.
-ghost use Rattle.std.specs.Prelude.{◌≡◌};
-ghost use Rattle.std.specs.Process.{exit_status};
-ghost use Rattle.tracker_top.specs.Statuses.{append_status_of, load_status_of, number_of, script_status_of, status_of, stopped_status_of};
-ghost use Rattle.tracker_top.specs.Audits.{audit_status_of};
-ghost use Rattle.tracker_top.specs.Hunts.{hunt_status_of};
-ghost use Rattle.tracker_top.specs.Paths.{path_status_of};
-ghost use Rattle.tracker_top.specs.Plays.{run_status_of};
-ghost use Rattle.tracker_top.specs.declared.status.Status.{Status};
+ghost use Rattle.std.specs.{Prelude.◌≡◌, Process.exit_status};
+ghost use Rattle.tracker_top.specs.{Statuses.{append_status_of, load_status_of, number_of, script_status_of, status_of, stopped_status_of}, Audits.audit_status_of, Hunts.hunt_status_of, Paths.path_status_of, Plays.run_status_of, declared.status.Status.Status};
 
 use audit_command::{AuditEnd, AuditStop, FileStop, Verdict};
 use cut_lines::{Refusal, Stop};

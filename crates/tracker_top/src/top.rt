@@ -3,14 +3,8 @@ ghost use Rattle.std.specs.Prelude.{◌≡◌, ◌≢◌, ℕ, ◌⊎◌, List, 
 ghost use Rattle.track_outside.specs.Counts.{Rose};
 ghost use Rattle.trial_script.specs.Sessions.{State};
 ghost use Rattle.script_loop.specs.declared.stop.Stop.{Stop};
-ghost use Rattle.command_words.specs.declared.command.Command.{Command};
-ghost use Rattle.command_words.specs.declared.command.Command.TheVariants.{Cut, Path};
-ghost use Rattle.command_words.specs.Commands.{IsSpelled, IsInRange, AreNoCommand};
-ghost use Rattle.command_words.specs.Texts.{texts};
-ghost use Rattle.tracker_top.specs.Paths.{EndsPath};
-ghost use Rattle.tracker_top.specs.Statuses.{script_status, AsksAudit, AsksHunt, AsksPlay, IsDue, OneStatusIsDue};
-ghost use Rattle.tracker_top.specs.Answers.{IsCertificateText, IsTextOf, StandsBy, state_of, AllBisectWell};
-ghost use Rattle.tracker_top.specs.Endings.{EndsInput, EndsOutput, AnswersScript, EndsApply, EndsWell, RefusesNone, IsOfOutput, RunsScript, IsPlain, Ends, EndsUnbegun, IsTold, streams};
+ghost use Rattle.command_words.specs.{declared.command.Command.Command, declared.command.Command.TheVariants.{Cut, Path}, Commands.{IsSpelled, IsInRange, AreNoCommand}, Texts.texts};
+ghost use Rattle.tracker_top.specs.{Paths.EndsPath, Statuses.{script_status, AsksAudit, AsksHunt, AsksPlay, IsDue, OneStatusIsDue}, Answers.{IsCertificateText, IsTextOf, StandsBy, state_of, AllBisectWell}, Endings.{EndsInput, EndsOutput, AnswersScript, EndsApply, EndsWell, RefusesNone, IsOfOutput, RunsScript, IsPlain, Ends, EndsUnbegun, IsTold, streams}};
 ghost use Rattle.series_gen.specs.Script.{script as script_of};
 
 use crate::printing::put_status;

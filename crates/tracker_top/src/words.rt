@@ -1,8 +1,7 @@
 //! The program's words, those behind its name.
 ghost use Rattle.std.specs.Prelude.{◌≡◌, ◌↔◌, ◌⊎◌, true, Err, IsUtf8, string_bytes, IfOk, IfErr, IsTrue};
 ghost use Rattle.command_words.specs.Texts.{texts};
-ghost use Rattle.tracker_top.specs.Statuses.{Asks, AsksAudit, AsksHunt, AsksPlay};
-ghost use Rattle.tracker_top.specs.declared.status.Status.{Status};
+ghost use Rattle.tracker_top.specs.{Statuses.{Asks, AsksAudit, AsksHunt, AsksPlay}, declared.status.Status.Status};
 
 use crate::status::Status;
 use std::alloc::{AllocError, Global};

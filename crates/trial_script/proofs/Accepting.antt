@@ -1,44 +1,28 @@
 -- Each request of the script is accepted on the history that those before it leave.
 use Rattle.std.proofs.Common.{◌≡◌, ◌≢◌, ℕ, pos, suc, ◌+◌, ◌*◌, ◌%◌, ◌<◌, ◌≤◌, ◌^◌, true, not, List, [], ◌∷◌, ◌++◌, length, refl, sym, ◌∙◌, subst, arith, length-append, append-nil, Some, None}
-use Rattle.std.proofs.lemmas.Int.{ints}
-use Rattle.std.proofs.lemmas.List.Elements.{All-cons, All-nil}
+use Rattle.std.proofs.lemmas.{Int.ints, List.Elements.{All-cons, All-nil}}
 use Rattle.metric_table.specs.Limits.{most}
 use Rattle.metric_table.specs.declared.limits.Limit.TheVariants as limit
 use Rattle.sample_model.specs.Samples.{Measurement, IsSample, AreSamples}
-use Rattle.segment_model.specs.Cuts.{RisesBetween}
-use Rattle.segment_model.specs.Limits.{IsLength}
-use Rattle.segment_model.proofs.CutLists.{places-rise}
-use Rattle.segment_model.specs.Brought.{ValuesAreBrought}
+use Rattle.segment_model.{specs.Cuts.RisesBetween, specs.Limits.IsLength, proofs.CutLists.places-rise, specs.Brought.ValuesAreBrought}
 use Rattle.segment_cost.specs.declared.cert.Cert.{Cert}
-use Rattle.history_model.specs.declared.entries.Entry.{Entry}
+use Rattle.history_model.specs.declared.{entries.Entry.Entry, entries.Declaration.Declaration, run.Run.Run, publication.Publication.Publication}
 use Rattle.history_model.specs.declared.entries.Entry.TheVariants as entry
-use Rattle.history_model.specs.declared.entries.Declaration.{Declaration}
-use Rattle.history_model.specs.declared.run.Run.{Run}
-use Rattle.history_model.specs.declared.publication.Publication.{Publication}
-use Rattle.history_model.specs.declared.setting.Setting.{Setting}
-use Rattle.history_model.specs.Allowed.{count_of, first_passed, run_limits}
-use Rattle.history_model.specs.Commits.{declarations, number_of}
-use Rattle.history_model.specs.Penalties.{length_of, SettingIsSet, SettingStays}
-use Rattle.history_model.specs.Positions.{positions, brought}
-use Rattle.history_model.specs.Runs.{acceptances, retractions, accepted, retracted, is_known, is_of, live_runs, Series}
-use Rattle.history_model.specs.Publications.{last_publication}
+use Rattle.history_model.specs.{declared.setting.Setting.Setting, Allowed.{count_of, first_passed, run_limits}, Commits.{declarations, number_of}}
+use Rattle.history_model.specs.{Penalties.{length_of, SettingIsSet, SettingStays}, Positions.{positions, brought}}
+use Rattle.history_model.specs.{Runs.{acceptances, retractions, accepted, retracted, is_known, is_of, live_runs, Series}, Publications.last_publication}
 use Rattle.history_model.specs.Laws.{DeclarationsGrow, AcceptancesGrow, RetractionsGrow, LimitsAfterCommit, LimitsAfterRetract, LimitsAfterTune, LimitsAfterPublish, SeriesKeepLimits, CountsAfterAccept, SamplesFit, PositionsFit, FirstKept, RunKeepsLimits, PublicationIsLast, CutsGrow}
 use Rattle.request_model.specs.declared.requests.Request.TheVariants as request
-use Rattle.request_model.specs.declared.replies.Refusal.{Refusal}
-use Rattle.request_model.specs.declared.replies.Answer.{Answer}
+use Rattle.request_model.specs.declared.replies.{Refusal.Refusal, Answer.Answer}
 use Rattle.request_model.specs.declared.replies.Answer.TheVariants as answer
 use Rattle.track_model.specs.Forms as forms
-use Rattle.track_model.specs.Outcomes.{Outcome}
-use Rattle.track_model.specs.Laws.{CommitIsAdded, RetractIsAdded, TuneIsAdded, TuneMayFollow, PublishIsAdded}
-use Rattle.track_model.specs.Tracks.{ComesTo}
+use Rattle.track_model.specs.{Outcomes.Outcome, Laws.{CommitIsAdded, RetractIsAdded, TuneIsAdded, TuneMayFollow, PublishIsAdded}, Tracks.ComesTo}
 use Rattle.track_model.specs.Publishing.{OfKnown, OfPublished, IsPublished, TellsChanges, publication, redone_since, segmented}
 use Rattle.series_gen.specs.Script.{place}
 use Rattle.trial_script.specs.Requests as asked
 use Rattle.trial_script.proofs.Lists.{filter_few}
 use Rattle.trial_script.proofs.Reached.{AreLists, Reached, long_stays, no_number, no_name, no_run, not_back, with_commit, with_run, with_retraction}
-use Rattle.trial_script.proofs.Bounds.{series, brought_few, positions_few, samples_few, series_few, new_few, known_there}
-use Rattle.trial_script.proofs.Passing.{Good}
-use Rattle.trial_script.proofs.PlainWords.{plain_name}
+use Rattle.trial_script.proofs.{Bounds.{series, brought_few, positions_few, samples_few, series_few, new_few, known_there}, Passing.Good, PlainWords.plain_name}
 
 -- an entry is added, and nothing refused
 good_added : (Q : List Entry → Type 0) (h : List Entry) (o : Outcome) (told : Answer) (e : Entry) → o ≡ record { answer = told; adds = Some e }

@@ -1,23 +1,18 @@
 -- The whole script of a number is accepted.
 use Rattle.std.proofs.Common.{◌≡◌, ℕ, pos, suc, ◌+◌, ◌*◌, ◌%◌, ◌<◌, ◌≤◌, Bool, true, false, [], ◌∷◌, ◌++◌, refl, subst, arith, None}
-use Rattle.std.specs.Prelude.{◌==◌, if◌then◌else◌}
-use Rattle.std.proofs.lemmas.Bool.Decides.{nat_tests}
-use Rattle.metric_table.specs.Limits.{most}
-use Rattle.metric_table.specs.declared.limits.Limit.{Limit}
+use Rattle.std.{specs.Prelude.{◌==◌, if◌then◌else◌}, proofs.lemmas.Bool.Decides.nat_tests}
+use Rattle.metric_table.specs.{Limits.most, declared.limits.Limit.Limit}
 use Rattle.metric_table.specs.declared.limits.Limit.TheVariants as limit
 use Rattle.segment_model.specs.Brought.{ValuesAreBrought}
-use Rattle.history_model.specs.Allowed.{count_of}
-use Rattle.history_model.specs.Penalties.{SettingIsSet, SettingStays}
+use Rattle.history_model.specs.{Allowed.count_of, Penalties.{SettingIsSet, SettingStays}}
 use Rattle.history_model.specs.Laws.{DeclarationsGrow, AcceptancesGrow, RetractionsGrow, LimitsAfterCommit, LimitsAfterRetract, LimitsAfterTune, LimitsAfterPublish, SeriesKeepLimits, CountsAfterAccept, SamplesFit, PositionsFit, FirstKept, RunKeepsLimits, PublicationIsLast, CutsGrow}
 use Rattle.request_model.specs.declared.requests.Request.TheVariants as request
 use Rattle.track_model.specs.Laws.{CommitIsAdded, RetractIsAdded, TuneIsAdded, TuneMayFollow, PublishIsAdded}
 use Rattle.series_gen.specs.Script.{place, value, state_after}
 use Rattle.trial_script.specs.Requests as asked
-use Rattle.trial_script.specs.Accepted.{EachIsAccepted, NoneIsRefused}
-use Rattle.trial_script.specs.Laws.{ScriptIsWhole}
+use Rattle.trial_script.{specs.Accepted.{EachIsAccepted, NoneIsRefused}, specs.Laws.ScriptIsWhole, proofs.Reached.Reached}
 use Rattle.script_session.specs.Sessions.{AnswersFor}
 use Rattle.script_loop.specs.Folds.{AreAnswers}
-use Rattle.trial_script.proofs.Reached.{Reached}
 use Rattle.trial_script.proofs.Parts.{machine_asked, commits_asked, tune_asked, runs_asked, retracts_asked, segment_asked, changes_asked}
 use Rattle.trial_script.proofs.Passing.{Passes, Begins, one, behind, begun_then, nothing, in_turn, declared}
 use Rattle.trial_script.proofs.Accepting.{Turned, Ready, commit_good, tune_good, retract_good, submit_good, segment_good, last_good, changes_good}

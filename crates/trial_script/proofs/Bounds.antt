@@ -1,18 +1,12 @@
 -- How much runs of one sample each bring.
 use Rattle.std.proofs.Common.{◌≡◌, ℕ, suc, ◌+◌, ◌<◌, ◌≤◌, Bool, true, false, not, List, [], ◌∷◌, length, filter, map, refl, ap, arith, length-append}
-use Rattle.std.specs.Prelude.{find, is_none, flat_map, if◌then◌else◌, nat_lt, ◌==◌}
-use Rattle.std.specs.List.{AllByRecursion, list_any}
-use Rattle.std.proofs.lemmas.List.{length-map}
-use Rattle.std.proofs.lemmas.List.Sums.{sum_by-cons}
-use Rattle.std.proofs.lemmas.List.Concat.{flat_map-cons}
+use Rattle.std.{specs.Prelude.{find, is_none, flat_map, if◌then◌else◌, nat_lt, ◌==◌}, specs.List.{AllByRecursion, list_any}, proofs.lemmas.List.length-map}
+use Rattle.std.proofs.lemmas.List.{Sums.sum_by-cons, Concat.flat_map-cons}
 use Rattle.sample_model.specs.Samples.{Measurement}
 use Rattle.segment_model.specs.Brought.{Brought, in_place, rising, positions_of}
-use Rattle.history_model.specs.declared.entries.Acceptance.{Acceptance}
-use Rattle.history_model.specs.Positions.{brought_by, brought}
+use Rattle.history_model.specs.{declared.entries.Acceptance.Acceptance, Positions.{brought_by, brought}}
 use Rattle.history_model.specs.Runs.{Retraction, Series, is_of, same_series, distinct, series_of, sample_count, live_of, measured, takes_back}
-use Rattle.trial_script.specs.Requests.{sample, test, metric}
-use Rattle.trial_script.proofs.Lists.{filter_few}
-use Rattle.trial_script.proofs.Reached.{IsTaken}
+use Rattle.trial_script.{specs.Requests.{sample, test, metric}, proofs.Lists.filter_few, proofs.Reached.IsTaken}
 
 abbrev pub series : Series
 series = record { test = test; metric = metric }

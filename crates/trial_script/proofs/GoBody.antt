@@ -1,33 +1,16 @@
 -- The body of a submission is one sample.
 use Rattle.std.proofs.Common.{◌≡◌, ◌≢◌, ℕ, pos, zero, suc, ◌*◌, ◌^◌, ◌<◌, ◌≤◌, inl, inr, true, false, not, List, [], ◌∷◌, ◌++◌, length, take, get_or, refl, sym, ap, ◌∙◌, subst, arith, eqb, append-nil, lit<}
-use Rattle.std.specs.Prelude.{codes, decimal, nat_lt, All}
-use Rattle.std.specs.List.{list_all}
-use Rattle.std.specs.Int.{IsInRange}
-use Rattle.std.specs.Str.{chars, IsUtf8}
-use Rattle.std.specs.Str.Parse.{AllDigits, digits_value}
-use Rattle.std.proofs.lemmas.Str.{IsUtf8-from_ascii, IsAscii-append, chars-IsAscii}
-use Rattle.std.proofs.lemmas.Str.Parse.{digit_from_value}
-use Rattle.std.proofs.lemmas.Bool.{not-true}
-use Rattle.std.proofs.lemmas.Bool.Decides.{nat_tests}
-use Rattle.std.proofs.lemmas.Fmt.{decimal_is_IsNumeral, length-decimal-le}
-use Rattle.std.proofs.lemmas.List.Elements.{All-append, All-nil, All-cons}
-use Rattle.std.proofs.lemmas.List.Sums.{AllPass-from_list_all}
+use Rattle.std.specs.{Prelude.{codes, decimal, nat_lt, All}, List.list_all, Int.IsInRange, Str.{chars, IsUtf8}, Str.Parse.{AllDigits, digits_value}}
+use Rattle.std.proofs.lemmas.{Str.{IsUtf8-from_ascii, IsAscii-append, chars-IsAscii}, Str.Parse.digit_from_value, Bool.not-true, Bool.Decides.nat_tests}
+use Rattle.std.proofs.lemmas.{Fmt.{decimal_is_IsNumeral, length-decimal-le}, List.Elements.{All-append, All-nil, All-cons}, List.Sums.AllPass-from_list_all}
 use Rattle.line_text.specs.Lines.{lines_of, LinesEnd}
-use Rattle.fixed_value.specs.Fixed.{IsFixedByte}
-use Rattle.fixed_value.specs.Numerals.{IsNumeralText}
-use Rattle.fixed_value.specs.Numerals.IsSign.{no_sign}
-use Rattle.fixed_value.specs.Numerals.IsFraction.{no_point}
-use Rattle.fixed_value.specs.Numerals.IsExponent.{no_mark}
+use Rattle.fixed_value.specs.{Fixed.IsFixedByte, Numerals.IsNumeralText, Numerals.IsSign.no_sign, Numerals.IsFraction.no_point, Numerals.IsExponent.no_mark}
 use Rattle.fixed_value.specs.declared.numeral.Numeral.{Numeral}
 use Rattle.metric_value.specs.Values.{IsValueOf}
 use Rattle.ucd_table.specs.Rows.{value_in}
-use Rattle.ucd_category.specs.GeneralCategory.{general_category}
-use Rattle.ucd_category.specs.GeneralCategoryRows.{general_category_rows}
-use Rattle.go_bench_text.specs.Characters.{is_black, is_name}
-use Rattle.go_bench_text.specs.Lines.{IsResult}
-use Rattle.go_bench_text.specs.Readings.{HasLarge, IsOver, IsRead, LinesGive}
-use Rattle.go_bench_text.specs.Readings.LineGives.{measured, silent}
-use Rattle.go_bench_text.proofs.PutFields.{MayPut, put_fields, ascii_word, ascii_of}
+use Rattle.ucd_category.specs.{GeneralCategory.general_category, GeneralCategoryRows.general_category_rows}
+use Rattle.go_bench_text.specs.{Characters.{is_black, is_name}, Lines.IsResult, Readings.{HasLarge, IsOver, IsRead, LinesGive}}
+use Rattle.go_bench_text.{specs.Readings.LineGives.{measured, silent}, proofs.PutFields.{MayPut, put_fields, ascii_word, ascii_of}}
 use Rattle.go_bench_text.proofs.LineParts.{over_parts, none_over, silent_in_range}
 use Rattle.trial_script.specs.Requests.{test, metric, sample}
 

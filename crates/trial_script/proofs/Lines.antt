@@ -1,23 +1,17 @@
 -- Each line of the script of a number is a piece, which asks its request.
 use Rattle.std.proofs.Common.{◌≡◌, ℕ, pos, zero, suc, ◌*◌, ◌^◌, ◌<◌, ◌≤◌, List, [], ◌∷◌, ◌++◌, length, refl, sym, ap, ◌∙◌, subst, arith, lit<, length-append, append_assoc, append-nil, None, Ok}
-use Rattle.std.specs.Prelude.{codes, decimal}
-use Rattle.std.specs.Str.Parse.{digits_value}
-use Rattle.std.proofs.lemmas.Fmt.{decimal_is_IsNumeral, length-decimal-le}
+use Rattle.std.{specs.Prelude.{codes, decimal}, specs.Str.Parse.digits_value, proofs.lemmas.Fmt.{decimal_is_IsNumeral, length-decimal-le}}
 use Rattle.std.proofs.lemmas.Int.Digits.{digits_value-lt}
-use Rattle.line_text.specs.Lines.{LinesEnd, WordsGoOn, AreOneWord}
-use Rattle.line_text.specs.Names.{IsName, NamesAreSpelledBack}
-use Rattle.line_text.specs.Numbers.{IsNumber, NumbersAreSpelled}
+use Rattle.line_text.specs.{Lines.{LinesEnd, WordsGoOn, AreOneWord}, Names.{IsName, NamesAreSpelledBack}, Numbers.{IsNumber, NumbersAreSpelled}}
 use Rattle.request_model.specs.Lines.{spaced}
 use Rattle.request_model.specs.declared.requests.Request.TheVariants as request
-use Rattle.request_words.specs.Forms.{machine, commit, submit_go, retract, tune, name_of}
-use Rattle.request_words.specs.Bodies.{AsksNamed}
+use Rattle.request_words.specs.{Forms.{machine, commit, submit_go, retract, tune, name_of}, Bodies.AsksNamed}
 use Rattle.request_reader.specs.Scripts.{ArePieces}
 use Rattle.request_text.proofs.WrittenBack.{worded_piece, written_back}
 use Rattle.request_text.proofs.WrittenLines.{IsShortWord, number_word, a_word, machine_word, commit_word, submit_word, go_word, retract_word, tune_word}
 use Rattle.series_gen.specs.Script.{line, place, commit_line, submit_line, body_line, segment_line, retract_line}
 use Rattle.trial_script.specs.Requests as asked
-use Rattle.trial_script.proofs.PlainWords.{IsOwnWord, plain_name, own_word, numbered}
-use Rattle.trial_script.proofs.GoBody.{body_read}
+use Rattle.trial_script.proofs.{PlainWords.{IsOwnWord, plain_name, own_word, numbered}, GoBody.body_read}
 
 -- ---- numbers in words
 

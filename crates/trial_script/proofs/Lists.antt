@@ -1,12 +1,7 @@
 -- Plain lists: what is found in them, and how long they are.
 use Rattle.std.proofs.Common.{◌≡◌, ◌≢◌, ℕ, suc, ◌<◌, ◌≤◌, Bool, true, false, List, [], ◌∷◌, ◌++◌, length, filter, refl, ◌∙◌, subst, arith, Option, Some, None}
-use Rattle.std.specs.Prelude.{find, nat_lt, if◌then◌else◌, bytes_eq}
-use Rattle.std.specs.List.{AllByRecursion}
-use Rattle.std.specs.Option.{option_or}
-use Rattle.std.proofs.lemmas.Bool.Decides.{nat_tests}
-use Rattle.std.proofs.lemmas.List.Folds.{find-append}
-use Rattle.std.proofs.lemmas.Slice.Eq.{bytes_eq-Decides}
-use Rattle.std.proofs.lemmas.Fmt.{decimal_injective}
+use Rattle.std.{specs.Prelude.{find, nat_lt, if◌then◌else◌, bytes_eq}, specs.List.AllByRecursion, specs.Option.option_or, proofs.lemmas.Bool.Decides.nat_tests}
+use Rattle.std.proofs.lemmas.{List.Folds.find-append, Slice.Eq.bytes_eq-Decides, Fmt.decimal_injective}
 use Rattle.std.specs.Prelude.{decimal, ◌^◌}
 
 -- ---- below a number

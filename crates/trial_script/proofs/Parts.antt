@@ -1,6 +1,5 @@
 -- The parts of the script of a number: their texts, and what each asks.
-use Rattle.std.proofs.Common.{ℕ, pos, List, [], ◌∷◌, None}
-use Rattle.std.specs.Prelude.{codes}
+use Rattle.std.{proofs.Common.{ℕ, pos, List, [], ◌∷◌, None}, specs.Prelude.codes}
 use Rattle.request_model.specs.declared.requests.Request.{Request}
 use Rattle.request_model.specs.declared.requests.Request.TheVariants as request
 use Rattle.series_gen.specs.Script.{line, in_turn, commit_line, turn, retract_line}

@@ -2,30 +2,19 @@
 -- them, and none of them is refused.
 use Rattle.std.proofs.Common.{◌≡◌, ◌≢◌, ℕ, zero, suc, ◌<◌, Bool, true, false, cond, List, [], ◌∷◌, ◌++◌, refl, sym, ap, ◌∙◌, subst, arith, append_assoc, append-nil, Option, Some, None, Ok}
 use Rattle.std.specs.FinSet as set
-use Rattle.std.specs.Prelude.{bytes_eq, find, nat_eq, option_to_list}
-use Rattle.std.specs.List.{AllByRecursion}
-use Rattle.std.proofs.lemmas.List.{map-append}
-use Rattle.history_model.specs.declared.entries.Author.{Author}
-use Rattle.history_model.specs.declared.entries.Entry.{Entry}
-use Rattle.history_model.specs.Entries.{entries_of}
-use Rattle.history_model.proofs.Chosen.{entries-push}
-use Rattle.request_model.specs.declared.requests.Request.{Request}
+use Rattle.std.{specs.Prelude.{bytes_eq, find, nat_eq, option_to_list}, specs.List.AllByRecursion, proofs.lemmas.List.map-append}
+use Rattle.history_model.{specs.declared.entries.Author.Author, specs.declared.entries.Entry.Entry, specs.Entries.entries_of, proofs.Chosen.entries-push}
+use Rattle.request_model.specs.{declared.requests.Request.Request, declared.replies.Refusal.Refusal, declared.replies.Reply.Reply, Requests.machine_of}
 use Rattle.request_model.specs.declared.requests.Request.TheVariants as request
-use Rattle.request_model.specs.declared.replies.Refusal.{Refusal}
 use Rattle.request_model.specs.declared.replies.Answer.TheVariants as answer
-use Rattle.request_model.specs.declared.replies.Reply.{Reply}
-use Rattle.track_model.specs.Outcomes.{Outcome}
-use Rattle.track_model.specs.Replies.{reply_of}
-use Rattle.request_model.specs.Requests.{machine_of}
+use Rattle.track_model.specs.{Outcomes.Outcome, Replies.reply_of}
 use Rattle.history_model.specs.Runs.{Series}
 use Rattle.request_model.specs.declared.replies.Answer.{Answer}
 use Rattle.track_model.specs.Tracks.{Track, new_track, with_added, with_answered, with_home, with_segmented, with_taken, base_of, base_asked, ComesTo}
 use Rattle.request_words.specs.Bodies.{Item}
 use Rattle.script_session.specs.Sessions.{Answered, State, Answers, AnswersAbout, AnswersFor, is_track, stepped}
 use Rattle.script_loop.specs.Folds.{AreAnswers}
-use Rattle.trial_script.specs.Requests.{machine, asked_in_turn}
-use Rattle.trial_script.specs.Accepted.{IsAccepted}
-use Rattle.trial_script.proofs.Turns.{oks}
+use Rattle.trial_script.{specs.Requests.{machine, asked_in_turn}, specs.Accepted.IsAccepted, proofs.Turns.oks}
 
 -- the session has the one machine alone, with this history
 pub record On (s : State) (h : List Entry) : Type 0 where

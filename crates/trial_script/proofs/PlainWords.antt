@@ -1,16 +1,8 @@
 -- Words that spell themselves: of plain bytes, as digits are.
 use Rattle.std.proofs.Common.{◌≡◌, ℕ, ◌^◌, ◌<◌, ◌≤◌, Bool, true, false, ◌&&◌, List, [], ◌∷◌, ◌++◌, length, get_or, refl, sym, ap, ◌∙◌, subst, arith}
-use Rattle.std.specs.Prelude.{decimal, nat_lt, if◌then◌else◌}
-use Rattle.std.specs.List.{list_all}
-use Rattle.std.specs.Int.{IsInRange}
-use Rattle.std.specs.Str.{IsAscii}
-use Rattle.std.specs.Str.Parse.{AllDigits}
-use Rattle.std.proofs.lemmas.Str.{IsUtf8-from_ascii}
-use Rattle.std.proofs.lemmas.Str.Parse.{digit_from_value}
-use Rattle.std.proofs.lemmas.Bool.{and_from}
-use Rattle.std.proofs.lemmas.Bool.Decides.{nat_tests}
-use Rattle.std.proofs.lemmas.Fmt.{decimal_is_IsNumeral, length-decimal-le}
-use Rattle.std.proofs.lemmas.List.Concat.{flat_map-cons}
+use Rattle.std.specs.{Prelude.{decimal, nat_lt, if◌then◌else◌}, List.list_all, Int.IsInRange, Str.IsAscii, Str.Parse.AllDigits}
+use Rattle.std.proofs.lemmas.{Str.IsUtf8-from_ascii, Str.Parse.digit_from_value, Bool.and_from, Bool.Decides.nat_tests}
+use Rattle.std.proofs.lemmas.{Fmt.{decimal_is_IsNumeral, length-decimal-le}, List.Concat.flat_map-cons}
 use Rattle.std.proofs.lemmas.List.Sums.{AllPass-from_list_all, list_all-from_AllPass}
 use Rattle.line_text.specs.Names.{IsName, is_plain, byte_spelling, spelling, Spells, NamesAreSpelledBack}
 use Rattle.go_bench_text.proofs.PutFields.{ascii_word}

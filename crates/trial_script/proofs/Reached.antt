@@ -1,17 +1,10 @@
 -- What a history has once so many commits were declared, runs accepted and runs taken back.
 use Rattle.std.proofs.Common.{◌≡◌, ℕ, suc, ◌+◌, ◌*◌, ◌<◌, ◌≤◌, ◌^◌, false, List, [], ◌∷◌, ◌++◌, length, sym, subst, ap, ◌∙◌, arith, length-append, None}
-use Rattle.std.specs.Prelude.{find, bytes_eq}
-use Rattle.std.specs.List.{AllByRecursion}
-use Rattle.std.proofs.lemmas.Bool.Decides.{nat_tests}
+use Rattle.std.{specs.Prelude.{find, bytes_eq}, specs.List.AllByRecursion, proofs.lemmas.Bool.Decides.nat_tests}
 use Rattle.segment_model.specs.Limits.{IsLength}
-use Rattle.history_model.specs.declared.entries.Acceptance.{Acceptance}
-use Rattle.history_model.specs.declared.entries.Declaration.{Declaration}
-use Rattle.history_model.specs.declared.entries.Entry.{Entry}
-use Rattle.history_model.specs.declared.setting.Setting.{Setting}
-use Rattle.history_model.specs.Allowed.{KeepsLimits}
-use Rattle.history_model.specs.Commits.{declarations, has_name, has_number}
-use Rattle.history_model.specs.Runs.{Retraction, acceptances, retractions, is_run, takes_back}
-use Rattle.history_model.specs.Penalties.{length_of, set_for, SettingStays}
+use Rattle.history_model.specs.declared.{entries.Acceptance.Acceptance, entries.Declaration.Declaration, entries.Entry.Entry, setting.Setting.Setting}
+use Rattle.history_model.specs.{Allowed.KeepsLimits, Commits.{declarations, has_name, has_number}}
+use Rattle.history_model.specs.{Runs.{Retraction, acceptances, retractions, is_run, takes_back}, Penalties.{length_of, set_for, SettingStays}}
 use Rattle.history_model.specs.Publications.{cut_count}
 use Rattle.trial_script.specs.Requests.{metric, commit_name, run_name, sample}
 use Rattle.trial_script.proofs.Lists.{below_suc, all_more, all_of, Found, find_none, find_more, find_last, same_name, other_name}

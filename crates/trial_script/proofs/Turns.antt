@@ -1,13 +1,11 @@
 -- Whole pieces one after another, and how many bytes they are.
-use Rattle.std.proofs.Common.{ℕ, zero, suc, ◌*◌, ◌<◌, ◌≤◌, List, [], ◌++◌, length, refl, sym, subst, arith, length-append, Ok}
-use Rattle.std.specs.Prelude.{map}
+use Rattle.std.{proofs.Common.{ℕ, zero, suc, ◌*◌, ◌<◌, ◌≤◌, List, [], ◌++◌, length, refl, sym, subst, arith, length-append, Ok}, specs.Prelude.map}
 use Rattle.std.proofs.lemmas.List.{map-append}
 use Rattle.request_model.specs.declared.requests.Request.{Request}
 use Rattle.request_words.specs.Bodies.{Item}
-use Rattle.request_reader.specs.Scripts.{ArePieces}
+use Rattle.request_reader.{specs.Scripts.ArePieces, proofs.PieceLists.pieces_join}
 use Rattle.series_gen.specs.Script.{in_turn}
 use Rattle.trial_script.specs.Requests.{asked_in_turn}
-use Rattle.request_reader.proofs.PieceLists.{pieces_join}
 
 -- requests as items
 abbrev pub oks : List Request → List Item

@@ -1,15 +1,10 @@
 -- The script of a number is whole, and asks what it is for.
 use Rattle.std.proofs.Common.{ℕ, suc, ◌+◌, ◌*◌, ◌%◌, ◌^◌, ◌<◌, ◌≤◌, inl, inr, Bool, true, false, List, [], ◌∷◌, ◌++◌, length, refl, sym, arith, length-append, append-nil}
-use Rattle.std.specs.Prelude.{codes, decimal, ◌==◌, if◌then◌else◌}
-use Rattle.std.proofs.lemmas.Fmt.{length-decimal-le}
-use Rattle.std.proofs.lemmas.List.Elements.{All-nil}
-use Rattle.line_text.specs.Lines.{LinesEnd, WordsGoOn, AreOneWord}
-use Rattle.line_text.specs.Names.{NamesAreSpelledBack}
-use Rattle.line_text.specs.Numbers.{NumbersAreSpelled}
-use Rattle.request_words.specs.Bodies.{Item}
+use Rattle.std.{specs.Prelude.{codes, decimal, ◌==◌, if◌then◌else◌}, proofs.lemmas.Fmt.length-decimal-le, proofs.lemmas.List.Elements.All-nil}
+use Rattle.line_text.specs.{Lines.{LinesEnd, WordsGoOn, AreOneWord}, Names.NamesAreSpelledBack, Numbers.NumbersAreSpelled}
+use Rattle.request_words.{specs.Bodies.Item, proofs.Skipped.skipped_counts}
 use Rattle.request_reader.specs.Scripts.{ArePieces, IsScript, last, end, input_limit}
 use Rattle.script_session.specs.Laws.{OneScript}
-use Rattle.request_words.proofs.Skipped.{skipped_counts}
 use Rattle.series_gen.specs.Script.{place, value, state_after, commit_line, submit_line, body_line, segment_line, turn, retract_line, script}
 use Rattle.trial_script.specs.Requests as asked
 use Rattle.trial_script.specs.Laws.{ScriptAsks, ScriptIsWhole}

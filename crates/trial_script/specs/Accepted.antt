@@ -1,12 +1,9 @@
 -- That each request of the script of a number is accepted.
-use Rattle.std.specs.Prelude.{◌≡◌, ◌≢◌, ℕ, List, []}
-use Rattle.std.specs.List.{AllByRecursion}
-use Rattle.request_model.specs.declared.replies.Refusal.{Refusal}
+use Rattle.std.specs.{Prelude.{◌≡◌, ◌≢◌, ℕ, List, []}, List.AllByRecursion}
+use Rattle.request_model.specs.declared.replies.{Refusal.Refusal, Reply.Reply}
 use Rattle.request_model.specs.declared.replies.Answer.TheVariants as answer
-use Rattle.request_model.specs.declared.replies.Reply.{Reply}
 use Rattle.script_session.specs.Sessions.{State, AnswersFor}
-use Rattle.script_loop.specs.Folds.{AreAnswers}
-use Rattle.script_loop.specs.Outputs.{Out}
+use Rattle.script_loop.specs.{Folds.AreAnswers, Outputs.Out}
 use Rattle.request_reader.specs.Scripts.{Ending}
 use Rattle.series_gen.specs.Script.{script}
 use Rattle.trial_script.specs.Requests.{items}

@@ -1,6 +1,5 @@
 //! Laws of the script of a number, as public functions that do nothing: their contracts are what they are for.
-ghost use Rattle.trial_script.specs.Laws.{ScriptAsks, ScriptIsWhole};
-ghost use Rattle.trial_script.specs.Accepted.{EachIsAccepted, NoneIsRefused};
+ghost use Rattle.trial_script.specs.{Laws.{ScriptAsks, ScriptIsWhole}, Accepted.{EachIsAccepted, NoneIsRefused}};
 
 use history_model::{
     accept_law, growth_law, limits_law, positions_law, publication_law, setting_law, within_law,

@@ -1,20 +1,12 @@
 -- The places that the rounds of a search ask.
 use Rattle.std.proofs.Common.{◌≡◌, ℕ, ◌+◌, ◌<◌, ◌≤◌, true, List, [], ◌∷◌, length, get_or, Option, Some, None, inl, inr, refl, sym, arith, subst}
-use Rattle.std.specs.Prelude.{Contains}
-use Rattle.std.proofs.lemmas.Bool.{cases_Bool}
-use Rattle.std.proofs.lemmas.List.Elements.{All-from_get_or, Contains-get_or}
+use Rattle.std.{specs.Prelude.Contains, proofs.lemmas.Bool.cases_Bool, proofs.lemmas.List.Elements.{All-from_get_or, Contains-get_or}}
 use Rattle.std.proofs.lemmas.List.FromFn.{length-map-range_with_len, get_or-map-range_with_len}
-use Rattle.wide_bisect.specs.declared.said.Said.{Said}
-use Rattle.wide_bisect.specs.declared.outcome.WideOutcome.{WideOutcome}
-use Rattle.wide_bisect.specs.declared.outcome.WideOutcome.TheVariants.{Asks, Found, Undecided, Faulted}
+use Rattle.wide_bisect.specs.declared.{said.Said.Said, outcome.WideOutcome.WideOutcome, outcome.WideOutcome.TheVariants.{Asks, Found, Undecided, Faulted}}
 use Rattle.wide_bisect.specs.Answers.{bad_places, ending}
-use Rattle.wide_bisect.specs.Searches.{Search, is_running, begun, asks, asked, place_in_round, said_of, after_end, after, after_all}
-use Rattle.wide_bisect.specs.Sound.{IsSound}
-use Rattle.wide_bisect.specs.Laws.{AsksOpen, EachAsksOpen, EachTakesAway}
-use Rattle.wide_bisect.proofs.Lists.{least-le}
-use Rattle.wide_bisect.proofs.Rounds.{place_between, place_is, fewer}
-use Rattle.wide_bisect.proofs.Gaps.{rises_on}
-use Rattle.wide_bisect.proofs.Histories.{after_any, end_not_asks}
+use Rattle.wide_bisect.specs.{Searches.{Search, is_running, begun, asks, asked, place_in_round, said_of, after_end, after, after_all}, Sound.IsSound}
+use Rattle.wide_bisect.{specs.Laws.{AsksOpen, EachAsksOpen, EachTakesAway}, proofs.Lists.least-le, proofs.Rounds.{place_between, place_is, fewer}}
+use Rattle.wide_bisect.proofs.{Gaps.rises_on, Histories.{after_any, end_not_asks}}
 
 -- ---- a search that runs
 

@@ -1,17 +1,12 @@
 -- How far a round without an answer 125 cuts down what is open: all that stays stands between two neighbours of those
 -- that were asked.
 use Rattle.std.proofs.Common.{◌≡◌, ℕ, zero, suc, ◌+◌, ◌-◌, ◌*◌, ◌/◌, ◌%◌, ◌<◌, ◌≤◌, min, Bool, true, false, ltb, List, [], ◌∷◌, length, get_or, map, filter, Option, None, ◌⊎◌, inl, inr, sym, ap, ◌∙◌, arith, subst}
-use Rattle.std.specs.List.Sorted.{IsStrictlyIncreasing}
-use Rattle.std.proofs.lemmas.Bool.{cases_lt, lt-ltb, both_ways}
-use Rattle.std.proofs.lemmas.Nat.{div-add-mod', mod_below}
-use Rattle.std.proofs.lemmas.List.FromFn.{length-map-range_with_len}
-use Rattle.std.proofs.lemmas.Map.Keys.{below_from_sorted, sorted_from_strictly_increasing}
+use Rattle.std.{specs.List.Sorted.IsStrictlyIncreasing, proofs.lemmas.Bool.{cases_lt, lt-ltb, both_ways}, proofs.lemmas.Nat.{div-add-mod', mod_below}}
+use Rattle.std.proofs.lemmas.{List.FromFn.length-map-range_with_len, Map.Keys.{below_from_sorted, sorted_from_strictly_increasing}}
 use Rattle.std.proofs.Math.Nat.{mul-add, mul_comm, mul-le-mul_right, zero-div, mul-div_cancel_left}
-use Rattle.wide_bisect.specs.declared.said.Said.{Said}
-use Rattle.wide_bisect.specs.declared.outcome.WideOutcome.TheVariants.{Asks}
+use Rattle.wide_bisect.specs.declared.{said.Said.Said, outcome.WideOutcome.TheVariants.Asks}
 use Rattle.wide_bisect.specs.Answers.{is_end, is_good, is_bad, is_skipped, place_of, good_places, bad_places, skipped_places, ending, is_among}
-use Rattle.wide_bisect.specs.Searches.{Search, asks, place_in_round, said_at, said_of, high_by, low_by, stays, open_by}
-use Rattle.wide_bisect.specs.Sound.{IsBetween, IsSound}
+use Rattle.wide_bisect.specs.{Searches.{Search, asks, place_in_round, said_at, said_of, high_by, low_by, stays, open_by}, Sound.{IsBetween, IsSound}}
 use Rattle.wide_bisect.proofs.Lists.{least-among, greatest-among, least-above, among_filter, among_said, all_said, few_pass}
 use Rattle.wide_bisect.proofs.Rounds.{says, find_none, said_is, place_is, place_between, stays_between, asks_some}
 

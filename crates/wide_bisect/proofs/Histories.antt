@@ -1,24 +1,18 @@
 -- What holds of a search after any rounds that were taken.
 use Rattle.std.proofs.Common.{◌≡◌, ℕ, zero, suc, ◌+◌, ◌-◌, ◌*◌, ◌/◌, ◌^◌, ◌<◌, ◌≤◌, max, min, Bool, true, false, not, ◌&&◌, ◌||◌, cond, eqb, ltb, List, [], ◌∷◌, ◌++◌, length, get_or, map, filter, Option, Some, None, ◌⊎◌, inl, inr, refl, sym, ap, ◌∙◌, arith, subst}
-use Rattle.std.specs.Prelude.{Contains, fold}
-use Rattle.std.specs.List.{range_with_len, All}
+use Rattle.std.specs.{Prelude.{Contains, fold}, List.{range_with_len, All}}
 use Rattle.std.proofs.lemmas.Bool.{cases_Bool, cases_lt, eqb-true, eqb-false, le-ltb, lt-ltb, or_cases}
-use Rattle.std.proofs.lemmas.List.{append-nil, append_assoc, map-append, length-append}
-use Rattle.std.proofs.lemmas.List.Folds.{find-append, list_any-append}
+use Rattle.std.proofs.lemmas.List.{append-nil, append_assoc, map-append, length-append, Folds.{find-append, list_any-append}}
 use Rattle.std.proofs.lemmas.List.Elements.{filter-append, Contains-append_left, Contains-append_right, All-get_or}
-use Rattle.std.proofs.lemmas.List.FromFn.{length-range_with_len, get_or-range_with_len}
-use Rattle.std.proofs.lemmas.Grind.{pow_more}
+use Rattle.std.proofs.lemmas.{List.FromFn.{length-range_with_len, get_or-range_with_len}, Grind.pow_more}
 use Rattle.std.proofs.Math.Nat.{mul-le-mul_right, mul_assoc, mul_comm, pow-zero}
-use Rattle.wide_bisect.specs.declared.said.Said.{Said}
-use Rattle.wide_bisect.specs.declared.outcome.WideOutcome.TheVariants.{Asks, Found}
+use Rattle.wide_bisect.specs.declared.{said.Said.Said, outcome.WideOutcome.TheVariants.{Asks, Found}}
 use Rattle.wide_bisect.specs.Answers.{is_good, is_bad, place_of, good_places, bad_places, skipped_places, ending, is_among}
 use Rattle.wide_bisect.specs.Searches.{Search, begun, settled, asks, asked, place_in_round, said_of, end_by, high_by, low_by, stays, open_by, moved, ended, after_end, after, after_all}
 use Rattle.wide_bisect.specs.Sound.{IsSound}
 use Rattle.wide_bisect.specs.Laws.{all_said, one_if_skipped, skipping, AreTaken, CanBegin, testable_between, IsWithinBound, EndsWereAnswered, OpenAreTestable, FoundAreNeighbours, EachIsWithinBound, OneIsHalfWay}
-use Rattle.wide_bisect.proofs.Lists.{least-le, greatest-ge}
-use Rattle.wide_bisect.proofs.Ranges.{filter_filter, filter_range, filter_all, filter_gone}
-use Rattle.wide_bisect.proofs.Rounds.{asks_some, begun_sound, moved_sound, ends_apart, fewer}
-use Rattle.wide_bisect.proofs.Gaps.{fewer_by}
+use Rattle.wide_bisect.proofs.{Lists.{least-le, greatest-ge}, Ranges.{filter_filter, filter_range, filter_all, filter_gone}}
+use Rattle.wide_bisect.proofs.{Rounds.{asks_some, begun_sound, moved_sound, ends_apart, fewer}, Gaps.fewer_by}
 
 -- ---- what was said, and more behind it
 

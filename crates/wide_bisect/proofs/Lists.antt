@@ -1,10 +1,8 @@
 -- The least and the greatest of some numbers, and how many of some numbers pass a test.
 use Rattle.std.proofs.Common.{◌≡◌, ℕ, zero, suc, ◌-◌, ◌<◌, ◌≤◌, max, min, Bool, true, false, eqb, List, [], ◌∷◌, length, get_or, map, filter, inl, inr, refl, arith}
-use Rattle.std.specs.List.{All}
-use Rattle.std.proofs.lemmas.Bool.{cases_Bool, eqb-true, eq-eqb, or_cases, or_left, or_right}
+use Rattle.std.{specs.List.All, proofs.lemmas.Bool.{cases_Bool, eqb-true, eq-eqb, or_cases, or_left, or_right}}
 use Rattle.std.proofs.lemmas.List.Elements.{All-head, All-tail, All-cons, All-nil}
-use Rattle.wide_bisect.specs.declared.said.Said.{Said}
-use Rattle.wide_bisect.specs.Answers.{place_of, is_among, greatest, least}
+use Rattle.wide_bisect.specs.{declared.said.Said.Said, Answers.{place_of, is_among, greatest, least}}
 
 -- ---- the least and the greatest
 

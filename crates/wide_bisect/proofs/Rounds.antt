@@ -1,16 +1,11 @@
 -- What a round that goes on makes of a search.
 use Rattle.std.proofs.Common.{◌≡◌, ℕ, zero, suc, ◌+◌, ◌-◌, ◌*◌, ◌/◌, ◌<◌, ◌≤◌, min, Bool, true, false, not, ◌&&◌, cond, ltb, List, [], ◌∷◌, ◌++◌, length, get_or, map, filter, find, Option, Some, None, ◌⊎◌, inl, inr, refl, sym, ap, ◌∙◌, arith, subst}
-use Rattle.std.specs.List.{range_with_len, All}
-use Rattle.std.specs.List.Sorted.{IsStrictlyIncreasing}
-use Rattle.std.proofs.lemmas.Bool.{cases_Bool, cases_lt, ltb-true, lt-ltb, le-ltb, and_parts, and_left, and_right, eqb-true}
-use Rattle.std.proofs.lemmas.Nat.{div_below, le-div}
-use Rattle.std.proofs.lemmas.List.Elements.{All-get_or, All-from_get_or, All-weaker, filter_passes}
-use Rattle.std.proofs.lemmas.List.Kept.{IsStrictlyIncreasing-filter}
+use Rattle.std.specs.List.{range_with_len, All, Sorted.IsStrictlyIncreasing}
+use Rattle.std.proofs.lemmas.{Bool.{cases_Bool, cases_lt, ltb-true, lt-ltb, le-ltb, and_parts, and_left, and_right, eqb-true}, Nat.{div_below, le-div}}
+use Rattle.std.proofs.lemmas.List.{Elements.{All-get_or, All-from_get_or, All-weaker, filter_passes}, Kept.IsStrictlyIncreasing-filter}
 use Rattle.std.proofs.lemmas.List.FromFn.{length-map-range_with_len, get_or-map-range_with_len, length-range_with_len, get_or-range_with_len}
 use Rattle.std.proofs.Math.Nat.{mul-le-mul_right}
-use Rattle.wide_bisect.specs.declared.said.Said.{Said}
-use Rattle.wide_bisect.specs.declared.outcome.WideOutcome.{WideOutcome}
-use Rattle.wide_bisect.specs.declared.outcome.WideOutcome.TheVariants.{Asks}
+use Rattle.wide_bisect.specs.declared.{said.Said.Said, outcome.WideOutcome.WideOutcome, outcome.WideOutcome.TheVariants.Asks}
 use Rattle.wide_bisect.specs.Answers.{status_is, is_end, is_good, is_bad, is_skipped, place_of, good_places, bad_places, skipped_places, ending, is_among, least, greatest}
 use Rattle.wide_bisect.specs.Searches.{Search, search_of, begun, settled, asks, place_in_round, said_at, said_of, high_by, low_by, stays, open_by, moved}
 use Rattle.wide_bisect.specs.Sound.{IsBetween, IsSound, GoesOn}

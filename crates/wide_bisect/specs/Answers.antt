@@ -1,6 +1,5 @@
 -- What a round of answers says of its places.
-use Rattle.std.specs.Prelude.{ℕ, Bool, true, false, not, ◌&&◌, ◌==◌, nat_le, max, min, List, Option, Some, None, map, filter, find, fold}
-use Rattle.std.specs.List.{list_any}
+use Rattle.std.specs.{Prelude.{ℕ, Bool, true, false, not, ◌&&◌, ◌==◌, nat_le, max, min, List, Option, Some, None, map, filter, find, fold}, List.list_any}
 use Rattle.wide_bisect.specs.declared.said.Said.{Said}
 
 abbrev pub status_ends : Option ℕ → Bool

@@ -1,9 +1,7 @@
 -- What holds of every search whose rounds were answered as they were asked.
 use Rattle.std.specs.Prelude.{◌≡◌, ◌⊎◌, ℕ, ◌+◌, ◌-◌, ◌*◌, ◌/◌, ◌^◌, ◌<◌, ◌≤◌, not, ◌==◌, if◌then◌else◌, List, [], ◌∷◌, ◌++◌, length, Option, None, filter, All, Contains}
-use Rattle.std.specs.List.{range_with_len}
-use Rattle.std.specs.List.Sorted.{IsStrictlyIncreasing}
-use Rattle.wide_bisect.specs.declared.said.Said.{Said}
-use Rattle.wide_bisect.specs.declared.outcome.WideOutcome.TheVariants.{Asks, Found}
+use Rattle.std.specs.List.{range_with_len, Sorted.IsStrictlyIncreasing}
+use Rattle.wide_bisect.specs.declared.{said.Said.Said, outcome.WideOutcome.TheVariants.{Asks, Found}}
 use Rattle.wide_bisect.specs.Answers.{good_places, bad_places, skipped_places, ending, is_among}
 use Rattle.wide_bisect.specs.Searches.{Search, begun, asks, asked, said_of, after, after_all}
 

@@ -1,12 +1,9 @@
 -- A search by rounds: where it stands after each. Places count from 0 to n; the first is stated good, the last one bad.
 use Rattle.std.specs.Prelude.{ℕ, ◌+◌, ◌-◌, ◌*◌, ◌/◌, Bool, true, false, not, ◌&&◌, ◌==◌, nat_lt, if◌then◌else◌, min, List, [], ◌∷◌, length, slice_index, slice_index_or, Option, Some, None, map, filter}
 use Rattle.std.specs.List.{range_with_len}
-use Rattle.wide_bisect.specs.declared.said.Said.{Said}
-use Rattle.wide_bisect.specs.declared.outcome.WideOutcome.{WideOutcome}
-use Rattle.wide_bisect.specs.declared.outcome.WideOutcome.TheVariants.{Asks, Found, Undecided, Faulted}
-use Rattle.wide_bisect.specs.declared.outcome.WideAnswered.{WideAnswered}
+use Rattle.wide_bisect.specs.declared.{said.Said.Said, outcome.WideOutcome.WideOutcome, outcome.WideOutcome.TheVariants.{Asks, Found, Undecided, Faulted}}
+use Rattle.wide_bisect.specs.{declared.outcome.WideAnswered.WideAnswered, Answers.{is_among, bad_places, good_places, skipped_places, ending, greatest, least}}
 use Rattle.wide_bisect.specs.declared.outcome.WideAnswered.TheVariants as answered
-use Rattle.wide_bisect.specs.Answers.{is_among, bad_places, good_places, skipped_places, ending, greatest, least}
 
 -- what is known of a search
 pub record Search : Type 0 where

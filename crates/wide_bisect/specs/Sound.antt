@@ -1,10 +1,6 @@
 -- No public contract cites this. What every search by rounds keeps.
-use Rattle.std.specs.Prelude.{◌≡◌, ℕ, ◌+◌, ◌<◌, ◌≤◌, List, length, All, Option, None}
-use Rattle.std.specs.List.Sorted.{IsStrictlyIncreasing}
-use Rattle.wide_bisect.specs.declared.said.Said.{Said}
-use Rattle.wide_bisect.specs.declared.outcome.WideOutcome.TheVariants.{Asks}
-use Rattle.wide_bisect.specs.Answers.{ending}
-use Rattle.wide_bisect.specs.Searches.{Search, said_of}
+use Rattle.std.specs.{Prelude.{◌≡◌, ℕ, ◌+◌, ◌<◌, ◌≤◌, List, length, All, Option, None}, List.Sorted.IsStrictlyIncreasing}
+use Rattle.wide_bisect.specs.{declared.said.Said.Said, declared.outcome.WideOutcome.TheVariants.Asks, Answers.ending, Searches.{Search, said_of}}
 
 -- a place strictly between two others
 abbrev pub IsBetween : ℕ → ℕ → ℕ → Type 0

@@ -1,8 +1,6 @@
 //! A search by rounds under way: the rounds that it asks, and the answers that it takes.
 ghost use Rattle.std.specs.Prelude.{◌≡◌, ◌≢◌, ◌<◌, ◌≤◌, ◌⊎◌, ◌↔◌, ◌-◌, ◌+◌, length, IfOk, IfErr, filter, fold, min, nat_lt, map, find};
-ghost use Rattle.wide_bisect.specs.Answers.{bad_places, good_places, skipped_places, ending, greatest, least, is_among};
-ghost use Rattle.wide_bisect.specs.Searches.{Search, begun, asks, asked, place_in_round, said_of, moved, ended, settled, after, answer_to, stays};
-ghost use Rattle.wide_bisect.specs.Sound.{IsSound, GoesOn};
+ghost use Rattle.wide_bisect.specs.{Answers.{bad_places, good_places, skipped_places, ending, greatest, least, is_among}, Searches.{Search, begun, asks, asked, place_in_round, said_of, moved, ended, settled, after, answer_to, stays}, Sound.{IsSound, GoesOn}};
 ghost use Rattle.wide_bisect.specs.declared.outcome.WideAnswered.TheVariants as answered;
 ghost use Rattle.wide_bisect.specs.declared.outcome.WideFault.TheVariants as fault;
 ghost use Rattle.wide_bisect.specs.declared.outcome.WideOutcome.TheVariants as standing;
@@ -30,8 +28,7 @@ pub struct Wide {
 }
 
 impl Model for Wide {
-    ghost use Rattle.wide_bisect.specs.Searches.{Search, search_of};
-    ghost use Rattle.wide_bisect.specs.Sound.{IsSound};
+    ghost use Rattle.wide_bisect.specs.{Searches.{Search, search_of}, Sound.IsSound};
 
     ghost Value = { Search };
 

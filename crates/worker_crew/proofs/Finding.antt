@@ -1,24 +1,16 @@
 -- Private: no public contract cites this. What a worker that bisects found, by the entries of the journals, is what its pass
 -- made.
 use Rattle.std.proofs.Common.{◌≡◌, ◌-◌, ℕ, suc, inl, inr, Bool, true, false, cond, List, [], ◌∷◌, ◌++◌, length, refl, sym, ap, ap₂, subst, ◌∙◌, Option, Some, None, append_assoc, append-nil, eq-eqb, ne_eqb}
-use Rattle.std.specs.Prelude.{◌==◌, Contains, option_to_list, slice_get, if◌then◌else◌}
-use Rattle.std.specs.List.{AllByRecursion}
-use Rattle.std.proofs.lemmas.Bool.{cases_Bool, cases_lt}
+use Rattle.std.{specs.Prelude.{◌==◌, Contains, option_to_list, slice_get, if◌then◌else◌}, specs.List.AllByRecursion, proofs.lemmas.Bool.{cases_Bool, cases_lt}}
 use Rattle.std.proofs.lemmas.Bool.Decides.{eqb_tells}
-use Rattle.history_lock.specs.Marks.{AreByOthers, IsOtherMark, entries, marked, unmarked}
-use Rattle.history_lock.specs.declared.view.Marked.{Marked}
-use Rattle.history_model.specs.declared.entries.Author.{Author}
+use Rattle.history_lock.specs.{Marks.{AreByOthers, IsOtherMark, entries, marked, unmarked}, declared.view.Marked.Marked}
+use Rattle.history_model.specs.{declared.entries.Author.Author, declared.entries.Entry.Entry, declared.entries.Placed.Placed, Entries.entries_of}
 use Rattle.history_model.specs.declared.entries.Author.TheVariants as author
-use Rattle.history_model.specs.declared.entries.Entry.{Entry}
-use Rattle.history_model.specs.declared.entries.Placed.{Placed}
-use Rattle.history_model.specs.Entries.{entries_of}
 use Rattle.worker_model.specs.Findings.{Finding, finding_of}
 use Rattle.bisect_workers.specs.Beside.{findings_by, is_number}
-use Rattle.play_fits.specs.Whole.{AreAll, GoesOn, IsMadeByOne, Joined}
-use Rattle.play_fits.specs.Workers.{Crew, findings_behind, is_bisector}
+use Rattle.play_fits.specs.{Whole.{AreAll, GoesOn, IsMadeByOne, Joined}, Workers.{Crew, findings_behind, is_bisector}}
 use Rattle.play_crew.proofs.Gathered.{mapped-from}
-use Rattle.play_fits.proofs.Lists.{stands-behind, stays-before}
-use Rattle.play_fits.proofs.Whole.{is-seen}
+use Rattle.play_fits.proofs.{Lists.{stands-behind, stays-before}, Whole.is-seen}
 
 -- ---- who made an entry
 not-both : true ≡ false → ⊥

@@ -1,18 +1,12 @@
 -- Private: no public contract cites this. What main adds behind the passes, and what it asks for it.
 use Rattle.std.proofs.Common.{◌≡◌, ◌+◌, ℕ, zero, suc, inl, inr, Bool, true, false, List, [], ◌∷◌, ◌++◌, length, map, refl, sym, ap, ap₂, subst, ◌∙◌, Option, Some, None, arith, append_assoc, append-nil, ne_eqb}
-use Rattle.std.specs.Prelude.{◌&&◌, All, bytes_eq, filter, is_none, option_map, option_to_list, slice_get, if◌then◌else◌}
-use Rattle.std.specs.List.{AllByRecursion, AllZip}
-use Rattle.std.proofs.lemmas.Bool.{cases_Bool}
-use Rattle.std.proofs.lemmas.List.{length-append, map-append}
-use Rattle.std.proofs.lemmas.List.Elements.{All-append, All-nil, All-weaker, filter-append}
+use Rattle.std.specs.{Prelude.{◌&&◌, All, bytes_eq, filter, is_none, option_map, option_to_list, slice_get, if◌then◌else◌}, List.{AllByRecursion, AllZip}}
+use Rattle.std.proofs.lemmas.{Bool.cases_Bool, List.{length-append, map-append}, List.Elements.{All-append, All-nil, All-weaker, filter-append}}
 use Rattle.track_outside.specs.Asked.{Ask}
-use Rattle.history_model.specs.declared.entries.Author.{Author}
+use Rattle.history_model.specs.declared.{entries.Author.Author, entries.Entry.Entry, events.JobEvent.JobEvent, entries.Placed.Placed}
 use Rattle.history_model.specs.declared.entries.Author.TheVariants as author
-use Rattle.history_model.specs.declared.entries.Entry.{Entry}
 use Rattle.history_model.specs.declared.entries.Entry.TheVariants as entry
-use Rattle.history_model.specs.declared.events.JobEvent.{JobEvent}
 use Rattle.history_model.specs.declared.events.JobEvent.TheVariants as event
-use Rattle.history_model.specs.declared.entries.Placed.{Placed}
 use Rattle.history_model.specs.Entries.{entries_of}
 use Rattle.worker_model.specs.Findings as model
 use Rattle.worker_model.specs.Findings.{Finding, finding_of, gives_up}
@@ -21,15 +15,12 @@ use Rattle.recompute_workers.specs.Recomputing.{AddsPublications, IsPublicationB
 use Rattle.bisect_workers.specs.Bisecting as bisecting
 use Rattle.bisect_workers.specs.Bisecting.{IsBisected, IsSaidBy, RoseBy}
 use Rattle.bisect_workers.specs.Findings as found
-use Rattle.play_fits.specs.Ends.{IsLate, IsOfWorker}
-use Rattle.play_fits.specs.Journals.{history_in, machines_of}
+use Rattle.play_fits.specs.{Ends.{IsLate, IsOfWorker}, Journals.{history_in, machines_of}}
 use Rattle.play_fits.specs.Workers.{Crew, IsOneOf, Use, findings, findings_behind, found_for, give_ups, is_bisector, is_for}
 use Rattle.play_crew.proofs.Fitting.{Apart, Others, all-map}
 use Rattle.play_fits.proofs.Lists.{all-append, same-bytes}
-use Rattle.worker_crew.specs.Runs.{BisectsEach, BisectsLast, RecomputesLast, Tally}
-use Rattle.worker_crew.proofs.Finding.{behind-append, behind-none}
-use Rattle.worker_crew.proofs.Naming.{eq-bytes, given, is_given}
-use Rattle.worker_crew.proofs.Owning.{placed-is, said-may}
+use Rattle.worker_crew.{specs.Runs.{BisectsEach, BisectsLast, RecomputesLast, Tally}, proofs.Finding.{behind-append, behind-none}}
+use Rattle.worker_crew.proofs.{Naming.{eq-bytes, given, is_given}, Owning.{placed-is, said-may}}
 
 pub all-rec : {A : Type 0} (P : A → Type 0) (xs : List A) → All P xs → AllByRecursion P xs
 all-rec P [] all = tt

@@ -1,27 +1,16 @@
 -- Private: no public contract cites this. The asks of a worker at a room, by the names of its machines.
 use Rattle.std.proofs.Common.{◌≡◌, ◌≤◌, ◌+◌, ℕ, zero, suc, inl, inr, Bool, true, false, List, [], ◌∷◌, ◌++◌, length, map, refl, sym, ap, ap₂, subst, ◌∙◌, Option, Some, None, arith, eq-eqb, ne_eqb}
-use Rattle.std.specs.Prelude.{◌==◌, ◌&&◌, All, bytes_eq, filter, is_none, is_some, option_map, slice_get, take}
-use Rattle.std.specs.List.{AllByRecursion}
-use Rattle.std.proofs.lemmas.Bool.{cases_Bool}
-use Rattle.std.proofs.lemmas.List.{length-append, take-append-le}
-use Rattle.std.proofs.lemmas.List.Elements.{All-weaker}
-use Rattle.std.proofs.lemmas.Slice.Eq.{bytes_eq-Decides}
+use Rattle.std.specs.{Prelude.{◌==◌, ◌&&◌, All, bytes_eq, filter, is_none, is_some, option_map, slice_get, take}, List.AllByRecursion}
+use Rattle.std.proofs.lemmas.{Bool.cases_Bool, List.{length-append, take-append-le}, List.Elements.All-weaker, Slice.Eq.bytes_eq-Decides}
 use Rattle.track_outside.specs.Asked.{Ask}
-use Rattle.history_lock.specs.Marks.{entries}
-use Rattle.history_lock.specs.declared.view.Marked.{Marked}
-use Rattle.history_model.specs.declared.entries.Author.{Author}
-use Rattle.history_model.specs.declared.entries.Placed.{Placed}
-use Rattle.history_model.specs.Entries.{entries_of}
+use Rattle.history_lock.specs.{Marks.entries, declared.view.Marked.Marked}
+use Rattle.history_model.specs.{declared.entries.Author.Author, declared.entries.Placed.Placed, Entries.entries_of}
 use Rattle.worker_model.specs.Findings.{AsksCommit, Finding}
-use Rattle.play_crew.specs.Asked.{names_of}
-use Rattle.play_crew.specs.Rooms.{IsPassOf}
-use Rattle.play_crew.specs.Sights.{Home, Sight}
+use Rattle.play_crew.specs.{Asked.names_of, Rooms.IsPassOf, Sights.{Home, Sight}, Seats.{AreDifferent, IsOther, mark_in, seen_in}}
 use Rattle.bisect_workers.specs.Beside as beside
 use Rattle.bisect_workers.specs.Beside.{BisectsAt, EachBisects, IsDueIn, found_at, given_up, is_given_up, is_number}
-use Rattle.play_fits.specs.Workers.{IsDue, Use, found_for, is_for}
-use Rattle.play_crew.specs.Seats.{AreDifferent, IsOther, mark_in, seen_in}
+use Rattle.play_fits.{specs.Workers.{IsDue, Use, found_for, is_for}, proofs.Lists.same-bytes}
 use Rattle.play_crew.proofs.Gathered.{at-contains, mapped-at}
-use Rattle.play_fits.proofs.Lists.{same-bytes}
 
 pub eq-bytes : (xs : List ℕ) → bytes_eq xs xs ≡ true
 eq-bytes xs = (bytes_eq-Decides xs xs).1 refl

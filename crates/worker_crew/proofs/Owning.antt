@@ -1,30 +1,18 @@
 -- Private: no public contract cites this. What a worker's pass made is its own.
 use Rattle.std.proofs.Common.{◌≡◌, ◌≤◌, ◌+◌, ◌-◌, ℕ, zero, suc, inl, inr, Bool, true, false, List, [], ◌∷◌, ◌++◌, length, refl, sym, ap, ap₂, subst, ◌∙◌, Option, Some, None, arith}
-use Rattle.std.specs.Prelude.{◌⊎◌, slice_get, bytes_eq, if◌then◌else◌}
-use Rattle.std.specs.List.{AllByRecursion, AllZip}
-use Rattle.std.proofs.lemmas.Bool.{cases_lt}
-use Rattle.history_lock.specs.Marks.{IsOtherMark, marked}
-use Rattle.history_lock.specs.declared.view.Marked.{Marked}
-use Rattle.history_model.specs.declared.entries.Author.{Author}
+use Rattle.std.{specs.Prelude.{◌⊎◌, slice_get, bytes_eq, if◌then◌else◌}, specs.List.{AllByRecursion, AllZip}, proofs.lemmas.Bool.cases_lt}
+use Rattle.history_lock.specs.{Marks.{IsOtherMark, marked}, declared.view.Marked.Marked}
+use Rattle.history_model.specs.declared.entries.{Author.Author, Entry.Entry, Placed.Placed}
 use Rattle.history_model.specs.declared.entries.Author.TheVariants as author
-use Rattle.history_model.specs.declared.entries.Entry.{Entry}
 use Rattle.history_model.specs.declared.entries.Entry.TheVariants as entry
-use Rattle.history_model.specs.declared.entries.Placed.{Placed}
-use Rattle.bisect_workers.specs.Settling.{entry_said}
+use Rattle.bisect_workers.specs.{Settling.entry_said, Beside.{EachBisects, Use}, Bisecting.IsSaidBy}
 use Rattle.track_model.specs.Tracks.{Track}
-use Rattle.play_crew.specs.Sights.{Sight, own_marks, seeing}
+use Rattle.play_crew.specs.{Sights.{Sight, own_marks, seeing}, Gathered.OwnsMade, Seats.{Seat, mark_in, seen_in}, Shared.HasSeenKept}
 use Rattle.recompute_workers.specs.Works as recomputing
 use Rattle.recompute_workers.specs.Works.{Works}
 use Rattle.bisect_workers.specs.Beside as bisecting
-use Rattle.bisect_workers.specs.Beside.{EachBisects, Use}
-use Rattle.bisect_workers.specs.Bisecting.{IsSaidBy}
-use Rattle.play_fits.specs.Journals.{history_in}
-use Rattle.play_fits.specs.Workers.{Crew, IsOneOf, IsSettled, MayAdd}
-use Rattle.play_crew.specs.Gathered.{OwnsMade}
-use Rattle.play_crew.specs.Seats.{Seat, mark_in, seen_in}
-use Rattle.play_crew.specs.Shared.{HasSeenKept}
+use Rattle.play_fits.{specs.Journals.history_in, specs.Workers.{Crew, IsOneOf, IsSettled, MayAdd}, proofs.Lists.{stands-behind, stays-before}}
 use Rattle.play_crew.proofs.Fitting.{unmarked-at}
-use Rattle.play_fits.proofs.Lists.{stands-behind, stays-before}
 use Rattle.worker_crew.specs.Runs.{AreBisectedFrom, AreRecomputedFrom, Tally}
 
 pub placed-is : (p : Placed) (w : Author) (e : Entry) → p.author ≡ w → p.entry ≡ e → p ≡ record { author = w; entry = e }

@@ -1,6 +1,5 @@
 -- Workers that are seated can work with whatever tools they are lent, one each.
-use Rattle.std.proofs.Common.{◌≡◌, List, [], ◌∷◌, length, zip}
-use Rattle.std.specs.List.{AllByRecursion}
+use Rattle.std.{proofs.Common.{◌≡◌, List, [], ◌∷◌, length, zip}, specs.List.AllByRecursion}
 use Rattle.side_by_side.specs.Runs.{AllCanWork}
 
 each-pair : {W T : Type 0} (P : W → Type 0) (ws : List W) (ts : List T) → AllByRecursion P ws

@@ -1,20 +1,14 @@
 -- Private: no public contract cites this. Seats, runners and machines of a whole run, by their places.
 use Rattle.std.proofs.Common.{◌≡◌, ◌<◌, ◌≤◌, ◌+◌, ℕ, zero, suc, inl, inr, Bool, true, false, List, [], ◌∷◌, ◌++◌, length, map, refl, sym, ap, ap₂, subst, ◌∙◌, Some, arith}
-use Rattle.std.specs.Prelude.{◌⊎◌, Contains, bytes_eq, slice_get}
-use Rattle.std.specs.List.{AllByRecursion, AllZip}
+use Rattle.std.specs.{Prelude.{◌⊎◌, Contains, bytes_eq, slice_get}, List.{AllByRecursion, AllZip}}
 use Rattle.history_lock.specs.Marks.{entries}
 use Rattle.history_model.specs.declared.entries.Author.TheVariants as author
 use Rattle.history_model.specs.declared.entries.Placed.{Placed}
 use Rattle.track_model.specs.Tracks.{Track}
-use Rattle.play_crew.specs.Asked.{names_of}
-use Rattle.play_crew.specs.Sights.{EndsWhole, Home, Sight}
-use Rattle.play_fits.specs.Journals.{history_in, machines_of}
-use Rattle.play_fits.specs.Workers.{Asked}
-use Rattle.play_crew.specs.Seats.{AreDifferent, IsOther, Seat, seen_in}
-use Rattle.play_crew.specs.Shared.{AreKeptAs, onto}
+use Rattle.play_crew.specs.{Asked.names_of, Sights.{EndsWhole, Home, Sight}, Seats.{AreDifferent, IsOther, Seat, seen_in}, Shared.{AreKeptAs, onto}}
+use Rattle.play_fits.specs.{Journals.{history_in, machines_of}, Workers.Asked}
 use Rattle.play_crew.proofs.Fitting.{from-onto, same-some}
-use Rattle.worker_crew.specs.Runs.{AreBisectedFrom, AreRecomputedFrom, BisectsEach, BisectsLast, IsBisectedAt, Tally, runners_by}
-use Rattle.worker_crew.proofs.Late.{Adds}
+use Rattle.worker_crew.{specs.Runs.{AreBisectedFrom, AreRecomputedFrom, BisectsEach, BisectsLast, IsBisectedAt, Tally, runners_by}, proofs.Late.Adds}
 use Rattle.worker_crew.proofs.Tied.{Distinct}
 
 no-item : {A : Type 0} (k : ℕ) (x : A) → slice_get [] k ≡ Some x → ⊥

@@ -1,36 +1,21 @@
 -- Private: no public contract cites this. What is quiet stays so where answers are added, and a whole run leaves quiet journals.
 use Rattle.std.proofs.Common.{◌≡◌, ◌≤◌, ℕ, zero, suc, inl, inr, Bool, true, false, List, [], ◌∷◌, ◌++◌, length, refl, sym, ap, ap₂, subst, ◌∙◌, arith, append_assoc, append-nil}
-use Rattle.std.specs.Prelude.{◌||◌}
-use Rattle.std.specs.List.{AllByRecursion, AllZip}
-use Rattle.std.proofs.lemmas.List.{length-append, map-append}
+use Rattle.std.{specs.Prelude.◌||◌, specs.List.{AllByRecursion, AllZip}, proofs.lemmas.List.{length-append, map-append}}
 use Rattle.metric_table.specs.declared.limits.Limit.TheVariants as limit
 use Rattle.segment_model.specs.Segments.{Position}
-use Rattle.history_model.specs.declared.entries.Acceptance.{Acceptance}
-use Rattle.history_model.specs.declared.entries.Author.{Author}
+use Rattle.history_model.specs.declared.entries.{Acceptance.Acceptance, Author.Author, Entry.Entry, Placed.Placed}
 use Rattle.history_model.specs.declared.entries.Author.TheVariants as author
-use Rattle.history_model.specs.declared.entries.Entry.{Entry}
 use Rattle.history_model.specs.declared.entries.Entry.TheVariants as entry
-use Rattle.history_model.specs.declared.entries.Placed.{Placed}
-use Rattle.history_model.specs.declared.events.JobEvent.{JobEvent}
-use Rattle.history_model.specs.Allowed.{Allowed, AllowedAfter, Legal}
-use Rattle.history_model.specs.Entries.{entries_of}
-use Rattle.history_model.specs.Laws.{AcceptancesGrow, CutsGrow, PublicationStays, RetractionsGrow}
-use Rattle.history_model.specs.Penalties.{SettingStays, length_of, penalty_of}
-use Rattle.history_model.specs.declared.setting.Setting.{Setting}
-use Rattle.history_model.specs.Positions.{brought, positions, positions_of}
-use Rattle.history_model.specs.Publications.{AreBest}
+use Rattle.history_model.specs.{declared.events.JobEvent.JobEvent, Allowed.{Allowed, AllowedAfter, Legal}, Entries.entries_of}
+use Rattle.history_model.specs.{Laws.{AcceptancesGrow, CutsGrow, PublicationStays, RetractionsGrow}, Penalties.{SettingStays, length_of, penalty_of}}
+use Rattle.history_model.specs.{declared.setting.Setting.Setting, Positions.{brought, positions, positions_of}, Publications.AreBest}
 use Rattle.history_model.specs.Runs.{Retraction, Series, acceptances, is_known, live_of, retractions}
-use Rattle.touch_model.specs.Laws.{KnownGrows, TouchesGrow}
-use Rattle.touch_model.specs.Touches.{last_touch}
-use Rattle.bisect_workers.specs.Settling.{said_of}
+use Rattle.touch_model.specs.{Laws.{KnownGrows, TouchesGrow}, Touches.last_touch}
+use Rattle.bisect_workers.specs.{Settling.said_of, Bisecting.IsSaidBy}
 use Rattle.track_model.specs.Tracks.{Track}
 use Rattle.worker_model.specs.Quiet.{HasAllSteps, IsCurrent, SeriesAreQuiet, WouldPassCuts}
-use Rattle.bisect_workers.specs.Bisecting.{IsSaidBy}
-use Rattle.play_fits.specs.Fits.{Play}
-use Rattle.play_fits.specs.Quiet.{IsQuiet}
-use Rattle.worker_crew.specs.Laws.{FinishesLast}
-use Rattle.worker_crew.specs.Runs.{BisectsLast, RunsPlayers, Tally}
-use Rattle.worker_crew.proofs.Late.{Adds, bisected-adds}
+use Rattle.play_fits.specs.{Fits.Play, Quiet.IsQuiet}
+use Rattle.worker_crew.{specs.Laws.FinishesLast, specs.Runs.{BisectsLast, RunsPlayers, Tally}, proofs.Late.{Adds, bisected-adds}}
 
 -- ---- what is quiet stays so where something is said of a job
 or-false : (b : Bool) → (b || false) ≡ b

@@ -1,15 +1,12 @@
 -- Private: no public contract cites this. Machines that are bisected one after another, where memory is wanting.
-use Rattle.std.proofs.Common.{ℕ, List, [], ◌∷◌, refl, sym, Option, append-nil, arith}
-use Rattle.std.proofs.lemmas.List.Elements.{All-nil}
+use Rattle.std.{proofs.Common.{ℕ, List, [], ◌∷◌, refl, sym, Option, append-nil, arith}, proofs.lemmas.List.Elements.All-nil, specs.List.AllZip}
 use Rattle.track_outside.specs.Asked.{Ask}
 use Rattle.history_model.specs.declared.entries.Author.{Author}
 use Rattle.history_model.specs.declared.entries.Author.TheVariants as author
-use Rattle.std.specs.List.{AllZip}
 use Rattle.track_model.specs.Tracks.{Track}
 use Rattle.recompute_workers.specs.Recomputing.{AddsPublications, IsPublicationBy}
 use Rattle.bisect_workers.specs.Bisecting.{IsBisected, IsDue, IsSaidBy}
-use Rattle.worker_crew.specs.Runs.{BisectsEach, Tally}
-use Rattle.worker_crew.proofs.Late.{told-none}
+use Rattle.worker_crew.{specs.Runs.{BisectsEach, Tally}, proofs.Late.told-none}
 
 -- nothing was asked of a machine, and nothing said
 bisected-none : (w : Author) (word : List ℕ) (t : Track) (asked : Option (List Ask)) (faults : ℕ) → IsBisected w word t t asked asked faults faults

@@ -1,40 +1,23 @@
 -- Private: no public contract cites this. A whole shared run fits.
 use Rattle.std.proofs.Common.{◌≡◌, ◌≢◌, ◌<◌, ◌≤◌, ◌+◌, ℕ, zero, suc, inl, inr, true, List, [], ◌∷◌, ◌++◌, length, map, refl, sym, ap, subst, ◌∙◌, Option, Some, arith, append_assoc}
-use Rattle.std.specs.Prelude.{◌⊎◌, All, Contains, bytes_eq, filter, option_map, slice_get, take}
-use Rattle.std.specs.List.{AllByRecursion, AllZip}
-use Rattle.std.proofs.lemmas.Bool.{cases_lt}
-use Rattle.std.proofs.lemmas.List.{length-append, map-append}
-use Rattle.std.proofs.lemmas.List.Elements.{All-append, All-nil, All-weaker, filter-append}
+use Rattle.std.specs.{Prelude.{◌⊎◌, All, Contains, bytes_eq, filter, option_map, slice_get, take}, List.{AllByRecursion, AllZip}}
+use Rattle.std.proofs.lemmas.{Bool.cases_lt, List.{length-append, map-append}, List.Elements.{All-append, All-nil, All-weaker, filter-append}}
 use Rattle.track_outside.specs.Asked.{Ask}
-use Rattle.history_lock.specs.Marks.{entries, unmarked}
-use Rattle.history_lock.specs.declared.view.Marked.{Marked}
+use Rattle.history_lock.specs.{Marks.{entries, unmarked}, declared.view.Marked.Marked}
 use Rattle.history_model.specs.declared.entries.Author.TheVariants as author
-use Rattle.history_model.specs.declared.entries.Entry.{Entry}
-use Rattle.history_model.specs.declared.entries.Placed.{Placed}
-use Rattle.history_model.specs.Allowed.{Legal}
-use Rattle.history_model.specs.Entries.{entries_of}
+use Rattle.history_model.specs.{declared.entries.Entry.Entry, declared.entries.Placed.Placed, Allowed.Legal, Entries.entries_of}
 use Rattle.worker_model.specs.Findings.{AsksCommit, Finding}
 use Rattle.track_model.specs.Tracks.{Track}
-use Rattle.play_crew.specs.Asked.{names_of}
-use Rattle.play_crew.specs.Rooms.{IsPassOf}
-use Rattle.play_crew.specs.Sights.{Home, Sight}
+use Rattle.play_crew.specs.{Asked.names_of, Rooms.IsPassOf, Sights.{Home, Sight}, Gathered.{OwnsMade, joined_of}, Seats.{AreDifferent, Seat, mark_in, seen_in}}
 use Rattle.bisect_workers.specs.Beside as beside
-use Rattle.bisect_workers.specs.Beside.{findings_by, found_at}
-use Rattle.bisect_workers.specs.Bisecting.{RoseBy}
-use Rattle.play_fits.specs.Ends.{AreEndsOf, HasPlayed, IsLate}
-use Rattle.play_fits.specs.Fits.{Fits, Play, Played, crew_of}
-use Rattle.play_fits.specs.Journals.{history_in, machines_of}
+use Rattle.bisect_workers.specs.{Beside.{findings_by, found_at}, Bisecting.RoseBy}
+use Rattle.play_fits.specs.{Ends.{AreEndsOf, HasPlayed, IsLate}, Fits.{Fits, Play, Played, crew_of}, Journals.{history_in, machines_of}}
 use Rattle.play_fits.specs.Whole.{AreAll, AreByCrew, GoesOn, Joined, journals_of, longer}
-use Rattle.play_fits.specs.Workers.{Asked, Crew, IsBisector, IsDue, IsOneOf, MayAdd, Use, findings, found_for, is_bisector, is_for}
-use Rattle.play_fits.proofs.Ends.{ends-fit}
-use Rattle.play_fits.proofs.Whole.{all-by-crew}
-use Rattle.play_crew.specs.Gathered.{OwnsMade, joined_of}
-use Rattle.play_crew.specs.Seats.{AreDifferent, Seat, mark_in, seen_in}
+use Rattle.play_fits.{specs.Workers.{Asked, Crew, IsBisector, IsDue, IsOneOf, MayAdd, Use, findings, found_for, is_bisector, is_for}, proofs.Ends.ends-fit}
+use Rattle.play_fits.proofs.{Whole.all-by-crew, Lists.all-append}
 use Rattle.play_crew.specs.Shared.{EndsShared, HasSeenKept, onto}
 use Rattle.play_crew.proofs.Fitting.{Apart, IsNoBisector, PlayedAt, all-onto, all-owned, apart-named, author-at, has-played, in-onto, no-bisector-of, own-histories, own-seen, played-at, same-some, whole-of, all-map}
-use Rattle.play_crew.proofs.Gathered.{all-at, at-contains, contains-at, gathered-all, kept-in, mapped-at, mapped-from}
-use Rattle.play_crew.proofs.Shared.{sharing-ends}
-use Rattle.play_fits.proofs.Lists.{all-append}
+use Rattle.play_crew.proofs.{Gathered.{all-at, at-contains, contains-at, gathered-all, kept-in, mapped-at, mapped-from}, Shared.sharing-ends}
 use Rattle.worker_crew.specs.Runs.{BisectsEach, IsAtRoom, IsBisectedAt, IsNew, RunsPlayers, Tally, afters_of, befores_of}
 use Rattle.worker_crew.proofs.Finding.{agree, behind-none, findings-agree, findings-log}
 use Rattle.worker_crew.proofs.Late.{Adds, Behind, IsDueAt, TiedLate, adds-trans, behind-named, bisects-late, findings-others, findings-published, names-stay, recomputes-late, tied-late, told-none, told-twice}

@@ -1,18 +1,14 @@
 -- Private: no public contract cites this. Workers that were run, as seats of their room.
-use Rattle.std.proofs.Common.{◌≡◌, ◌+◌, ℕ, suc, List, [], ◌∷◌, ◌++◌, length, map, refl, sym, ap, ap₂, subst, ◌∙◌, arith}
-use Rattle.std.specs.Prelude.{zip}
-use Rattle.std.specs.List.{AllZip}
+use Rattle.std.{proofs.Common.{◌≡◌, ◌+◌, ℕ, suc, List, [], ◌∷◌, ◌++◌, length, map, refl, sym, ap, ap₂, subst, ◌∙◌, arith}, specs.Prelude.zip, specs.List.AllZip}
 use Rattle.std.proofs.lemmas.List.{map-append}
 use Rattle.track_outside.specs.declared.runner.Runner as runner
 use Rattle.history_model.specs.declared.entries.Author.{Author}
 use Rattle.history_model.specs.declared.entries.Author.TheVariants as author
 use Rattle.side_by_side.specs.Runs.{AllWorked}
 use Rattle.track_model.specs.Tracks.{Track}
-use Rattle.play_crew.specs.Rooms.{AreSame, IsPassOf, badge}
-use Rattle.play_crew.specs.Sights.{Home, IsFirstOf, Sight, splitting}
+use Rattle.play_crew.specs.{Rooms.{AreSame, IsPassOf, badge}, Sights.{Home, IsFirstOf, Sight, splitting}, Seats.Seat}
 use Rattle.recompute_workers.specs.Works.{Works}
 use Rattle.bisect_workers.specs.Beside.{EachBisects, Use}
-use Rattle.play_crew.specs.Seats.{Seat}
 use Rattle.play_crew.specs.Shared.{IsShared, JoinsAll, SplitsAll, pass_of}
 use Rattle.play_fits.proofs.Lists.{all-append}
 use Rattle.worker_crew.specs.Runs.{AreBisectedFrom, AreRecomputedFrom, IsBisectedAt, IsRecomputedAt, Tally}

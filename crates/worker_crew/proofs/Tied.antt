@@ -1,7 +1,6 @@
 -- Private: no public contract cites this. A runner whose asks are tied to what its worker found is one of a worker's.
 use Rattle.std.proofs.Common.{◌≡◌, ◌<◌, ◌≤◌, ◌+◌, ℕ, suc, inl, inr, Bool, true, false, List, [], ◌∷◌, ◌++◌, map, refl, ap, ◌∙◌, Option, Some, None, arith}
-use Rattle.std.specs.Prelude.{◌&&◌, All, Contains, IfSome, bytes_eq, is_none, is_some, option_map, slice_get, sum_by}
-use Rattle.std.specs.List.{AllByRecursion}
+use Rattle.std.specs.{Prelude.{◌&&◌, All, Contains, IfSome, bytes_eq, is_none, is_some, option_map, slice_get, sum_by}, List.AllByRecursion}
 use Rattle.std.proofs.lemmas.List.Sums.{sum_by-cons}
 use Rattle.track_outside.specs.Asked.{Ask}
 use Rattle.history_model.specs.declared.entries.Placed.{Placed}
@@ -9,9 +8,7 @@ use Rattle.bisect_workers.specs.Bisecting.{RoseBy}
 use Rattle.play_fits.specs.Workers.{AreAsksOf, Crew, IsBisector, IsDue, Use, all_give_ups, findings, found_by, found_for, give_ups, is_for}
 use Rattle.play_crew.proofs.Gathered.{at-contains}
 use Rattle.play_fits.proofs.Lists.{same-bytes}
-use Rattle.worker_crew.specs.Runs.{IsNew, Tally}
-use Rattle.worker_crew.proofs.Late.{failed, one-if, length-one, is_failed, ups-of}
-use Rattle.worker_crew.proofs.Naming.{given, is_given}
+use Rattle.worker_crew.{specs.Runs.{IsNew, Tally}, proofs.Late.{failed, one-if, length-one, is_failed, ups-of}, proofs.Naming.{given, is_given}}
 
 -- a runner's asks, and what its worker found in the journals
 pub record Tied (n : ℕ) (word : List ℕ) (machines : List (List ℕ)) (journal : List ℕ → List Placed) (t u : Tally) : Type 0 where

@@ -1,18 +1,13 @@
 -- Private: no public contract cites this. What scripts and workers ensure comes to a run of players.
-use Rattle.std.proofs.Common.{◌≡◌, List, [], ◌∷◌, ◌++◌, length, map, refl, sym, ap, ap₂, subst, ◌∙◌, arith}
-use Rattle.std.specs.Prelude.{drop, take}
+use Rattle.std.{proofs.Common.{◌≡◌, List, [], ◌∷◌, ◌++◌, length, map, refl, sym, ap, ap₂, subst, ◌∙◌, arith}, specs.Prelude.{drop, take}}
 use Rattle.std.proofs.lemmas.List.{length-take, map-append, take-append-drop}
 use Rattle.track_outside.specs.declared.runner.Runner as runner
 use Rattle.track_model.specs.Tracks.{Track}
-use Rattle.play_crew.specs.Sights.{Sight}
+use Rattle.play_crew.specs.{Sights.Sight, Shared.{IsShared, JoinsAll}}
 use Rattle.play_fits.specs.Fits.{Play}
-use Rattle.play_crew.specs.Shared.{IsShared, JoinsAll}
 use Rattle.play_crew.specs.Shared as seats
-use Rattle.worker_crew.specs.Runs.{AreBisectedFrom, RunsPlayers, Tally}
-use Rattle.worker_crew.specs.Seated.{HaveBisected, HaveRecomputed, bisect_seat, recompute_seat, tally_of}
-use Rattle.worker_crew.specs.Whole.{RunsCrew, tallies}
-use Rattle.worker_crew.specs.Workers.{Working, pass_of}
-use Rattle.worker_crew.proofs.Seated.{bisectors-sit, recomputers-sit, seats-share}
+use Rattle.worker_crew.specs.{Runs.{AreBisectedFrom, RunsPlayers, Tally}, Seated.{HaveBisected, HaveRecomputed, bisect_seat, recompute_seat, tally_of}}
+use Rattle.worker_crew.{specs.Whole.{RunsCrew, tallies}, specs.Workers.{Working, pass_of}, proofs.Seated.{bisectors-sit, recomputers-sit, seats-share}}
 
 recompute-passes : (ws : List Working) → map seats.pass_of (map recompute_seat ws) ≡ map pass_of ws
 recompute-passes [] = refl

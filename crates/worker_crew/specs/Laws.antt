@@ -1,11 +1,9 @@
 -- What holds of a whole shared run.
-use Rattle.std.specs.Prelude.{◌≤◌, List}
-use Rattle.std.specs.List.{AllByRecursion}
+use Rattle.std.specs.{Prelude.{◌≤◌, List}, List.AllByRecursion}
 use Rattle.history_model.specs.Entries.{entries_of}
 use Rattle.track_model.specs.Tracks.{Track}
 use Rattle.worker_model.specs.Quiet.{JobsAreQuiet, SeriesAreQuiet}
-use Rattle.play_fits.specs.Fits.{Fits, Play}
-use Rattle.play_fits.specs.Quiet.{IsQuiet}
+use Rattle.play_fits.specs.{Fits.{Fits, Play}, Quiet.IsQuiet}
 use Rattle.worker_crew.specs.Runs.{RunsPlayers}
 
 -- it fits the journals of the machines as it leaves them

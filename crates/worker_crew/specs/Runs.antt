@@ -1,23 +1,13 @@
 -- A whole shared run: scripts and workers at seats of one room, and then what main adds by itself, as the first worker of
 -- each kind.
-use Rattle.std.specs.Prelude.{◌≡◌, ◌⊎◌, ℕ, zero, suc, ◌+◌, List, [], ◌∷◌, ◌++◌, length, Option, Some, None}
-use Rattle.std.specs.List.{AllByRecursion, AllZip}
+use Rattle.std.specs.{Prelude.{◌≡◌, ◌⊎◌, ℕ, zero, suc, ◌+◌, List, [], ◌∷◌, ◌++◌, length, Option, Some, None}, List.{AllByRecursion, AllZip}}
 use Rattle.track_outside.specs.Asked.{Ask}
-use Rattle.history_model.specs.declared.entries.Author.TheVariants.{Bisect, Recompute}
-use Rattle.history_model.specs.Allowed.{Legal}
-use Rattle.history_model.specs.Entries.{entries_of}
+use Rattle.history_model.specs.{declared.entries.Author.TheVariants.{Bisect, Recompute}, Allowed.Legal, Entries.entries_of}
 use Rattle.track_model.specs.Tracks.{Track}
-use Rattle.play_crew.specs.Rooms.{IsPassOf}
-use Rattle.play_crew.specs.Sights.{EndsWhole, Home, Sight}
-use Rattle.recompute_workers.specs.Recomputing.{AddsPublications}
-use Rattle.recompute_workers.specs.Works.{Works}
-use Rattle.bisect_workers.specs.Beside.{IsBisectedIn}
-use Rattle.bisect_workers.specs.Bisecting.{IsBisected}
-use Rattle.play_fits.specs.Fits.{Play}
-use Rattle.play_fits.specs.Workers.{Asked}
-use Rattle.play_crew.specs.Fitting.{ArePlayedFrom}
-use Rattle.play_crew.specs.Gathered.{AreKept}
-use Rattle.play_crew.specs.Seats.{AreDifferent, Seat}
+use Rattle.play_crew.specs.{Rooms.IsPassOf, Sights.{EndsWhole, Home, Sight}, Fitting.ArePlayedFrom, Gathered.AreKept, Seats.{AreDifferent, Seat}}
+use Rattle.recompute_workers.specs.{Recomputing.AddsPublications, Works.Works}
+use Rattle.bisect_workers.specs.{Beside.IsBisectedIn, Bisecting.IsBisected}
+use Rattle.play_fits.specs.{Fits.Play, Workers.Asked}
 use Rattle.play_crew.specs.Shared.{IsShared}
 
 -- ---- workers beside the scripts

@@ -1,16 +1,11 @@
 -- Workers that were run, as seats of their room.
-use Rattle.std.specs.Prelude.{◌≡◌, ℕ, List, ◌++◌, length, map}
-use Rattle.std.specs.List.{AllByRecursion, AllZip}
+use Rattle.std.specs.{Prelude.{◌≡◌, ℕ, List, ◌++◌, length, map}, List.{AllByRecursion, AllZip}}
 use Rattle.track_outside.specs.declared.runner.Runner as runner
 use Rattle.history_model.specs.declared.entries.Author.TheVariants.{Bisect, Recompute}
 use Rattle.side_by_side.specs.Runs.{AllWorked}
 use Rattle.track_model.specs.Tracks.{Track}
-use Rattle.play_crew.specs.Rooms.{AreSame, IsPassOf}
-use Rattle.play_crew.specs.Sights.{Home, IsFirstOf, Sight}
-use Rattle.play_crew.specs.Seats.{Seat}
-use Rattle.play_crew.specs.Shared.{IsShared, JoinsAll, SplitsAll, pass_of}
-use Rattle.worker_crew.specs.Runs.{AreBisectedFrom, AreRecomputedFrom, Tally}
-use Rattle.worker_crew.specs.Workers.{Bisects, Recomputes, Working, workers_from}
+use Rattle.play_crew.specs.{Rooms.{AreSame, IsPassOf}, Sights.{Home, IsFirstOf, Sight}, Seats.Seat, Shared.{IsShared, JoinsAll, SplitsAll, pass_of}}
+use Rattle.worker_crew.specs.{Runs.{AreBisectedFrom, AreRecomputedFrom, Tally}, Workers.{Bisects, Recomputes, Working, workers_from}}
 
 -- its seat, as that of a worker that recomputes, or that bisects
 abbrev pub recompute_seat : Working → Seat

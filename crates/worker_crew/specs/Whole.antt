@@ -1,21 +1,14 @@
 -- A whole shared run, by what scripts and workers ensure when they are run.
-use Rattle.std.specs.Prelude.{◌≡◌, ◌≤◌, List, ◌++◌, drop, length, map, take}
-use Rattle.std.specs.List.{AllByRecursion, AllZip}
+use Rattle.std.specs.{Prelude.{◌≡◌, ◌≤◌, List, ◌++◌, drop, length, map, take}, List.{AllByRecursion, AllZip}}
 use Rattle.track_outside.specs.declared.runner.Runner as runner
-use Rattle.history_model.specs.Allowed.{Legal}
-use Rattle.history_model.specs.Entries.{entries_of}
+use Rattle.history_model.specs.{Allowed.Legal, Entries.entries_of}
 use Rattle.side_by_side.specs.Runs.{AllWorked}
 use Rattle.track_model.specs.Tracks.{Track}
-use Rattle.play_crew.specs.Rooms.{IsPassOf}
-use Rattle.play_crew.specs.Sights.{EndsWhole, Home, IsFirstOf, Sight}
+use Rattle.play_crew.specs.{Rooms.IsPassOf, Sights.{EndsWhole, Home, IsFirstOf, Sight}, Fitting.ArePlayedFrom, Gathered.AreKept, Seats.{AreDifferent, Seat}}
 use Rattle.play_fits.specs.Fits.{Play}
-use Rattle.play_crew.specs.Fitting.{ArePlayedFrom}
-use Rattle.play_crew.specs.Gathered.{AreKept}
-use Rattle.play_crew.specs.Seats.{AreDifferent, Seat}
 use Rattle.play_crew.specs.Shared.{JoinsAll, SplitsAll}
 use Rattle.play_crew.specs.Shared as seats
-use Rattle.worker_crew.specs.Runs.{DoesLast, IsNew, RunsPlayers, Tally, runners_by}
-use Rattle.worker_crew.specs.Seated.{AreSeated, tally_of}
+use Rattle.worker_crew.specs.{Runs.{DoesLast, IsNew, RunsPlayers, Tally, runners_by}, Seated.{AreSeated, tally_of}}
 use Rattle.worker_crew.specs.Workers.{Bisects, Recomputes, Working, pass_of, workers_from}
 
 -- what runners tell

@@ -1,10 +1,8 @@
 -- Workers of a room beside its scripts, as they are run.
-use Rattle.std.specs.Prelude.{◌≡◌, ℕ, ◌+◌, Bool, false, ◌||◌, List, [], ◌∷◌, length, take, drop}
-use Rattle.std.specs.List.{AllZip}
+use Rattle.std.specs.{Prelude.{◌≡◌, ℕ, ◌+◌, Bool, false, ◌||◌, List, [], ◌∷◌, length, take, drop}, List.AllZip}
 use Rattle.track_outside.specs.declared.runner.Runner as runner
 use Rattle.history_model.specs.declared.entries.Author.TheVariants.{Bisect, Recompute}
-use Rattle.play_crew.specs.Rooms.{IsPassOf}
-use Rattle.play_crew.specs.Sights.{Home, Sight}
+use Rattle.play_crew.specs.{Rooms.IsPassOf, Sights.{Home, Sight}}
 use Rattle.side_by_side.specs.Runs.{AllWorked}
 use Rattle.recompute_workers.specs.Works.{Works}
 use Rattle.bisect_workers.specs.Beside.{IsBisectedIn}

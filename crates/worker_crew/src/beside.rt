@@ -1,6 +1,5 @@
 //! Workers beside the jobs of a run.
-ghost use Rattle.std.specs.Prelude.{◌≤◌, length};
-ghost use Rattle.std.specs.List.{AllByRecursion, AllZip};
+ghost use Rattle.std.specs.{Prelude.{◌≤◌, length}, List.{AllByRecursion, AllZip}};
 ghost use Rattle.side_by_side.specs.Runs.{AllCanRun};
 ghost use Rattle.worker_crew.specs.Workers.{HaveWorked, IsSeated, Recomputes};
 

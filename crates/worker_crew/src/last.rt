@@ -1,11 +1,9 @@
 //! What is left of the workers' work, once the room is closed.
-ghost use Rattle.std.specs.Prelude.{OnOk};
-ghost use Rattle.std.specs.List.{AllByRecursion, AllZip};
+ghost use Rattle.std.specs.{Prelude.OnOk, List.{AllByRecursion, AllZip}};
 ghost use Rattle.history_model.specs.declared.entries.Author.TheVariants.{Recompute};
 ghost use Rattle.play_crew.specs.Sights.{tracks_of};
 ghost use Rattle.recompute_workers.specs.Recomputing.{AddsPublications};
-ghost use Rattle.worker_crew.specs.Runs.{BisectsEach};
-ghost use Rattle.worker_crew.specs.Last.{HasQuietJobs, HasQuietSeries};
+ghost use Rattle.worker_crew.specs.{Runs.BisectsEach, Last.{HasQuietJobs, HasQuietSeries}};
 
 use crate::NoMemory;
 use bisect_workers::bisect_last;

@@ -1,7 +1,5 @@
 //! Laws of the definitions, as public functions that do nothing: their contracts are what they are for.
-ghost use Rattle.worker_crew.specs.Laws.{RunOfPlayersFits, RunOfPlayersIsQuiet};
-ghost use Rattle.worker_crew.specs.Seated.{BisectorsSit, JoinsGoOn, RecomputersSit, SeatsShare, SplitsGoOn};
-ghost use Rattle.worker_crew.specs.Whole.{CrewRuns};
+ghost use Rattle.worker_crew.specs.{Laws.{RunOfPlayersFits, RunOfPlayersIsQuiet}, Seated.{BisectorsSit, JoinsGoOn, RecomputersSit, SeatsShare, SplitsGoOn}, Whole.CrewRuns};
 
 use history_model::{growth_law, publication_law, setting_law};
 use touch_model::touch_law;

@@ -1,9 +1,6 @@
 //! Workers that have returned.
-ghost use Rattle.std.specs.Prelude.{◌≡◌, map};
-ghost use Rattle.std.specs.List.{AllByRecursion};
-ghost use Rattle.std.specs.Vec.Iter.{into_iter_items};
-ghost use Rattle.play_crew.specs.Rooms.{IsFirst, IsPassOf};
-ghost use Rattle.play_crew.specs.Shared.{JoinsAll};
+ghost use Rattle.std.specs.{Prelude.{◌≡◌, map}, List.AllByRecursion, Vec.Iter.into_iter_items};
+ghost use Rattle.play_crew.specs.{Rooms.{IsFirst, IsPassOf}, Shared.JoinsAll};
 ghost use Rattle.worker_crew.specs.Workers.{IsOfRoom, any_wanting, pass_of};
 
 use crate::worker::RoomWorker;

@@ -1,6 +1,5 @@
 //! Workers with their passes.
-ghost use Rattle.std.specs.Prelude.{◌≡◌, ◌≤◌, ◌+◌, ◌++◌, [], length, vec_capacity};
-ghost use Rattle.std.specs.Vec.Iter.{into_iter_items};
+ghost use Rattle.std.specs.{Prelude.{◌≡◌, ◌≤◌, ◌+◌, ◌++◌, [], length, vec_capacity}, Vec.Iter.into_iter_items};
 ghost use Rattle.worker_crew.specs.Workers.{workers_from};
 
 use crate::worker::{RoomWorker, Staff};

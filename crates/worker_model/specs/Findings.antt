@@ -1,11 +1,9 @@
 -- What was found of commits, by the entries of a history.
 use Rattle.std.specs.Prelude.{◌≡◌, ℕ, Bool, true, false, List, [], ◌∷◌, ◌++◌, option_to_list, Option, Some, None}
 use Rattle.bisect_core.specs.Bisections.{Bisection, asked_by}
-use Rattle.history_model.specs.declared.entries.Entry.{Entry}
+use Rattle.history_model.specs.{declared.entries.Entry.Entry, declared.entries.Placed.Placed, Jobs.{jobs, job_in}}
 use Rattle.history_model.specs.declared.entries.Entry.TheVariants as entry
-use Rattle.history_model.specs.declared.entries.Placed.{Placed}
 use Rattle.history_model.specs.declared.events.JobEvent.TheVariants as event
-use Rattle.history_model.specs.Jobs.{jobs, job_in}
 use Rattle.track_model.specs.Following.{asked_commit, named_by}
 
 -- a commit by name, with the status of its test, or none where no test could be had

@@ -1,13 +1,8 @@
 -- What workers leave of a history at last: no series stale and no job open, but where a limit keeps them.
 use Rattle.std.specs.Prelude.{◌≡◌, ◌⊎◌, ℕ, ℤ, ◌+◌, ◌<◌, ◌≤◌, true, List, length, Some}
-use Rattle.metric_table.specs.Limits.{most}
-use Rattle.metric_table.specs.declared.limits.Limit.TheVariants.{Cuts, Steps}
-use Rattle.history_model.specs.declared.entries.Entry.{Entry}
-use Rattle.history_model.specs.declared.publication.Publication.{Publication}
-use Rattle.history_model.specs.Jobs.{jobs, open_count}
-use Rattle.history_model.specs.Penalties.{length_of, penalty_of}
-use Rattle.history_model.specs.Positions.{positions}
-use Rattle.history_model.specs.Publications.{AreBest, cut_count, last_publication}
+use Rattle.metric_table.specs.{Limits.most, declared.limits.Limit.TheVariants.{Cuts, Steps}}
+use Rattle.history_model.specs.{declared.entries.Entry.Entry, declared.publication.Publication.Publication, Jobs.{jobs, open_count}}
+use Rattle.history_model.specs.{Penalties.{length_of, penalty_of}, Positions.positions, Publications.{AreBest, cut_count, last_publication}}
 use Rattle.history_model.specs.Runs.{Series, is_known}
 use Rattle.touch_model.specs.Touches.{last_touch}
 

@@ -1,6 +1,4 @@
-use Rattle.kept_replies.proofs.Publishing.{segment_so}
-use Rattle.kept_replies.proofs.Replies.{answers_alike, replies_alike, histories_alike}
-use Rattle.kept_replies.proofs.Steps.{store_keeps}
+use Rattle.kept_replies.proofs.{Publishing.segment_so, Replies.{answers_alike, replies_alike, histories_alike}, Steps.store_keeps}
 use Rattle.kept_replies.proofs.replies_law.Goals as goal
 
 pub returns-clause-kept : goal.returns-clause-kept

@@ -1,5 +1,4 @@
-use Rattle.segment_model.proofs.Centres.{least_sum_of-is}
-use Rattle.segment_model.proofs.LeastSums.{least_sums-merge, least_sums-range}
+use Rattle.segment_model.proofs.{Centres.least_sum_of-is, LeastSums.{least_sums-merge, least_sums-range}}
 use Rattle.segment_model.proofs.squares_law.Goals as goal
 
 pub returns : goal.returns

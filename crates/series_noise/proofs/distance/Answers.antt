@@ -1,8 +1,5 @@
-use Rattle.std.proofs.Common.{◌+◌, FitsSigned, arith}
-use Rattle.std.specs.Int.{w64}
-use Rattle.std.proofs.lemmas.Int.{to_z-of_z}
-use Rattle.segment_model.specs.Segments.{segment, IsCentre}
-use Rattle.segment_model.proofs.CentreAt.{centre-at}
+use Rattle.std.{proofs.Common.{◌+◌, FitsSigned, arith}, specs.Int.w64, proofs.lemmas.Int.to_z-of_z}
+use Rattle.segment_model.{specs.Segments.{segment, IsCentre}, proofs.CentreAt.centre-at}
 use Rattle.series_noise.proofs.distance.Goals as goal
 
 pub returns : goal.returns

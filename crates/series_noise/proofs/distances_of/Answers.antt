@@ -1,6 +1,5 @@
 use Rattle.std.proofs.Common.{arith}
-use Rattle.series_noise.specs.Noise.{IsDistance}
-use Rattle.series_noise.proofs.Distances.{one-more}
+use Rattle.series_noise.{specs.Noise.IsDistance, proofs.Distances.one-more}
 use Rattle.series_noise.proofs.distances_of.Goals as goal
 
 pub loop-i-preserved : goal.loop-i-preserved

@@ -1,9 +1,6 @@
-use Rattle.std.proofs.Common.{◌≡◌, length, ℕ, ◌-◌, ◌/◌, arith, ◌∙◌, ap, get_or}
-use Rattle.std.specs.Prelude.{slice_index}
-use Rattle.std.proofs.lemmas.List.{get_or_default}
+use Rattle.std.{proofs.Common.{◌≡◌, length, ℕ, ◌-◌, ◌/◌, arith, ◌∙◌, ap, get_or}, specs.Prelude.slice_index, proofs.lemmas.List.get_or_default}
 use Rattle.std.proofs.lemmas.List.Sorted.{IsNonDecreasingBy-from_sort, length_permutation}
-use Rattle.series_noise.specs.Noise.{IsNoise}
-use Rattle.series_noise.proofs.Small.{small-noise}
+use Rattle.series_noise.{specs.Noise.IsNoise, proofs.Small.small-noise}
 use Rattle.series_noise.proofs.noise.Goals as goal
 
 the-noise : (c : goal.After-drop-distances) → IsNoise c.args.points.now c.index.result.now

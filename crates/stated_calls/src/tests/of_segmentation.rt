@@ -1,7 +1,6 @@
 //! The segmentation of a series.
 ghost use Rattle.std.specs.Prelude.{◌≡◌, ◌<◌, ◌≤◌, ◌^◌, ◌≤ℤ◌, [], ◌∷◌, ◌++◌, length, pos};
-ghost use Rattle.segment_model.specs.Limits.{IsLength};
-ghost use Rattle.segment_model.specs.Values.{AreWithinLimits, values_by_position};
+ghost use Rattle.segment_model.specs.{Limits.IsLength, Values.{AreWithinLimits, values_by_position}};
 
 use absolute_cost::Absolute;
 use change_list::{Change, ChangeItems, changes};

@@ -1,6 +1,5 @@
 use Rattle.std.proofs.Common.{◌≡◌, List, ℤ, length, ◌++◌, ◌∙◌, ap, sym, subst, arith}
-use Rattle.absolute_cost.specs.Blocks.{IsAdded, IsSortedFrom}
-use Rattle.absolute_cost.proofs.Sorted.{added, written}
+use Rattle.absolute_cost.{specs.Blocks.{IsAdded, IsSortedFrom}, proofs.Sorted.{added, written}}
 use Rattle.absolute_cost.proofs.blocks.add_block.Goals as goal
 
 pub returns-clause-added : goal.returns-clause-added

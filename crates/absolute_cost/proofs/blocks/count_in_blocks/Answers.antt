@@ -1,5 +1,4 @@
-use Rattle.std.proofs.Common.{◌≡◌, ◌≤◌, ◌+◌, ◌-◌, ◌*◌, length, FitsSigned, w64, arith}
-use Rattle.std.proofs.lemmas.Int.{to_z-of_z}
+use Rattle.std.proofs.{Common.{◌≡◌, ◌≤◌, ◌+◌, ◌-◌, ◌*◌, length, FitsSigned, w64, arith}, lemmas.Int.to_z-of_z}
 use Rattle.absolute_cost.proofs.Counts.{count_more}
 use Rattle.absolute_cost.proofs.blocks.count_in_blocks.Goals as goal
 

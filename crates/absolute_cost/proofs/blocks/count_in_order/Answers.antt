@@ -1,6 +1,4 @@
-use Rattle.std.proofs.Common.{sym, rules}
-use Rattle.std.specs.Prelude.{int_le}
-use Rattle.std.proofs.lemmas.List.Sorted.{IsPartitionPoint-from_clause}
+use Rattle.std.{proofs.Common.{sym, rules}, specs.Prelude.int_le, proofs.lemmas.List.Sorted.IsPartitionPoint-from_clause}
 use Rattle.absolute_cost.proofs.Counts.{parted, counted}
 use Rattle.absolute_cost.proofs.blocks.count_in_order.Goals as goal
 

@@ -1,8 +1,5 @@
-use Rattle.std.proofs.Common.{pos, ◌≤◌, ◌+◌, ◌*◌, length, get_or, arith}
-use Rattle.std.proofs.lemmas.Int.{to_z-of_z}
-use Rattle.absolute_cost.specs.Between.{AreWider}
-use Rattle.absolute_cost.proofs.Numbers.{not_above, wider, between_all, value-fits}
-use Rattle.absolute_cost.proofs.Counts.{blocks_more}
+use Rattle.std.proofs.{Common.{pos, ◌≤◌, ◌+◌, ◌*◌, length, get_or, arith}, lemmas.Int.to_z-of_z}
+use Rattle.absolute_cost.{specs.Between.AreWider, proofs.Numbers.{not_above, wider, between_all, value-fits}, proofs.Counts.blocks_more}
 use Rattle.absolute_cost.proofs.blocks.with_blocks.Goals as goal
 
 pub loop-k-preserved : goal.loop-k-preserved

@@ -1,5 +1,4 @@
-use Rattle.std.proofs.Common.{FitsSigned, w64, arith}
-use Rattle.std.proofs.lemmas.Int.{to_z-of_z}
+use Rattle.std.proofs.{Common.{FitsSigned, w64, arith}, lemmas.Int.to_z-of_z}
 use Rattle.absolute_cost.proofs.Counts.{count_parts}
 use Rattle.absolute_cost.proofs.middle.count_at_most.Goals as goal
 

@@ -1,11 +1,8 @@
-use Rattle.std.proofs.Common.{◌≡◌, ◌+ℤ◌, pos, sym, subst, ℤ, List, length}
-use Rattle.std.proofs.lemmas.Int.{to_z-of_z}
+use Rattle.std.proofs.{Common.{◌≡◌, ◌+ℤ◌, pos, sym, subst, ℤ, List, length}, lemmas.Int.to_z-of_z}
 use Rattle.segment_model.specs.Limits.{IsSmall}
 use Rattle.distance_model.specs.Middles.{at_most}
-use Rattle.absolute_cost.specs.Blocks.{all_of}
-use Rattle.absolute_cost.proofs.Numbers.{spans, none_under, all_up_to, small-fits}
+use Rattle.absolute_cost.{specs.Blocks.all_of, proofs.Numbers.{spans, none_under, all_up_to, small-fits}, proofs.middle.middle.Goals.After-abs_diff}
 use Rattle.absolute_cost.proofs.middle.middle.Goals as goal
-use Rattle.absolute_cost.proofs.middle.middle.Goals.{After-abs_diff}
 
 -- the span reaches from the least one to the greatest
 top : (c : After-abs_diff) → c.ends_of-ends.result.least +ℤ pos c.abs_diff.result ≡ c.ends_of-ends.result.greatest

@@ -1,9 +1,6 @@
-use Rattle.std.proofs.Common.{◌≡◌, ◌+◌, ◌*◌, ◌<◌, ℤ, FitsSigned, w64, arith, length, subst}
-use Rattle.std.proofs.lemmas.Int.{to_z-of_z}
+use Rattle.std.proofs.{Common.{◌≡◌, ◌+◌, ◌*◌, ◌<◌, ℤ, FitsSigned, w64, arith, length, subst}, lemmas.Int.to_z-of_z}
 use Rattle.distance_model.specs.Middles.{at_most}
-use Rattle.absolute_cost.specs.Numbers.{number_of}
-use Rattle.absolute_cost.specs.Blocks.{all_of}
-use Rattle.absolute_cost.proofs.Numbers.{raise, ends}
+use Rattle.absolute_cost.{specs.Numbers.number_of, specs.Blocks.all_of, proofs.Numbers.{raise, ends}}
 use Rattle.absolute_cost.proofs.middle.middle_from.Goals as goal
 
 pub loop-low-preserved : goal.loop-low-preserved

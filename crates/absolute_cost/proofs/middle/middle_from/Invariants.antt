@@ -1,6 +1,5 @@
 use Rattle.std.proofs.Common.{◌-◌}
-use Rattle.absolute_cost.specs.Blocks.{all_of}
-use Rattle.absolute_cost.proofs.Numbers.{Halves}
+use Rattle.absolute_cost.{specs.Blocks.all_of, proofs.Numbers.Halves}
 use Rattle.absolute_cost.proofs.middle.middle_from.Given as goal
 
 abbrev pub invariant-loop-low : goal.invariant-loop-low

@@ -1,10 +1,7 @@
-use Rattle.std.proofs.Common.{◌≡◌, ◌+◌, FitsSigned, w64, arith}
-use Rattle.std.proofs.lemmas.Int.{to_z-of_z}
+use Rattle.std.proofs.{Common.{◌≡◌, ◌+◌, FitsSigned, w64, arith}, lemmas.Int.to_z-of_z}
 use Rattle.distance_model.specs.Distances.{distances_about}
-use Rattle.absolute_cost.specs.Blocks.{all_of}
-use Rattle.absolute_cost.proofs.Counts.{parts_fit, two_fit, three_add}
+use Rattle.absolute_cost.{specs.Blocks.all_of, proofs.Counts.{parts_fit, two_fit, three_add}, proofs.middle.sum_of_distances.Goals.After-distances_in-3}
 use Rattle.absolute_cost.proofs.middle.sum_of_distances.Goals as goal
-use Rattle.absolute_cost.proofs.middle.sum_of_distances.Goals.{After-distances_in-3}
 
 pub distances_in-requires : goal.distances_in-requires
 distances_in-requires c = let fits : FitsSigned w64 c.args.c = c.ranges.c in simp to_z-of_z (parts_fit c.args.c c.args.pieces.head.now c.args.pieces.whole.now c.args.pieces.tail.now c.requires).0

@@ -1,5 +1,4 @@
-use Rattle.absolute_cut.specs.Certificate.{distances_between}
-use Rattle.absolute_cut.proofs.Certificates.{cost-unique, computed, standing}
+use Rattle.absolute_cut.{specs.Certificate.distances_between, proofs.Certificates.{cost-unique, computed, standing}}
 use Rattle.absolute_cut.proofs.laws.certificate_law.Goals as goal
 
 pub returns-clause-unique : goal.returns-clause-unique

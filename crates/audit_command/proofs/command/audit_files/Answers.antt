@@ -1,10 +1,7 @@
-use Rattle.std.proofs.Common.{◌≤◌, ◌^◌, List, length, sym, subst}
-use Rattle.std.specs.Prelude.{All}
+use Rattle.std.{proofs.Common.{◌≤◌, ◌^◌, List, length, sym, subst}, specs.Prelude.All}
 use Rattle.command_words.specs.Texts.{shown}
 use Rattle.audit_model.specs.declared.heard.Heard.{Heard}
-use Rattle.audit_command.specs.Opening.{names_of}
-use Rattle.audit_command.proofs.Gathered.{short_scripts}
-use Rattle.audit_command.proofs.Ends.{ends_told}
+use Rattle.audit_command.{specs.Opening.names_of, proofs.Gathered.short_scripts, proofs.Ends.ends_told}
 use Rattle.audit_command.proofs.command.audit_files.Goals as goal
 
 pub tell-requires-clause-short : goal.tell-requires-clause-short

@@ -1,11 +1,8 @@
 use Rattle.std.proofs.Common.{◌≡◌, ◌∙◌, ℕ, List, sym, subst, ap}
 use Rattle.command_words.specs.Texts.{shown, texts}
 use Rattle.audit_model.specs.declared.heard.Heard.{Heard}
-use Rattle.audit_command.specs.Endings.{AreTexts, EndsFiles, HaveAll}
-use Rattle.audit_command.specs.Opening.{names_of}
+use Rattle.audit_command.{specs.Endings.{AreTexts, EndsFiles, HaveAll}, specs.Opening.names_of, proofs.Gathered.in_parts, proofs.Ends.ends_wanting}
 use Rattle.audit_command.specs.declared.end.AuditEnd.TheVariants as end
-use Rattle.audit_command.proofs.Gathered.{in_parts}
-use Rattle.audit_command.proofs.Ends.{ends_wanting}
 use Rattle.audit_command.proofs.command.read_files.Goals as goal
 
 pub returns-in-Ok-parted-clause-texts : goal.returns-in-Ok-parted-clause-texts

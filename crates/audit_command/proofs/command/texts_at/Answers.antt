@@ -1,13 +1,7 @@
-use Rattle.std.proofs.Common.{◌≡◌, ◌∙◌, ◌^◌, ℕ, List, ◌++◌, length, sym, subst, ap}
-use Rattle.std.specs.List.{AllZip}
-use Rattle.std.specs.Vec.Iter.{into_iter_items}
+use Rattle.std.{proofs.Common.{◌≡◌, ◌∙◌, ◌^◌, ℕ, List, ◌++◌, length, sym, subst, ap}, specs.List.AllZip, specs.Vec.Iter.into_iter_items}
 use Rattle.command_words.specs.Texts.{texts}
-use Rattle.audit_command.specs.Opening.{IsOpen}
-use Rattle.audit_command.specs.Reading.{ReadsAll, StopsAll}
-use Rattle.audit_command.proofs.Gathered.{have_all}
-use Rattle.audit_command.proofs.Ends.{ends_unread}
-use Rattle.audit_command.proofs.command.texts_at.Given.{Over}
-use Rattle.audit_command.proofs.command.texts_at.Goals.{After-into_iter-2}
+use Rattle.audit_command.{specs.Opening.IsOpen, specs.Reading.{ReadsAll, StopsAll}, proofs.Gathered.have_all, proofs.Ends.ends_unread}
+use Rattle.audit_command.proofs.command.texts_at.{Given.Over, Goals.After-into_iter-2}
 use Rattle.audit_command.proofs.command.texts_at.Goals as goal
 
 -- the files that were opened, as they are read

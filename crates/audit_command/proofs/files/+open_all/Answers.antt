@@ -1,8 +1,6 @@
-use Rattle.std.proofs.Common.{ℕ, List, [], ◌∷◌, Ok, Err, sym, subst}
-use Rattle.std.specs.Prelude.{IfErr, string_bytes}
+use Rattle.std.{proofs.Common.{ℕ, List, [], ◌∷◌, Ok, Err, sym, subst}, specs.Prelude.{IfErr, string_bytes}}
 use Rattle.command_words.specs.Texts.{texts}
-use Rattle.audit_command.specs.Opening.{Asks}
-use Rattle.audit_command.proofs.Asked.{asks_first, asks_then_stop}
+use Rattle.audit_command.{specs.Opening.Asks, proofs.Asked.{asks_first, asks_then_stop}}
 use Rattle.audit_command.proofs.files.+open_all.Goals as goal
 
 pub returns-in-Err-clause-stop : goal.returns-in-Err-clause-stop

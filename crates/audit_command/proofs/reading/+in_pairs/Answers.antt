@@ -1,5 +1,4 @@
-use Rattle.std.proofs.Common.{◌≡◌, ◌∙◌, ℕ, List, ◌∷◌, ◌++◌, sym, ap, subst, append-nil}
-use Rattle.std.specs.Vec.Iter.{into_iter_items}
+use Rattle.std.{proofs.Common.{◌≡◌, ◌∙◌, ℕ, List, ◌∷◌, ◌++◌, sym, ap, subst, append-nil}, specs.Vec.Iter.into_iter_items}
 use Rattle.audit_model.specs.declared.heard.Heard.{Heard}
 use Rattle.audit_command.proofs.Gathered.{none_whole, odd_whole, two_whole, pairs_then}
 use Rattle.audit_command.proofs.reading.+in_pairs.Goals as goal

@@ -1,8 +1,5 @@
-use Rattle.std.proofs.Common.{◌∙◌, ◌≤◌, ◌+◌, ◌-◌, ℕ, length, sym, subst, arith}
-use Rattle.std.specs.Prelude.{IfErr}
-use Rattle.std.specs.Vec.Iter.{into_iter_items}
-use Rattle.audit_command.specs.Reading.{ReadsAll, StopsAll, StopsBehind}
-use Rattle.audit_command.proofs.Gathered.{nothing_left, pushed_one, reads_none, stops_first, stops_then_err}
+use Rattle.std.{proofs.Common.{◌∙◌, ◌≤◌, ◌+◌, ◌-◌, ℕ, length, sym, subst, arith}, specs.Prelude.IfErr, specs.Vec.Iter.into_iter_items}
+use Rattle.audit_command.{specs.Reading.{ReadsAll, StopsAll, StopsBehind}, proofs.Gathered.{nothing_left, pushed_one, reads_none, stops_first, stops_then_err}}
 use Rattle.audit_command.proofs.reading.+read_all.Goals as goal
 use Rattle.audit_command.proofs.reading.+read_all.Goals.{in-Ok-push, in-Err-push}
 

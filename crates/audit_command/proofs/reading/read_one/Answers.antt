@@ -1,6 +1,5 @@
 use Rattle.std.proofs.Common.{refl, ◌+◌, ℕ, List, sym, subst, arith}
-use Rattle.audit_command.specs.Reading.{HasRead, IsTextOf}
-use Rattle.audit_command.proofs.Gathered.{gave_more, gave_nothing, gave_text, read_none, read_more, read_all, stops_since}
+use Rattle.audit_command.{specs.Reading.{HasRead, IsTextOf}, proofs.Gathered.{gave_more, gave_nothing, gave_text, read_none, read_more, read_all, stops_since}}
 use Rattle.audit_command.proofs.reading.read_one.Goals as goal
 
 pub loop-count-init : goal.loop-count-init

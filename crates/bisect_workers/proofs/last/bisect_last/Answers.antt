@@ -1,16 +1,9 @@
-use Rattle.std.proofs.Common.{◌≡◌, inr, ◌≤◌, length, sym, ap, subst, arith}
-use Rattle.std.proofs.lemmas.List.{length-map}
+use Rattle.std.proofs.{Common.{◌≡◌, inr, ◌≤◌, length, sym, ap, subst, arith}, lemmas.List.length-map}
 use Rattle.metric_table.specs.declared.limits.Limit.TheVariants as limit
-use Rattle.history_model.specs.declared.entries.Author.TheVariants.{Bisect}
-use Rattle.history_model.specs.declared.entries.Placed.{Placed}
-use Rattle.history_model.specs.Allowed.{KeepsLimits}
-use Rattle.history_model.specs.Entries.{entries_of}
+use Rattle.history_model.specs.{declared.entries.Author.TheVariants.Bisect, declared.entries.Placed.Placed, Allowed.KeepsLimits, Entries.entries_of}
 use Rattle.track_model.specs.Tracks.{Track}
-use Rattle.track_room.specs.Work.{IsUntaken, Work}
-use Rattle.track_room.proofs.Untaken.{unclaimed-untaken}
-use Rattle.bisect_workers.specs.Bisecting.{IsBisected}
-use Rattle.bisect_workers.proofs.Closed.{jobs-closed}
-use Rattle.bisect_workers.proofs.Joined.{joined, nothing}
+use Rattle.track_room.{specs.Work.{IsUntaken, Work}, proofs.Untaken.unclaimed-untaken}
+use Rattle.bisect_workers.{specs.Bisecting.IsBisected, proofs.Closed.jobs-closed, proofs.Joined.{joined, nothing}}
 use Rattle.bisect_workers.proofs.last.bisect_last.Goals as goal
 
 pub turns-init : goal.turns-init

@@ -1,22 +1,13 @@
-use Rattle.history_model.proofs.Chosen.{entries-push}
-use Rattle.std.proofs.Common.{◌≡◌, List, [], ◌∷◌, length, refl, sym, ap, subst, ◌∙◌, Option, Some, None, arith}
-use Rattle.std.specs.Prelude.{IsSome}
+use Rattle.history_model.{proofs.Chosen.entries-push, specs.declared.entries.Author.TheVariants.Bisect, specs.declared.entries.Entry.Entry}
+use Rattle.std.{proofs.Common.{◌≡◌, List, [], ◌∷◌, length, refl, sym, ap, subst, ◌∙◌, Option, Some, None, arith}, specs.Prelude.IsSome}
 use Rattle.std.proofs.lemmas.List.{length-append}
 use Rattle.track_outside.specs.Asked.{Ask}
 use Rattle.bisect_core.specs.Bisections.{Bisection}
-use Rattle.history_model.specs.declared.entries.Author.TheVariants.{Bisect}
-use Rattle.history_model.specs.declared.entries.Entry.{Entry}
 use Rattle.history_model.specs.Entries.{entries_of}
-use Rattle.track_room.specs.Settling.{entry_said}
+use Rattle.track_room.specs.{Settling.entry_said, Asking.IsOpenQuestion, Work.{IsUntaken, Work}, Questions.IsFirstQuestion, Question.Question}
 use Rattle.track_model.specs.Tracks.{Track, with_entry}
-use Rattle.track_room.specs.Asking.{IsOpenQuestion}
-use Rattle.track_room.specs.Work.{IsUntaken, Work}
-use Rattle.track_room.specs.Questions.{IsFirstQuestion}
-use Rattle.track_room.specs.Question.{Question}
 use Rattle.track_room.proofs.Untaken.{settled-untaken}
-use Rattle.bisect_workers.specs.Bisecting.{IsBisected}
-use Rattle.bisect_workers.proofs.Joined.{nothing}
-use Rattle.bisect_workers.proofs.Turning.{none-asks, recorded, unused, used}
+use Rattle.bisect_workers.{specs.Bisecting.IsBisected, proofs.Joined.nothing, proofs.Turning.{none-asks, recorded, unused, used}}
 use Rattle.bisect_workers.proofs.last.turn.Goals as goal
 
 -- what a state's machine is asked, its machine's history asks

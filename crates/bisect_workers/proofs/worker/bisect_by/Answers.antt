@@ -1,8 +1,6 @@
 use Rattle.std.proofs.Common.{arith}
 use Rattle.history_model.specs.declared.entries.Author.TheVariants.{Bisect}
-use Rattle.bisect_workers.proofs.Besides.{joined, nothing, sees-all}
-use Rattle.bisect_workers.specs.Beside.{IsBisectedIn}
-use Rattle.bisect_workers.proofs.worker.bisect_by.Given.{Over}
+use Rattle.bisect_workers.{proofs.Besides.{joined, nothing, sees-all}, specs.Beside.IsBisectedIn, proofs.worker.bisect_by.Given.Over}
 use Rattle.bisect_workers.proofs.worker.bisect_by.Goals.{After-turn}
 use Rattle.bisect_workers.proofs.worker.bisect_by.Goals as goal
 

@@ -1,8 +1,6 @@
-use Rattle.std.proofs.Common.{subst, sym, ap}
-use Rattle.std.specs.Prelude.{is_some}
+use Rattle.std.{proofs.Common.{subst, sym, ap}, specs.Prelude.is_some}
 use Rattle.history_model.specs.declared.entries.Author.TheVariants.{Bisect}
-use Rattle.bisect_workers.specs.Beside.{IsBisectedIn}
-use Rattle.bisect_workers.proofs.Besides.{nothing, sees-all, settled, unused}
+use Rattle.bisect_workers.{specs.Beside.IsBisectedIn, proofs.Besides.{nothing, sees-all, settled, unused}}
 use Rattle.bisect_workers.proofs.worker.finish.Goals as goal
 
 pub returns-in_err-status-clause-bisected : goal.returns-in_err-status-clause-bisected

@@ -1,10 +1,6 @@
-use Rattle.std.proofs.Common.{◌≡◌, ℕ, List, subst, Option, Some, arith}
-use Rattle.std.specs.Prelude.{IfSome}
-use Rattle.history_model.specs.declared.entries.Author.{Author}
-use Rattle.history_model.specs.declared.entries.Author.TheVariants.{Bisect}
-use Rattle.track_room.specs.Sights.{Sight}
-use Rattle.track_room.specs.Taking.{IsQuestion, OfSeen}
-use Rattle.track_room.specs.Question.{Question}
+use Rattle.std.{proofs.Common.{◌≡◌, ℕ, List, subst, Option, Some, arith}, specs.Prelude.IfSome}
+use Rattle.history_model.specs.declared.entries.Author.{Author, TheVariants.Bisect}
+use Rattle.track_room.specs.{Sights.Sight, Taking.{IsQuestion, OfSeen}, Question.Question}
 use Rattle.bisect_workers.proofs.Besides.{joined, nothing}
 use Rattle.bisect_workers.proofs.worker.turn.Goals as goal
 

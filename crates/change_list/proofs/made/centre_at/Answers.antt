@@ -1,8 +1,5 @@
-use Rattle.std.proofs.Common.{FitsSigned}
-use Rattle.std.specs.Int.{w64}
-use Rattle.std.proofs.lemmas.Int.{to_z-of_z}
-use Rattle.segment_model.specs.Segments.{IsCentre, segment}
-use Rattle.segment_model.proofs.CentreAt.{centre-at}
+use Rattle.std.{proofs.Common.FitsSigned, specs.Int.w64, proofs.lemmas.Int.to_z-of_z}
+use Rattle.segment_model.{specs.Segments.{IsCentre, segment}, proofs.CentreAt.centre-at}
 use Rattle.change_list.proofs.made.centre_at.Goals as goal
 
 pub returns : goal.returns

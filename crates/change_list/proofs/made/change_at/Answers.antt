@@ -1,6 +1,4 @@
-use Rattle.std.proofs.Common.{FitsSigned}
-use Rattle.std.specs.Int.{w64}
-use Rattle.std.proofs.lemmas.Int.{to_z-of_z}
+use Rattle.std.{proofs.Common.FitsSigned, specs.Int.w64, proofs.lemmas.Int.to_z-of_z}
 use Rattle.segment_model.specs.Segments.{IsCentre, segment}
 use Rattle.change_list.proofs.made.change_at.Goals as goal
 

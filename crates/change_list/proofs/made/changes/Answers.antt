@@ -1,8 +1,7 @@
 use Rattle.std.proofs.Common.{◌≡◌, length, slice_index, ap, ◌∙◌}
 use Rattle.segment_model.specs.Cuts.{place_before, place_behind}
 use Rattle.metric_table.specs.Table.{row_of}
-use Rattle.change_list.specs.Changes.{IsChange}
-use Rattle.change_list.proofs.Grown.{one-more, moved}
+use Rattle.change_list.{specs.Changes.IsChange, proofs.Grown.{one-more, moved}}
 use Rattle.change_list.proofs.made.changes.Goals as goal
 
 pub loop-i-preserved : goal.loop-i-preserved

@@ -1,8 +1,7 @@
 use Rattle.std.proofs.Common.{◌≡◌, ℕ, ◌<◌, length, slice_index, get_or}
 use Rattle.segment_model.specs.Cuts.{place_before, place_behind}
 use Rattle.metric_table.specs.Table.{row_of}
-use Rattle.change_list.specs.declared.change.Change.{Change}
-use Rattle.change_list.specs.Changes.{IsChange}
+use Rattle.change_list.specs.{declared.change.Change.Change, Changes.IsChange}
 use Rattle.change_list.proofs.made.changes.Given as goal
 
 abbrev pub invariant-loop-i : goal.invariant-loop-i

@@ -1,5 +1,4 @@
-use Rattle.std.proofs.Common.{◌≡◌, length, ap, ◌∙◌, arith}
-use Rattle.std.proofs.lemmas.List.{length-map}
+use Rattle.std.proofs.{Common.{◌≡◌, length, ap, ◌∙◌, arith}, lemmas.List.length-map}
 use Rattle.segment_model.specs.Segments.{position_values}
 use Rattle.checkpoint_redo.proofs.Fronts.{common-within, front-first}
 use Rattle.checkpoint_redo.proofs.redoing.redo.Goals as goal

@@ -1,6 +1,5 @@
 use Rattle.std.proofs.Common.{◌≡◌, ℤ, ◌+◌, ◌<◌, ◌≤◌, List, [], ◌∷◌, ◌++◌, length, take, refl, ap, ◌∙◌, arith}
-use Rattle.segment_model.specs.Values.{values_by_position}
-use Rattle.segment_model.proofs.Filling.{filled-next, filled-within, filled-all}
+use Rattle.segment_model.{specs.Values.values_by_position, proofs.Filling.{filled-next, filled-within, filled-all}}
 use Rattle.pelt_core.specs.Seen.{Tabled, table_of}
 use Rattle.checkpoint_redo.proofs.Fronts.{any-err, front-table, next-table, first-table}
 use Rattle.checkpoint_redo.proofs.redoing.redo_from.Goals as goal

@@ -1,6 +1,4 @@
-use Rattle.command_words.specs.Texts.{texts}
-use Rattle.command_words.specs.Commands.{IsSpelled}
-use Rattle.command_words.proofs.Commands.{none_words, not_named, not_given, told_spelled, some_told, none_told}
+use Rattle.command_words.{specs.Texts.texts, specs.Commands.IsSpelled, proofs.Commands.{none_words, not_named, not_given, told_spelled, some_told, none_told}}
 use Rattle.command_words.proofs.command.command_of.Goals as goal
 
 pub returns-in_default-clause-none : goal.returns-in_default-clause-none

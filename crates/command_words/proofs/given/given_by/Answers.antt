@@ -1,8 +1,6 @@
 use Rattle.std.proofs.Common.{◌≡◌, ◌≢◌, [], true, ap, ◌∙◌, rules}
 use Rattle.clap.specs.Words.{app_of, fault_of, is_simple_and_free}
-use Rattle.command_words.specs.Kinds.{app_for}
-use Rattle.command_words.specs.Texts.{texts}
-use Rattle.command_words.proofs.Commands.{free}
+use Rattle.command_words.{specs.Kinds.app_for, specs.Texts.texts, proofs.Commands.free}
 use Rattle.command_words.proofs.given.given_by.Goals as goal
 
 pub returns : goal.returns

@@ -1,10 +1,6 @@
-use Rattle.std.proofs.Common.{◌↔◌, ℕ, List, ◌∷◌, Bool, false, refl, sym, subst, ◌∙◌}
-use Rattle.std.specs.Prelude.{All, Contains, IsTrue, Result, Ok, Err, IfOk}
-use Rattle.std.specs.Borrow.{Bor}
-use Rattle.std.proofs.lemmas.List.Elements.{All-head}
-use Rattle.command_words.specs.Plans.{transcript_of}
-use Rattle.command_words.specs.Texts.{shown}
-use Rattle.command_words.proofs.Different.{each_behind}
+use Rattle.std.{proofs.Common.{◌↔◌, ℕ, List, ◌∷◌, Bool, false, refl, sym, subst, ◌∙◌}, specs.Prelude.{All, Contains, IsTrue, Result, Ok, Err, IfOk}}
+use Rattle.std.{specs.Borrow.Bor, proofs.lemmas.List.Elements.All-head}
+use Rattle.command_words.{specs.Plans.transcript_of, specs.Texts.shown, proofs.Different.each_behind}
 use Rattle.command_words.proofs.plan.+are_own.Goals as goal
 
 -- the transcript of the script is none of them

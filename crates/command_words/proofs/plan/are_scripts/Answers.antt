@@ -1,8 +1,5 @@
-use Rattle.std.proofs.Common.{◌≢◌, ◌<◌, ◌≤◌, length, refl, arith}
-use Rattle.std.specs.Prelude.{All, AllPairs}
-use Rattle.command_words.specs.Texts.{shown}
-use Rattle.command_words.proofs.Plans.{scripts_by, length_shown}
-use Rattle.command_words.proofs.Different.{positive}
+use Rattle.std.{proofs.Common.{◌≢◌, ◌<◌, ◌≤◌, length, refl, arith}, specs.Prelude.{All, AllPairs}}
+use Rattle.command_words.{specs.Texts.shown, proofs.Plans.{scripts_by, length_shown}, proofs.Different.positive}
 use Rattle.command_words.proofs.plan.are_scripts.Goals as goal
 
 pub returns : goal.returns

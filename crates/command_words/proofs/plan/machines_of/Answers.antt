@@ -1,11 +1,7 @@
-use Rattle.std.proofs.Common.{◌≡◌, ◌≢◌, ℕ, ◌≤◌, List, length, refl, sym, subst, ap, ◌∙◌, arith}
-use Rattle.std.specs.Prelude.{AllPairs}
-use Rattle.std.specs.List.{AllZip, slice_split}
+use Rattle.std.{proofs.Common.{◌≡◌, ◌≢◌, ℕ, ◌≤◌, List, length, refl, sym, subst, ap, ◌∙◌, arith}, specs.Prelude.AllPairs, specs.List.{AllZip, slice_split}}
 use Rattle.std.proofs.lemmas.List.Elements.{length_all_zip}
 use Rattle.line_text.specs.Names.{Spells}
-use Rattle.command_words.specs.Plans.{is_comma}
-use Rattle.command_words.specs.Texts.{shown}
-use Rattle.command_words.proofs.Plans.{not_apart, are_machines, length_shown}
+use Rattle.command_words.{specs.Plans.is_comma, specs.Texts.shown, proofs.Plans.{not_apart, are_machines, length_shown}}
 use Rattle.command_words.proofs.plan.machines_of.Goals as goal
 
 pub returns-then-not-are_apart : goal.returns-then-not-are_apart

@@ -1,11 +1,7 @@
-use Rattle.std.proofs.Common.{◌≡◌, ℕ, ◌+◌, ◌<◌, List, [], take, length, get_or, Err, sym, subst, ap, ◌∙◌, arith}
-use Rattle.std.specs.List.{AllZip}
-use Rattle.std.specs.Borrow.{Bor}
-use Rattle.std.proofs.lemmas.List.{get_or_default}
-use Rattle.std.proofs.lemmas.List.Elements.{all_zip_more, AllZip-get_or}
+use Rattle.std.{proofs.Common.{◌≡◌, ℕ, ◌+◌, ◌<◌, List, [], take, length, get_or, Err, sym, subst, ap, ◌∙◌, arith}, specs.List.AllZip, specs.Borrow.Bor}
+use Rattle.std.proofs.lemmas.List.{get_or_default, Elements.{all_zip_more, AllZip-get_or}}
 use Rattle.line_text.specs.Names.{Spells}
-use Rattle.command_words.specs.Texts.{shown}
-use Rattle.command_words.proofs.Plans.{shown_at, length_shown}
+use Rattle.command_words.{specs.Texts.shown, proofs.Plans.{shown_at, length_shown}}
 use Rattle.command_words.proofs.plan.names_in.Goals as goal
 
 abbrev nothing : Bor (List ℕ)

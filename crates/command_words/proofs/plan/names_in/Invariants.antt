@@ -1,5 +1,4 @@
-use Rattle.std.proofs.Common.{take}
-use Rattle.std.specs.List.{AllZip}
+use Rattle.std.{proofs.Common.take, specs.List.AllZip}
 use Rattle.line_text.specs.Names.{Spells}
 use Rattle.command_words.specs.Texts.{shown}
 use Rattle.command_words.proofs.plan.names_in.Given as goal

@@ -1,5 +1,4 @@
-use Rattle.command_words.specs.Texts.{shown_if}
-use Rattle.command_words.proofs.Plans.{untested}
+use Rattle.command_words.{specs.Texts.shown_if, proofs.Plans.untested}
 use Rattle.command_words.proofs.plan.plan_said.Goals as goal
 
 pub returns-then-not-is_tested : goal.returns-then-not-is_tested

@@ -1,8 +1,5 @@
-use Rattle.std.proofs.Common.{◌↔◌, ℕ, ◌<◌, List, length, sym, subst}
-use Rattle.std.specs.Prelude.{All, IsTrue}
-use Rattle.std.specs.Borrow.{Bor}
-use Rattle.command_words.specs.Texts.{shown}
-use Rattle.command_words.proofs.Different.{each_behind, positive}
+use Rattle.std.{proofs.Common.{◌↔◌, ℕ, ◌<◌, List, length, sym, subst}, specs.Prelude.{All, IsTrue}, specs.Borrow.Bor}
+use Rattle.command_words.{specs.Texts.shown, proofs.Different.{each_behind, positive}}
 use Rattle.command_words.proofs.texts.+all_named.Goals as goal
 
 abbrev IsNamed : List ℕ → Type 0

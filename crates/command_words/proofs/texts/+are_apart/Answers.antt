@@ -1,8 +1,5 @@
-use Rattle.std.proofs.Common.{◌≢◌, ◌↔◌, ℕ, List, false, refl, sym, subst}
-use Rattle.std.specs.Prelude.{AllPairs, Contains, IsTrue}
-use Rattle.std.specs.Borrow.{Bor}
-use Rattle.command_words.specs.Texts.{shown}
-use Rattle.command_words.proofs.Different.{comes_again, apart_behind}
+use Rattle.std.{proofs.Common.{◌≢◌, ◌↔◌, ℕ, List, false, refl, sym, subst}, specs.Prelude.{AllPairs, Contains, IsTrue}, specs.Borrow.Bor}
+use Rattle.command_words.{specs.Texts.shown, proofs.Different.{comes_again, apart_behind}}
 use Rattle.command_words.proofs.texts.+are_apart.Goals as goal
 
 pub returns-then-has_text : goal.returns-then-has_text

@@ -1,8 +1,5 @@
-use Rattle.std.proofs.Common.{◌≡◌, ◌↔◌, ℕ, List, true, refl, sym, subst}
-use Rattle.std.specs.Prelude.{Contains, IsTrue}
-use Rattle.std.specs.Borrow.{Bor}
-use Rattle.command_words.specs.Texts.{shown}
-use Rattle.command_words.proofs.Different.{found_first, found_behind}
+use Rattle.std.{proofs.Common.{◌≡◌, ◌↔◌, ℕ, List, true, refl, sym, subst}, specs.Prelude.{Contains, IsTrue}, specs.Borrow.Bor}
+use Rattle.command_words.{specs.Texts.shown, proofs.Different.{found_first, found_behind}}
 use Rattle.command_words.proofs.texts.+has_text.Goals as goal
 
 pub returns-then-is_same : goal.returns-then-is_same

@@ -1,9 +1,5 @@
-use Rattle.std.proofs.Common.{◌++◌, ℕ, List, sym, ap, ◌∙◌, arith, rules}
-use Rattle.std.specs.List.{slice_split}
-use Rattle.std.specs.Borrow.{Bor}
-use Rattle.command_words.specs.Plans.{is_comma}
-use Rattle.command_words.specs.Texts.{shown}
-use Rattle.command_words.proofs.Pieces.{more, last}
+use Rattle.std.{proofs.Common.{◌++◌, ℕ, List, sym, ap, ◌∙◌, arith, rules}, specs.List.slice_split, specs.Borrow.Bor}
+use Rattle.command_words.{specs.Plans.is_comma, specs.Texts.shown, proofs.Pieces.{more, last}}
 use Rattle.command_words.proofs.texts.pieces_of.Goals as goal
 
 pub loop-piece-preserved : goal.loop-piece-preserved

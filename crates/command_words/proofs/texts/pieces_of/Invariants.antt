@@ -1,9 +1,7 @@
-use Rattle.std.proofs.Common.{◌≡◌, ◌++◌, length}
-use Rattle.std.specs.List.{slice_split}
+use Rattle.std.{proofs.Common.{◌≡◌, ◌++◌, length}, specs.List.slice_split}
 use denote.Shadow.{shadow}
 use denote.Text.{Utf8}
-use Rattle.command_words.specs.Plans.{is_comma}
-use Rattle.command_words.specs.Texts.{shown}
+use Rattle.command_words.specs.{Plans.is_comma, Texts.shown}
 use Rattle.command_words.proofs.texts.pieces_of.Given as goal
 
 abbrev pub decreases-loop-piece : goal.decreases-loop-piece

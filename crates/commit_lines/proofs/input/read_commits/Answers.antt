@@ -1,8 +1,6 @@
-use Rattle.std.proofs.Common.{arith}
-use Rattle.std.proofs.lemmas.Result.{err_from_is_err_and, MatchResult-weaker}
+use Rattle.std.proofs.{Common.arith, lemmas.Result.{err_from_is_err_and, MatchResult-weaker}}
 use Rattle.line_pieces.proofs.Given.{end_stops}
-use Rattle.commit_lines.specs.Pieces.{reading}
-use Rattle.commit_lines.proofs.PieceSteps.{end_names}
+use Rattle.commit_lines.{specs.Pieces.reading, proofs.PieceSteps.end_names}
 use Rattle.commit_lines.proofs.input.read_commits.Goals as goal
 
 pub finish-requires : goal.finish-requires

@@ -1,9 +1,6 @@
-use Rattle.std.proofs.Common.{ℕ, List, inl, refl, sym, subst, ◌∙◌}
-use Rattle.std.specs.Cmp.Lexicographic.{same_text, nat_list_eq_equiv}
-use Rattle.std.proofs.lemmas.Bool.{false≢true}
+use Rattle.std.{proofs.Common.{ℕ, List, inl, refl, sym, subst, ◌∙◌}, specs.Cmp.Lexicographic.{same_text, nat_list_eq_equiv}, proofs.lemmas.Bool.false≢true}
 use Rattle.std.proofs.lemmas.Map.Views.{Contains-from_any, list_any-from_Contains}
-use Rattle.commit_lines.specs.HasRead.{IsKind}
-use Rattle.commit_lines.proofs.Judged.{neither, new_is_good}
+use Rattle.commit_lines.{specs.HasRead.IsKind, proofs.Judged.{neither, new_is_good}}
 use Rattle.commit_lines.proofs.line.is_good.Goals as goal
 
 pub returns-in-Skipped : goal.returns-in-Skipped

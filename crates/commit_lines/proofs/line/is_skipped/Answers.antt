@@ -1,6 +1,4 @@
-use Rattle.std.proofs.Common.{ℕ, List, inl, inr, slice_range, drop, ap, not, ◌∙◌}
-use Rattle.std.proofs.lemmas.Bool.{both_ways}
-use Rattle.std.proofs.Common.{is_some}
+use Rattle.std.proofs.{Common.{ℕ, List, inl, inr, slice_range, drop, ap, not, ◌∙◌}, lemmas.Bool.both_ways, Common.is_some}
 use Rattle.line_text.specs.Lines.{words_of}
 use Rattle.commit_lines.proofs.Judged.{none_holds, some_more, not_none, word_not_skipped}
 use Rattle.commit_lines.proofs.line.is_skipped.Goals as goal

@@ -1,8 +1,6 @@
-use Rattle.std.proofs.Common.{ℕ, List, ◌∷◌, inl, inr, Err, slice_range, drop, ap, sym, ◌∙◌}
-use Rattle.std.proofs.lemmas.Bool.{both_ways}
+use Rattle.std.proofs.{Common.{ℕ, List, ◌∷◌, inl, inr, Err, slice_range, drop, ap, sym, ◌∙◌}, lemmas.Bool.both_ways}
 use Rattle.line_text.specs.Lines.{words_of}
-use Rattle.commit_lines.proofs.Words.{two_words, one_word}
-use Rattle.commit_lines.proofs.Judged.{none_holds, some_more}
+use Rattle.commit_lines.proofs.{Words.{two_words, one_word}, Judged.{none_holds, some_more}}
 use Rattle.commit_lines.proofs.line.line_kind.Goals as goal
 
 pub returns-then-begins_with_hash : goal.returns-then-begins_with_hash

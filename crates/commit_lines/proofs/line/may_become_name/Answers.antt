@@ -1,8 +1,5 @@
-use Rattle.std.proofs.Common.{inl, inr, refl}
-use Rattle.std.proofs.lemmas.Bool.{both_ways}
-use Rattle.std.proofs.lemmas.Result.{MatchResult-weaker}
-use Rattle.commit_lines.specs.Ends.{end_at}
-use Rattle.commit_lines.proofs.LineEnds.{line_tried}
+use Rattle.std.proofs.{Common.{inl, inr, refl}, lemmas.Bool.both_ways, lemmas.Result.MatchResult-weaker}
+use Rattle.commit_lines.{specs.Ends.end_at, proofs.LineEnds.line_tried}
 use Rattle.commit_lines.proofs.line.may_become_name.Goals as goal
 
 pub returns-then-is_skipped : goal.returns-then-is_skipped

@@ -1,5 +1,4 @@
-use Rattle.std.proofs.lemmas.Bool.{both_ways}
-use Rattle.std.proofs.lemmas.Result.{MatchResult-weaker}
+use Rattle.std.proofs.lemmas.{Bool.both_ways, Result.MatchResult-weaker}
 use Rattle.commit_lines.proofs.Words.{good_may}
 use Rattle.commit_lines.proofs.line.may_go.Goals as goal
 

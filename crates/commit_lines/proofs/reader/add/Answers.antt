@@ -1,7 +1,5 @@
-use Rattle.std.proofs.Common.{◌++◌, ◌∷◌, [], List, ℕ, Bool, cond, refl, sym, ap, ◌∙◌, arith}
-use Rattle.std.specs.Cmp.Lexicographic.{same_text, nat_list_eq_equiv}
-use Rattle.std.proofs.lemmas.Bool.{both_ways}
-use Rattle.std.proofs.lemmas.Map.Views.{Contains-from_any, list_any-from_Contains}
+use Rattle.std.{proofs.Common.{◌++◌, ◌∷◌, [], List, ℕ, Bool, cond, refl, sym, ap, ◌∙◌, arith}, specs.Cmp.Lexicographic.{same_text, nat_list_eq_equiv}}
+use Rattle.std.proofs.lemmas.{Bool.both_ways, Map.Views.{Contains-from_any, list_any-from_Contains}}
 use Rattle.commit_lines.proofs.reader.add.Goals as goal
 
 pub returns-then-contains-clause-err : goal.returns-then-contains-clause-err

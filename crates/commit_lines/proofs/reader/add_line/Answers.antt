@@ -1,9 +1,6 @@
-use Rattle.std.proofs.Common.{◌≡◌, ℕ, List, inl, inr, refl, subst}
-use Rattle.std.proofs.lemmas.Result.{MatchResult-weaker}
-use Rattle.commit_lines.specs.HasRead.{IsKind, RefusesName}
-use Rattle.commit_lines.specs.Reading.{Breaks}
+use Rattle.std.proofs.{Common.{◌≡◌, ℕ, List, inl, inr, refl, subst}, lemmas.Result.MatchResult-weaker}
+use Rattle.commit_lines.{specs.HasRead.{IsKind, RefusesName}, specs.Reading.Breaks, proofs.Judged.{breaks, neither}}
 use Rattle.line_pieces.proofs.Lines.{on_refused-weaker}
-use Rattle.commit_lines.proofs.Judged.{breaks, neither}
 use Rattle.commit_lines.proofs.reader.add_line.Goals as goal
 
 pub returns-in-Skipped-clause-ok : goal.returns-in-Skipped-clause-ok

@@ -1,7 +1,5 @@
-use Rattle.std.proofs.Common.{◌≡◌, ℕ, ◌++◌, inl, inr, refl, sym, subst, ◌∙◌, arith}
-use Rattle.std.proofs.lemmas.Bool.{false≢true, cases_lt}
-use Rattle.commit_lines.specs.Ends.{end_at}
-use Rattle.commit_lines.specs.HasRead.{SaysName}
+use Rattle.std.proofs.{Common.{◌≡◌, ℕ, ◌++◌, inl, inr, refl, sym, subst, ◌∙◌, arith}, lemmas.Bool.{false≢true, cases_lt}}
+use Rattle.commit_lines.specs.{Ends.end_at, HasRead.SaysName}
 use Rattle.commit_lines.proofs.tries.is_tried.Goals as goal
 
 pub returns-then-branch : goal.returns-then-branch

@@ -1,6 +1,5 @@
 use Rattle.std.proofs.Common.{ℕ, ◌<◌, ◌++◌}
-use Rattle.commit_lines.specs.Ends.{end_at}
-use Rattle.commit_lines.specs.HasRead.{SaysName}
+use Rattle.commit_lines.specs.{Ends.end_at, HasRead.SaysName}
 use Rattle.commit_lines.proofs.tries.is_tried.Given as goal
 
 -- no end so far makes it say a name

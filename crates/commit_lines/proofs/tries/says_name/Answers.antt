@@ -1,9 +1,5 @@
-use Rattle.std.proofs.Common.{◌≡◌, ℕ, ◌<◌, List, ◌++◌, length, refl, sym, ap, subst, ◌∙◌, arith}
-use Rattle.std.proofs.lemmas.Bool.{false≢true}
-use Rattle.commit_lines.specs.Ends.{end_at}
-use Rattle.commit_lines.specs.HasRead.{IsKind}
-use Rattle.commit_lines.specs.Lines.{IsNameLine}
-use Rattle.commit_lines.proofs.Words.{skipped_not_name}
+use Rattle.std.proofs.{Common.{◌≡◌, ℕ, ◌<◌, List, ◌++◌, length, refl, sym, ap, subst, ◌∙◌, arith}, lemmas.Bool.false≢true}
+use Rattle.commit_lines.{specs.Ends.end_at, specs.HasRead.IsKind, specs.Lines.IsNameLine, proofs.Words.skipped_not_name}
 use Rattle.commit_lines.proofs.tries.says_name.Goals.{After-deref}
 use Rattle.commit_lines.proofs.tries.says_name.Goals as goal
 

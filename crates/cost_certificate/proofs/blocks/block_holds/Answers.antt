@@ -1,7 +1,5 @@
-use Rattle.std.proofs.Common.{◌+◌, ◌*◌, false, inl, inr, refl, arith}
-use Rattle.std.proofs.lemmas.Bool.{cases_lt}
-use Rattle.cost_certificate.proofs.Watches.{watches-later}
-use Rattle.cost_certificate.proofs.Bools.{not_both}
+use Rattle.std.proofs.{Common.{◌+◌, ◌*◌, false, inl, inr, refl, arith}, lemmas.Bool.cases_lt}
+use Rattle.cost_certificate.proofs.{Watches.watches-later, Bools.not_both}
 use Rattle.cost_certificate.proofs.blocks.block_holds.Goals as goal
 
 pub returns-then-not-fronts_hold-clause-holds : goal.returns-then-not-fronts_hold-clause-holds

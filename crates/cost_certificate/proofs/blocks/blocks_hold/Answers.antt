@@ -1,8 +1,5 @@
-use Rattle.std.proofs.Common.{ℕ, ◌+◌, ◌*◌, false, inl, inr, refl, min, arith}
-use Rattle.std.proofs.lemmas.Bool.{cases_lt}
-use Rattle.cost_certificate.specs.Checks.{PlaceHoldsInBlock}
-use Rattle.cost_certificate.proofs.Watches.{watches-later}
-use Rattle.cost_certificate.proofs.Bools.{not_both}
+use Rattle.std.proofs.{Common.{ℕ, ◌+◌, ◌*◌, false, inl, inr, refl, min, arith}, lemmas.Bool.cases_lt}
+use Rattle.cost_certificate.{specs.Checks.PlaceHoldsInBlock, proofs.Watches.watches-later, proofs.Bools.not_both}
 use Rattle.cost_certificate.proofs.blocks.blocks_hold.Goals as goal
 
 pub returns-then-not-block_holds : goal.returns-then-not-block_holds

@@ -1,5 +1,4 @@
-use Rattle.std.proofs.Common.{◌^◌, pos, ◌≤ℤ◌, arith}
-use Rattle.std.proofs.lemmas.Int.{ints}
+use Rattle.std.proofs.{Common.{◌^◌, pos, ◌≤ℤ◌, arith}, lemmas.Int.ints}
 use Rattle.cost_certificate.proofs.blocks.floor_at.Goals as goal
 use Rattle.cost_certificate.proofs.blocks.floor_at.Goals.{After-cost}
 

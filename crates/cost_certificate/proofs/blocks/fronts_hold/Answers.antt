@@ -1,8 +1,5 @@
-use Rattle.std.proofs.Common.{ℕ, ◌+◌, ◌*◌, ◌/◌, ◌<◌, false, inl, inr, refl, arith}
-use Rattle.std.proofs.lemmas.Bool.{cases_lt}
-use Rattle.cost_certificate.specs.Checks.{PlaceHoldsInBlock, watch_at}
-use Rattle.cost_certificate.proofs.Watches.{watch-set, passed}
-use Rattle.cost_certificate.proofs.Bools.{not_both}
+use Rattle.std.proofs.{Common.{ℕ, ◌+◌, ◌*◌, ◌/◌, ◌<◌, false, inl, inr, refl, arith}, lemmas.Bool.cases_lt}
+use Rattle.cost_certificate.{specs.Checks.{PlaceHoldsInBlock, watch_at}, proofs.Watches.{watch-set, passed}, proofs.Bools.not_both}
 use Rattle.cost_certificate.proofs.blocks.fronts_hold.Goals as goal
 
 pub loop-j-init : goal.loop-j-init

@@ -1,6 +1,4 @@
-use Rattle.std.proofs.Common.{FitsSigned, arith}
-use Rattle.std.specs.Int.{w128}
-use Rattle.std.proofs.lemmas.Int.{ints, to_z-of_z}
+use Rattle.std.{proofs.Common.{FitsSigned, arith}, specs.Int.w128, proofs.lemmas.Int.{ints, to_z-of_z}}
 use Rattle.cost_certificate.proofs.Needs.{told, closed}
 use Rattle.cost_certificate.proofs.blocks.is_told.Goals as goal
 

@@ -1,10 +1,6 @@
-use Rattle.std.proofs.Common.{◌^◌, pos, neg_ℤ, ◌-ℤ◌, ◌≤ℤ◌, FitsSigned, arith}
-use Rattle.std.specs.Int.{w128}
-use Rattle.std.proofs.lemmas.Int.{ints, to_z-of_z}
-use Rattle.cost_certificate.specs.Checks.{total_at}
-use Rattle.cost_certificate.proofs.Needs.{next-need, whole-need}
+use Rattle.std.{proofs.Common.{◌^◌, pos, neg_ℤ, ◌-ℤ◌, ◌≤ℤ◌, FitsSigned, arith}, specs.Int.w128, proofs.lemmas.Int.{ints, to_z-of_z}}
+use Rattle.cost_certificate.{specs.Checks.total_at, proofs.Needs.{next-need, whole-need}, proofs.blocks.need_of.Goals.After-cost}
 use Rattle.cost_certificate.proofs.blocks.need_of.Goals as goal
-use Rattle.cost_certificate.proofs.blocks.need_of.Goals.{After-cost}
 
 module _ (c : After-cost) where
   cost_range : (pos 0 ≤ℤ c.cost.result) × (c.cost.result ≤ℤ pos (10 ^ 37))

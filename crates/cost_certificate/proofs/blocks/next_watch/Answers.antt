@@ -1,6 +1,4 @@
-use Rattle.std.proofs.Common.{FitsSigned, arith}
-use Rattle.std.specs.Int.{w128}
-use Rattle.std.proofs.lemmas.Int.{ints, to_z-of_z}
+use Rattle.std.{proofs.Common.{FitsSigned, arith}, specs.Int.w128, proofs.lemmas.Int.{ints, to_z-of_z}}
 use Rattle.cost_certificate.proofs.Watches.{closed-more, open-more}
 use Rattle.cost_certificate.proofs.blocks.next_watch.Goals as goal
 

@@ -1,6 +1,4 @@
-use Rattle.std.proofs.Common.{inr, FitsSigned, arith}
-use Rattle.std.specs.Int.{w128}
-use Rattle.std.proofs.lemmas.Int.{ints, to_z-of_z}
+use Rattle.std.{proofs.Common.{inr, FitsSigned, arith}, specs.Int.w128, proofs.lemmas.Int.{ints, to_z-of_z}}
 use Rattle.cost_certificate.proofs.blocks.passes.Goals as goal
 
 pub returns-then-needs_no_look : goal.returns-then-needs_no_look

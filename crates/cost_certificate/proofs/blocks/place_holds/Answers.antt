@@ -1,5 +1,4 @@
-use Rattle.std.proofs.Common.{◌≡◌, ◌⊎◌, inl, inr, arith}
-use Rattle.std.proofs.lemmas.Bool.{cases_lt}
+use Rattle.std.proofs.{Common.{◌≡◌, ◌⊎◌, inl, inr, arith}, lemmas.Bool.cases_lt}
 use Rattle.cost_certificate.proofs.Needs.{to-block, from-block}
 use Rattle.cost_certificate.proofs.blocks.place_holds.Goals as goal
 

@@ -1,7 +1,5 @@
 use Rattle.std.proofs.Common.{ℕ, false, refl, arith}
-use Rattle.cost_certificate.specs.Checks.{PlaceHoldsInBlock}
-use Rattle.cost_certificate.proofs.Loops.{one-more-between}
-use Rattle.cost_certificate.proofs.Bools.{not_both}
+use Rattle.cost_certificate.{specs.Checks.PlaceHoldsInBlock, proofs.Loops.one-more-between, proofs.Bools.not_both}
 use Rattle.cost_certificate.proofs.blocks.range_holds.Goals as goal
 
 pub returns-then-not-place_holds : goal.returns-then-not-place_holds

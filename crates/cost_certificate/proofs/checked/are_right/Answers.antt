@@ -1,11 +1,7 @@
-use Rattle.std.proofs.Common.{false, refl, FitsSigned, rules, arith}
-use Rattle.std.specs.Int.{w128}
-use Rattle.std.proofs.lemmas.Int.{ints, to_z-of_z}
-use Rattle.cost_certificate.specs.Checks.{AreRight, cost_in, last_place, total_at}
-use Rattle.cost_certificate.proofs.Whole.{IsLookedAt, verified, rows-hold, places-hold}
-use Rattle.cost_certificate.proofs.Bools.{not_both}
+use Rattle.std.{proofs.Common.{false, refl, FitsSigned, rules, arith}, specs.Int.w128, proofs.lemmas.Int.{ints, to_z-of_z}}
+use Rattle.cost_certificate.{specs.Checks.{AreRight, cost_in, last_place, total_at}, proofs.Whole.{IsLookedAt, verified, rows-hold, places-hold}}
+use Rattle.cost_certificate.proofs.{Bools.not_both, checked.are_right.Goals.After-verifying_law}
 use Rattle.cost_certificate.proofs.checked.are_right.Goals as goal
-use Rattle.cost_certificate.proofs.checked.are_right.Goals.{After-verifying_law}
 
 module _ (c : After-verifying_law) where
   looked_at : AreRight c.args.tables.now → IsLookedAt c.args.tables.now

@@ -1,10 +1,6 @@
-use Rattle.std.proofs.Common.{length, false, refl, arith}
-use Rattle.std.specs.Int.{w128}
-use Rattle.std.proofs.lemmas.Int.{to_z-of_z}
-use Rattle.segment_model.specs.Values.{cost_between}
-use Rattle.segment_model.specs.Computed.{least_sum_of}
-use Rattle.cost_certificate.proofs.Whole.{totals-are}
-use Rattle.cost_certificate.proofs.Bools.{not_both}
+use Rattle.std.{proofs.Common.{length, false, refl, arith}, specs.Int.w128, proofs.lemmas.Int.to_z-of_z}
+use Rattle.segment_model.specs.{Values.cost_between, Computed.least_sum_of}
+use Rattle.cost_certificate.proofs.{Whole.totals-are, Bools.not_both}
 use Rattle.cost_certificate.proofs.checked.are_tables.Goals as goal
 use Rattle.cost_certificate.proofs.checked.are_tables.Goals.{then-least-places-via-then-least-places, then-least-places-via-else-least-places+then-back-places, then-least-places-via-else-least-places+else-back-places+then-pruned-places}
 

@@ -1,12 +1,9 @@
-use Rattle.std.proofs.Common.{◌^◌, length, reverse, IsTrue, false, ◌↔◌, refl, sym, ◌∙◌, pos, ◌≤ℤ◌, FitsSigned, rules, arith}
-use Rattle.std.specs.Int.{w128}
+use Rattle.std.{proofs.Common.{◌^◌, length, reverse, IsTrue, false, ◌↔◌, refl, sym, ◌∙◌, pos, ◌≤ℤ◌, FitsSigned, rules, arith}, specs.Int.w128}
 use Rattle.std.proofs.lemmas.Int.{ints, to_z-of_z}
 use Rattle.segment_model.specs.Tables.{IsTable, IsWalk}
 use Rattle.segment_cost.specs.Certificate.{squares_between}
-use Rattle.cost_certificate.proofs.Certificates.{tables-of, total-is}
-use Rattle.cost_certificate.proofs.Bools.{not_both}
+use Rattle.cost_certificate.proofs.{Certificates.{tables-of, total-is}, Bools.not_both, checked.check.Goals.After-are_tables}
 use Rattle.cost_certificate.proofs.checked.check.Goals as goal
-use Rattle.cost_certificate.proofs.checked.check.Goals.{After-are_tables}
 
 tables : (c : After-are_tables) → IsTrue c.are_tables.result ↔ IsTable (squares_between c.args.points.now) (length c.args.points.now) c.args.cert.now.penalty c.args.cert.now.length c.args.cert.now.least c.args.cert.now.back c.args.cert.now.pruned
 tables c =

@@ -1,8 +1,6 @@
-use Rattle.std.proofs.Common.{◌^◌, pos, neg_ℤ, ◌≤ℤ◌, arith}
-use Rattle.std.proofs.lemmas.Int.{ints}
-use Rattle.cost_certificate.specs.Checks.{total_at}
+use Rattle.std.proofs.{Common.{◌^◌, pos, neg_ℤ, ◌≤ℤ◌, arith}, lemmas.Int.ints}
+use Rattle.cost_certificate.{specs.Checks.total_at, proofs.entries.made_from.Goals.After-cost}
 use Rattle.cost_certificate.proofs.entries.made_from.Goals as goal
-use Rattle.cost_certificate.proofs.entries.made_from.Goals.{After-cost}
 
 module _ (c : After-cost) where
   cost_range : (pos 0 ≤ℤ c.cost.result) × (c.cost.result ≤ℤ pos (10 ^ 37))

@@ -1,10 +1,7 @@
-use Rattle.std.proofs.Common.{◌≡◌, ◌≤◌, ◌⊎◌, inl, inr, FitsSigned, rules}
-use Rattle.std.specs.Int.{w128}
-use Rattle.std.proofs.lemmas.Int.{to_z-of_z}
+use Rattle.std.{proofs.Common.{◌≡◌, ◌≤◌, ◌⊎◌, inl, inr, FitsSigned, rules}, specs.Int.w128, proofs.lemmas.Int.to_z-of_z}
 use Rattle.std.proofs.lemmas.Bool.{cases_lt, cases_eq}
 use Rattle.segment_model.specs.Tables.{IsSettled}
-use Rattle.cost_certificate.specs.Checks.{total_at, last_cut_at, mark_at}
-use Rattle.cost_certificate.proofs.Bools.{not_both}
+use Rattle.cost_certificate.{specs.Checks.{total_at, last_cut_at, mark_at}, proofs.Bools.not_both}
 use Rattle.cost_certificate.proofs.entries.mark_holds.Goals as goal
 
 pub returns : goal.returns

@@ -1,10 +1,6 @@
-use Rattle.std.proofs.Common.{◌≡◌, ℕ, Bool, true, false, ◌⊎◌, ◌<◌, ◌≤◌, inl, inr, ◌+ℤ◌, ◌≤ℤ◌, FitsSigned, rules, arith}
-use Rattle.std.specs.Int.{w128}
-use Rattle.std.proofs.lemmas.Bool.{cases_lt}
-use Rattle.std.proofs.lemmas.Int.{by_lt_z, ints, to_z-of_z}
-use Rattle.cost_certificate.specs.Checks.{total_at}
-use Rattle.cost_certificate.proofs.Floors.{next-floor, floor-here, unlooked}
-use Rattle.cost_certificate.proofs.Bools.{not_both}
+use Rattle.std.{proofs.Common.{◌≡◌, ℕ, Bool, true, false, ◌⊎◌, ◌<◌, ◌≤◌, inl, inr, ◌+ℤ◌, ◌≤ℤ◌, FitsSigned, rules, arith}, specs.Int.w128}
+use Rattle.std.proofs.lemmas.{Bool.cases_lt, Int.{by_lt_z, ints, to_z-of_z}}
+use Rattle.cost_certificate.{specs.Checks.total_at, proofs.Floors.{next-floor, floor-here, unlooked}, proofs.Bools.not_both}
 use Rattle.cost_certificate.proofs.entries.next_floor.Goals as goal
 
 -- where the test said no, the last cut settles the place

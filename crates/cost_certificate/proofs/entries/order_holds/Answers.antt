@@ -1,6 +1,4 @@
-use Rattle.std.proofs.Common.{FitsSigned, rules}
-use Rattle.std.specs.Int.{w128}
-use Rattle.std.proofs.lemmas.Int.{to_z-of_z}
+use Rattle.std.{proofs.Common.{FitsSigned, rules}, specs.Int.w128, proofs.lemmas.Int.to_z-of_z}
 use Rattle.cost_certificate.specs.Checks.{total_at}
 use Rattle.cost_certificate.proofs.entries.order_holds.Goals as goal
 

@@ -1,6 +1,4 @@
-use Rattle.std.proofs.Common.{◌+ℤ◌, FitsSigned, arith}
-use Rattle.std.specs.Int.{w128}
-use Rattle.std.proofs.lemmas.Int.{ints, to_z-of_z}
+use Rattle.std.{proofs.Common.{◌+ℤ◌, FitsSigned, arith}, specs.Int.w128, proofs.lemmas.Int.{ints, to_z-of_z}}
 use Rattle.cost_certificate.proofs.entries.pair_holds.Goals as goal
 
 pub order_holds-requires-clause-made : goal.order_holds-requires-clause-made

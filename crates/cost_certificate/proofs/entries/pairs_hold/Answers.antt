@@ -1,10 +1,5 @@
-use Rattle.std.proofs.Common.{false, refl, FitsSigned, rules, arith}
-use Rattle.std.specs.Int.{w128}
-use Rattle.std.proofs.lemmas.Int.{ints, to_z-of_z}
-use Rattle.cost_certificate.specs.Checks.{PairHolds, total_at}
-use Rattle.cost_certificate.proofs.Loops.{one-more}
-use Rattle.cost_certificate.proofs.Floors.{first-floor}
-use Rattle.cost_certificate.proofs.Bools.{not_both}
+use Rattle.std.{proofs.Common.{false, refl, FitsSigned, rules, arith}, specs.Int.w128, proofs.lemmas.Int.{ints, to_z-of_z}}
+use Rattle.cost_certificate.{specs.Checks.{PairHolds, total_at}, proofs.Loops.one-more, proofs.Floors.first-floor, proofs.Bools.not_both}
 use Rattle.cost_certificate.proofs.entries.pairs_hold.Goals as goal
 
 pub loop-t-init : goal.loop-t-init

@@ -1,6 +1,4 @@
-use Rattle.std.proofs.Common.{FitsSigned, rules, arith}
-use Rattle.std.specs.Int.{w128}
-use Rattle.std.proofs.lemmas.Int.{ints}
+use Rattle.std.{proofs.Common.{FitsSigned, rules, arith}, specs.Int.w128, proofs.lemmas.Int.ints}
 use Rattle.cost_certificate.proofs.entries.row_holds.Goals as goal
 
 pub returns : goal.returns

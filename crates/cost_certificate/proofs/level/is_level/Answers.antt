@@ -1,9 +1,6 @@
-use Rattle.std.proofs.Common.{ℕ, ◌+◌, ◌*◌, ◌^◌, ◌<◌, ◌≤◌, pos, neg_ℤ, ◌≤ℤ◌, inl, inr, FitsSigned, arith}
-use Rattle.std.specs.Int.{w128}
-use Rattle.std.proofs.lemmas.Int.{ints, to_z-of_z}
+use Rattle.std.{proofs.Common.{ℕ, ◌+◌, ◌*◌, ◌^◌, ◌<◌, ◌≤◌, pos, neg_ℤ, ◌≤ℤ◌, inl, inr, FitsSigned, arith}, specs.Int.w128, proofs.lemmas.Int.{ints, to_z-of_z}}
 use Rattle.std.proofs.lemmas.Bool.{cases_eq}
-use Rattle.cost_certificate.specs.Checks.{total_at}
-use Rattle.cost_certificate.proofs.Needs.{level-more}
+use Rattle.cost_certificate.{specs.Checks.total_at, proofs.Needs.level-more}
 use Rattle.cost_certificate.proofs.level.is_level.Goals as goal
 
 pub loop-s-preserved : goal.loop-s-preserved

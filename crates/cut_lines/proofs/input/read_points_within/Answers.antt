@@ -1,12 +1,7 @@
-use Rattle.std.proofs.Common.{◌≤◌, List, length, sym, subst, ◌∙◌, arith}
-use Rattle.std.specs.Prelude.{IfSome}
-use Rattle.std.proofs.lemmas.Result.{err_from_is_err_and, MatchResult-weaker}
+use Rattle.std.{proofs.Common.{◌≤◌, List, length, sym, subst, ◌∙◌, arith}, specs.Prelude.IfSome, proofs.lemmas.Result.{err_from_is_err_and, MatchResult-weaker}}
 use Rattle.segment_model.specs.Segments.{Position}
 use Rattle.line_pieces.proofs.Given.{end_stops}
-use Rattle.cut_lines.specs.Reading.{ArePointsWithin}
-use Rattle.cut_lines.specs.Stops.{StopsWithin}
-use Rattle.cut_lines.specs.Pieces.{reading}
-use Rattle.cut_lines.proofs.PieceSteps.{end_points}
+use Rattle.cut_lines.{specs.Reading.ArePointsWithin, specs.Stops.StopsWithin, specs.Pieces.reading, proofs.PieceSteps.end_points}
 use Rattle.cut_lines.proofs.input.read_points_within.Goals as goal
 
 pub finish-requires : goal.finish-requires

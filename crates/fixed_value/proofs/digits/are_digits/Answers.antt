@@ -1,5 +1,4 @@
-use Rattle.std.proofs.Common.{◌<◌, length, sym, arith}
-use Rattle.std.proofs.lemmas.Bool.{eqb-true, eqb-false, eq-eqb}
+use Rattle.std.proofs.{Common.{◌<◌, length, sym, arith}, lemmas.Bool.{eqb-true, eqb-false, eq-eqb}}
 use Rattle.fixed_value.proofs.Grammar.{all_digits}
 use Rattle.fixed_value.proofs.digits.are_digits.Goals as goal
 

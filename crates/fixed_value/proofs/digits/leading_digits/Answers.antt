@@ -1,5 +1,4 @@
-use Rattle.std.proofs.Common.{arith, ◌<◌, length}
-use Rattle.std.proofs.lemmas.Int.Digits.{digits_more}
+use Rattle.std.proofs.{Common.{arith, ◌<◌, length}, lemmas.Int.Digits.digits_more}
 use Rattle.fixed_value.proofs.digits.leading_digits.Goals as goal
 
 pub loop-i-preserved : goal.loop-i-preserved

@@ -1,5 +1,4 @@
-use Rattle.std.proofs.Common.{take}
-use Rattle.std.specs.Str.Parse.{AllDigits}
+use Rattle.std.{proofs.Common.take, specs.Str.Parse.AllDigits}
 use Rattle.fixed_value.proofs.digits.leading_digits.Given as goal
 
 abbrev pub invariant-loop-i : goal.invariant-loop-i

@@ -1,5 +1,4 @@
-use Rattle.std.proofs.Common.{drop}
-use Rattle.std.specs.Str.Parse.{digits_value_after}
+use Rattle.std.{proofs.Common.drop, specs.Str.Parse.digits_value_after}
 use Rattle.fixed_value.proofs.Reading.{ReadsOn}
 use Rattle.fixed_value.proofs.digits.number_after.Given as goal
 

@@ -1,6 +1,5 @@
 use Rattle.std.proofs.Common.{rules, ◌≡◌, get_or, true, false, refl}
-use Rattle.fixed_value.specs.Numerals.{plus, minus}
-use Rattle.fixed_value.proofs.Grammar.{splits_first}
+use Rattle.fixed_value.{specs.Numerals.{plus, minus}, proofs.Grammar.splits_first}
 use Rattle.fixed_value.proofs.digits.split_sign.Goals as goal
 
 pub returns-in-43-clause-joined : goal.returns-in-43-clause-joined

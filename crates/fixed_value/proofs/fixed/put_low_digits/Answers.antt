@@ -1,6 +1,5 @@
 use Rattle.std.proofs.Common.{◌≡◌, ◌+◌, ◌-◌, ◌∷◌, ◌%◌, ap, sym, subst, ◌∙◌, arith}
-use Rattle.fixed_value.specs.Fixed.{low_digits}
-use Rattle.fixed_value.proofs.Places.{Appended, low_digits_step, appended_none, appended_more, appended_all, front_stays}
+use Rattle.fixed_value.{specs.Fixed.low_digits, proofs.Places.{Appended, low_digits_step, appended_none, appended_more, appended_all, front_stays}}
 use Rattle.fixed_value.proofs.Powers.{on_err}
 use Rattle.fixed_value.proofs.fixed.put_low_digits.Goals as goal
 

@@ -1,5 +1,4 @@
-use Rattle.fixed_value.specs.Fixed.{low_digits}
-use Rattle.fixed_value.proofs.Places.{Appended}
+use Rattle.fixed_value.{specs.Fixed.low_digits, proofs.Places.Appended}
 use Rattle.fixed_value.proofs.fixed.put_low_digits.Given as goal
 
 abbrev pub invariant-loop-place : goal.invariant-loop-place

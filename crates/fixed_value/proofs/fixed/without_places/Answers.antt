@@ -1,6 +1,5 @@
 use Rattle.std.proofs.Common.{sym, subst, ◌<◌, arith}
-use Rattle.fixed_value.proofs.Powers.{ten_some}
-use Rattle.fixed_value.proofs.Places.{past_places}
+use Rattle.fixed_value.proofs.{Powers.ten_some, Places.past_places}
 use Rattle.fixed_value.proofs.fixed.without_places.Goals as goal
 
 pub nonzero_div-result : goal.nonzero_div-result

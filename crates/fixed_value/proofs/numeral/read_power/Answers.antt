@@ -1,9 +1,5 @@
-use Rattle.std.proofs.Common.{rules, ◌≤◌, length, refl, FitsSigned, arith}
-use Rattle.std.specs.Int.{w128}
-use Rattle.std.proofs.lemmas.Bool.{false≢true}
-use Rattle.std.proofs.lemmas.Int.{to_z-of_z}
-use Rattle.fixed_value.proofs.Grammar.{short_value, signed_short, same_digits}
-use Rattle.fixed_value.proofs.Powers.{ten_grows}
+use Rattle.std.{proofs.Common.{rules, ◌≤◌, length, refl, FitsSigned, arith}, specs.Int.w128, proofs.lemmas.Bool.false≢true, proofs.lemmas.Int.to_z-of_z}
+use Rattle.fixed_value.proofs.{Grammar.{short_value, signed_short, same_digits}, Powers.ten_grows}
 use Rattle.fixed_value.proofs.numeral.read_power.Goals as goal
 
 pub number_after-requires-clause-fits : goal.number_after-requires-clause-fits

@@ -1,6 +1,4 @@
-use Rattle.std.proofs.Common.{rules, sym, FitsSigned}
-use Rattle.std.specs.Int.{w128}
-use Rattle.std.proofs.lemmas.Int.{to_z-of_z}
+use Rattle.std.{proofs.Common.{rules, sym, FitsSigned}, specs.Int.w128, proofs.lemmas.Int.to_z-of_z}
 use Rattle.fixed_value.proofs.Grammar.{not_none, same_some, tail_without_point, plain_tail, tail_at_run, pointed_tail}
 use Rattle.fixed_value.proofs.numeral.read_tail.Goals as goal
 

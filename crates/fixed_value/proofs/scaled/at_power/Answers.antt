@@ -1,7 +1,4 @@
-use Rattle.std.proofs.Common.{pos, ◌≤ℤ◌, FitsSigned}
-use Rattle.std.specs.Int.{w128}
-use Rattle.std.proofs.lemmas.Int.{to_z-of_z}
-use Rattle.std.proofs.lemmas.Result.{on_err_weaker}
+use Rattle.std.{proofs.Common.{pos, ◌≤ℤ◌, FitsSigned}, specs.Int.w128, proofs.lemmas.Int.to_z-of_z, proofs.lemmas.Result.on_err_weaker}
 use Rattle.fixed_value.proofs.Powers.{high_power_above, told_not_below}
 use Rattle.fixed_value.proofs.scaled.at_power.Goals as goal
 

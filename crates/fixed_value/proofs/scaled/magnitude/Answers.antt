@@ -1,8 +1,5 @@
-use Rattle.std.proofs.Common.{pos, ◌+ℤ◌, ◌<ℤ◌, ◌<◌, FitsSigned, subst, sym, arith}
-use Rattle.std.specs.Int.{w128}
-use Rattle.std.proofs.lemmas.Int.{ints, to_z-of_z}
-use Rattle.fixed_value.specs.Scaled.{IsMagnitude}
-use Rattle.fixed_value.proofs.Powers.{magnitude_of_zero, magnitude_above, told_below}
+use Rattle.std.{proofs.Common.{pos, ◌+ℤ◌, ◌<ℤ◌, ◌<◌, FitsSigned, subst, sym, arith}, specs.Int.w128, proofs.lemmas.Int.{ints, to_z-of_z}}
+use Rattle.fixed_value.{specs.Scaled.IsMagnitude, proofs.Powers.{magnitude_of_zero, magnitude_above, told_below}}
 use Rattle.fixed_value.proofs.scaled.magnitude.Goals as goal
 
 pub returns-then-digits-eq0-clause-ok : goal.returns-then-digits-eq0-clause-ok

@@ -1,6 +1,4 @@
-use Rattle.std.proofs.Common.{rules, FitsSigned}
-use Rattle.std.specs.Int.{w128}
-use Rattle.std.proofs.lemmas.Int.{to_z-of_z}
+use Rattle.std.{proofs.Common.{rules, FitsSigned}, specs.Int.w128, proofs.lemmas.Int.to_z-of_z}
 use Rattle.fixed_value.proofs.Powers.{on_err, scaled_above}
 use Rattle.fixed_value.proofs.scaled.scale.Goals as goal
 

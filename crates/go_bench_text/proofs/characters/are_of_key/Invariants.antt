@@ -1,6 +1,4 @@
-use Rattle.std.proofs.Common.{◌≡◌, length}
-use Rattle.std.specs.List.{list_all}
-use Rattle.std.specs.Str.{chars, IsUtf8}
+use Rattle.std.{proofs.Common.{◌≡◌, length}, specs.List.list_all, specs.Str.{chars, IsUtf8}}
 use Rattle.go_bench_text.specs.Characters.{is_of_key}
 use Rattle.go_bench_text.proofs.characters.are_of_key.Given as goal
 

@@ -1,5 +1,4 @@
-use Rattle.std.proofs.Common.{rules}
-use Rattle.std.proofs.lemmas.Str.{chars_past_char, IsUtf8-past_char}
+use Rattle.std.proofs.{Common.rules, lemmas.Str.{chars_past_char, IsUtf8-past_char}}
 use Rattle.go_bench_text.proofs.characters.split_first.Goals as goal
 
 pub returns-clause-chars : goal.returns-clause-chars

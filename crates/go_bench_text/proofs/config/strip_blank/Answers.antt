@@ -1,5 +1,4 @@
-use Rattle.std.proofs.Common.{◌≢◌, ◌∷◌, ℕ, List, lit<}
-use Rattle.std.proofs.lemmas.Str.Pattern.{strip_prefix_char}
+use Rattle.std.proofs.{Common.{◌≢◌, ◌∷◌, ℕ, List, lit<}, lemmas.Str.Pattern.strip_prefix_char}
 use Rattle.go_bench_text.proofs.Settings.{blanks_none}
 use Rattle.go_bench_text.proofs.config.strip_blank.Goals as goal
 

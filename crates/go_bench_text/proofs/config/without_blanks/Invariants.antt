@@ -1,5 +1,4 @@
-use Rattle.std.proofs.Common.{◌≡◌, length}
-use Rattle.std.specs.Str.{IsUtf8}
+use Rattle.std.{proofs.Common.{◌≡◌, length}, specs.Str.IsUtf8}
 use Rattle.go_bench_text.specs.Lines.{without_blanks}
 use Rattle.go_bench_text.proofs.config.without_blanks.Given as goal
 

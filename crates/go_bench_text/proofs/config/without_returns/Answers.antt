@@ -1,5 +1,4 @@
-use Rattle.std.proofs.Common.{◌≢◌, ◌∷◌, ◌++◌, [], ℕ, List, sym, ◌∙◌, lit<}
-use Rattle.std.proofs.lemmas.Str.Pattern.{strip_suffix_char}
+use Rattle.std.proofs.{Common.{◌≢◌, ◌∷◌, ◌++◌, [], ℕ, List, sym, ◌∙◌, lit<}, lemmas.Str.Pattern.strip_suffix_char}
 use Rattle.go_bench_text.proofs.Settings.{returns_none}
 use Rattle.go_bench_text.proofs.config.without_returns.Goals as goal
 

@@ -1,7 +1,5 @@
-use Rattle.std.proofs.Common.{length}
-use Rattle.std.specs.Str.{IsUtf8}
-use Rattle.go_bench_text.specs.Fields.{fields_of}
-use Rattle.go_bench_text.specs.Lines.{ArePairs}
+use Rattle.std.{proofs.Common.length, specs.Str.IsUtf8}
+use Rattle.go_bench_text.specs.{Fields.fields_of, Lines.ArePairs}
 use Rattle.go_bench_text.proofs.fields.are_pairs.Given as goal
 
 abbrev pub invariant-loop-value : goal.invariant-loop-value

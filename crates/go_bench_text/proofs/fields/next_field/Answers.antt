@@ -1,5 +1,4 @@
-use Rattle.std.proofs.Common.{◌≡◌, ◌≢◌, ◌<◌, length, true, false, arith, ap, sym, ◌∙◌, eqb, length-append}
-use Rattle.std.proofs.lemmas.Bool.Decides.{nat_tests}
+use Rattle.std.proofs.{Common.{◌≡◌, ◌≢◌, ◌<◌, length, true, false, arith, ap, sym, ◌∙◌, eqb, length-append}, lemmas.Bool.Decides.nat_tests}
 use Rattle.go_bench_text.proofs.Cutting.{IsNext, next_is, none_is}
 use Rattle.go_bench_text.proofs.fields.next_field.Goals as goal
 

@@ -1,9 +1,6 @@
-use Rattle.std.proofs.Common.{◌≡◌, ℕ, ◌<◌, ◌≤◌, List, length, drop, get_or, rules, sym, ◌∙◌, subst, false}
-use Rattle.std.specs.Str.{IsUtf8}
-use Rattle.std.proofs.lemmas.Str.{IsCharBoundary-from_drop}
-use Rattle.go_bench_text.specs.Parts.{IsBlackByte}
-use Rattle.std.specs.Char.{is_whitespace}
-use Rattle.go_bench_text.proofs.Passed.{Passed, passed_ascii, passed_more, passed_seam}
+use Rattle.std.{proofs.Common.{◌≡◌, ℕ, ◌<◌, ◌≤◌, List, length, drop, get_or, rules, sym, ◌∙◌, subst, false}, specs.Str.IsUtf8}
+use Rattle.std.{proofs.lemmas.Str.IsCharBoundary-from_drop, specs.Char.is_whitespace}
+use Rattle.go_bench_text.{specs.Parts.IsBlackByte, proofs.Passed.{Passed, passed_ascii, passed_more, passed_seam}}
 use Rattle.go_bench_text.proofs.fields.split_any.Goals as goal
 
 begun : (text bytes : List ℕ) (n : ℕ) → bytes ≡ text → IsUtf8 text → n ≤ length bytes → ((k : ℕ) → k < n → IsBlackByte (get_or bytes k 0)) → Passed text (drop n text)

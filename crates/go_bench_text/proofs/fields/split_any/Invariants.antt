@@ -1,5 +1,4 @@
-use Rattle.std.proofs.Common.{length}
-use Rattle.std.specs.Str.{chars}
+use Rattle.std.{proofs.Common.length, specs.Str.chars}
 use Rattle.go_bench_text.proofs.fields.split_any.Given as goal
 use Rattle.go_bench_text.proofs.Passed.{Passed}
 

@@ -1,7 +1,5 @@
-use Rattle.std.proofs.Common.{ℕ, ◌<◌, ◌≤◌, get_or, List, length, drop, subst, ap, ◌∙◌}
-use Rattle.std.specs.Str.{chars, IsUtf8}
-use Rattle.go_bench_text.specs.Parts.{is_stopped, IsBlackByte, IsWhiteByte}
-use Rattle.go_bench_text.proofs.Passed.{Halves, ascii_halves, ascii_stopped}
+use Rattle.std.{proofs.Common.{ℕ, ◌<◌, ◌≤◌, get_or, List, length, drop, subst, ap, ◌∙◌}, specs.Str.{chars, IsUtf8}}
+use Rattle.go_bench_text.{specs.Parts.{is_stopped, IsBlackByte, IsWhiteByte}, proofs.Passed.{Halves, ascii_halves, ascii_stopped}}
 use Rattle.go_bench_text.proofs.fields.split_black.Goals as goal
 use Rattle.go_bench_text.proofs.fields.split_black.Goals.{After-split_at}
 

@@ -1,8 +1,6 @@
-use Rattle.std.proofs.Common.{ℕ, ◌<◌, ◌≤◌, get_or, List, length, drop, sym, ◌∙◌, ap, subst, arith}
-use Rattle.std.specs.Str.{IsUtf8, trim_start}
+use Rattle.std.{proofs.Common.{ℕ, ◌<◌, ◌≤◌, get_or, List, length, drop, sym, ◌∙◌, ap, subst, arith}, specs.Str.{IsUtf8, trim_start}}
 use Rattle.std.proofs.lemmas.Str.{IsCharBoundary-from_drop}
-use Rattle.go_bench_text.specs.Parts.{IsBlackByte, IsWhiteByte}
-use Rattle.go_bench_text.proofs.Whites.{IsPast, past_white, black_start}
+use Rattle.go_bench_text.{specs.Parts.{IsBlackByte, IsWhiteByte}, proofs.Whites.{IsPast, past_white, black_start}}
 use Rattle.go_bench_text.proofs.fields.without_white.Goals as goal
 use Rattle.go_bench_text.proofs.fields.without_white.Goals.{After-white_count}
 

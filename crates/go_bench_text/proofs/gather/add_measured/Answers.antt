@@ -1,9 +1,5 @@
 use Rattle.std.proofs.Common.{List, subst}
-use Rattle.go_bench_text.specs.Fields.{fields_of}
-use Rattle.go_bench_text.specs.Gathering.{Gains}
-use Rattle.go_bench_text.specs.Pairs.{samples_of}
-use Rattle.go_bench_text.specs.Readings.{test_of}
-use Rattle.go_bench_text.specs.declared.pairs.Pair.{Pair}
+use Rattle.go_bench_text.specs.{Fields.fields_of, Gathering.Gains, Pairs.samples_of, Readings.test_of, declared.pairs.Pair.Pair}
 use Rattle.go_bench_text.proofs.LineParts.{adds_measured, adds_broken, is_headed}
 use Rattle.go_bench_text.proofs.gather.add_measured.Goals as goal
 

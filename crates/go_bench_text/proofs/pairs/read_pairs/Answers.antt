@@ -1,8 +1,5 @@
-use Rattle.std.proofs.Common.{◌≡◌, ◌<◌, ◌∷◌, ◌∙◌, ℕ, List, length, ap, subst, arith}
-use Rattle.std.proofs.lemmas.Bool.Decides.{nat_tests}
-use Rattle.std.proofs.lemmas.List.{nil_from_length}
-use Rattle.go_bench_text.specs.Fields.{fields_of}
-use Rattle.go_bench_text.proofs.Taken.{Taken, taken_more, taken_all, taken_no}
+use Rattle.std.proofs.{Common.{◌≡◌, ◌<◌, ◌∷◌, ◌∙◌, ℕ, List, length, ap, subst, arith}, lemmas.Bool.Decides.nat_tests, lemmas.List.nil_from_length}
+use Rattle.go_bench_text.{specs.Fields.fields_of, proofs.Taken.{Taken, taken_more, taken_all, taken_no}}
 use Rattle.go_bench_text.proofs.pairs.read_pairs.Goals as goal
 
 pub loop-value-preserved : goal.loop-value-preserved

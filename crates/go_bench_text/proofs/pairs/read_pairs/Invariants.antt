@@ -1,7 +1,5 @@
-use Rattle.std.proofs.Common.{length}
-use Rattle.std.specs.Str.{IsUtf8}
-use Rattle.go_bench_text.specs.Fields.{fields_of}
-use Rattle.go_bench_text.proofs.Taken.{Taken}
+use Rattle.std.{proofs.Common.length, specs.Str.IsUtf8}
+use Rattle.go_bench_text.{specs.Fields.fields_of, proofs.Taken.Taken}
 use Rattle.go_bench_text.proofs.pairs.read_pairs.Given as goal
 
 abbrev pub invariant-loop-value : goal.invariant-loop-value

@@ -1,9 +1,7 @@
 use Rattle.std.proofs.Common.{◌≡◌, ◌<◌, ◌+◌, ◌∷◌, ◌++◌, [], ℕ, List, length, take, get_or, ap, sym, ◌∙◌, subst, below_more}
 use Rattle.std.proofs.lemmas.List.{get_or_read, take_more}
 use Rattle.sample_model.specs.Samples.{Measurement}
-use Rattle.go_bench_text.specs.Spellings.{HasSpelling, AreSpelled, nowhere}
-use Rattle.go_bench_text.proofs.Spelled.{spelled_more, all_spelled}
-use Rattle.go_bench_text.proofs.ReadBack.{spelled_read}
+use Rattle.go_bench_text.{specs.Spellings.{HasSpelling, AreSpelled, nowhere}, proofs.Spelled.{spelled_more, all_spelled}, proofs.ReadBack.spelled_read}
 use Rattle.go_bench_text.proofs.put.put_go.Goals as goal
 
 pub loop-place-preserved : goal.loop-place-preserved

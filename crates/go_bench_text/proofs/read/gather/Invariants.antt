@@ -1,5 +1,4 @@
-use Rattle.std.proofs.Common.{◌≡◌, ◌≤◌, ◌+◌, length, drop}
-use Rattle.std.specs.Str.{IsUtf8}
+use Rattle.std.{proofs.Common.{◌≡◌, ◌≤◌, ◌+◌, length, drop}, specs.Str.IsUtf8}
 use Rattle.line_text.specs.Lines.{lines_of}
 use Rattle.go_bench_text.proofs.Progress.{Progress}
 use Rattle.go_bench_text.proofs.read.gather.Given as goal

@@ -1,5 +1,4 @@
-use Rattle.std.proofs.Common.{◌≡◌, ℕ, List, get_or, arith, subst}
-use Rattle.std.proofs.lemmas.Str.{IsCharBoundary-after_ascii}
+use Rattle.std.proofs.{Common.{◌≡◌, ℕ, List, get_or, arith, subst}, lemmas.Str.IsCharBoundary-after_ascii}
 use Rattle.go_bench_text.proofs.spelling.parts_at.Goals as goal
 
 pub range_from-name-requires : goal.range_from-name-requires

@@ -1,7 +1,4 @@
-use Rattle.history_model.specs.Commits.{declaration}
-use Rattle.history_model.specs.Runs.{acceptance, retraction}
-use Rattle.history_model.proofs.Chosen.{chosen-push}
-use Rattle.history_model.proofs.Growth.{legal-push}
+use Rattle.history_model.{specs.Commits.declaration, specs.Runs.{acceptance, retraction}, proofs.Chosen.chosen-push, proofs.Growth.legal-push}
 use Rattle.history_model.proofs.laws.growth_law.Goals as goal
 
 pub returns-clause-declarations : goal.returns-clause-declarations

@@ -1,8 +1,5 @@
 use Rattle.std.proofs.Common.{arith}
-use Rattle.history_model.proofs.Jobs.{jobs-kept, job-begun, job-goes-on, limits-job}
-use Rattle.history_model.proofs.Ends.{ends-declared}
-use Rattle.history_model.proofs.Naming.{jobs-named}
-use Rattle.history_model.proofs.Turns.{begin-opens, limits-turn}
+use Rattle.history_model.proofs.{Jobs.{jobs-kept, job-begun, job-goes-on, limits-job}, Ends.ends-declared, Naming.jobs-named, Turns.{begin-opens, limits-turn}}
 use Rattle.history_model.proofs.laws.jobs_law.Goals as goal
 
 pub returns-clause-stay : goal.returns-clause-stay

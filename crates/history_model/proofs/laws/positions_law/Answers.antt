@@ -1,6 +1,4 @@
-use Rattle.history_model.proofs.Accepts.{positions-more, positions-accept}
-use Rattle.history_model.proofs.Removals.{positions-without}
-use Rattle.history_model.proofs.Withdrawals.{positions-retract, positions-untouched}
+use Rattle.history_model.proofs.{Accepts.{positions-more, positions-accept}, Removals.positions-without, Withdrawals.{positions-retract, positions-untouched}}
 use Rattle.history_model.proofs.Below.{positions-fresh, positions-below}
 use Rattle.segment_model.proofs.Inserted.{values-brought}
 use Rattle.history_model.proofs.laws.positions_law.Goals as goal

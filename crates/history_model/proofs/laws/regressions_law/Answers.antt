@@ -1,8 +1,5 @@
 use Rattle.std.proofs.Common.{arith}
-use Rattle.history_model.specs.Regressions.{raised}
-use Rattle.history_model.proofs.Changes.{between-declared}
-use Rattle.history_model.proofs.Chosen.{chosen-push}
-use Rattle.history_model.proofs.RaisedEnds.{regressions-named}
+use Rattle.history_model.{specs.Regressions.raised, proofs.Changes.between-declared, proofs.Chosen.chosen-push, proofs.RaisedEnds.regressions-named}
 use Rattle.history_model.proofs.Regressions.{state-moved, state-stays, new-detected, limits-regression}
 use Rattle.history_model.proofs.laws.regressions_law.Goals as goal
 

@@ -1,5 +1,4 @@
-use Rattle.history_model.proofs.Fits.{limits-accept}
-use Rattle.history_model.proofs.Limits.{passed-is, kept-is}
+use Rattle.history_model.proofs.{Fits.limits-accept, Limits.{passed-is, kept-is}}
 use Rattle.history_model.proofs.laws.within_law.Goals as goal
 
 pub returns-clause-passed : goal.returns-clause-passed

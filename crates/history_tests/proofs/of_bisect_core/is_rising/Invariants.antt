@@ -1,5 +1,4 @@
-use Rattle.std.proofs.Common.{ℕ, ◌+◌, ◌<◌}
-use Rattle.std.specs.Prelude.{slice_index}
+use Rattle.std.{proofs.Common.{ℕ, ◌+◌, ◌<◌}, specs.Prelude.slice_index}
 use Rattle.history_tests.proofs.of_bisect_core.is_rising.Given as goal
 
 abbrev pub invariant-loop-i : goal.invariant-loop-i

@@ -1,9 +1,7 @@
 use Rattle.std.proofs.Common.{◌≡◌, ◌≤◌, ℕ, inr, List, length, refl, sym, ap, subst, ◌∙◌, arith}
 use Rattle.commit_lines.specs.Reading.{AreNamesOfInput}
 use Rattle.track_outside.specs.Calls.{Took, FailedIn}
-use Rattle.hunt_command.specs.Endings.{CameTo}
-use Rattle.hunt_command.proofs.Ends.{untouched, nothing_done}
-use Rattle.hunt_command.proofs.command.hunt_commits.Given.{Over}
+use Rattle.hunt_command.{specs.Endings.CameTo, proofs.Ends.{untouched, nothing_done}, proofs.command.hunt_commits.Given.Over}
 use Rattle.hunt_command.proofs.command.hunt_commits.Goals.{After-as_slice-names, In-Ok-hunt}
 use Rattle.hunt_command.proofs.command.hunt_commits.Goals as goal
 

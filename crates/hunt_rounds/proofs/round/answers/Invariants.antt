@@ -1,5 +1,4 @@
-use Rattle.std.proofs.Common.{◌≡◌, ◌<◌, ℕ, length, get_or, Ok, None}
-use Rattle.std.specs.Prelude.{slice_index_or}
+use Rattle.std.{proofs.Common.{◌≡◌, ◌<◌, ℕ, length, get_or, Ok, None}, specs.Prelude.slice_index_or}
 use Rattle.hunt_rounds.specs.declared.asking.Asking.{Asking}
 use Rattle.hunt_rounds.proofs.round.answers.Given as goal
 

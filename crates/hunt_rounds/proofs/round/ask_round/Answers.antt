@@ -1,11 +1,7 @@
-use Rattle.std.proofs.Common.{◌≡◌, length, List, ◌++◌, take, drop, sym, ap, subst, ◌∙◌, refl, arith}
-use Rattle.std.proofs.lemmas.List.{length-take}
+use Rattle.std.proofs.{Common.{◌≡◌, length, List, ◌++◌, take, drop, sym, ap, subst, ◌∙◌, refl, arith}, lemmas.List.length-take}
 use Rattle.std.proofs.lemmas.Result.{MatchResult-weaker}
-use Rattle.hunt_rounds.specs.declared.asking.Asking.{Asking}
-use Rattle.hunt_rounds.specs.Rounds.{AreAskings, AreAnswers}
-use Rattle.hunt_rounds.proofs.Chains.{none_of}
-use Rattle.hunt_rounds.proofs.Worked.{Works, each_asked, each_of, all_can, kept_items}
-use Rattle.hunt_rounds.proofs.round.ask_round.Given.{Over}
+use Rattle.hunt_rounds.{specs.declared.asking.Asking.Asking, specs.Rounds.{AreAskings, AreAnswers}, proofs.Chains.none_of}
+use Rattle.hunt_rounds.proofs.{Worked.{Works, each_asked, each_of, all_can, kept_items}, round.ask_round.Given.Over}
 use Rattle.hunt_rounds.proofs.round.ask_round.Goals.{After-deref, After-work_at_once}
 use Rattle.hunt_rounds.proofs.round.ask_round.Goals as goal
 

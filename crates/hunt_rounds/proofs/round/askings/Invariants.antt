@@ -1,7 +1,5 @@
-use Rattle.std.proofs.Common.{◌≡◌, ◌<◌, ℕ, length, get_or}
-use Rattle.std.specs.Prelude.{slice_index}
-use Rattle.hunt_rounds.specs.declared.asking.Asking.{Asking}
-use Rattle.hunt_rounds.specs.Hunts.{name_at}
+use Rattle.std.{proofs.Common.{◌≡◌, ◌<◌, ℕ, length, get_or}, specs.Prelude.slice_index}
+use Rattle.hunt_rounds.specs.{declared.asking.Asking.Asking, Hunts.name_at}
 use Rattle.hunt_rounds.proofs.round.askings.Given as goal
 
 abbrev pub invariant-loop-place : goal.invariant-loop-place

@@ -1,11 +1,6 @@
-use Rattle.std.proofs.Common.{◌≤◌, length, ◌≡◌, ℕ, ◌-◌, List, [], Option, arith, sym, ap, ◌∙◌, subst, inl, inr}
-use Rattle.std.proofs.lemmas.Bool.{both_ways}
-use Rattle.wide_bisect.specs.declared.outcome.WideOutcome.TheVariants.{Asks}
-use Rattle.wide_bisect.specs.Laws.{CanBegin}
-use Rattle.wide_bisect.specs.Searches.{asks, asked, after}
-use Rattle.hunt_rounds.specs.Asked.{EachWasAsked}
-use Rattle.hunt_rounds.specs.Rounds.{asks_at}
-use Rattle.hunt_rounds.proofs.Chains.{none_of, of_twice, goes_begins, goes_more}
+use Rattle.std.proofs.{Common.{◌≤◌, length, ◌≡◌, ℕ, ◌-◌, List, [], Option, arith, sym, ap, ◌∙◌, subst, inl, inr}, lemmas.Bool.both_ways}
+use Rattle.wide_bisect.specs.{declared.outcome.WideOutcome.TheVariants.Asks, Laws.CanBegin, Searches.{asks, asked, after}}
+use Rattle.hunt_rounds.{specs.Asked.EachWasAsked, specs.Rounds.asks_at, proofs.Chains.{none_of, of_twice, goes_begins, goes_more}}
 use Rattle.hunt_rounds.proofs.Running.{runs_on, answer_taken, few_asked, hunted, places_within, smaller, count_asked}
 use Rattle.hunt_rounds.proofs.search.hunt.Goals as goal
 

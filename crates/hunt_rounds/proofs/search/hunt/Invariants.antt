@@ -1,7 +1,6 @@
 use Rattle.std.proofs.Common.{◌+◌, length, cond}
 use Rattle.wide_bisect.specs.Searches.{is_running}
-use Rattle.hunt_rounds.specs.Asked.{WereAskedOf}
-use Rattle.hunt_rounds.specs.Hunts.{Goes}
+use Rattle.hunt_rounds.specs.{Asked.WereAskedOf, Hunts.Goes}
 use Rattle.hunt_rounds.proofs.search.hunt.Given as goal
 
 abbrev pub invariant-rounds : goal.invariant-rounds

@@ -1,8 +1,7 @@
 use Rattle.std.proofs.Common.{◌≡◌, ◌∷◌, ◌++◌, codes, decimal, arith, ap, Err}
-use Rattle.journal_lines.specs.declared.fault.LineFault.{LineFault}
+use Rattle.journal_lines.{specs.declared.fault.LineFault.LineFault, proofs.Words.{head_is, is_head, no_words, word_one, word_two, word_three}}
 use Rattle.journal_lines.specs.declared.fault.LineFault.TheVariants as fault
 use Rattle.line_text.specs.Names.{spelling}
-use Rattle.journal_lines.proofs.Words.{head_is, is_head, no_words, word_one, word_two, word_three}
 use Rattle.journal_lines.proofs.head.read_head.Goals as goal
 
 pub returns-in_default-clause-bad : goal.returns-in_default-clause-bad

@@ -1,8 +1,6 @@
-use Rattle.std.proofs.Common.{List, sym, arith, subst, IsTrue, ◌↔◌}
-use Rattle.std.specs.List.{AllByRecursion}
+use Rattle.std.{proofs.Common.{List, sym, arith, subst, IsTrue, ◌↔◌}, specs.List.AllByRecursion}
 use Rattle.history_model.specs.declared.entries.Placed.{Placed}
-use Rattle.journal_lines.specs.Coming.{WasKept}
-use Rattle.journal_lines.proofs.OneMore.{no_loop, longer, next_more, none_more, read_whole}
+use Rattle.journal_lines.{specs.Coming.WasKept, proofs.OneMore.{no_loop, longer, next_more, none_more, read_whole}}
 use Rattle.journal_lines.proofs.history.read_history.Goals as goal
 
 pub loop-alloc-init : goal.loop-alloc-init

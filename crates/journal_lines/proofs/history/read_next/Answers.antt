@@ -1,8 +1,5 @@
-use Rattle.std.proofs.Common.{ℕ, ◌+◌, List, ◌++◌, length, arith, refl, sym, ap, ◌∙◌, Err}
-use Rattle.std.proofs.lemmas.Bool.{false≢true}
-use Rattle.journal_lines.specs.Unread.{Unread}
-use Rattle.journal_lines.specs.Texts.{entry_line}
-use Rattle.journal_lines.specs.declared.fault.LineFault.{LineFault}
+use Rattle.std.proofs.{Common.{ℕ, ◌+◌, List, ◌++◌, length, arith, refl, sym, ap, ◌∙◌, Err}, lemmas.Bool.false≢true}
+use Rattle.journal_lines.specs.{Unread.Unread, Texts.entry_line, declared.fault.LineFault.LineFault}
 use Rattle.journal_lines.proofs.Next.{none_left, no_entry, not_next, has_line, in_front}
 use Rattle.journal_lines.proofs.history.read_next.Goals as goal
 

@@ -1,9 +1,7 @@
 use Rattle.std.proofs.Common.{◌≡◌, ◌∷◌, ◌++◌, decimal, arith, ap, Err}
-use Rattle.track_entry.specs.Texts.{entry_text}
-use Rattle.track_entry.specs.declared.fault.EntryFault.{EntryFault}
-use Rattle.journal_lines.specs.Texts.{author_word}
+use Rattle.track_entry.specs.{Texts.entry_text, declared.fault.EntryFault.EntryFault}
+use Rattle.journal_lines.{specs.Texts.author_word, proofs.Words.{step_is, step_text, no_words, step_one, step_two}}
 use Rattle.journal_lines.specs.declared.fault.LineFault.TheVariants as fault
-use Rattle.journal_lines.proofs.Words.{step_is, step_text, no_words, step_one, step_two}
 use Rattle.journal_lines.proofs.step.read_step.Goals as goal
 
 pub returns-in_default-clause-bad : goal.returns-in_default-clause-bad

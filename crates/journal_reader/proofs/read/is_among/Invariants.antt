@@ -1,5 +1,4 @@
-use Rattle.std.proofs.Common.{take}
-use Rattle.std.specs.List.{AllByRecursion}
+use Rattle.std.{proofs.Common.take, specs.List.AllByRecursion}
 use Rattle.journal_reader.specs.Journals.{IsOther}
 use Rattle.journal_reader.proofs.read.is_among.Given as goal
 

@@ -1,9 +1,6 @@
 use Rattle.std.proofs.Common.{◌≡◌, ◌+◌, List, length, ap, subst, arith, Err}
-use Rattle.history_model.specs.declared.entries.Placed.{Placed}
-use Rattle.history_model.specs.Entries.{entries_of}
-use Rattle.journal_reader.specs.Judging.{AreAllowed}
-use Rattle.journal_reader.proofs.Refusing.{journal_read, journal_refused}
-use Rattle.journal_reader.specs.declared.read.Refused.{Refused}
+use Rattle.history_model.specs.{declared.entries.Placed.Placed, Entries.entries_of}
+use Rattle.journal_reader.{specs.Judging.AreAllowed, proofs.Refusing.{journal_read, journal_refused}, specs.declared.read.Refused.Refused}
 use Rattle.journal_reader.specs.declared.read.Refused.TheVariants as refused
 use Rattle.journal_reader.proofs.Heads.{some_size, stop_fits, which}
 use Rattle.journal_reader.proofs.read.read_journal.Goals as goal

@@ -1,8 +1,6 @@
 use Rattle.std.proofs.Common.{◌≡◌, true, false, ap, Err}
-use Rattle.journal_reader.specs.declared.read.Refused.{Refused}
+use Rattle.journal_reader.{specs.declared.read.Refused.Refused, proofs.Heads.{so_starts, so_over, so_stops, shorter}, proofs.Refusing.so_end}
 use Rattle.journal_reader.specs.declared.read.Refused.TheVariants as refused
-use Rattle.journal_reader.proofs.Heads.{so_starts, so_over, so_stops, shorter}
-use Rattle.journal_reader.proofs.Refusing.{so_end}
 use Rattle.journal_reader.proofs.read.read_journals.Goals as goal
 
 pub loop-lines-init : goal.loop-lines-init

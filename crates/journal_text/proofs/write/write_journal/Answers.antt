@@ -1,12 +1,8 @@
-use Rattle.std.proofs.Common.{rules, ◌≡◌, ◌+◌, ◌-◌, ℕ, List, Some, Err, ◌++◌, length, take, drop, sym, ap, subst, ◌∙◌, arith}
-use Rattle.std.specs.Prelude.{slice_get}
+use Rattle.std.{proofs.Common.{rules, ◌≡◌, ◌+◌, ◌-◌, ℕ, List, Some, Err, ◌++◌, length, take, drop, sym, ap, subst, ◌∙◌, arith}, specs.Prelude.slice_get}
 use Rattle.std.proofs.lemmas.Result.{err_from_is_err_and}
 use Rattle.track_outside.specs.declared.out_error.OutError.TheVariants.{Failed}
-use Rattle.journal_text.specs.Journals.{entry_line, head_line, lines_from}
-use Rattle.journal_text.specs.Writing.{Pends, Writes}
-use Rattle.journal_text.proofs.Stepwise.{journal-split, journal-more}
-use Rattle.journal_text.proofs.Written.{pends-part, pends-more, pends-on, writes-behind}
-use Rattle.journal_text.proofs.write.write_journal.Given.{Over}
+use Rattle.journal_text.{specs.Journals.{entry_line, head_line, lines_from}, specs.Writing.{Pends, Writes}, proofs.Stepwise.{journal-split, journal-more}}
+use Rattle.journal_text.proofs.{Written.{pends-part, pends-more, pends-on, writes-behind}, write.write_journal.Given.Over}
 use Rattle.journal_text.proofs.write.write_journal.Goals as goal
 use Rattle.journal_text.proofs.write.write_journal.Goals.{In_ok-put_step}
 

@@ -1,6 +1,5 @@
 use Rattle.std.proofs.Common.{◌-◌, ◌≤◌, ◌++◌, length, take}
-use Rattle.journal_text.specs.Journals.{head_line, lines_from}
-use Rattle.journal_text.specs.Writing.{Pends}
+use Rattle.journal_text.specs.{Journals.{head_line, lines_from}, Writing.Pends}
 use Rattle.journal_text.proofs.write.write_journal.Given as goal
 
 abbrev pub invariant-loop-step : goal.invariant-loop-step

@@ -1,10 +1,6 @@
-use Rattle.std.proofs.Common.{rules, ◌≡◌, ◌+◌, ◌<◌, length, take, drop, refl, Some}
-use Rattle.std.proofs.lemmas.Result.{err_from_is_err_and}
-use Rattle.std.specs.Prelude.{slice_get}
+use Rattle.std.{proofs.Common.{rules, ◌≡◌, ◌+◌, ◌<◌, length, take, drop, refl, Some}, proofs.lemmas.Result.err_from_is_err_and, specs.Prelude.slice_get}
 use Rattle.std.proofs.lemmas.Option.{slice_get_read}
-use Rattle.journal_text.specs.Journals.{journal_text, journals_text}
-use Rattle.journal_text.proofs.Stepwise.{journals-split}
-use Rattle.journal_text.proofs.Written.{writes-next}
+use Rattle.journal_text.{specs.Journals.{journal_text, journals_text}, proofs.Stepwise.journals-split, proofs.Written.writes-next}
 use Rattle.journal_text.proofs.write.write_journals.Goals as goal
 
 pub returns-in_err-write_journal : goal.returns-in_err-write_journal

@@ -1,13 +1,8 @@
-use Rattle.std.proofs.Common.{◌≡◌, List, length, refl, sym, ap, ◌∙◌, arith, Some}
-use Rattle.std.specs.Prelude.{slice_get}
+use Rattle.std.{proofs.Common.{◌≡◌, List, length, refl, sym, ap, ◌∙◌, arith, Some}, specs.Prelude.slice_get}
 use Rattle.std.proofs.lemmas.Option.{slice_get_read, slice_get_within}
-use Rattle.history_model.specs.declared.entries.Entry.{Entry}
-use Rattle.history_model.specs.declared.entries.Entry.TheVariants.{Publish}
-use Rattle.history_model.specs.declared.entries.Placed.{Placed}
-use Rattle.history_model.specs.declared.publication.Publication.{Publication}
+use Rattle.history_model.specs.declared.{entries.Entry.Entry, entries.Entry.TheVariants.Publish, entries.Placed.Placed, publication.Publication.Publication}
 use Rattle.history_model.specs.Entries.{entries_of}
-use Rattle.journal_walk.proofs.Adding.{met-next}
-use Rattle.journal_walk.proofs.Plans.{IsNeedOf, entry-at, entry-there, many, need-of}
+use Rattle.journal_walk.proofs.{Adding.met-next, Plans.{IsNeedOf, entry-at, entry-there, many, need-of}}
 use Rattle.journal_walk.proofs.ahead.meet.Goals as goal
 
 pub unreachable-requires : goal.unreachable-requires

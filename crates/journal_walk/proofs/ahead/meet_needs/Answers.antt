@@ -1,12 +1,7 @@
-use Rattle.std.proofs.Common.{◌≡◌, ◌<◌, List, length, refl, ap, subst, arith, Some}
-use Rattle.std.specs.Prelude.{slice_get}
-use Rattle.std.proofs.lemmas.Option.{slice_get_read}
-use Rattle.history_model.specs.declared.entries.Entry.{Entry}
-use Rattle.history_model.specs.Entries.{entries_of}
+use Rattle.std.{proofs.Common.{◌≡◌, ◌<◌, List, length, refl, ap, subst, arith, Some}, specs.Prelude.slice_get, proofs.lemmas.Option.slice_get_read}
+use Rattle.history_model.specs.{declared.entries.Entry.Entry, Entries.entries_of}
 use Rattle.track_model.specs.Tracks.{Track}
-use Rattle.journal_walk.specs.Ahead.{Keeps}
-use Rattle.journal_walk.proofs.Keeping.{all-later, none-later}
-use Rattle.journal_walk.proofs.Plans.{many, need-inside}
+use Rattle.journal_walk.{specs.Ahead.Keeps, proofs.Keeping.{all-later, none-later}, proofs.Plans.{many, need-inside}}
 use Rattle.journal_walk.proofs.ahead.meet_needs.Goals as goal
 use Rattle.journal_walk.proofs.ahead.meet_needs.Goals.{After-index-need}
 

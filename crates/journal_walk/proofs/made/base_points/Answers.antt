@@ -1,14 +1,9 @@
-use Rattle.std.proofs.Common.{◌≡◌, length, sym, ap, ◌∙◌, arith, Option, Some}
-use Rattle.std.specs.Prelude.{slice_get}
-use Rattle.std.proofs.lemmas.Bool.{false≢true}
+use Rattle.std.{proofs.Common.{◌≡◌, length, sym, ap, ◌∙◌, arith, Option, Some}, specs.Prelude.slice_get, proofs.lemmas.Bool.false≢true}
 use Rattle.history_model.specs.Entries.{entries_of}
 use Rattle.track_model.proofs.Settings.{setting-is}
-use Rattle.journal_walk.specs.declared.version.Version.{Version}
-use Rattle.journal_walk.proofs.Making.{one-setting}
-use Rattle.journal_walk.proofs.Plans.{many}
-use Rattle.journal_walk.proofs.Ready.{another, has-base, no-base, not-named, of-bases, slot-at}
+use Rattle.journal_walk.{specs.declared.version.Version.Version, proofs.Making.one-setting, proofs.Plans.many}
+use Rattle.journal_walk.proofs.{Ready.{another, has-base, no-base, not-named, of-bases, slot-at}, made.base_points.Goals.After-index}
 use Rattle.journal_walk.proofs.made.base_points.Goals as goal
-use Rattle.journal_walk.proofs.made.base_points.Goals.{After-index}
 
 pub returns-then-not-branch-clause-none : goal.returns-then-not-branch-clause-none
 returns-then-not-branch-clause-none c =

@@ -1,6 +1,4 @@
-use Rattle.std.proofs.Common.{List, subst}
-use Rattle.std.specs.Int.{w128}
-use Rattle.std.proofs.lemmas.Int.{to_z-of_z}
+use Rattle.std.{proofs.Common.{List, subst}, specs.Int.w128, proofs.lemmas.Int.to_z-of_z}
 use Rattle.segment_model.specs.Segments.{Position}
 use Rattle.segment_cost.specs.Certificate.{StandsFor}
 use Rattle.history_model.specs.declared.setting.Setting.{Setting}

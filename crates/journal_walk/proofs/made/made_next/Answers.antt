@@ -1,15 +1,8 @@
-use Rattle.std.proofs.Common.{◌≡◌, ◌≤◌, length, take, sym, ap, ◌∙◌, Option, Some}
-use Rattle.std.specs.Prelude.{slice_get}
-use Rattle.std.proofs.lemmas.Bool.{false≢true}
-use Rattle.history_model.specs.Entries.{entries_of}
-use Rattle.history_model.specs.Publications.{published}
-use Rattle.journal_walk.specs.Versions.{IsOf}
-use Rattle.journal_walk.specs.declared.version.Version.{Version}
-use Rattle.journal_walk.proofs.Making.{is-said, made-for}
-use Rattle.journal_walk.proofs.Plans.{many}
-use Rattle.journal_walk.proofs.Ready.{at-version, no-version, of-versions, slot-at}
+use Rattle.std.{proofs.Common.{◌≡◌, ◌≤◌, length, take, sym, ap, ◌∙◌, Option, Some}, specs.Prelude.slice_get, proofs.lemmas.Bool.false≢true}
+use Rattle.history_model.specs.{Entries.entries_of, Publications.published}
+use Rattle.journal_walk.{specs.Versions.IsOf, specs.declared.version.Version.Version, proofs.Making.{is-said, made-for}, proofs.Plans.many}
+use Rattle.journal_walk.proofs.{Ready.{at-version, no-version, of-versions, slot-at}, made.made_next.Goals.{After-index, In-Some}}
 use Rattle.journal_walk.proofs.made.made_next.Goals as goal
-use Rattle.journal_walk.proofs.made.made_next.Goals.{After-index, In-Some}
 
 -- what stands at its place
 slot : (c : After-index) → slice_get c.args.ahead.now.versions.items (length (entries_of c.args.track.now.history)) ≡ Some c.index.result.now

@@ -1,6 +1,4 @@
-use Rattle.std.proofs.Common.{ℕ, ℤ, ◌-◌, List, refl, sym, ap₂, ◌∙◌, subst, arith}
-use Rattle.std.specs.Int.{w128}
-use Rattle.std.proofs.lemmas.Int.{to_z-of_z}
+use Rattle.std.{proofs.Common.{ℕ, ℤ, ◌-◌, List, refl, sym, ap₂, ◌∙◌, subst, arith}, specs.Int.w128, proofs.lemmas.Int.to_z-of_z}
 use Rattle.segment_model.specs.Segments.{Position}
 use Rattle.segment_cost.specs.Certificate.{StandsFor}
 use Rattle.checkpoint_redo.proofs.Fronts.{common-within}

@@ -1,8 +1,6 @@
 use Rattle.std.proofs.Common.{ℕ, ◌+◌, List, ◌++◌, take, ap, sym, ◌∙◌}
 use Rattle.history_model.specs.Entries.{entries_of}
-use Rattle.journal_walk.specs.Needs.{needs_from, needs_of}
-use Rattle.journal_walk.specs.declared.needs.Need.{Need}
-use Rattle.journal_walk.proofs.Plans.{needs-more}
+use Rattle.journal_walk.{specs.Needs.{needs_from, needs_of}, specs.declared.needs.Need.Need, proofs.Plans.needs-more}
 use Rattle.journal_walk.proofs.needs.needs_in.Goals as goal
 
 pub loop-placed-preserved : goal.loop-placed-preserved

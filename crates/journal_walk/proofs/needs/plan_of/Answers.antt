@@ -1,6 +1,4 @@
-use Rattle.std.proofs.Common.{rules, subst, List}
-use Rattle.std.specs.List.Sorted.{IsPermutation}
-use Rattle.std.proofs.lemmas.List.Sorted.{IsNonDecreasingBy-from_sort_by_key}
+use Rattle.std.{proofs.Common.{rules, subst, List}, specs.List.Sorted.IsPermutation, proofs.lemmas.List.Sorted.IsNonDecreasingBy-from_sort_by_key}
 use Rattle.journal_walk.specs.declared.needs.Need.{Need}
 use Rattle.journal_walk.proofs.needs.plan_of.Goals as goal
 

@@ -1,5 +1,4 @@
-use Rattle.std.proofs.Common.{◌≡◌, List, ℕ, ◌++◌, refl, ap, sym, ◌∙◌}
-use Rattle.std.proofs.lemmas.Slice.Eq.{bytes_eq-Decides}
+use Rattle.std.proofs.{Common.{◌≡◌, List, ℕ, ◌++◌, refl, ap, sym, ◌∙◌}, lemmas.Slice.Eq.bytes_eq-Decides}
 use Rattle.track_entry.specs.Texts.{entry_text}
 use Rattle.journal_walk.proofs.same.is_same_entry.Goals as goal
 

@@ -1,7 +1,6 @@
 use Rattle.std.proofs.Common.{subst}
 use Rattle.history_model.specs.declared.entries.Author.TheVariants.{Kept}
-use Rattle.track_step.specs.Publications.{IsPublished}
-use Rattle.track_step.specs.Published.{Published}
+use Rattle.track_step.specs.{Publications.IsPublished, Published.Published}
 use Rattle.journal_walk.proofs.Publishing.{is-added, is-full, is-stale, publishes}
 use Rattle.journal_walk.proofs.steps.publish.Goals as goal
 

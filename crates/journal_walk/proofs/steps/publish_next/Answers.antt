@@ -1,18 +1,9 @@
-use Rattle.std.proofs.Common.{◌≡◌, ◌+◌, List, [], ◌∷◌, length, ap, ◌∙◌, subst, arith}
-use Rattle.std.proofs.lemmas.List.{length-append}
-use Rattle.history_model.specs.declared.entries.Entry.{Entry}
-use Rattle.history_model.specs.declared.entries.Entry.TheVariants.{Publish}
-use Rattle.history_model.specs.declared.publication.Publication.{Publication}
-use Rattle.history_model.specs.Allowed.{Allowed}
-use Rattle.history_model.specs.Entries.{entries_of}
+use Rattle.std.proofs.{Common.{◌≡◌, ◌+◌, List, [], ◌∷◌, length, ap, ◌∙◌, subst, arith}, lemmas.List.length-append}
+use Rattle.history_model.specs.declared.{entries.Entry.Entry, entries.Entry.TheVariants.Publish, publication.Publication.Publication}
+use Rattle.history_model.specs.{Allowed.Allowed, Entries.entries_of}
 use Rattle.machine_state.specs.Made.{publication_from}
-use Rattle.journal_walk.specs.Ahead.{KeepsAhead}
-use Rattle.journal_walk.specs.Made.{IsMadeFor}
-use Rattle.journal_walk.specs.Steps.{Publishes}
-use Rattle.journal_walk.proofs.Adding.{gone, grown, stays}
-use Rattle.journal_walk.proofs.Plans.{many}
-use Rattle.journal_walk.proofs.Publishing.{publishes-still}
-use Rattle.journal_walk.proofs.Ready.{of-bases, of-versions}
+use Rattle.journal_walk.{specs.Ahead.KeepsAhead, specs.Made.IsMadeFor, specs.Steps.Publishes, proofs.Adding.{gone, grown, stays}, proofs.Plans.many}
+use Rattle.journal_walk.proofs.{Publishing.publishes-still, Ready.{of-bases, of-versions}}
 use Rattle.journal_walk.proofs.steps.publish_next.Goals as goal
 
 pub returns-in_default-2-clause-none : goal.returns-in_default-2-clause-none

@@ -1,8 +1,7 @@
 use Rattle.std.proofs.Common.{◌≡◌, ap, subst, ◌∙◌, Option}
 use Rattle.history_model.specs.Runs.{Series}
 use Rattle.track_model.specs.Tracks.{Track, with_taken}
-use Rattle.machine_state.specs.State.{BeginsWith, IsBegun}
-use Rattle.machine_state.specs.declared.base.Base.{Base}
+use Rattle.machine_state.specs.{State.{BeginsWith, IsBegun}, declared.base.Base.Base}
 use Rattle.journal_walk.proofs.Starting.{still, tabled}
 use Rattle.journal_walk.proofs.tables.taken.Goals as goal
 

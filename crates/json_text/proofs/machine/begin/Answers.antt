@@ -1,9 +1,6 @@
 use Rattle.std.proofs.Common.{◌≡◌, ◌∷◌, [], ℕ, List, inl, inr, arith, rules, refl, subst, get_or, option_map, true, false}
-use Rattle.json_text.specs.Machine.{begin, digits, first_digit}
-use Rattle.json_text.specs.States.{frames_of}
-use Rattle.json_text.specs.Tree.{null, boolean}
-use Rattle.json_text.proofs.Variants.{tree_of-null, tree_of-boolean}
-use Rattle.json_text.specs.declared.state.Digits.{Digits}
+use Rattle.json_text.specs.{Machine.{begin, digits, first_digit}, States.frames_of, Tree.{null, boolean}}
+use Rattle.json_text.{proofs.Variants.{tree_of-null, tree_of-boolean}, specs.declared.state.Digits.Digits}
 use Rattle.json_text.specs.declared.state.Awaits.TheVariants.{FirstItem, FirstKey}
 use Rattle.json_text.specs.declared.tree.Json as json
 use Rattle.json_text.proofs.Reach.{bracket_turn, word_turn, text_arrives, quoted_fails, number_arrives, number_fails, number_other, fault_handed}

@@ -1,8 +1,5 @@
 use Rattle.std.proofs.Common.{arith, ap, ◌∙◌, ◌∷◌}
-use Rattle.json_text.specs.Parts.{then_member}
-use Rattle.json_text.specs.States.{frame_of, frames_of}
-use Rattle.json_text.specs.View.{members_view}
-use Rattle.json_text.proofs.Closing.{list_closed, object_closed}
+use Rattle.json_text.{specs.Parts.then_member, specs.States.{frame_of, frames_of}, specs.View.members_view, proofs.Closing.{list_closed, object_closed}}
 use Rattle.json_text.proofs.Stack.{frames_pop}
 use Rattle.json_text.proofs.machine.close.Goals as goal
 

@@ -1,14 +1,8 @@
 use Rattle.std.proofs.Common.{◌≡◌, ◌∙◌, ◌∷◌, ℕ, List, get_or, ap, sym, subst}
-use Rattle.json_text.specs.Machine.{Frame, in_list, value, first_item}
-use Rattle.json_text.specs.Tree.{no_items}
+use Rattle.json_text.specs.{Machine.{Frame, in_list, value, first_item}, Tree.no_items, Reached.Stands, States.frames_of}
 use Rattle.json_text.specs.Tree as trees
-use Rattle.json_text.specs.Reached.{Stands}
-use Rattle.json_text.specs.States.{frames_of}
 use Rattle.json_text.specs.declared.state.Open.TheVariants as open_frame
-use Rattle.json_text.proofs.Reach.{list_ends, closed_arrives, item_alike}
-use Rattle.json_text.proofs.Runs.{stands_alike}
-use Rattle.json_text.proofs.Stack.{frames_end}
-use Rattle.json_text.proofs.Variants.{tree_of-list}
+use Rattle.json_text.proofs.{Reach.{list_ends, closed_arrives, item_alike}, Runs.stands_alike, Stack.frames_end, Variants.tree_of-list}
 use Rattle.json_text.proofs.machine.first_item.Goals as goal
 
 pub returns-then-as_bytes-place-eq93-clause-arrives : goal.returns-then-as_bytes-place-eq93-clause-arrives

@@ -1,12 +1,7 @@
 use Rattle.std.proofs.Common.{◌≡◌, ◌∙◌, ℕ, List, arith, get_or, ap, sym, subst}
-use Rattle.json_text.specs.Machine.{first_key, next_key, colon}
-use Rattle.json_text.specs.Tree.{Members, no_members}
+use Rattle.json_text.specs.{Machine.{first_key, next_key, colon}, Tree.{Members, no_members}, Reached.Stands, States.frames_of}
 use Rattle.json_text.specs.Tree as trees
-use Rattle.json_text.specs.Reached.{Stands}
-use Rattle.json_text.specs.States.{frames_of}
-use Rattle.json_text.proofs.Reach.{object_ends, closed_arrives, key_alike, key_arrives, key_fails, fault_handed}
-use Rattle.json_text.proofs.Runs.{stands_alike}
-use Rattle.json_text.proofs.Variants.{tree_of-object}
+use Rattle.json_text.proofs.{Reach.{object_ends, closed_arrives, key_alike, key_arrives, key_fails, fault_handed}, Runs.stands_alike, Variants.tree_of-object}
 use Rattle.json_text.proofs.machine.first_key.Goals as goal
 
 pub returns-then-as_bytes-place-eq125-clause-arrives : goal.returns-then-as_bytes-place-eq125-clause-arrives

@@ -1,7 +1,5 @@
-use Rattle.std.specs.Str.{IsUtf8}
-use Rattle.std.proofs.Common.{inr, arith, sym, subst, slice_range}
-use Rattle.json_text.specs.States.{ReadsNumber}
-use Rattle.json_text.proofs.Reach.{number_boundary, spells_number}
+use Rattle.std.{specs.Str.IsUtf8, proofs.Common.{inr, arith, sym, subst, slice_range}}
+use Rattle.json_text.{specs.States.ReadsNumber, proofs.Reach.{number_boundary, spells_number}}
 use Rattle.json_text.proofs.machine.read_number.Goals as goal
 
 pub part-requires-clause-end_boundary : goal.part-requires-clause-end_boundary

@@ -1,5 +1,4 @@
-use Rattle.std.proofs.Common.{◌≡◌, rules, get_or, arith, refl, subst}
-use Rattle.std.specs.Str.{IsUtf8}
+use Rattle.std.{proofs.Common.{◌≡◌, rules, get_or, arith, refl, subst}, specs.Str.IsUtf8}
 use Rattle.json_text.proofs.Reach.{cut_behind}
 use Rattle.json_text.proofs.machine.read_quoted.Goals as goal
 

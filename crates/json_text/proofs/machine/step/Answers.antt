@@ -1,10 +1,6 @@
 use Rattle.std.proofs.Common.{◌+◌, ◌≤◌, ℕ, List, arith, Err, Ok, get_or, length, subst, sym}
-use Rattle.json_text.specs.Machine.{step, colon, ended, close, own_level}
-use Rattle.json_text.specs.Places.{most_levels}
-use Rattle.json_text.specs.View.{tree_of, members_view}
-use Rattle.json_text.specs.Reached.{Stands}
-use Rattle.json_text.specs.States.{frames_of, mode_of, StepGives}
-use Rattle.json_text.specs.declared.state.Awaits.{Awaits}
+use Rattle.json_text.specs.{Machine.{step, colon, ended, close, own_level}, Places.most_levels, View.{tree_of, members_view}, Reached.Stands}
+use Rattle.json_text.specs.{States.{frames_of, mode_of, StepGives}, declared.state.Awaits.Awaits}
 use Rattle.json_text.proofs.Reach.{key_arrives, key_fails, given_goes, given_stops, black_closes, fault_handed}
 use Rattle.json_text.proofs.machine.step.Goals as goal
 

@@ -1,7 +1,5 @@
 use Rattle.std.proofs.Common.{inl, sym, subst}
-use Rattle.json_text.specs.Outcome.{Outcome}
-use Rattle.json_text.specs.Places.{IsNotText}
-use Rattle.json_text.specs.declared.reading.JsonFault.TheVariants.{NotText}
+use Rattle.json_text.specs.{Outcome.Outcome, Places.IsNotText, declared.reading.JsonFault.TheVariants.NotText}
 use Rattle.json_text.proofs.Exact.{outcome_found, outcome_fault, only_due, place_due, same_fault}
 use Rattle.json_text.proofs.reading.read_json.Goals as goal
 

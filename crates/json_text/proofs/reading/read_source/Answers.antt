@@ -1,11 +1,6 @@
 use Rattle.std.proofs.Common.{◌≡◌, false, ℕ, List, arith, ap, get_or, length, sym, subst}
-use Rattle.json_text.specs.Classes.{is_blank}
-use Rattle.json_text.specs.Machine.{value}
-use Rattle.json_text.specs.Reached.{Stands}
-use Rattle.json_text.specs.States.{frames_of}
-use Rattle.json_text.specs.declared.state.Open.{Open}
-use Rattle.json_text.specs.declared.state.Awaits.TheVariants.{Value}
-use Rattle.json_text.proofs.Reach.{blank_passed_in, start_stands}
+use Rattle.json_text.specs.{Classes.is_blank, Machine.value, Reached.Stands, States.frames_of, declared.state.Open.Open}
+use Rattle.json_text.{specs.declared.state.Awaits.TheVariants.Value, proofs.Reach.{blank_passed_in, start_stands}}
 use Rattle.json_text.proofs.reading.read_source.Goals as goal
 
 pub loop-place-init : goal.loop-place-init

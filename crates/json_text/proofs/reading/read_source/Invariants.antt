@@ -1,9 +1,5 @@
 use Rattle.std.proofs.Common.{◌≡◌, ◌+◌, ◌-◌, ◌<◌, ◌≤◌, false, get_or, length}
-use Rattle.json_text.specs.Classes.{is_blank}
-use Rattle.json_text.specs.Machine.{own_level}
-use Rattle.json_text.specs.Places.{most_levels}
-use Rattle.json_text.specs.Reached.{Stands}
-use Rattle.json_text.specs.States.{mode_of, frames_of}
+use Rattle.json_text.specs.{Classes.is_blank, Machine.own_level, Places.most_levels, Reached.Stands, States.{mode_of, frames_of}}
 use Rattle.json_text.proofs.reading.read_source.Given as goal
 
 -- the machine stands where the next token begins

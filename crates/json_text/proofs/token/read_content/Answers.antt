@@ -1,6 +1,5 @@
 use Rattle.std.proofs.Common.{◌+◌, sym, subst, slice_range, ℕ, List}
-use Rattle.json_text.specs.Reached.{ReadsText}
-use Rattle.json_text.proofs.Reach.{plain_read, text_read}
+use Rattle.json_text.{specs.Reached.ReadsText, proofs.Reach.{plain_read, text_read}}
 use Rattle.json_text.proofs.token.read_content.Goals as goal
 
 pub returns-then-bytes-end-eq34-clause-reads : goal.returns-then-bytes-end-eq34-clause-reads

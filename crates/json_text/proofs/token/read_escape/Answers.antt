@@ -1,9 +1,5 @@
-use Rattle.std.proofs.Common.{◌+◌, [], arith, ap, sym, subst, ◌∙◌}
-use Rattle.std.specs.Char.{encode_utf8}
-use Rattle.std.proofs.lemmas.Str.{IsCharBoundary-after_ascii, encode_ascii}
-use Rattle.json_text.specs.declared.state.Within.TheVariants.{Plain, AfterBackslash}
-use Rattle.json_text.specs.Machine.{moves}
-use Rattle.json_text.specs.Reached.{ReadsContent}
+use Rattle.std.{proofs.Common.{◌+◌, [], arith, ap, sym, subst, ◌∙◌}, specs.Char.encode_utf8, proofs.lemmas.Str.{IsCharBoundary-after_ascii, encode_ascii}}
+use Rattle.json_text.specs.{declared.state.Within.TheVariants.{Plain, AfterBackslash}, Machine.moves, Reached.ReadsContent}
 use Rattle.json_text.proofs.Reach.{content_begins, content_moves, content_adds, content_spells}
 use Rattle.json_text.proofs.token.read_escape.Goals as goal
 

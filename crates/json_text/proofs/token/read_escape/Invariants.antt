@@ -1,7 +1,5 @@
 use Rattle.std.proofs.Common.{[], ◌-◌, ◌<◌, ◌≤◌, length}
-use Rattle.json_text.specs.declared.state.Within.TheVariants.{Plain}
-use Rattle.json_text.specs.Machine.{IsPlace, IsEscape}
-use Rattle.json_text.specs.Reached.{ReadsContent}
+use Rattle.json_text.specs.{declared.state.Within.TheVariants.Plain, Machine.{IsPlace, IsEscape}, Reached.ReadsContent}
 use Rattle.json_text.proofs.token.read_escape.Given as goal
 
 abbrev pub invariant-loop-place : goal.invariant-loop-place

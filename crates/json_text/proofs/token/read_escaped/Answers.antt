@@ -1,8 +1,6 @@
-use Rattle.std.proofs.Common.{◌≡◌, ◌+◌, ◌++◌, ◌<◌, ℕ, List, arith, rules, sym, subst, ap, ◌∙◌, get_or, length, slice_range}
-use Rattle.std.specs.Prelude.{string_bytes}
+use Rattle.std.{proofs.Common.{◌≡◌, ◌+◌, ◌++◌, ◌<◌, ℕ, List, arith, rules, sym, subst, ap, ◌∙◌, get_or, length, slice_range}, specs.Prelude.string_bytes}
 use Rattle.std.specs.Str.{IsCharBoundary}
-use Rattle.json_text.specs.declared.state.Within.TheVariants.{Plain}
-use Rattle.json_text.specs.Reached.{ReadsContent, ReadsText, StopsText}
+use Rattle.json_text.specs.{declared.state.Within.TheVariants.Plain, Reached.{ReadsContent, ReadsText, StopsText}}
 use Rattle.json_text.proofs.Reach.{plain_taken, escape_taken, other_stops, end_stops, text_read, stops_behind, handed_on}
 use Rattle.json_text.proofs.token.read_escaped.Goals as goal
 

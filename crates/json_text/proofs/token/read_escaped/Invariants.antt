@@ -1,8 +1,5 @@
-use Rattle.std.proofs.Common.{◌-◌, ◌≤◌, length}
-use Rattle.std.specs.Prelude.{string_bytes}
-use Rattle.std.specs.Str.{IsCharBoundary}
-use Rattle.json_text.specs.declared.state.Within.TheVariants.{Plain}
-use Rattle.json_text.specs.Reached.{ReadsContent}
+use Rattle.std.{proofs.Common.{◌-◌, ◌≤◌, length}, specs.Prelude.string_bytes, specs.Str.IsCharBoundary}
+use Rattle.json_text.specs.{declared.state.Within.TheVariants.Plain, Reached.ReadsContent}
 use Rattle.json_text.proofs.token.read_escaped.Given as goal
 
 abbrev pub invariant-loop-content : goal.invariant-loop-content

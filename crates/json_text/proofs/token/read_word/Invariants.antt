@@ -1,7 +1,5 @@
 use Rattle.std.proofs.Common.{List, ◌≤◌, length, drop}
-use Rattle.json_text.specs.Tree.{Tree}
-use Rattle.json_text.specs.Machine.{Frame}
-use Rattle.json_text.specs.Reached.{Carries, word_mode}
+use Rattle.json_text.specs.{Tree.Tree, Machine.Frame, Reached.{Carries, word_mode}}
 use Rattle.json_text.proofs.token.read_word.Given as goal
 
 abbrev pub invariant-loop-letter : goal.invariant-loop-letter

@@ -1,6 +1,5 @@
 use Rattle.std.proofs.Common.{◌∙◌, map, sym, ap}
-use Rattle.json_text.specs.View.{items_of, members_of, tree_of, entry_of}
-use Rattle.json_text.proofs.Views.{items_view-opened, members_view-opened}
+use Rattle.json_text.{specs.View.{items_of, members_of, tree_of, entry_of}, proofs.Views.{items_view-opened, members_view-opened}}
 use Rattle.json_text.proofs.Parts.{items_listed, members_listed, copied_one, copied}
 use Rattle.json_text.proofs.tree.+copy.Goals as goal
 

@@ -1,5 +1,4 @@
-use Rattle.std.proofs.Common.{ap, sym, ◌∙◌, arith}
-use Rattle.std.specs.Option.{option_copied}
+use Rattle.std.{proofs.Common.{ap, sym, ◌∙◌, arith}, specs.Option.option_copied}
 use Rattle.track_outside.specs.Kept.{bytes_of}
 use Rattle.keep_rows.proofs.NewRows.{put_more}
 use Rattle.keep_rows.proofs.append.put_machine.Goals as goal

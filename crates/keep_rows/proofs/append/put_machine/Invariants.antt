@@ -1,5 +1,4 @@
-use Rattle.std.proofs.Common.{◌≡◌, ◌++◌, take, map}
-use Rattle.std.specs.Prelude.{filter}
+use Rattle.std.{proofs.Common.{◌≡◌, ◌++◌, take, map}, specs.Prelude.filter}
 use Rattle.track_outside.specs.Kept.{bytes_of}
 use Rattle.keep_rows.specs.Rows.{row_of, is_new}
 use Rattle.keep_rows.proofs.append.put_machine.Given as goal

@@ -1,10 +1,7 @@
-use Rattle.std.proofs.Common.{◌≡◌, ℕ, suc, ◌+◌, true, false, List, Some, ap, sym, ◌∙◌, arith}
-use Rattle.std.specs.Prelude.{slice_get, bytes_eq}
-use Rattle.std.proofs.lemmas.Option.{slice_get-get_or}
-use Rattle.std.proofs.lemmas.Slice.Eq.{bytes_eq-Decides}
+use Rattle.std.{proofs.Common.{◌≡◌, ℕ, suc, ◌+◌, true, false, List, Some, ap, sym, ◌∙◌, arith}, specs.Prelude.{slice_get, bytes_eq}}
+use Rattle.std.proofs.lemmas.{Option.slice_get-get_or, Slice.Eq.bytes_eq-Decides}
 use Rattle.track_model.specs.Tracks.{Track}
-use Rattle.keep_rows.specs.Machines.{is_track}
-use Rattle.keep_rows.proofs.Placing.{found_at, changed_at, none_before, none_found}
+use Rattle.keep_rows.{specs.Machines.is_track, proofs.Placing.{found_at, changed_at, none_before, none_found}}
 use Rattle.keep_rows.proofs.place.place_of.Goals as goal
 
 pub loop-i-init : goal.loop-i-init

@@ -1,5 +1,4 @@
-use Rattle.std.proofs.Common.{ap, sym, ◌∙◌, arith}
-use Rattle.std.specs.Prelude.{option_copied}
+use Rattle.std.{proofs.Common.{ap, sym, ◌∙◌, arith}, specs.Prelude.option_copied}
 use Rattle.keep_rows.proofs.Fitting.{fit_more}
 use Rattle.keep_rows.proofs.spelled.entries_fit.Goals as goal
 

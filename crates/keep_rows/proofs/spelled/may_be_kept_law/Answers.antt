@@ -1,6 +1,4 @@
-use Rattle.std.proofs.Common.{All, subst, arith}
-use Rattle.std.proofs.lemmas.List.{take_all}
-use Rattle.std.proofs.lemmas.List.Elements.{All-more, recursion_from_All}
+use Rattle.std.proofs.{Common.{All, subst, arith}, lemmas.List.take_all, lemmas.List.Elements.{All-more, recursion_from_All}}
 use Rattle.keep_rows.specs.Growth.{MayBeKept}
 use Rattle.keep_rows.proofs.spelled.may_be_kept_law.Goals as goal
 

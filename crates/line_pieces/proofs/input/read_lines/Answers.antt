@@ -1,8 +1,6 @@
-use Rattle.std.proofs.Common.{◌≡◌, ℕ, ◌-◌, List, ◌++◌, length, take, drop, refl, subst, ◌∙◌, arith, length-append}
-use Rattle.std.proofs.lemmas.List.{length-take, length-drop}
+use Rattle.std.proofs.{Common.{◌≡◌, ℕ, ◌-◌, List, ◌++◌, length, take, drop, refl, subst, ◌∙◌, arith, length-append}, lemmas.List.{length-take, length-drop}}
 use Rattle.std.proofs.lemmas.Result.{err_from_is_err_and}
-use Rattle.line_pieces.specs.Stops.{StopsFor}
-use Rattle.line_pieces.proofs.Given.{gave_none}
+use Rattle.line_pieces.{specs.Stops.StopsFor, proofs.Given.gave_none}
 use Rattle.line_pieces.proofs.input.read_lines.Goals as goal
 
 pub loop-buffer-init : goal.loop-buffer-init

@@ -1,9 +1,6 @@
 use Rattle.std.proofs.Common.{◌≡◌, ℕ, ◌+◌, ◌≤◌, List, [], ◌∷◌, ◌++◌, length, take, drop, sym, ap, subst, ◌∙◌, arith, append-nil, append_assoc, eq-eqb, get_or}
-use Rattle.std.proofs.lemmas.List.{take_rest, get_or_default}
-use Rattle.std.proofs.lemmas.Result.{err_from_is_err_and, MatchResult-weaker}
-use Rattle.line_pieces.specs.Pieces.{HasCause}
-use Rattle.line_pieces.proofs.Fronts.{line_done}
-use Rattle.line_pieces.proofs.Parts.{part_refused}
+use Rattle.std.proofs.lemmas.{List.{take_rest, get_or_default}, Result.{err_from_is_err_and, MatchResult-weaker}}
+use Rattle.line_pieces.{specs.Pieces.HasCause, proofs.Fronts.line_done, proofs.Parts.part_refused}
 use Rattle.line_pieces.proofs.input.take.Goals as goal
 
 pub returns-in_err-take_line-clause-err : goal.returns-in_err-take_line-clause-err

@@ -1,8 +1,5 @@
-use Rattle.std.proofs.Common.{◌++◌, take, length-append, subst, arith}
-use Rattle.std.proofs.lemmas.Result.{err_from_is_err_and}
-use Rattle.line_pieces.specs.Pieces.{HasCause}
-use Rattle.line_pieces.proofs.Fronts.{too_many}
-use Rattle.line_pieces.proofs.Parts.{front_refused, read_refused}
+use Rattle.std.proofs.{Common.{◌++◌, take, length-append, subst, arith}, lemmas.Result.err_from_is_err_and}
+use Rattle.line_pieces.{specs.Pieces.HasCause, proofs.Fronts.too_many, proofs.Parts.{front_refused, read_refused}}
 use Rattle.line_pieces.proofs.input.take_allowed.Goals as goal
 
 pub returns-in_err-take-clause-err : goal.returns-in_err-take-clause-err

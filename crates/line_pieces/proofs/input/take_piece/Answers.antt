@@ -1,5 +1,4 @@
-use Rattle.std.proofs.Common.{◌++◌, take, drop, arith, length-append}
-use Rattle.std.proofs.lemmas.List.{take-append-le, length-take}
+use Rattle.std.proofs.{Common.{◌++◌, take, drop, arith, length-append}, lemmas.List.{take-append-le, length-take}}
 use Rattle.std.proofs.lemmas.Result.{err_from_is_err_and, MatchResult-weaker}
 use Rattle.line_pieces.proofs.Given.{piece_taken, gave_few, piece_stops, faulted, faulted_refused}
 use Rattle.line_pieces.proofs.input.take_piece.Goals as goal

@@ -1,5 +1,4 @@
-use Rattle.std.proofs.Common.{refl, sym, ◌∙◌}
-use Rattle.std.proofs.lemmas.Bool.{false≢true}
+use Rattle.std.proofs.{Common.{refl, sym, ◌∙◌}, lemmas.Bool.false≢true}
 use Rattle.line_text.proofs.Digits.{one_digit, no_digit, all_digits}
 use Rattle.line_text.proofs.numbers.are_digits.Goals as goal
 

@@ -1,7 +1,6 @@
 use Rattle.std.proofs.Common.{rules}
 use Rattle.json_text.specs.View.{tree_of}
-use Rattle.lnt_report.specs.Numbers.{test_readings, test_ignored}
-use Rattle.lnt_report.proofs.Walks.{walked_none, gathers_each, refused_each, gathers_all}
+use Rattle.lnt_report.{specs.Numbers.{test_readings, test_ignored}, proofs.Walks.{walked_none, gathers_each, refused_each, gathers_all}}
 use Rattle.lnt_report.proofs.gather.read_each.Goals as goal
 
 pub loop-test-init : goal.loop-test-init

@@ -1,6 +1,5 @@
 use Rattle.json_text.specs.View.{tree_of}
-use Rattle.lnt_report.specs.Numbers.{test_readings, test_ignored}
-use Rattle.lnt_report.proofs.Walks.{Walked}
+use Rattle.lnt_report.{specs.Numbers.{test_readings, test_ignored}, proofs.Walks.Walked}
 use Rattle.lnt_report.proofs.gather.read_each.Given as goal
 
 -- the tests before this one have been gathered

@@ -1,8 +1,6 @@
-use Rattle.std.proofs.Common.{rules, map, Ok, Err, refl}
-use Rattle.std.specs.List.{flat_map, sum_by}
+use Rattle.std.{proofs.Common.{rules, map, Ok, Err, refl}, specs.List.{flat_map, sum_by}}
 use Rattle.json_text.specs.View.{tree_of}
-use Rattle.lnt_report.specs.Numbers.{item_readings}
-use Rattle.lnt_report.proofs.Walks.{walked_none, gathers_each, refused_each, gathers_all, gathers_same, no_count}
+use Rattle.lnt_report.{specs.Numbers.item_readings, proofs.Walks.{walked_none, gathers_each, refused_each, gathers_all, gathers_same, no_count}}
 use Rattle.lnt_report.proofs.gather.read_items.Goals as goal
 
 pub loop-item-init : goal.loop-item-init

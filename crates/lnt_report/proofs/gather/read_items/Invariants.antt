@@ -1,6 +1,5 @@
 use Rattle.json_text.specs.View.{tree_of}
-use Rattle.lnt_report.specs.Numbers.{item_readings}
-use Rattle.lnt_report.proofs.Walks.{Walked}
+use Rattle.lnt_report.{specs.Numbers.item_readings, proofs.Walks.Walked}
 use Rattle.lnt_report.proofs.gather.read_items.Given as goal
 
 -- the items before this one have been gathered

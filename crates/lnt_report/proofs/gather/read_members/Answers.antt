@@ -1,7 +1,6 @@
 use Rattle.std.proofs.Common.{rules}
 use Rattle.json_text.specs.View.{entry_of}
-use Rattle.lnt_report.specs.Numbers.{entry_readings, entry_ignored}
-use Rattle.lnt_report.proofs.Walks.{walked_none, gathers_each, refused_each, gathers_all}
+use Rattle.lnt_report.{specs.Numbers.{entry_readings, entry_ignored}, proofs.Walks.{walked_none, gathers_each, refused_each, gathers_all}}
 use Rattle.lnt_report.proofs.gather.read_members.Goals as goal
 
 pub loop-member-init : goal.loop-member-init

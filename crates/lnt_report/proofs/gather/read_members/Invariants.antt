@@ -1,6 +1,5 @@
 use Rattle.json_text.specs.View.{entry_of}
-use Rattle.lnt_report.specs.Numbers.{entry_readings, entry_ignored}
-use Rattle.lnt_report.proofs.Walks.{Walked}
+use Rattle.lnt_report.{specs.Numbers.{entry_readings, entry_ignored}, proofs.Walks.Walked}
 use Rattle.lnt_report.proofs.gather.read_members.Given as goal
 
 -- the members before this one have been gathered

@@ -1,8 +1,6 @@
-use Rattle.std.proofs.Common.{map, if◌then◌else◌}
-use Rattle.std.specs.List.{flat_map}
+use Rattle.std.{proofs.Common.{map, if◌then◌else◌}, specs.List.flat_map}
 use Rattle.json_text.specs.View.{tree_of}
-use Rattle.lnt_report.specs.Numbers.{item_readings, value_readings, is_text_or_null}
-use Rattle.lnt_report.proofs.Walks.{list_value, gathers_same}
+use Rattle.lnt_report.{specs.Numbers.{item_readings, value_readings, is_text_or_null}, proofs.Walks.{list_value, gathers_same}}
 use Rattle.lnt_report.proofs.gather.read_metric.Goals as goal
 
 pub returns-in-List : goal.returns-in-List

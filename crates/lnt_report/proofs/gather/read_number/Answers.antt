@@ -1,11 +1,7 @@
-use Rattle.std.proofs.Common.{ℕ, List, ◌∷◌, ◌∙◌, refl, subst, arith, length, FitsSigned, zero-add}
-use Rattle.std.specs.Int.{w64}
-use Rattle.std.proofs.lemmas.Int.{ints, to_z-of_z}
-use Rattle.metric_table.specs.Limits.{most}
-use Rattle.metric_table.specs.declared.limits.Limit.TheVariants.{RunSamples}
+use Rattle.std.{proofs.Common.{ℕ, List, ◌∷◌, ◌∙◌, refl, subst, arith, length, FitsSigned, zero-add}, specs.Int.w64, proofs.lemmas.Int.{ints, to_z-of_z}}
+use Rattle.metric_table.specs.{Limits.most, declared.limits.Limit.TheVariants.RunSamples}
 use Rattle.metric_value.specs.Values.{IsValueOf, HasNoneInRange}
-use Rattle.lnt_report.specs.Numbers.{reading, IsMeasured}
-use Rattle.lnt_report.specs.Gathering.{measurement, Leaves}
+use Rattle.lnt_report.specs.{Numbers.{reading, IsMeasured}, Gathering.{measurement, Leaves}}
 use Rattle.lnt_report.proofs.Steps.{kept_one, beyond_one, out_one, is_given, by_room}
 use Rattle.lnt_report.proofs.gather.read_number.Goals as goal
 

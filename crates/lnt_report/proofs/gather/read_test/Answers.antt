@@ -1,5 +1,4 @@
-use Rattle.std.proofs.Common.{[], Ok, map, ap, sym, ◌∙◌}
-use Rattle.std.specs.List.{flat_map, sum_by}
+use Rattle.std.{proofs.Common.{[], Ok, map, ap, sym, ◌∙◌}, specs.List.{flat_map, sum_by}}
 use Rattle.json_text.specs.View.{tree_of, entry_of}
 use Rattle.lnt_report.specs.Numbers.{entry_readings, entry_ignored, test_readings, test_ignored, named_readings, named_ignored}
 use Rattle.lnt_report.proofs.Walks.{gathers_none, gathers_same, test_by}

@@ -1,8 +1,6 @@
-use Rattle.std.proofs.Common.{rules, [], map, refl, false}
-use Rattle.std.specs.List.{flat_map, sum_by}
+use Rattle.std.{proofs.Common.{rules, [], map, refl, false}, specs.List.{flat_map, sum_by}}
 use Rattle.json_text.specs.View.{tree_of}
-use Rattle.lnt_report.specs.Numbers.{test_readings, test_ignored}
-use Rattle.lnt_report.proofs.Walks.{at_first}
+use Rattle.lnt_report.{specs.Numbers.{test_readings, test_ignored}, proofs.Walks.at_first}
 use Rattle.lnt_report.proofs.gather.read_tests.Goals as goal
 
 pub returns-in_err-read_each : goal.returns-in_err-read_each

@@ -1,6 +1,4 @@
-use Rattle.std.proofs.Common.{arith}
-use Rattle.std.proofs.lemmas.Bool.Decides.{nat_tests}
-use Rattle.std.proofs.lemmas.Str.{is_utf8-from_IsUtf8}
+use Rattle.std.proofs.{Common.arith, lemmas.Bool.Decides.nat_tests, lemmas.Str.is_utf8-from_IsUtf8}
 use Rattle.lnt_report.proofs.look.is_name.Goals as goal
 
 pub returns-then-not-is_empty : goal.returns-then-not-is_empty

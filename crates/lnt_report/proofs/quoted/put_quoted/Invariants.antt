@@ -1,5 +1,4 @@
-use Rattle.std.proofs.Common.{◌≡◌, ◌∷◌, ◌++◌, take}
-use Rattle.std.specs.List.{flat_map}
+use Rattle.std.{proofs.Common.{◌≡◌, ◌∷◌, ◌++◌, take}, specs.List.flat_map}
 use Rattle.lnt_report.specs.Quoted.{escape}
 use Rattle.lnt_report.proofs.quoted.put_quoted.Given as goal
 

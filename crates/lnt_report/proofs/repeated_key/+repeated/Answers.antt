@@ -1,17 +1,8 @@
-use Rattle.std.proofs.Common.{◌+◌, arith, ap, sym, ◌∙◌, ◌≡◌, ◌∷◌, map, drop, false, None, is_some}
-use Rattle.std.specs.List.{list_any}
-use Rattle.std.specs.Str.{bytes_eq}
-use Rattle.std.specs.BTreeMap.{get_by}
-use Rattle.std.specs.Cmp.Lexicographic.{slice_cmp}
-use Rattle.std.specs.Ordering.{nat_cmp}
-use Rattle.std.proofs.lemmas.List.{at_drop_more}
+use Rattle.std.{proofs.Common.{◌+◌, arith, ap, sym, ◌∙◌, ◌≡◌, ◌∷◌, map, drop, false, None, is_some}, specs.List.list_any, specs.Str.bytes_eq}
+use Rattle.std.{specs.BTreeMap.get_by, specs.Cmp.Lexicographic.slice_cmp, specs.Ordering.nat_cmp, proofs.lemmas.List.at_drop_more}
 use Rattle.std.proofs.lemmas.Map.Text.{btree_map_updates_str}
-use Rattle.json_text.specs.Tree.{nesting}
-use Rattle.json_text.specs.View.{tree_of, members_of}
-use Rattle.json_text.specs.View.{entry_of}
-use Rattle.lnt_report.specs.Rules.{repeated_key, repeated_in_members}
-use Rattle.lnt_report.proofs.Keys.{with_key, next_member}
-use Rattle.lnt_report.proofs.Lists.{item_no_deeper, member_no_deeper}
+use Rattle.json_text.specs.{Tree.nesting, View.{tree_of, members_of}, View.entry_of}
+use Rattle.lnt_report.{specs.Rules.{repeated_key, repeated_in_members}, proofs.Keys.{with_key, next_member}, proofs.Lists.{item_no_deeper, member_no_deeper}}
 use Rattle.lnt_report.proofs.repeated_key.+repeated.Goals as goal
 
 pub repeated_in_list-repeated_key_in-requires : goal.repeated_in_list-repeated_key_in-requires

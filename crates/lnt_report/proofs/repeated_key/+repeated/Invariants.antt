@@ -1,12 +1,6 @@
-use Rattle.std.proofs.Common.{◌≡◌, ℕ, ◌+◌, ◌*◌, List, [], map, drop, is_some}
-use Rattle.std.specs.BTreeMap.{get_by}
-use Rattle.std.specs.Cmp.Lexicographic.{slice_cmp}
-use Rattle.std.specs.Ordering.{nat_cmp}
-use Rattle.std.specs.List.{list_any}
-use Rattle.std.specs.Str.{bytes_eq}
-use Rattle.json_text.specs.Tree.{nesting, items_nesting, members_nesting}
-use Rattle.json_text.specs.View.{tree_of, items_of, members_of}
-use Rattle.json_text.specs.View.{entry_of}
+use Rattle.std.{proofs.Common.{◌≡◌, ℕ, ◌+◌, ◌*◌, List, [], map, drop, is_some}, specs.BTreeMap.get_by, specs.Cmp.Lexicographic.slice_cmp}
+use Rattle.std.specs.{Ordering.nat_cmp, List.list_any, Str.bytes_eq}
+use Rattle.json_text.specs.{Tree.{nesting, items_nesting, members_nesting}, View.{tree_of, items_of, members_of}, View.entry_of}
 use Rattle.lnt_report.specs.Rules.{repeated_in_items, repeated_in_members}
 use Rattle.lnt_report.proofs.repeated_key.+repeated.Given as goal
 

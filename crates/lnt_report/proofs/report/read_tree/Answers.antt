@@ -1,6 +1,5 @@
 use Rattle.std.proofs.Common.{map}
-use Rattle.json_text.specs.View.{tree_of}
-use Rattle.json_text.specs.View.{entry_of}
+use Rattle.json_text.specs.View.{tree_of, entry_of}
 use Rattle.lnt_report.proofs.Answers.{sound}
 use Rattle.lnt_report.proofs.report.read_tree.Goals as goal
 

@@ -1,5 +1,4 @@
-use Rattle.std.proofs.Common.{◌≡◌, map, drop}
-use Rattle.std.specs.List.{list_all}
+use Rattle.std.{proofs.Common.{◌≡◌, map, drop}, specs.List.list_all}
 use Rattle.json_text.specs.View.{tree_of}
 use Rattle.lnt_report.specs.Rules.{is_number}
 use Rattle.lnt_report.proofs.rules.are_numbers.Given as goal

@@ -1,10 +1,7 @@
 use Rattle.std.proofs.Common.{◌≡◌, List, ℕ, subst, sym, ap, ◌∙◌, Ok, ◌++◌}
 use Rattle.sample_model.specs.Samples.{AreSamples}
 use Rattle.line_text.specs.Names.{IsName}
-use Rattle.lnt_report.specs.Runs.{Report}
-use Rattle.lnt_report.specs.Outcomes.{IsDue}
-use Rattle.lnt_report.specs.Written.{compact, run_tree}
-use Rattle.lnt_report.proofs.Written.{is_due}
+use Rattle.lnt_report.{specs.Runs.Report, specs.Outcomes.IsDue, specs.Written.{compact, run_tree}, proofs.Written.is_due}
 use Rattle.lnt_report.proofs.write.put_report.Goals as goal
 
 pub returns : goal.returns

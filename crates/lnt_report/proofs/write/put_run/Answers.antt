@@ -1,6 +1,5 @@
 use Rattle.std.proofs.Common.{ap, ◌∙◌}
-use Rattle.lnt_report.specs.Runs.{Report}
-use Rattle.lnt_report.proofs.Written.{run_written}
+use Rattle.lnt_report.{specs.Runs.Report, proofs.Written.run_written}
 use Rattle.lnt_report.proofs.write.put_run.Goals as goal
 
 pub returns : goal.returns

@@ -1,6 +1,4 @@
-use Rattle.std.proofs.Common.{◌≡◌, ap, ◌∙◌, FitsSigned, arith}
-use Rattle.std.specs.Int.{w64}
-use Rattle.std.proofs.lemmas.Int.{ints, to_z-of_z}
+use Rattle.std.{proofs.Common.{◌≡◌, ap, ◌∙◌, FitsSigned, arith}, specs.Int.w64, proofs.lemmas.Int.{ints, to_z-of_z}}
 use Rattle.sample_model.specs.Samples.{Measurement}
 use Rattle.lnt_report.proofs.Written.{test_written}
 use Rattle.lnt_report.proofs.write.put_test.Goals as goal

@@ -1,8 +1,6 @@
-use Rattle.std.proofs.Common.{◌≡◌, ◌++◌, map, drop}
-use Rattle.std.specs.List.{flat_map}
+use Rattle.std.{proofs.Common.{◌≡◌, ◌++◌, map, drop}, specs.List.flat_map}
 use Rattle.json_text.specs.View.{items_of}
-use Rattle.lnt_report.specs.Written.{compact_items, test_tree}
-use Rattle.lnt_report.proofs.Written.{behind}
+use Rattle.lnt_report.{specs.Written.{compact_items, test_tree}, proofs.Written.behind}
 use Rattle.lnt_report.proofs.write.put_tests.Given as goal
 
 -- the samples from here on are left

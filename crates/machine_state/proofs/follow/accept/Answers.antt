@@ -1,12 +1,7 @@
-use Rattle.std.proofs.Common.{◌≡◌, cond, List, sym, ap, ◌∙◌, inl, inr}
-use Rattle.std.specs.List.{list_any}
-use Rattle.std.proofs.lemmas.Bool.{cases_Bool}
+use Rattle.std.{proofs.Common.{◌≡◌, cond, List, sym, ap, ◌∙◌, inl, inr}, specs.List.list_any, proofs.lemmas.Bool.cases_Bool}
 use Rattle.sample_model.specs.Samples.{Measurement}
-use Rattle.history_model.specs.Runs.{is_of}
-use Rattle.history_model.proofs.Lists.{filter-none}
-use Rattle.series_index.specs.Seen.{seen, undone}
-use Rattle.series_index.specs.Taken.{of_series, with_samples}
-use Rattle.series_index.specs.declared.tracked.Tracked.{Tracked}
+use Rattle.history_model.{specs.Runs.is_of, proofs.Lists.filter-none}
+use Rattle.series_index.specs.{Seen.{seen, undone}, Taken.{of_series, with_samples}, declared.tracked.Tracked.Tracked}
 use Rattle.machine_state.proofs.follow.accept.Goals as goal
 
 pub undo_all-requires : goal.undo_all-requires

@@ -1,6 +1,4 @@
-use Rattle.std.proofs.Common.{◌≡◌, ap, arith, FitsSigned, unsigned_abs}
-use Rattle.std.specs.Int.{w64}
-use Rattle.std.proofs.lemmas.Int.{ints, to_z-of_z}
+use Rattle.std.{proofs.Common.{◌≡◌, ap, arith, FitsSigned, unsigned_abs}, specs.Int.w64, proofs.lemmas.Int.{ints, to_z-of_z}}
 use Rattle.metric_value.specs.Values.{IsValueOf}
 use Rattle.metric_value.proofs.value.value_of.Goals as goal
 

@@ -1,9 +1,6 @@
-use Rattle.std.proofs.Common.{◌++◌, ◌∷◌, [], sym, subst, List, ℕ, Option}
-use Rattle.std.specs.BTreeMap.{BTreeMap}
+use Rattle.std.{proofs.Common.{◌++◌, ◌∷◌, [], sym, subst, List, ℕ, Option}, specs.BTreeMap.BTreeMap}
 use Rattle.history_model.specs.declared.entries.Declaration.{Declaration}
-use Rattle.order_index.specs.Kept.{AreFound}
-use Rattle.order_index.proofs.Additions.{places-pop}
-use Rattle.order_index.proofs.Halving.{rising-pop}
+use Rattle.order_index.{specs.Kept.AreFound, proofs.Additions.places-pop, proofs.Halving.rising-pop}
 use Rattle.order_index.proofs.index.forget.Goals as goal
 
 pub returns-in-Some : goal.returns-in-Some

@@ -1,9 +1,6 @@
-use Rattle.std.proofs.Common.{refl, sym, subst, ◌++◌, ◌∷◌, [], length, ℕ, List, Option}
-use Rattle.std.specs.BTreeMap.{BTreeMap}
+use Rattle.std.{proofs.Common.{refl, sym, subst, ◌++◌, ◌∷◌, [], length, ℕ, List, Option}, specs.BTreeMap.BTreeMap}
 use Rattle.history_model.specs.declared.entries.Declaration.{Declaration}
-use Rattle.order_index.specs.Kept.{AreFound, ArePlaced, IsRising}
-use Rattle.order_index.proofs.Additions.{places-push}
-use Rattle.order_index.proofs.Halving.{rising-push}
+use Rattle.order_index.{specs.Kept.{AreFound, ArePlaced, IsRising}, proofs.Additions.places-push, proofs.Halving.rising-push}
 use Rattle.order_index.proofs.index.note.Goals as goal
 
 pub returns-in-Some-clause-ok : goal.returns-in-Some-clause-ok

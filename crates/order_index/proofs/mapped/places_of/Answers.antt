@@ -1,12 +1,7 @@
-use Rattle.std.proofs.Common.{get_or, arith, add-one, ap, sym, ◌∙◌, ◌≡◌, length, take, List, ℕ, Some}
-use Rattle.std.specs.Prelude.{slice_get}
-use Rattle.std.proofs.lemmas.List.{length-take}
-use Rattle.std.proofs.lemmas.Option.{slice_get-get_or}
-use Rattle.std.specs.List.{position_from}
-use Rattle.history_model.specs.declared.entries.Declaration.{Declaration}
-use Rattle.history_model.specs.Commits.{has_number}
-use Rattle.order_index.proofs.Additions.{places-push}
-use Rattle.order_index.proofs.Halving.{none-before, taken-more}
+use Rattle.std.{proofs.Common.{get_or, arith, add-one, ap, sym, ◌∙◌, ◌≡◌, length, take, List, ℕ, Some}, specs.Prelude.slice_get, proofs.lemmas.List.length-take}
+use Rattle.std.{proofs.lemmas.Option.slice_get-get_or, specs.List.position_from}
+use Rattle.history_model.specs.{declared.entries.Declaration.Declaration, Commits.has_number}
+use Rattle.order_index.proofs.{Additions.places-push, Halving.{none-before, taken-more}}
 use Rattle.order_index.proofs.mapped.places_of.Goals as goal
 
 pub loop-place-preserved : goal.loop-place-preserved

@@ -1,8 +1,6 @@
-use Rattle.std.proofs.Common.{ap, sym, ◌∙◌}
-use Rattle.std.specs.Prelude.{option_copied}
+use Rattle.std.{proofs.Common.{ap, sym, ◌∙◌}, specs.Prelude.option_copied}
 use Rattle.history_model.specs.Commits.{has_number}
-use Rattle.order_index.proofs.Places.{placed-none}
-use Rattle.order_index.proofs.Lookups.{found-at-place}
+use Rattle.order_index.proofs.{Places.placed-none, Lookups.found-at-place}
 use Rattle.order_index.proofs.mapped.with_number.Goals as goal
 
 pub returns-then-is_above_all : goal.returns-then-is_above_all

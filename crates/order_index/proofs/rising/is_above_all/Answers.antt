@@ -1,6 +1,4 @@
-use Rattle.std.proofs.Common.{get_or, arith, ◌≡◌, ◌<◌, ◌-◌, length, List, ℕ, Some}
-use Rattle.std.specs.Prelude.{slice_get}
-use Rattle.std.proofs.lemmas.Bool.{ltb-true}
+use Rattle.std.{proofs.Common.{get_or, arith, ◌≡◌, ◌<◌, ◌-◌, length, List, ℕ, Some}, specs.Prelude.slice_get, proofs.lemmas.Bool.ltb-true}
 use Rattle.std.proofs.lemmas.Option.{slice_get-get_or}
 use Rattle.history_model.specs.declared.entries.Declaration.{Declaration}
 use Rattle.order_index.proofs.Halving.{all-below}

@@ -1,6 +1,4 @@
-use Rattle.std.proofs.Common.{get_or, add-one, ap, sym, ◌∙◌, ◌≡◌, ◌++◌, ◌∷◌, [], Some}
-use Rattle.std.specs.Prelude.{slice_get}
-use Rattle.std.proofs.lemmas.Option.{slice_get-get_or}
+use Rattle.std.{proofs.Common.{get_or, add-one, ap, sym, ◌∙◌, ◌≡◌, ◌++◌, ◌∷◌, [], Some}, specs.Prelude.slice_get, proofs.lemmas.Option.slice_get-get_or}
 use Rattle.history_model.specs.declared.entries.Declaration.{Declaration}
 use Rattle.order_index.proofs.Halving.{from-next, kept-none_below, kept-more, kept-all}
 use Rattle.order_index.proofs.rising.numbers_between.Goals as goal

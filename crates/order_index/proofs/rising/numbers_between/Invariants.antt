@@ -1,6 +1,5 @@
 use Rattle.std.proofs.Common.{◌≡◌, take, drop, filter}
-use Rattle.order_index.specs.Between.{is_between}
-use Rattle.order_index.specs.Kept.{AreFrom, numbers_of}
+use Rattle.order_index.specs.{Between.is_between, Kept.{AreFrom, numbers_of}}
 use Rattle.order_index.proofs.rising.numbers_between.Given as goal
 
 -- the numbers so far are those before the place, and none is left below the range

@@ -1,6 +1,4 @@
-use Rattle.std.proofs.Common.{arith, refl, sym, ◌≡◌, ◌≤◌, length, Some}
-use Rattle.std.specs.Prelude.{slice_get}
-use Rattle.std.proofs.lemmas.Option.{slice_get_read}
+use Rattle.std.{proofs.Common.{arith, refl, sym, ◌≡◌, ◌≤◌, length, Some}, specs.Prelude.slice_get, proofs.lemmas.Option.slice_get_read}
 use Rattle.history_model.specs.declared.entries.Declaration.{Declaration}
 use Rattle.order_index.proofs.Halving.{from-next, none-there, found-there, found-none}
 use Rattle.order_index.proofs.rising.with_number.Goals as goal

@@ -1,10 +1,6 @@
-use Rattle.std.proofs.Common.{subst, ◌∙◌}
-use Rattle.std.specs.Int.{w128}
-use Rattle.std.proofs.lemmas.Int.{to_z-of_z}
+use Rattle.std.{proofs.Common.{subst, ◌∙◌}, specs.Int.w128, proofs.lemmas.Int.to_z-of_z}
 use Rattle.track_outside.specs.Calls.{Took, FailedIn}
-use Rattle.path_command.specs.Endings.{CameTo}
-use Rattle.path_command.proofs.Ends.{untouched, low_fits, high_fits, path_between}
-use Rattle.path_command.proofs.command.path_points.Given.{Over}
+use Rattle.path_command.{specs.Endings.CameTo, proofs.Ends.{untouched, low_fits, high_fits, path_between}, proofs.command.path_points.Given.Over}
 use Rattle.path_command.proofs.command.path_points.Goals.{In-Ok-path}
 use Rattle.path_command.proofs.command.path_points.Goals as goal
 

@@ -1,6 +1,4 @@
-use Rattle.std.proofs.Common.{◌*◌, ◌<◌, length, FitsSigned, refl, arith}
-use Rattle.std.specs.Int.{w128}
-use Rattle.std.proofs.lemmas.Int.{to_z-of_z}
+use Rattle.std.{proofs.Common.{◌*◌, ◌<◌, length, FitsSigned, refl, arith}, specs.Int.w128, proofs.lemmas.Int.to_z-of_z}
 use Rattle.segment_model.specs.Values.{cost_between}
 use Rattle.pelt_core.proofs.Search.{looked-next}
 use Rattle.pelt_core.proofs.bounds.best_of_block.Goals as goal

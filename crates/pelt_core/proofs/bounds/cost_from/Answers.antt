@@ -1,6 +1,4 @@
-use Rattle.std.proofs.Common.{◌≡◌, ◌^◌, length, pos, ◌≤ℤ◌, FitsSigned, arith}
-use Rattle.std.specs.Int.{w128}
-use Rattle.std.proofs.lemmas.Int.{ints, to_z-of_z}
+use Rattle.std.{proofs.Common.{◌≡◌, ◌^◌, length, pos, ◌≤ℤ◌, FitsSigned, arith}, specs.Int.w128, proofs.lemmas.Int.{ints, to_z-of_z}}
 use Rattle.segment_model.specs.Values.{cost_between}
 use Rattle.pelt_core.proofs.bounds.cost_from.Goals as goal
 use Rattle.pelt_core.proofs.bounds.cost_from.Goals.{Joined-rise-at, then-rise-at, else-rise-at}

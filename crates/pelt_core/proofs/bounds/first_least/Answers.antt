@@ -1,13 +1,7 @@
-use Rattle.std.proofs.Common.{◌<◌, inl, inr, length, FitsSigned, refl, arith}
-use Rattle.std.specs.Int.{w128}
-use Rattle.std.proofs.lemmas.Int.{to_z-of_z}
-use Rattle.std.proofs.lemmas.Bool.{cases_eq}
-use Rattle.segment_model.specs.Cuts.{Merges}
-use Rattle.segment_model.specs.Values.{cost_between}
-use Rattle.pelt_core.specs.Bounds.{AreInRange}
-use Rattle.pelt_core.proofs.Blocks.{apart-moves, bounds-by}
+use Rattle.std.{proofs.Common.{◌<◌, inl, inr, length, FitsSigned, refl, arith}, specs.Int.w128, proofs.lemmas.Int.to_z-of_z, proofs.lemmas.Bool.cases_eq}
+use Rattle.segment_model.specs.{Cuts.Merges, Values.cost_between}
+use Rattle.pelt_core.{specs.Bounds.AreInRange, proofs.Blocks.{apart-moves, bounds-by}, proofs.bounds.first_least.Goals.After-value_costs_law}
 use Rattle.pelt_core.proofs.bounds.first_least.Goals as goal
-use Rattle.pelt_core.proofs.bounds.first_least.Goals.{After-value_costs_law}
 
 module _ (g : _) (c : After-value_costs_law g) where
   merges : Merges (cost_between g.C.Cost.cost_of (g.C.Cost.positions c.args.cost.now)) (length (g.C.Cost.positions c.args.cost.now))

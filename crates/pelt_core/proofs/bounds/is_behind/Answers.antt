@@ -1,7 +1,5 @@
-use Rattle.std.proofs.Common.{◌<◌, length, ◌+ℤ◌, arith}
-use Rattle.std.proofs.lemmas.Int.{ints, to_z-of_z}
-use Rattle.pelt_core.proofs.Blocks.{rise-fits}
-use Rattle.pelt_core.proofs.Search.{no-later}
+use Rattle.std.proofs.{Common.{◌<◌, length, ◌+ℤ◌, arith}, lemmas.Int.{ints, to_z-of_z}}
+use Rattle.pelt_core.proofs.{Blocks.rise-fits, Search.no-later}
 use Rattle.pelt_core.proofs.bounds.is_behind.Goals as goal
 
 pub overflow_add-bound : goal.overflow_add-bound

@@ -1,10 +1,6 @@
-use Rattle.std.proofs.Common.{◌+◌, ◌*◌, length, FitsSigned, arith}
-use Rattle.std.specs.Int.{w128}
-use Rattle.std.proofs.lemmas.Int.{ints, to_z-of_z}
-use Rattle.segment_model.specs.Cuts.{Merges}
-use Rattle.segment_model.specs.Values.{cost_between}
-use Rattle.pelt_core.specs.Bounds.{AreInRange, bound_at, IsFirst, IsBelowBlock}
-use Rattle.pelt_core.proofs.Blocks.{passed-over, looked-at, moved-on}
+use Rattle.std.{proofs.Common.{◌+◌, ◌*◌, length, FitsSigned, arith}, specs.Int.w128, proofs.lemmas.Int.{ints, to_z-of_z}}
+use Rattle.segment_model.specs.{Cuts.Merges, Values.cost_between}
+use Rattle.pelt_core.{specs.Bounds.{AreInRange, bound_at, IsFirst, IsBelowBlock}, proofs.Blocks.{passed-over, looked-at, moved-on}}
 use Rattle.pelt_core.proofs.bounds.look_at_block.Goals as goal
 use Rattle.pelt_core.proofs.bounds.look_at_block.Goals.{After-value_costs_law}
 

@@ -1,6 +1,4 @@
-use Rattle.std.proofs.Common.{inl, inr, FitsSigned, arith}
-use Rattle.std.specs.Int.{w128}
-use Rattle.std.proofs.lemmas.Int.{ints, to_z-of_z}
+use Rattle.std.{proofs.Common.{inl, inr, FitsSigned, arith}, specs.Int.w128, proofs.lemmas.Int.{ints, to_z-of_z}}
 use Rattle.pelt_core.proofs.Blocks.{rise-fits}
 use Rattle.pelt_core.proofs.bounds.moved.Goals as goal
 

@@ -1,7 +1,5 @@
-use Rattle.std.proofs.Common.{◌≡◌, ◌^◌, length, pos, neg_ℤ, ◌≤ℤ◌, arith}
-use Rattle.std.proofs.lemmas.Int.{ints}
-use Rattle.segment_model.specs.Values.{cost_between}
-use Rattle.segment_model.specs.Tables.{int_at}
+use Rattle.std.proofs.{Common.{◌≡◌, ◌^◌, length, pos, neg_ℤ, ◌≤ℤ◌, arith}, lemmas.Int.ints}
+use Rattle.segment_model.specs.{Values.cost_between, Tables.int_at}
 use Rattle.pelt_core.proofs.candidates.last_total.Goals as goal
 use Rattle.pelt_core.proofs.candidates.last_total.Goals.{After-cost}
 

@@ -1,5 +1,4 @@
-use Rattle.std.proofs.Common.{◌≡◌, ℕ, ◌<◌, ◌≤◌, ◌+◌, length, ◌⊎◌, inl, inr, arith}
-use Rattle.std.proofs.lemmas.Bool.{cases_lt}
+use Rattle.std.proofs.{Common.{◌≡◌, ℕ, ◌<◌, ◌≤◌, ◌+◌, length, ◌⊎◌, inl, inr, arith}, lemmas.Bool.cases_lt}
 use Rattle.segment_model.specs.Values.{cost_between}
 use Rattle.pelt_core.proofs.Marks.{none-looked, one-looked, looked-as}
 use Rattle.pelt_core.proofs.candidates.mark_between.Goals as goal

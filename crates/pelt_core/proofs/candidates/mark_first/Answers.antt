@@ -1,8 +1,6 @@
-use Rattle.std.proofs.Common.{◌≡◌, ℕ, ◌<◌, ◌+◌, List, length, slice_index, ◌⊎◌, inl, inr, sym, ap, ◌∙◌, arith}
-use Rattle.std.proofs.lemmas.Bool.{cases_lt}
+use Rattle.std.proofs.{Common.{◌≡◌, ℕ, ◌<◌, ◌+◌, List, length, slice_index, ◌⊎◌, inl, inr, sym, ap, ◌∙◌, arith}, lemmas.Bool.cases_lt}
 use Rattle.segment_model.specs.Values.{cost_between}
-use Rattle.pelt_core.specs.Candidates.{IsAmong}
-use Rattle.pelt_core.proofs.Marks.{none-looked, one-looked}
+use Rattle.pelt_core.{specs.Candidates.IsAmong, proofs.Marks.{none-looked, one-looked}}
 use Rattle.pelt_core.proofs.candidates.mark_first.Goals as goal
 
 -- one candidate more

@@ -1,6 +1,5 @@
 use Rattle.std.proofs.Common.{ℕ, ◌<◌, length, slice_index}
-use Rattle.segment_model.specs.Tables.{MayBegin}
-use Rattle.segment_model.specs.Values.{cost_between}
+use Rattle.segment_model.specs.{Tables.MayBegin, Values.cost_between}
 use Rattle.pelt_core.specs.Candidates.{AreLookedAt, IsAmong}
 use Rattle.pelt_core.proofs.candidates.mark_first.Given as goal
 

@@ -1,7 +1,5 @@
 use Rattle.std.proofs.Common.{◌&&◌, ℕ, List, ◌∷◌, [], ◌++◌, sym, ap, ◌∙◌, arith}
-use Rattle.pelt_core.specs.Candidates.{begins, stays}
-use Rattle.pelt_core.proofs.Open.{chosen-next, chosen-skip}
-use Rattle.pelt_core.proofs.Growth.{open-few}
+use Rattle.pelt_core.{specs.Candidates.{begins, stays}, proofs.Open.{chosen-next, chosen-skip}, proofs.Growth.open-few}
 use Rattle.pelt_core.proofs.candidates.refill.Goals as goal
 use Rattle.pelt_core.proofs.candidates.refill.Goals.{then-is_open, else-is_open}
 

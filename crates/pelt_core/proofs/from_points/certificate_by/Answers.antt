@@ -1,11 +1,6 @@
-use Rattle.std.proofs.Common.{◌≡◌, ℕ, ℤ, List, length}
-use Rattle.std.specs.Int.{w128}
-use Rattle.std.proofs.lemmas.Int.{to_z-of_z}
-use Rattle.std.proofs.lemmas.List.{length-map}
-use Rattle.segment_model.specs.Segments.{Position, position_values}
-use Rattle.segment_model.specs.Values.{values_by_position, cost_between}
-use Rattle.segment_cost.specs.declared.cert.Cert.{Cert}
-use Rattle.segment_cost.specs.Certificate.{IsCertificate}
+use Rattle.std.{proofs.Common.{◌≡◌, ℕ, ℤ, List, length}, specs.Int.w128, proofs.lemmas.Int.to_z-of_z, proofs.lemmas.List.length-map}
+use Rattle.segment_model.specs.{Segments.{Position, position_values}, Values.{values_by_position, cost_between}}
+use Rattle.segment_cost.specs.{declared.cert.Cert.Cert, Certificate.IsCertificate}
 use Rattle.pelt_core.specs.Seen.{Tabled, table_of}
 use Rattle.pelt_core.proofs.from_points.certificate_by.Goals as goal
 

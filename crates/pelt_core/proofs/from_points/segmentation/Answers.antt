@@ -1,5 +1,4 @@
-use Rattle.std.specs.Int.{w128}
-use Rattle.std.proofs.lemmas.Int.{to_z-of_z}
+use Rattle.std.{specs.Int.w128, proofs.lemmas.Int.to_z-of_z}
 use Rattle.pelt_core.proofs.from_points.segmentation.Goals as goal
 
 pub returns : goal.returns

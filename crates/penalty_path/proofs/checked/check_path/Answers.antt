@@ -1,10 +1,6 @@
-use Rattle.std.proofs.Common.{◌≡◌, ◌<◌, ◌+ℤ◌, [], ◌∷◌, length, pos, IsTrue, ◌↔◌, refl, ap, arith}
-use Rattle.std.specs.Int.{w128}
-use Rattle.std.proofs.lemmas.Int.{to_z-of_z}
+use Rattle.std.{proofs.Common.{◌≡◌, ◌<◌, ◌+ℤ◌, [], ◌∷◌, length, pos, IsTrue, ◌↔◌, refl, ap, arith}, specs.Int.w128, proofs.lemmas.Int.to_z-of_z}
 use Rattle.std.proofs.lemmas.List.{nil_from_length}
-use Rattle.penalty_path.specs.Paths.{IsRange}
-use Rattle.penalty_path.specs.Steps.{IsStep}
-use Rattle.penalty_path.proofs.Runs.{Runs, runs-of, path-of}
+use Rattle.penalty_path.{specs.Paths.IsRange, specs.Steps.IsStep, proofs.Runs.{Runs, runs-of, path-of}}
 use Rattle.penalty_path.proofs.Checks.{refuted, at-true, step-of, last-run, next-run, run-next, is-none, is-some, apart, IsBelow, below-range}
 use Rattle.penalty_path.proofs.checked.check_path.Goals as goal
 use Rattle.penalty_path.proofs.checked.check_path.Goals.{After-step_holds, After-from-1}

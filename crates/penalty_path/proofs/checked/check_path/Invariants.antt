@@ -1,6 +1,5 @@
 use Rattle.std.proofs.Common.{length, ◌↔◌}
-use Rattle.penalty_path.specs.Paths.{IsRange}
-use Rattle.penalty_path.proofs.Runs.{Runs}
+use Rattle.penalty_path.{specs.Paths.IsRange, proofs.Runs.Runs}
 use Rattle.penalty_path.proofs.checked.check_path.Given as goal
 
 abbrev pub invariant-loop-stretch : goal.invariant-loop-stretch

@@ -1,7 +1,5 @@
-use Rattle.penalty_path.proofs.Checks.{refuted, first-stands, last-stands, has-ends, of-ends, at-true}
-use Rattle.penalty_path.proofs.Whole.{same-cuts}
-use Rattle.std.proofs.Common.{pos, ◌≤ℤ◌, ◌^◌, arith}
-use Rattle.std.proofs.lemmas.Int.{ints}
+use Rattle.penalty_path.proofs.{Checks.{refuted, first-stands, last-stands, has-ends, of-ends, at-true}, Whole.same-cuts}
+use Rattle.std.proofs.{Common.{pos, ◌≤ℤ◌, ◌^◌, arith}, lemmas.Int.ints}
 use Rattle.penalty_path.proofs.checked.holds.Goals as goal
 
 pub returns-then-not-has_ends : goal.returns-then-not-has_ends

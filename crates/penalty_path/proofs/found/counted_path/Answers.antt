@@ -1,17 +1,10 @@
 use Rattle.std.proofs.Common.{◌≡◌, ℕ, ℤ, ◌+◌, refl, ◌-◌, ◌*◌, ◌^◌, ◌<◌, ◌≤◌, [], ◌∷◌, ◌++◌, length, reverse, sym, ◌∙◌, unsigned_abs, pos, ◌-ℤ◌, ◌≤ℤ◌, ◌<ℤ◌, FitsSigned, subst, arith}
-use Rattle.std.specs.Int.{w128}
-use Rattle.std.proofs.lemmas.Int.{ints, to_z-of_z}
-use Rattle.std.proofs.lemmas.List.{nil_from_length, reverse-append, length-append}
+use Rattle.std.{specs.Int.w128, proofs.lemmas.Int.{ints, to_z-of_z}, proofs.lemmas.List.{nil_from_length, reverse-append, length-append}}
 use Rattle.segment_cost.specs.Certificate.{StandsFor}
-use Rattle.penalty_path.specs.Paths.{IsStretch, IsPath}
-use Rattle.penalty_path.specs.Growing.{extended, single, stretches_of}
-use Rattle.penalty_path.proofs.Checks.{at-true, is-not}
+use Rattle.penalty_path.{specs.Paths.{IsStretch, IsPath}, specs.Growing.{extended, single, stretches_of}, proofs.Checks.{at-true, is-not}}
 use Rattle.penalty_path.proofs.Ahead.{Ahead, nearest, within, smaller-taken, put-between, smaller-put, one-ahead, none-ahead, next-but-one}
-use Rattle.penalty_path.proofs.Growing.{extended-path, appended-path, single-path-at, last-stretch, fewer-cuts}
-use Rattle.penalty_path.specs.Crossing.{Parts}
-use Rattle.penalty_path.proofs.Known.{best-stands}
-use Rattle.penalty_path.proofs.Whole.{few-cuts}
-use Rattle.penalty_path.proofs.Room.{Room, room-same, room-next, room-between, room-few, one-room}
+use Rattle.penalty_path.{proofs.Growing.{extended-path, appended-path, single-path-at, last-stretch, fewer-cuts}, specs.Crossing.Parts}
+use Rattle.penalty_path.proofs.{Known.best-stands, Whole.few-cuts, Room.{Room, room-same, room-next, room-between, room-few, one-room}}
 use Rattle.penalty_path.proofs.found.counted_path.Goals as goal
 use Rattle.penalty_path.proofs.found.counted_path.Goals.{In-Some, In_default, then-low-high+in_ok-segmentation-2+in_ok-push, else-low-high}
 

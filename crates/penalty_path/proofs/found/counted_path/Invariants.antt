@@ -1,8 +1,5 @@
 use Rattle.std.proofs.Common.{ℕ, ◌+◌, ◌*◌, ◌-◌, ◌≤◌, length, reverse, unsigned_abs, ◌-ℤ◌}
-use Rattle.penalty_path.specs.Paths.{IsPath}
-use Rattle.penalty_path.specs.Growing.{stretches_of}
-use Rattle.penalty_path.proofs.Ahead.{Ahead}
-use Rattle.penalty_path.proofs.Room.{Room}
+use Rattle.penalty_path.{specs.Paths.IsPath, specs.Growing.stretches_of, proofs.Ahead.Ahead, proofs.Room.Room}
 use Rattle.penalty_path.proofs.found.counted_path.Given as goal
 
 abbrev pub invariant-loop-next : goal.invariant-loop-next

@@ -1,5 +1,4 @@
-use Rattle.std.proofs.Common.{◌≡◌, ◌+◌, ◌-◌, ◌<◌, length, ◌-ℤ◌, FitsSigned, ap, ◌∙◌, arith}
-use Rattle.std.specs.Int.{w128, int_div_euclid}
+use Rattle.std.{proofs.Common.{◌≡◌, ◌+◌, ◌-◌, ◌<◌, length, ◌-ℤ◌, FitsSigned, ap, ◌∙◌, arith}, specs.Int.{w128, int_div_euclid}}
 use Rattle.std.proofs.lemmas.Int.{ints, to_z-of_z}
 use Rattle.penalty_path.proofs.Crossing.{crosses}
 use Rattle.penalty_path.proofs.found.crossing.Goals as goal

@@ -1,6 +1,4 @@
-use Rattle.std.proofs.Common.{pos, ◌-ℤ◌, ◌≤ℤ◌, FitsSigned, refl, arith}
-use Rattle.std.specs.Int.{w128}
-use Rattle.std.proofs.lemmas.Int.{ints, to_z-of_z}
+use Rattle.std.{proofs.Common.{pos, ◌-ℤ◌, ◌≤ℤ◌, FitsSigned, refl, arith}, specs.Int.w128, proofs.lemmas.Int.{ints, to_z-of_z}}
 use Rattle.penalty_path.proofs.Crossing.{parts-last}
 use Rattle.penalty_path.proofs.found.middle.Goals as goal
 

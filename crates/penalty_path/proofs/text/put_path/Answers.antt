@@ -1,7 +1,5 @@
-use Rattle.std.proofs.Common.{◌≡◌, ℕ, ◌+◌, ◌<◌, List, [], ◌∷◌, ◌++◌, length, get_or, take, flat_map, sym, ap, ◌∙◌}
-use Rattle.std.proofs.lemmas.List.{flat_map_more, take_more}
-use Rattle.penalty_path.specs.declared.stretch.Stretch.{Stretch}
-use Rattle.penalty_path.specs.Text.{stretch_text}
+use Rattle.std.proofs.{Common.{◌≡◌, ℕ, ◌+◌, ◌<◌, List, [], ◌∷◌, ◌++◌, length, get_or, take, flat_map, sym, ap, ◌∙◌}, lemmas.List.{flat_map_more, take_more}}
+use Rattle.penalty_path.specs.{declared.stretch.Stretch.Stretch, Text.stretch_text}
 use Rattle.penalty_path.proofs.text.put_path.Goals as goal
 
 one_more : (before now next : List ℕ) (xs : List Stretch) (i : ℕ) (x : Stretch) → i < length xs → x ≡ get_or xs i x → now ≡ before ++ flat_map stretch_text (take i xs)

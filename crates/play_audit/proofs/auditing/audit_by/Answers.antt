@@ -1,7 +1,6 @@
 use Rattle.std.proofs.Common.{◌+◌, ◌<◌, ◌≤◌, ℕ, List, length, Err, sym, ap, subst, ◌∙◌, arith}
 use Rattle.journal_reader.specs.Journals.{Journal}
-use Rattle.play_audit.specs.Known.{AreSound, lines_in, tracks_of}
-use Rattle.play_audit.proofs.Sound.{lines_bytes, sound_of}
+use Rattle.play_audit.{specs.Known.{AreSound, lines_in, tracks_of}, proofs.Sound.{lines_bytes, sound_of}}
 use Rattle.play_audit.proofs.auditing.audit_by.Goals as goal
 
 pub returns-in_err-asked-clause-cut_off : goal.returns-in_err-asked-clause-cut_off

@@ -1,12 +1,8 @@
-use Rattle.std.proofs.Common.{◌≡◌, ◌+◌, ◌-◌, ◌≤◌, ℕ, List, length, length-drop, drop, Some, Ok, refl, sym, ap, subst, ◌∙◌, arith}
-use Rattle.std.specs.Prelude.{slice_get}
+use Rattle.std.{proofs.Common.{◌≡◌, ◌+◌, ◌-◌, ◌≤◌, ℕ, List, length, length-drop, drop, Some, Ok, refl, sym, ap, subst, ◌∙◌, arith}, specs.Prelude.slice_get}
 use Rattle.request_reader.specs.Scripts.{IsScript, end}
-use Rattle.play_audit.specs.Known.{tracks_of}
-use Rattle.play_audit.specs.Marks.{AreRows, IsFirstOpen, NoneOpen, rows_of}
-use Rattle.play_audit.specs.Heard.{HearsAll, IsRefusedBy, RefusesAt}
+use Rattle.play_audit.specs.{Known.tracks_of, Marks.{AreRows, IsFirstOpen, NoneOpen, rows_of}, Heard.{HearsAll, IsRefusedBy, RefusesAt}}
 use Rattle.play_audit.specs.declared.hearing.Told.TheVariants as told
-use Rattle.play_audit.proofs.Listed.{read_at, tracks_many}
-use Rattle.play_audit.proofs.Scripts.{left_some, script_short}
+use Rattle.play_audit.proofs.{Listed.{read_at, tracks_many}, Scripts.{left_some, script_short}}
 use Rattle.play_audit.proofs.Judging.{AreFirstHeard, next_heard, none_heard, none_shown, open_unasked, refused_next}
 use Rattle.play_audit.proofs.auditing.hear_all.Goals as goal
 use Rattle.play_audit.proofs.auditing.hear_all.Goals.{After-deref, In-Some}

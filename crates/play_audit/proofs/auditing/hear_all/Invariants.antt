@@ -1,6 +1,5 @@
 use Rattle.std.proofs.Common.{◌≡◌, ◌*◌, ◌≤◌, drop}
-use Rattle.play_audit.specs.Marks.{rows_of}
-use Rattle.play_audit.proofs.Judging.{AreFirstHeard}
+use Rattle.play_audit.{specs.Marks.rows_of, proofs.Judging.AreFirstHeard}
 use Rattle.play_audit.proofs.auditing.hear_all.Given as goal
 
 abbrev pub invariant-loop-one : goal.invariant-loop-one

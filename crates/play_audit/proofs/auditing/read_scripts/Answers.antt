@@ -1,11 +1,9 @@
-use Rattle.std.proofs.Common.{◌≡◌, ◌+◌, ℕ, List, [], ◌∷◌, ◌++◌, Some, Err, not, true, refl, sym, ap, subst, ◌∙◌, arith}
-use Rattle.std.specs.Prelude.{slice_get}
+use Rattle.std.{proofs.Common.{◌≡◌, ◌+◌, ℕ, List, [], ◌∷◌, ◌++◌, Some, Err, not, true, refl, sym, ap, subst, ◌∙◌, arith}, specs.Prelude.slice_get}
 use Rattle.std.specs.Result.{is_ok}
 use Rattle.request_reader.specs.Scripts.{IsScript, cut_off, end}
 use Rattle.audit_model.specs.Verdicts.{IsCutOff}
 use Rattle.play_audit.specs.declared.items.ItemsFault.TheVariants as fault
-use Rattle.play_audit.proofs.Listed.{read_at}
-use Rattle.play_audit.proofs.Scripts.{HaveRead, all_read, first_cut, next_read, none_cut, none_read}
+use Rattle.play_audit.proofs.{Listed.read_at, Scripts.{HaveRead, all_read, first_cut, next_read, none_cut, none_read}}
 use Rattle.play_audit.proofs.auditing.read_scripts.Goals as goal
 use Rattle.play_audit.proofs.auditing.read_scripts.Goals.{After-one-item}
 

@@ -1,11 +1,7 @@
-use Rattle.std.proofs.Common.{◌≡◌, ◌+◌, ℕ, ap, ◌∙◌, arith, length, take}
-use Rattle.std.specs.Prelude.{sum_by}
+use Rattle.std.{proofs.Common.{◌≡◌, ◌+◌, ℕ, ap, ◌∙◌, arith, length, take}, specs.Prelude.sum_by, proofs.lemmas.List.take_all}
 use Rattle.track_model.specs.Tracks.{Track}
 use Rattle.audit_model.specs.Verdicts.{track_of}
-use Rattle.play_audit.specs.Known.{tracks_of}
-use Rattle.play_audit.proofs.Listed.{read_at, sum_most, sum_next, track_at, tracks_many}
-use Rattle.play_audit.proofs.Opened.{steps_fit}
-use Rattle.std.proofs.lemmas.List.{take_all}
+use Rattle.play_audit.{specs.Known.tracks_of, proofs.Listed.{read_at, sum_most, sum_next, track_at, tracks_many}, proofs.Opened.steps_fit}
 use Rattle.play_audit.proofs.auditing.steps_in.Goals as goal
 use Rattle.play_audit.proofs.auditing.steps_in.Goals.{After-count_of}
 

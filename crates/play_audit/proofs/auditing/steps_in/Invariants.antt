@@ -1,5 +1,4 @@
-use Rattle.std.proofs.Common.{◌≡◌, length, take}
-use Rattle.std.specs.Prelude.{sum_by}
+use Rattle.std.{proofs.Common.{◌≡◌, length, take}, specs.Prelude.sum_by}
 use Rattle.track_model.specs.Tracks.{Track}
 use Rattle.play_audit.specs.Known.{tracks_of}
 use Rattle.play_audit.proofs.auditing.steps_in.Given as goal

@@ -1,7 +1,5 @@
-use Rattle.std.proofs.Common.{◌≡◌, ◌+◌, ◌-◌, ◌<◌, ℕ, length, sym, subst, ◌∙◌, arith}
-use Rattle.std.proofs.lemmas.Option.{slice_get_within}
-use Rattle.play_audit.specs.Texts.{HasEntry}
-use Rattle.play_audit.proofs.Replying.{added_not, added_front, goes_front}
+use Rattle.std.proofs.{Common.{◌≡◌, ◌+◌, ◌-◌, ◌<◌, ℕ, length, sym, subst, ◌∙◌, arith}, lemmas.Option.slice_get_within}
+use Rattle.play_audit.{specs.Texts.HasEntry, proofs.Replying.{added_not, added_front, goes_front}}
 use Rattle.play_audit.proofs.behind.added_behind.Goals as goal
 
 pub overflow_add-step : goal.overflow_add-step

@@ -1,17 +1,10 @@
 use Rattle.std.proofs.Common.{◌≡◌, ◌+◌, ◌<◌, ◌≤◌, ℕ, List, [], ◌∷◌, ◌++◌, length, get_or, drop, Some, refl, ap, sym, subst, ◌∙◌, arith}
-use Rattle.std.specs.Prelude.{slice_get}
-use Rattle.std.proofs.lemmas.Iterator.Adapters.{YieldsList-from_vec}
-use Rattle.std.proofs.lemmas.Iterator.Consumers.{YieldsList-end, YieldsList-turn}
-use Rattle.std.proofs.lemmas.List.{length_push, take_all}
-use Rattle.std.proofs.Common.{◌-◌, length-drop, take}
+use Rattle.std.{specs.Prelude.slice_get, proofs.lemmas.Iterator.Adapters.YieldsList-from_vec}
+use Rattle.std.proofs.{lemmas.Iterator.Consumers.{YieldsList-end, YieldsList-turn}, lemmas.List.{length_push, take_all}, Common.{◌-◌, length-drop, take}}
 use Rattle.audit_model.specs.Hearing.{HearsNone}
-use Rattle.play_audit.specs.Known.{tracks_of}
-use Rattle.play_audit.specs.Marks.{rows_of}
-use Rattle.play_audit.specs.Heard.{HearsItem, RefusesAt}
-use Rattle.play_audit.proofs.Listed.{read_at}
-use Rattle.play_audit.proofs.Going.{HasGone, begins_gone, more_gone, none_gone, past_gone, all_gone}
+use Rattle.play_audit.{specs.Known.tracks_of, specs.Marks.rows_of, specs.Heard.{HearsItem, RefusesAt}, proofs.Listed.read_at}
+use Rattle.play_audit.proofs.{Going.{HasGone, begins_gone, more_gone, none_gone, past_gone, all_gone}, hearing.hear.Goals.{In-Some, In-Some-2, In-None}}
 use Rattle.play_audit.proofs.hearing.hear.Goals as goal
-use Rattle.play_audit.proofs.hearing.hear.Goals.{In-Some, In-Some-2, In-None}
 
 pub places_of-requires : goal.places_of-requires
 places_of-requires c = c.requires.sound

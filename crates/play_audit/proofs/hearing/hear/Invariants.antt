@@ -1,6 +1,5 @@
 use Rattle.std.proofs.Common.{◌≡◌, length}
-use Rattle.play_audit.specs.Marks.{rows_of}
-use Rattle.play_audit.proofs.Going.{HasGone}
+use Rattle.play_audit.{specs.Marks.rows_of, proofs.Going.HasGone}
 use Rattle.play_audit.proofs.hearing.hear.Given as goal
 
 abbrev pub invariant-loop-item : goal.invariant-loop-item

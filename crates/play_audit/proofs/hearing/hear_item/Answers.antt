@@ -1,10 +1,7 @@
 use Rattle.std.proofs.Common.{Err, sym, subst}
 use Rattle.request_words.specs.Bodies.{Item}
-use Rattle.track_model.specs.Outcomes.{refuses}
-use Rattle.track_model.specs.Replies.{apart}
-use Rattle.play_audit.specs.Heard.{Hears}
-use Rattle.play_audit.specs.Marks.{rows_of}
-use Rattle.play_audit.proofs.Apart.{made_none, made_some, refused_apart}
+use Rattle.track_model.specs.{Outcomes.refuses, Replies.apart}
+use Rattle.play_audit.{specs.Heard.Hears, specs.Marks.rows_of, proofs.Apart.{made_none, made_some, refused_apart}}
 use Rattle.play_audit.proofs.hearing.hear_item.Goals as goal
 
 pub hear_request-requires : goal.hear_request-requires

@@ -1,29 +1,17 @@
-use Rattle.std.proofs.Common.{◌≡◌, ℕ, List, [], Ok, length, get_or, sym, ap, subst, ◌∙◌, arith}
-use Rattle.std.specs.Prelude.{slice_get}
+use Rattle.std.{proofs.Common.{◌≡◌, ℕ, List, [], Ok, length, get_or, sym, ap, subst, ◌∙◌, arith}, specs.Prelude.slice_get, specs.Prelude.Some}
 use Rattle.request_model.specs.declared.replies.Refusal.TheVariants as refusal
-use Rattle.track_model.specs.Outcomes.{refuses}
-use Rattle.track_model.specs.Replies.{apart}
+use Rattle.track_model.specs.{Outcomes.refuses, Replies.apart}
 use Rattle.request_model.specs.Requests.{machine_of}
-use Rattle.std.specs.Prelude.{Some}
-use Rattle.std.specs.List.{AllByRecursion}
-use Rattle.std.proofs.lemmas.Option.{slice_get_within}
+use Rattle.std.{specs.List.AllByRecursion, proofs.lemmas.Option.slice_get_within, specs.Prelude.{IfOk, IfSome, IfNone}, proofs.Common.{Bool, Vec, Global, set}}
 use Rattle.history_model.specs.declared.entries.Placed.{Placed}
 use Rattle.journal_reader.specs.Journals.{Journal, IsOther}
 use Rattle.audit_model.specs.Verdicts.{track_of}
-use Rattle.play_audit.specs.Places.{IsPlace, IsSound}
-use Rattle.play_audit.proofs.Listed.{map_set, read_at, row_at, rows_many, same_at, track_at, tracks_many}
-use Rattle.std.specs.Prelude.{IfOk, IfSome, IfNone}
-use Rattle.std.proofs.Common.{Bool, Vec, Global, set}
+use Rattle.play_audit.{specs.Places.{IsPlace, IsSound}, proofs.Listed.{map_set, read_at, row_at, rows_many, same_at, track_at, tracks_many}}
 use Rattle.play_fits.specs.Scripts.{Exchange}
-use Rattle.play_audit.specs.Known.{AreKnown}
-use Rattle.play_audit.specs.Heard.{HearsItem}
+use Rattle.play_audit.{specs.Known.AreKnown, specs.Heard.HearsItem, specs.Replies.{IsHeardNext, IsUnheard}, proofs.Named.{named_none, named_some}}
 use Rattle.history_model.specs.declared.entries.Author.TheVariants as author
-use Rattle.play_audit.specs.Replies.{IsHeardNext, IsUnheard}
-use Rattle.play_audit.proofs.Named.{named_none, named_some}
-use Rattle.play_audit.specs.Marks.{rows_of}
-use Rattle.play_audit.proofs.Apart.{alone_apart, made_none, made_some, unknown_apart}
+use Rattle.play_audit.{specs.Marks.rows_of, proofs.Apart.{alone_apart, made_none, made_some, unknown_apart}, proofs.hearing.hear_request.Goals.After-deref}
 use Rattle.play_audit.proofs.hearing.hear_request.Goals as goal
-use Rattle.play_audit.proofs.hearing.hear_request.Goals.{After-deref}
 
 pub returns-then-is_alone : goal.returns-then-is_alone
 returns-then-is_alone c =

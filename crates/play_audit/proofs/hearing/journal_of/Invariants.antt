@@ -1,5 +1,4 @@
-use Rattle.std.proofs.Common.{◌≡◌, ◌<◌, ℕ, Some}
-use Rattle.std.specs.Prelude.{slice_get}
+use Rattle.std.{proofs.Common.{◌≡◌, ◌<◌, ℕ, Some}, specs.Prelude.slice_get}
 use Rattle.journal_reader.specs.Journals.{Journal, IsOther}
 use Rattle.play_audit.proofs.hearing.journal_of.Given as goal
 

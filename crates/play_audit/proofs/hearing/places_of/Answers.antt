@@ -2,8 +2,7 @@ use Rattle.std.proofs.Common.{◌≡◌, ◌+◌, ℕ, List, ap, sym, subst, ◌
 use Rattle.audit_model.specs.Heard.{is_of_store}
 use Rattle.history_model.specs.declared.entries.Placed.{Placed}
 use Rattle.journal_reader.specs.Journals.{Journal}
-use Rattle.play_audit.proofs.Listed.{read_at}
-use Rattle.play_audit.proofs.Knowing.{AreKnownFirst, known_next}
+use Rattle.play_audit.proofs.{Listed.read_at, Knowing.{AreKnownFirst, known_next}}
 use Rattle.play_audit.proofs.hearing.places_of.Goals as goal
 
 pub loop-journal-preserved : goal.loop-journal-preserved

@@ -1,6 +1,5 @@
 use Rattle.std.proofs.Common.{◌≡◌, Err, ap, sym, ◌∙◌}
-use Rattle.play_audit.specs.declared.items.ItemsFault.{ItemsFault}
-use Rattle.play_audit.specs.declared.items.ItemsFault.TheVariants.{CutOff}
+use Rattle.play_audit.specs.declared.items.ItemsFault.{ItemsFault, TheVariants.CutOff}
 use Rattle.play_audit.proofs.Reading.{begins_going, goes_going, less_left}
 use Rattle.play_audit.proofs.items.items_of.Goals as goal
 

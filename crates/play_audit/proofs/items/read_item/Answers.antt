@@ -1,11 +1,7 @@
 use Rattle.std.proofs.Common.{◌≡◌, ◌+◌, ◌≤◌, ℕ, ◌++◌, length, Some, subst, arith}
 use Rattle.request_reader.specs.Next as next
-use Rattle.request_reader.specs.Next.{Takes, TakesWhole, TakesLast}
-use Rattle.request_reader.specs.declared.stop.ReadStop.{ReadStop}
-use Rattle.request_reader.specs.Reading.{StopsReading}
-use Rattle.request_reader.specs.Scripts.{input_limit}
-use Rattle.play_audit.specs.Items.{Reading, IsCutOff}
-use Rattle.play_audit.proofs.Reading.{still_of, ends_of, cut_of}
+use Rattle.request_reader.specs.{Next.{Takes, TakesWhole, TakesLast}, declared.stop.ReadStop.ReadStop, Reading.StopsReading, Scripts.input_limit}
+use Rattle.play_audit.{specs.Items.{Reading, IsCutOff}, proofs.Reading.{still_of, ends_of, cut_of}}
 use Rattle.play_audit.proofs.items.read_item.Goals as goal
 
 pub returns-in-Ok-add_item-clause-more : goal.returns-in-Ok-add_item-clause-more

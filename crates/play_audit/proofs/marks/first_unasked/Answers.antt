@@ -1,10 +1,8 @@
-use Rattle.std.proofs.Common.{◌≡◌, ◌+◌, ◌<◌, ◌≤◌, ℕ, Bool, List, [], ap, sym, subst, ◌∙◌, arith, length, get_or}
-use Rattle.std.specs.Prelude.{slice_get, Some}
+use Rattle.std.{proofs.Common.{◌≡◌, ◌+◌, ◌<◌, ◌≤◌, ℕ, Bool, List, [], ap, sym, subst, ◌∙◌, arith, length, get_or}, specs.Prelude.{slice_get, Some}}
 use Rattle.history_model.specs.declared.entries.Placed.{Placed}
 use Rattle.journal_reader.specs.Journals.{Journal}
 use Rattle.audit_model.specs.Verdicts.{track_of}
-use Rattle.play_audit.specs.Known.{lines_in, tracks_of}
-use Rattle.play_audit.specs.Marks.{IsFirstIn, NoneIn, rows_of}
+use Rattle.play_audit.specs.{Known.{lines_in, tracks_of}, Marks.{IsFirstIn, NoneIn, rows_of}}
 use Rattle.play_audit.proofs.Listed.{read_at, row_at, rows_many, track_at, tracks_many}
 use Rattle.play_audit.proofs.Opened.{AreShut, first_open, lines_fit, none_open, place_fits, shut_next}
 use Rattle.play_audit.proofs.marks.first_unasked.Goals as goal

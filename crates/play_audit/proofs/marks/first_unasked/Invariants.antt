@@ -1,6 +1,4 @@
-use Rattle.play_audit.specs.Known.{tracks_of}
-use Rattle.play_audit.specs.Marks.{rows_of}
-use Rattle.play_audit.proofs.Opened.{AreShut}
+use Rattle.play_audit.{specs.Known.tracks_of, specs.Marks.rows_of, proofs.Opened.AreShut}
 use Rattle.play_audit.proofs.marks.first_unasked.Given as goal
 
 abbrev pub invariant-loop-i : goal.invariant-loop-i

@@ -1,8 +1,6 @@
 use Rattle.std.proofs.Common.{◌+◌, ℕ, false, replicate, ap, sym, subst, ◌∙◌, arith}
 use Rattle.audit_model.specs.Verdicts.{track_of}
-use Rattle.play_audit.specs.Known.{tracks_of}
-use Rattle.play_audit.specs.Marks.{rows_of}
-use Rattle.play_audit.proofs.Listed.{read_at, rows_next, track_at, tracks_many}
+use Rattle.play_audit.{specs.Known.tracks_of, specs.Marks.rows_of, proofs.Listed.{read_at, rows_next, track_at, tracks_many}}
 use Rattle.play_audit.proofs.Marking.{AreRowsFirst, all_rows, next_row}
 use Rattle.play_audit.proofs.marks.no_marks.Goals as goal
 

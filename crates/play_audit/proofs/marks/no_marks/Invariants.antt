@@ -1,6 +1,4 @@
-use Rattle.play_audit.specs.Known.{tracks_of}
-use Rattle.play_audit.specs.Marks.{rows_of}
-use Rattle.play_audit.proofs.Marking.{AreRowsFirst}
+use Rattle.play_audit.{specs.Known.tracks_of, specs.Marks.rows_of, proofs.Marking.AreRowsFirst}
 use Rattle.play_audit.proofs.marks.no_marks.Given as goal
 
 abbrev pub invariant-loop-journal : goal.invariant-loop-journal

@@ -1,7 +1,5 @@
-use Rattle.std.proofs.Common.{inl, inr, arith}
-use Rattle.std.proofs.lemmas.Option.{slice_get_within}
-use Rattle.play_audit.proofs.Listed.{read_at}
-use Rattle.play_audit.proofs.Marking.{shut_more}
+use Rattle.std.proofs.{Common.{inl, inr, arith}, lemmas.Option.slice_get_within}
+use Rattle.play_audit.proofs.{Listed.read_at, Marking.shut_more}
 use Rattle.play_audit.proofs.marks.unasked_in.Goals as goal
 use Rattle.play_audit.proofs.marks.unasked_in.Goals.{else-is_of_script-via-then-is_of_script+else-not-marks-i, else-is_of_script-via-else-is_of_script}
 

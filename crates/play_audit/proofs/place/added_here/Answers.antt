@@ -1,8 +1,7 @@
 use Rattle.std.proofs.Common.{◌+◌, length, sym, subst}
 use Rattle.play_model.specs.Replies.{Adds}
 use Rattle.request_model.specs.declared.requests.Request.{Request}
-use Rattle.play_audit.specs.Replies.{IsCompared}
-use Rattle.play_audit.proofs.Placing.{its_segment}
+use Rattle.play_audit.{specs.Replies.IsCompared, proofs.Placing.its_segment}
 use Rattle.play_audit.proofs.place.added_here.Goals as goal
 
 pub returns-in-Segment-clause-compared : goal.returns-in-Segment-clause-compared

@@ -1,7 +1,6 @@
 use Rattle.std.proofs.Common.{◌≡◌, ◌<◌, List, length, sym, ap, subst, arith}
 use Rattle.history_model.specs.declared.entries.Placed.{Placed}
-use Rattle.play_audit.specs.Places.{IsSound}
-use Rattle.play_audit.proofs.Walking.{goes_by, grown_length, not_stuck}
+use Rattle.play_audit.{specs.Places.IsSound, proofs.Walking.{goes_by, grown_length, not_stuck}}
 use Rattle.play_audit.proofs.place.go_to.Goals as goal
 
 pub loop-walk-init : goal.loop-walk-init

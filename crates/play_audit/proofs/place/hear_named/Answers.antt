@@ -1,10 +1,8 @@
-use Rattle.std.proofs.Common.{◌≡◌, ◌-◌, ◌<◌, ◌^◌, ℕ, false, Bool, true, List, length, subst, refl, sym, ap, ◌∙◌, arith}
-use Rattle.std.proofs.lemmas.List.{length-set}
+use Rattle.std.proofs.{Common.{◌≡◌, ◌-◌, ◌<◌, ◌^◌, ℕ, false, Bool, true, List, length, subst, refl, sym, ap, ◌∙◌, arith}, lemmas.List.length-set}
 use Rattle.history_model.specs.declared.entries.Author.TheVariants.{Script}
 use Rattle.play_model.specs.Replies.{Adds, Tells}
 use Rattle.request_model.specs.Requests.{machine_of}
-use Rattle.play_audit.specs.Places.{IsBehind, IsBy}
-use Rattle.play_audit.specs.Replies.{HasNone, IsCompared, IsHeardNext, IsNext, IsUnheard}
+use Rattle.play_audit.specs.{Places.{IsBehind, IsBy}, Replies.{HasNone, IsCompared, IsHeardNext, IsNext, IsUnheard}}
 use Rattle.play_audit.proofs.Placing.{added_as, comes_next, goes_ok, has_gone, its_sound, line_at_place, may_ask, may_go, not_its_own, not_new, placed_at, stays_ok, told_as}
 use Rattle.play_audit.proofs.Telling.{heard_added, heard_told, in_none, in_some, none_by, some_by, unheard_added, unheard_told}
 use Rattle.play_audit.proofs.place.hear_named.Goals as goal

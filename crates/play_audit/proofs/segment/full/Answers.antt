@@ -1,15 +1,11 @@
-use Rattle.std.proofs.Common.{◌≡◌, ◌≢◌, ◌+◌, ◌-◌, ◌<◌, ◌≤◌, ◌++◌, ℕ, List, length, sym, subst, arith}
-use Rattle.std.specs.Prelude.{IfNone, IfOk, IfSome, Option}
-use Rattle.metric_table.specs.Limits.{most}
-use Rattle.metric_table.specs.declared.limits.Limit.TheVariants.{Cuts, Steps}
+use Rattle.std.{proofs.Common.{◌≡◌, ◌≢◌, ◌+◌, ◌-◌, ◌<◌, ◌≤◌, ◌++◌, ℕ, List, length, sym, subst, arith}, specs.Prelude.{IfNone, IfOk, IfSome, Option}}
+use Rattle.metric_table.specs.{Limits.most, declared.limits.Limit.TheVariants.{Cuts, Steps}}
 use Rattle.history_model.specs.Publications.{cut_count}
 use Rattle.request_model.specs.declared.replies.Refusal.TheVariants.{Full}
 use Rattle.reply_text.specs.Replies.{text_of}
-use Rattle.track_model.specs.Outcomes.{refuses}
-use Rattle.track_model.specs.Replies.{reply_of}
+use Rattle.track_model.specs.{Outcomes.refuses, Replies.reply_of}
 use Rattle.journal_walk.specs.Walks.{Walked, added}
-use Rattle.play_audit.specs.Segments.{PassesCuts}
-use Rattle.play_audit.specs.Texts.{BeginsWith}
+use Rattle.play_audit.specs.{Segments.PassesCuts, Texts.BeginsWith}
 use Rattle.play_audit.proofs.Refusing.{cuts_fit, cuts_full, cuts_not, full_front, not_front, steps_full, steps_not}
 use Rattle.play_audit.proofs.segment.full.Goals as goal
 

@@ -1,8 +1,6 @@
-use Rattle.std.proofs.Common.{◌≡◌, ◌+◌, ◌<◌, length, subst, arith}
-use Rattle.std.proofs.lemmas.Bool.{ltb-true}
+use Rattle.std.proofs.{Common.{◌≡◌, ◌+◌, ◌<◌, length, subst, arith}, lemmas.Bool.ltb-true}
 use Rattle.journal_walk.specs.Walks.{Walked, GoesOn, IsStuck}
-use Rattle.play_audit.proofs.Passing.{few_so_far, goes_further, never_stuck, not-more, some_pass, starts_going}
-use Rattle.play_audit.proofs.Walking.{grown_length}
+use Rattle.play_audit.proofs.{Passing.{few_so_far, goes_further, never_stuck, not-more, some_pass, starts_going}, Walking.grown_length}
 use Rattle.play_audit.proofs.segment.has_past.Goals as goal
 
 pub loop-past-init : goal.loop-past-init

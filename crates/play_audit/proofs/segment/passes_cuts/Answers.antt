@@ -1,15 +1,10 @@
-use Rattle.std.proofs.Common.{◌≡◌, ◌-◌, ◌≤◌, ℕ, true, false, ap, ◌∙◌}
-use Rattle.std.specs.Prelude.{IfOk}
-use Rattle.metric_table.specs.Limits.{most}
-use Rattle.metric_table.specs.declared.limits.Limit.TheVariants.{Cuts}
-use Rattle.history_model.specs.Entries.{entries_of}
-use Rattle.history_model.specs.Publications.{cut_count}
+use Rattle.std.{proofs.Common.{◌≡◌, ◌-◌, ◌≤◌, ℕ, true, false, ap, ◌∙◌}, specs.Prelude.IfOk}
+use Rattle.metric_table.specs.{Limits.most, declared.limits.Limit.TheVariants.Cuts}
+use Rattle.history_model.specs.{Entries.entries_of, Publications.cut_count}
 use Rattle.track_model.specs.Tracks.{Track}
 use Rattle.journal_walk.specs.Walks.{Walked, added}
-use Rattle.play_audit.specs.Segments.{HasFewCuts, PassesCuts}
-use Rattle.play_audit.proofs.Passing.{alike}
+use Rattle.play_audit.{specs.Segments.{HasFewCuts, PassesCuts}, proofs.Passing.alike, proofs.segment.passes_cuts.Goals.After-has_past}
 use Rattle.play_audit.proofs.segment.passes_cuts.Goals as goal
-use Rattle.play_audit.proofs.segment.passes_cuts.Goals.{After-has_past}
 
 module _ (c : After-has_past) where
   same : c.go_to.new.walk.history ≡ c.args.walk.now.history

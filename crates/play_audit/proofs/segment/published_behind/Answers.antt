@@ -1,5 +1,4 @@
-use Rattle.std.proofs.Common.{◌≡◌, true, false, sym, subst, ◌∙◌}
-use Rattle.std.specs.Prelude.{IfNone, IfSome, Option}
+use Rattle.std.{proofs.Common.{◌≡◌, true, false, sym, subst, ◌∙◌}, specs.Prelude.{IfNone, IfSome, Option}}
 use Rattle.request_model.specs.declared.replies.Reply.{Reply}
 use Rattle.journal_walk.specs.Walks.{IsPublishedNext, PublishesNothing}
 use Rattle.play_audit.proofs.Published.{published_other, published_always, published_front, published_goes}

@@ -1,13 +1,9 @@
-use Rattle.std.proofs.Common.{◌≢◌, ◌++◌, ℕ, List, sym, subst, ◌∙◌, arith}
-use Rattle.std.specs.Prelude.{IfNone, IfSome, Option}
+use Rattle.std.{proofs.Common.{◌≢◌, ◌++◌, ℕ, List, sym, subst, ◌∙◌, arith}, specs.Prelude.{IfNone, IfSome, Option}}
 use Rattle.request_model.specs.declared.replies.Refusal.TheVariants.{Stale}
 use Rattle.reply_text.specs.Replies.{text_of}
-use Rattle.track_model.specs.Outcomes.{refuses}
-use Rattle.track_model.specs.Replies.{reply_of}
+use Rattle.track_model.specs.{Outcomes.refuses, Replies.reply_of}
 use Rattle.journal_walk.specs.Walks.{added}
-use Rattle.play_audit.specs.Segments.{IsKnownAt}
-use Rattle.play_audit.specs.Texts.{BeginsWith}
-use Rattle.play_audit.proofs.Refusing.{full_next, stale_next, unknown_front}
+use Rattle.play_audit.{specs.Segments.IsKnownAt, specs.Texts.BeginsWith, proofs.Refusing.{full_next, stale_next, unknown_front}}
 use Rattle.play_audit.proofs.segment.unpublished.Goals as goal
 use Rattle.play_audit.proofs.segment.unpublished.Goals.{After-last_version-last}
 

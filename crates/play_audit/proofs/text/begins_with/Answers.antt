@@ -1,5 +1,4 @@
-use Rattle.std.proofs.Common.{◌≡◌, ◌≢◌, ◌++◌, ℕ, List, Option, Some, None, ap, sym, ◌∙◌}
-use Rattle.std.specs.Prelude.{IfNone}
+use Rattle.std.{proofs.Common.{◌≡◌, ◌≢◌, ◌++◌, ℕ, List, Option, Some, None, ap, sym, ◌∙◌}, specs.Prelude.IfNone}
 use Rattle.request_model.specs.declared.replies.Reply.{Reply}
 use Rattle.reply_text.specs.Replies.{text_of}
 use Rattle.play_audit.proofs.text.begins_with.Goals as goal

@@ -1,5 +1,4 @@
-use Rattle.std.proofs.Common.{◌≡◌, ◌∷◌, ◌++◌, ◌-◌, ℕ, List, decimal, length, take, drop, ap, ◌∙◌, arith}
-use Rattle.std.proofs.lemmas.List.{take_all}
+use Rattle.std.proofs.{Common.{◌≡◌, ◌∷◌, ◌++◌, ◌-◌, ℕ, List, decimal, length, take, drop, ap, ◌∙◌, arith}, lemmas.List.take_all}
 use Rattle.play_audit.proofs.Fronts.{no_space, same_word}
 use Rattle.play_audit.proofs.text.first_named.Goals as goal
 

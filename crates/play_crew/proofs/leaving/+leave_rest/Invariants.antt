@@ -1,5 +1,4 @@
-use Rattle.std.proofs.Common.{length}
-use Rattle.std.specs.Vec.Iter.{into_iter_items}
+use Rattle.std.{proofs.Common.length, specs.Vec.Iter.into_iter_items}
 use Rattle.play_crew.proofs.leaving.+leave_rest.Given as goal
 
 abbrev pub decreases-leave_rest : goal.decreases-leave_rest

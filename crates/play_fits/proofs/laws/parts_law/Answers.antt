@@ -1,7 +1,4 @@
-use Rattle.play_fits.proofs.Passes.{answers-are-part, parts-wait}
-use Rattle.play_fits.proofs.Ends.{ends-fit}
-use Rattle.play_fits.proofs.Joins.{joins-keep}
-use Rattle.play_fits.proofs.Whole.{seen-parts-fit, all-by-crew, parts-stay}
+use Rattle.play_fits.proofs.{Passes.{answers-are-part, parts-wait}, Ends.ends-fit, Joins.joins-keep, Whole.{seen-parts-fit, all-by-crew, parts-stay}}
 use Rattle.play_fits.proofs.laws.parts_law.Goals as goal
 
 pub returns : goal.returns

@@ -1,6 +1,4 @@
-use Rattle.play_seats.proofs.Fitting.{runs-fit}
-use Rattle.play_seats.proofs.Shared.{sharing-ends}
-use Rattle.play_seats.proofs.Gathered.{gathered-all}
+use Rattle.play_seats.proofs.{Fitting.runs-fit, Shared.sharing-ends, Gathered.gathered-all}
 use Rattle.play_seats.proofs.Joining.{joining-starts, joining-splits, joining-goes-on, joining-ends}
 use Rattle.play_seats.proofs.laws.joining_law.Goals as goal
 

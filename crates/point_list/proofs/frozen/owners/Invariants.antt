@@ -1,5 +1,4 @@
-use Rattle.std.proofs.Common.{◌≡◌, map, take}
-use Rattle.std.specs.Arc.{arc_value}
+use Rattle.std.{proofs.Common.{◌≡◌, map, take}, specs.Arc.arc_value}
 use Rattle.point_list.proofs.frozen.owners.Given as goal
 
 abbrev pub invariant-loop-block : goal.invariant-loop-block

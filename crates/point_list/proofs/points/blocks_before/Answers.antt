@@ -1,5 +1,4 @@
-use Rattle.std.proofs.Common.{◌*◌, ◌-◌, ◌<◌, ℕ, List, get_or, sym, ap, subst, inl, inr, arith}
-use Rattle.std.proofs.lemmas.Bool.{cases_eq}
+use Rattle.std.proofs.{Common.{◌*◌, ◌-◌, ◌<◌, ℕ, List, get_or, sym, ap, subst, inl, inr, arith}, lemmas.Bool.cases_eq}
 use Rattle.segment_model.specs.Segments.{Position}
 use Rattle.point_list.proofs.Places.{less-before}
 use Rattle.point_list.proofs.points.blocks_before.Goals as goal

@@ -1,5 +1,4 @@
-use Rattle.std.proofs.Common.{◌≡◌, ◌≤◌, ◌*◌, ◌+◌, ◌-◌, ◌∙◌, ℕ, List, take, drop, length, ap₂, arith}
-use Rattle.std.specs.Arc.{arc_value}
+use Rattle.std.{proofs.Common.{◌≡◌, ◌≤◌, ◌*◌, ◌+◌, ◌-◌, ◌∙◌, ℕ, List, take, drop, length, ap₂, arith}, specs.Arc.arc_value}
 use Rattle.segment_model.specs.Segments.{Position}
 use Rattle.point_list.proofs.Joined.{front-push}
 use Rattle.point_list.proofs.points.fill.Goals as goal

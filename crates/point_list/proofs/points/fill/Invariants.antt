@@ -1,5 +1,4 @@
-use Rattle.std.proofs.Common.{◌-◌, ◌*◌, length}
-use Rattle.std.specs.Arc.{arc_value}
+use Rattle.std.{proofs.Common.{◌-◌, ◌*◌, length}, specs.Arc.arc_value}
 use Rattle.point_list.specs.Blocks.{IsFront}
 use Rattle.point_list.proofs.points.fill.Given as goal
 

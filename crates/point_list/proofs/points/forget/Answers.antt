@@ -1,6 +1,4 @@
-use Rattle.std.proofs.Common.{◌≡◌, ◌≤◌, ◌∙◌, ℕ, length, refl, ap, arith}
-use Rattle.std.specs.Arc.{arc_value}
-use Rattle.std.proofs.lemmas.List.{length-take-le}
+use Rattle.std.{proofs.Common.{◌≡◌, ◌≤◌, ◌∙◌, ℕ, length, refl, ap, arith}, specs.Arc.arc_value, proofs.lemmas.List.length-take-le}
 use Rattle.point_list.proofs.Joined.{front-take}
 use Rattle.point_list.proofs.points.forget.Goals as goal
 

@@ -1,6 +1,4 @@
-use Rattle.std.proofs.Common.{◌∙◌, ◌<◌, ℕ, List, length, ap, set, get_or, arith}
-use Rattle.std.proofs.lemmas.List.{get_or_default}
-use Rattle.std.proofs.lemmas.List.Edits.{map_over_more}
+use Rattle.std.proofs.{Common.{◌∙◌, ◌<◌, ℕ, List, length, ap, set, get_or, arith}, lemmas.List.get_or_default, lemmas.List.Edits.map_over_more}
 use Rattle.point_list.specs.Slots.{renamed}
 use Rattle.point_list.proofs.positions.rename.Goals as goal
 

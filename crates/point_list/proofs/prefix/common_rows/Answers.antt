@@ -1,10 +1,6 @@
-use Rattle.std.proofs.Common.{◌≡◌, ◌+◌, ◌*◌, ◌∙◌, ◌++◌, ℕ, List, length, cond, drop, sym, ap, subst, arith}
-use Rattle.std.specs.Arc.{arc_value}
+use Rattle.std.{proofs.Common.{◌≡◌, ◌+◌, ◌*◌, ◌∙◌, ◌++◌, ℕ, List, length, cond, drop, sym, ap, subst, arith}, specs.Arc.arc_value}
 use Rattle.segment_model.specs.Segments.{Position}
-use Rattle.point_list.specs.Places.{common}
-use Rattle.point_list.specs.Blocks.{joined}
-use Rattle.point_list.proofs.Joined.{row-length}
-use Rattle.point_list.proofs.CommonFirst.{common-here, common-end-second}
+use Rattle.point_list.{specs.Places.common, specs.Blocks.joined, proofs.Joined.row-length, proofs.CommonFirst.{common-here, common-end-second}}
 use Rattle.point_list.proofs.prefix.common_rows.Goals.{After-is_same}
 use Rattle.point_list.proofs.prefix.common_rows.Goals as goal
 

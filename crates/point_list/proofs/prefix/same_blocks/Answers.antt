@@ -1,7 +1,5 @@
-use Rattle.std.proofs.Common.{◌≡◌, ◌∙◌, ℕ, length, get_or, sym, ap, ap₂, arith}
-use Rattle.std.specs.Arc.{arc_value}
-use Rattle.point_list.specs.Places.{common}
-use Rattle.point_list.proofs.Joined.{next-block}
+use Rattle.std.{proofs.Common.{◌≡◌, ◌∙◌, ℕ, length, get_or, sym, ap, ap₂, arith}, specs.Arc.arc_value}
+use Rattle.point_list.{specs.Places.common, proofs.Joined.next-block}
 use Rattle.point_list.proofs.prefix.same_blocks.Goals as goal
 
 pub loop-k-preserved : goal.loop-k-preserved

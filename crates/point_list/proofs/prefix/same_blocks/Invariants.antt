@@ -1,8 +1,6 @@
-use Rattle.std.proofs.Common.{◌≡◌, ◌+◌, ◌*◌, ◌-◌, ◌≤◌, List, ◌++◌, drop, length}
-use Rattle.std.specs.Arc.{arc_value}
+use Rattle.std.{proofs.Common.{◌≡◌, ◌+◌, ◌*◌, ◌-◌, ◌≤◌, List, ◌++◌, drop, length}, specs.Arc.arc_value}
 use Rattle.segment_model.specs.Segments.{Position}
-use Rattle.point_list.specs.Blocks.{AreFull, joined}
-use Rattle.point_list.specs.Places.{common}
+use Rattle.point_list.specs.{Blocks.{AreFull, joined}, Places.common}
 use Rattle.point_list.proofs.prefix.same_blocks.Given as goal
 
 abbrev pub invariant-loop-k : goal.invariant-loop-k

@@ -1,8 +1,5 @@
-use Rattle.std.proofs.Common.{leb, leb-true, leb-false, arith, rules}
-use Rattle.std.specs.Int.{w64, cast_unsigned}
-use Rattle.std.specs.List.Sorted.{IsPartitionPoint}
-use Rattle.std.proofs.Common.{true, false, ℤ, ◌≡◌}
-use Rattle.std.proofs.lemmas.List.Sorted.{IsPartitionPoint-from_clause, IsPartitionedBy-leb}
+use Rattle.std.{proofs.Common.{leb, leb-true, leb-false, arith, rules}, specs.Int.{w64, cast_unsigned}, specs.List.Sorted.IsPartitionPoint}
+use Rattle.std.proofs.{Common.{true, false, ℤ, ◌≡◌}, lemmas.List.Sorted.{IsPartitionPoint-from_clause, IsPartitionedBy-leb}}
 use Rattle.point_list.proofs.stored.count_up_to.Goals.{After-partition_point}
 use Rattle.point_list.proofs.stored.count_up_to.Goals as goal
 

@@ -1,11 +1,7 @@
-use Rattle.std.proofs.Common.{◌≡◌, ◌≤◌, ◌∙◌, ◌-◌, ℕ, List, ℤ, length, take, drop, ap, ap₂, sym, subst, pos, arith}
-use Rattle.std.specs.Prelude.{filter}
-use Rattle.std.specs.Int.{w64, cast_unsigned}
-use Rattle.std.specs.List.Sorted.{IsNonDecreasingBy}
-use Rattle.std.proofs.lemmas.List.{length-drop, drop-take}
+use Rattle.std.{proofs.Common.{◌≡◌, ◌≤◌, ◌∙◌, ◌-◌, ℕ, List, ℤ, length, take, drop, ap, ap₂, sym, subst, pos, arith}, specs.Prelude.filter}
+use Rattle.std.{specs.Int.{w64, cast_unsigned}, specs.List.Sorted.IsNonDecreasingBy, proofs.lemmas.List.{length-drop, drop-take}}
 use Rattle.segment_model.specs.Edits.{by_another}
-use Rattle.point_list.specs.Stored.{samples_of, as_steps, without}
-use Rattle.point_list.proofs.Samples.{length-front, steps-in-order, run-taken}
+use Rattle.point_list.{specs.Stored.{samples_of, as_steps, without}, proofs.Samples.{length-front, steps-in-order, run-taken}}
 use Rattle.point_list.proofs.stored.keep_apart.Goals.{Start, After-count_up_to-high}
 use Rattle.point_list.proofs.stored.keep_apart.Goals as goal
 

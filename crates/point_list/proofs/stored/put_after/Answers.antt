@@ -1,8 +1,5 @@
-use Rattle.std.proofs.Common.{◌≡◌, List, ℤ, FitsSigned, take, drop}
-use Rattle.std.specs.Int.{w64}
-use Rattle.std.proofs.lemmas.Int.{to_z-of_z}
-use Rattle.point_list.specs.Stored.{half}
-use Rattle.point_list.proofs.Samples.{samples-put}
+use Rattle.std.{proofs.Common.{◌≡◌, List, ℤ, FitsSigned, take, drop}, specs.Int.w64, proofs.lemmas.Int.to_z-of_z}
+use Rattle.point_list.{specs.Stored.half, proofs.Samples.samples-put}
 use Rattle.point_list.proofs.stored.put_after.Goals as goal
 
 pub returns-clause-put : goal.returns-clause-put

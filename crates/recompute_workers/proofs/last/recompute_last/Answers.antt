@@ -1,16 +1,9 @@
-use Rattle.std.proofs.Common.{◌≡◌, ℕ, ◌+◌, true, List, take, [], ◌∷◌, ◌++◌, sym, ap, subst, ◌∙◌}
-use Rattle.std.specs.Prelude.{All, Contains}
-use Rattle.std.proofs.lemmas.List.{take_all, take_more}
-use Rattle.std.proofs.lemmas.List.Elements.{All-contains, All-push, All-weaker}
-use Rattle.history_model.specs.declared.entries.Author.TheVariants.{Recompute}
-use Rattle.history_model.specs.Allowed.{Legal}
-use Rattle.history_model.specs.Entries.{entries_of}
-use Rattle.history_model.specs.Runs.{Series, is_known}
+use Rattle.std.{proofs.Common.{◌≡◌, ℕ, ◌+◌, true, List, take, [], ◌∷◌, ◌++◌, sym, ap, subst, ◌∙◌}, specs.Prelude.{All, Contains}}
+use Rattle.std.proofs.lemmas.List.{take_all, take_more, Elements.{All-contains, All-push, All-weaker}}
+use Rattle.history_model.specs.{declared.entries.Author.TheVariants.Recompute, Allowed.Legal, Entries.entries_of, Runs.{Series, is_known}}
 use Rattle.track_model.specs.Tracks.{Track}
 use Rattle.track_room.specs.Work.{Work, history_of}
-use Rattle.recompute_workers.specs.Quiet.{IsQuiet}
-use Rattle.recompute_workers.proofs.Current.{current-of}
-use Rattle.recompute_workers.proofs.Growing.{adds-more, known-more, quiet-more}
+use Rattle.recompute_workers.{specs.Quiet.IsQuiet, proofs.Current.current-of, proofs.Growing.{adds-more, known-more, quiet-more}}
 use Rattle.recompute_workers.proofs.last.recompute_last.Goals as goal
 
 pub returns-in_err-recompute_series-clause-added : goal.returns-in_err-recompute_series-clause-added

@@ -1,11 +1,7 @@
-use Rattle.std.proofs.Common.{take}
-use Rattle.std.specs.Prelude.{All}
-use Rattle.history_model.specs.declared.entries.Author.TheVariants.{Recompute}
-use Rattle.history_model.specs.Runs.{Series}
+use Rattle.std.{proofs.Common.take, specs.Prelude.All}
+use Rattle.history_model.specs.{declared.entries.Author.TheVariants.Recompute, Runs.Series}
 use Rattle.track_room.specs.Work.{IsUntaken, history_of}
-use Rattle.recompute_workers.specs.Quiet.{IsQuiet}
-use Rattle.recompute_workers.specs.Recomputing.{AddsPublications}
-use Rattle.recompute_workers.specs.Stays.{SameKnown}
+use Rattle.recompute_workers.specs.{Quiet.IsQuiet, Recomputing.AddsPublications, Stays.SameKnown}
 use Rattle.recompute_workers.proofs.last.recompute_last.Given as goal
 
 -- publications were added, by which no other series became known, nothing is taken, and the series so far are quiet

@@ -1,25 +1,16 @@
-use Rattle.history_model.proofs.Chosen.{entries-push}
+use Rattle.history_model.{proofs.Chosen.entries-push, specs.declared.entries.Author.TheVariants.Recompute, specs.declared.entries.Entry.Entry}
 use Rattle.std.proofs.Common.{◌≡◌, inl, inr, ℕ, List, length, sym, ap, ap₂, subst, ◌∙◌, Option, Some}
 use Rattle.metric_table.specs.declared.limits.Limit.{Limit}
 use Rattle.segment_cost.specs.declared.done.Done.{Done}
-use Rattle.history_model.specs.declared.entries.Author.TheVariants.{Recompute}
-use Rattle.history_model.specs.declared.entries.Entry.{Entry}
-use Rattle.history_model.specs.Allowed.{KeepsLimits, Legal}
-use Rattle.history_model.specs.Entries.{entries_of}
-use Rattle.history_model.specs.Runs.{Series}
+use Rattle.history_model.specs.{Allowed.{KeepsLimits, Legal}, Entries.entries_of, Runs.Series}
 use Rattle.publication_index.specs.Kept.{series_of}
 use Rattle.track_model.specs.Tracks.{Track}
-use Rattle.track_room.specs.Snapshot.{Snapshot}
-use Rattle.track_room.proofs.Segmenting.{made-from, series-is}
+use Rattle.track_room.{specs.Snapshot.Snapshot, proofs.Segmenting.{made-from, series-is}, specs.TrackStateTaking.TakesStale}
 use Rattle.machine_state.specs.Made.{IsMadeFrom, entry_of}
-use Rattle.track_room.specs.TrackStateTaking.{TakesStale}
-use Rattle.track_room.specs.Work.{IsUntaken, bare, history_of}
-use Rattle.track_room.proofs.Snapped.{bare-taken, entries-taken}
+use Rattle.track_room.{specs.Work.{IsUntaken, bare, history_of}, proofs.Snapped.{bare-taken, entries-taken}}
 use Rattle.track_room.proofs.Untaken.{published-untaken, stale-untaken, untaken-stays}
 use Rattle.touch_model.specs.Stale.{is_stale}
-use Rattle.recompute_workers.specs.Quiet.{IsQuiet}
-use Rattle.recompute_workers.proofs.Growing.{adds-from}
-use Rattle.recompute_workers.proofs.Handing.{adds-one, full-quiet, ok-quiet, outcome}
+use Rattle.recompute_workers.{specs.Quiet.IsQuiet, proofs.Growing.adds-from, proofs.Handing.{adds-one, full-quiet, ok-quiet, outcome}}
 use Rattle.recompute_workers.proofs.last.recompute_series.Goals as goal
 use Rattle.recompute_workers.proofs.last.recompute_series.Goals.{In_ok-made}
 

@@ -1,12 +1,7 @@
-use Rattle.std.proofs.Common.{◌∙◌}
-use Rattle.std.proofs.lemmas.Option.{slice_get_within}
-use Rattle.history_model.specs.declared.entries.Author.{Author}
-use Rattle.history_model.specs.declared.entries.Author.TheVariants.{Recompute}
-use Rattle.track_room.specs.Sights.{SeesMore, Visits}
-use Rattle.track_room.specs.Taking.{Publishes}
-use Rattle.track_room.proofs.Segments.{made-of-taken}
-use Rattle.recompute_workers.specs.Works.{Works}
-use Rattle.recompute_workers.proofs.Working.{works-change, works-publishes, works-sees, works-trans, zip-from, zip-trans}
+use Rattle.std.proofs.{Common.◌∙◌, lemmas.Option.slice_get_within}
+use Rattle.history_model.specs.declared.entries.Author.{Author, TheVariants.Recompute}
+use Rattle.track_room.{specs.Sights.{SeesMore, Visits}, specs.Taking.Publishes, proofs.Segments.made-of-taken}
+use Rattle.recompute_workers.{specs.Works.Works, proofs.Working.{works-change, works-publishes, works-sees, works-trans, zip-from, zip-trans}}
 use Rattle.recompute_workers.proofs.worker.finish.Goals as goal
 
 pub release-requires-clause-there : goal.release-requires-clause-there

@@ -1,7 +1,5 @@
-use Rattle.history_model.specs.declared.entries.Author.{Author}
-use Rattle.history_model.specs.declared.entries.Author.TheVariants.{Recompute}
-use Rattle.recompute_workers.specs.Works.{Works}
-use Rattle.recompute_workers.proofs.Working.{works-none, works-trans, zip-none, zip-trans}
+use Rattle.history_model.specs.declared.entries.Author.{Author, TheVariants.Recompute}
+use Rattle.recompute_workers.{specs.Works.Works, proofs.Working.{works-none, works-trans, zip-none, zip-trans}}
 use Rattle.recompute_workers.proofs.worker.recompute_by.Goals as goal
 
 pub turns-init : goal.turns-init

@@ -1,13 +1,7 @@
-use Rattle.std.proofs.Common.{◌≡◌, List, subst, Option, Some}
-use Rattle.std.specs.Prelude.{IfSome}
-use Rattle.history_model.specs.declared.entries.Author.{Author}
-use Rattle.history_model.specs.declared.entries.Author.TheVariants.{Recompute}
-use Rattle.track_room.specs.Claims.{Claimed, taken_with}
-use Rattle.track_room.specs.Sights.{SeesMore, Sight}
-use Rattle.track_room.specs.Taking.{IsTaken, OfSeen}
-use Rattle.track_room.specs.Snapshot.{Snapshot}
-use Rattle.recompute_workers.specs.Works.{Works}
-use Rattle.recompute_workers.proofs.Working.{works-sees, works-trans, zip-from, zip-trans}
+use Rattle.std.{proofs.Common.{◌≡◌, List, subst, Option, Some}, specs.Prelude.IfSome}
+use Rattle.history_model.specs.declared.entries.Author.{Author, TheVariants.Recompute}
+use Rattle.track_room.specs.{Claims.{Claimed, taken_with}, Sights.{SeesMore, Sight}, Taking.{IsTaken, OfSeen}, Snapshot.Snapshot}
+use Rattle.recompute_workers.{specs.Works.Works, proofs.Working.{works-sees, works-trans, zip-from, zip-trans}}
 use Rattle.recompute_workers.proofs.worker.turn.Goals as goal
 
 pub returns-in_err-claim-clause-works : goal.returns-in_err-claim-clause-works

@@ -1,11 +1,8 @@
-use Rattle.std.proofs.Common.{ℕ, List, [], ◌∷◌, ◌++◌, codes, decimal, FitsSigned, rules}
-use Rattle.std.specs.Fmt.{signed_decimal}
-use Rattle.std.specs.Int.{w128}
+use Rattle.std.{proofs.Common.{ℕ, List, [], ◌∷◌, ◌++◌, codes, decimal, FitsSigned, rules}, specs.Fmt.signed_decimal, specs.Int.w128}
 use Rattle.std.proofs.lemmas.Int.{to_z-of_z}
 use Rattle.regression_state.specs.Moves.{word}
 use Rattle.report_model.specs.Outcomes.{outcome_text}
-use Rattle.reply_text.specs.Replies.{version_words}
-use Rattle.reply_text.proofs.WordsBehind.{more_words, puts_more}
+use Rattle.reply_text.{specs.Replies.version_words, proofs.WordsBehind.{more_words, puts_more}}
 use Rattle.reply_text.proofs.answer.put_answer.Goals as goal
 
 pub returns-in_ok-put_three-in-Segmented : goal.returns-in_ok-put_three-in-Segmented

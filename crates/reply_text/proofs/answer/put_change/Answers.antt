@@ -1,13 +1,9 @@
-use Rattle.std.proofs.Common.{◌≡◌, List, ℕ, [], ◌∷◌, ◌++◌, FitsSigned, rules, refl, append_assoc, append-nil}
-use Rattle.std.specs.Prelude.{codes, if◌then◌else◌}
-use Rattle.std.specs.Int.{w64}
-use Rattle.std.proofs.lemmas.Int.{to_z-of_z}
+use Rattle.std.{proofs.Common.{◌≡◌, List, ℕ, [], ◌∷◌, ◌++◌, FitsSigned, rules, refl, append_assoc, append-nil}, specs.Prelude.{codes, if◌then◌else◌}}
+use Rattle.std.{specs.Int.w64, proofs.lemmas.Int.to_z-of_z}
 use Rattle.request_model.specs.Lines.{line_of}
 use Rattle.metric_value.specs.Values.{value_text}
 use Rattle.line_text.specs.Names.{spelling}
-use Rattle.reply_text.specs.Puts.{Begins}
-use Rattle.reply_text.proofs.WordsBehind.{begins_behind, begins_same}
-use Rattle.reply_text.proofs.answer.put_change.Goals.{then-change, else-change}
+use Rattle.reply_text.{specs.Puts.Begins, proofs.WordsBehind.{begins_behind, begins_same}, proofs.answer.put_change.Goals.{then-change, else-change}}
 use Rattle.reply_text.proofs.answer.put_change.Goals as goal
 
 -- five words, one after another

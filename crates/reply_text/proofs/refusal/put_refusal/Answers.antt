@@ -2,9 +2,7 @@ use Rattle.std.proofs.Common.{[], ◌∷◌, codes, append-nil}
 use Rattle.request_model.specs.Lines.{spaced}
 use Rattle.regression_state.specs.Moves.{word}
 use Rattle.report_model.specs.Outcomes.{outcome_text}
-use Rattle.reply_text.specs.Puts.{Puts}
-use Rattle.reply_text.specs.Replies.{at}
-use Rattle.reply_text.proofs.WordsBehind.{puts_more}
+use Rattle.reply_text.{specs.Puts.Puts, specs.Replies.at, proofs.WordsBehind.puts_more}
 use Rattle.reply_text.proofs.refusal.put_refusal.Goals as goal
 
 pub returns-in_ok-put_kind-in-IdentityClash : goal.returns-in_ok-put_kind-in-IdentityClash

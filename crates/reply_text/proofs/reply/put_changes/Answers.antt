@@ -1,8 +1,5 @@
 use Rattle.std.proofs.Common.{rules}
-use Rattle.reply_text.specs.Replies.{change_words}
-use Rattle.reply_text.specs.Puts.{Begins}
-use Rattle.reply_text.proofs.WordsBehind.{begins_behind}
-use Rattle.reply_text.proofs.ListLines.{lines_step, lines_end}
+use Rattle.reply_text.{specs.Replies.change_words, specs.Puts.Begins, proofs.WordsBehind.begins_behind, proofs.ListLines.{lines_step, lines_end}}
 use Rattle.reply_text.proofs.reply.put_changes.Goals as goal
 
 pub loop-change-init : goal.loop-change-init

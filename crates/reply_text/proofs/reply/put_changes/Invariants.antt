@@ -1,6 +1,5 @@
 use Rattle.std.proofs.Common.{◌≡◌, ◌++◌, take}
-use Rattle.reply_text.specs.Replies.{change_words}
-use Rattle.reply_text.proofs.ListLines.{lines}
+use Rattle.reply_text.{specs.Replies.change_words, proofs.ListLines.lines}
 use Rattle.reply_text.proofs.reply.put_changes.Given as goal
 
 -- the changes so far are put

@@ -1,7 +1,6 @@
 use Rattle.std.proofs.Common.{◌∙◌, refl}
 use Rattle.history_model.specs.Jobs.{job_in}
-use Rattle.report_lines.specs.NumberedLines.{told_line}
-use Rattle.report_lines.proofs.Numbered.{numbered-next}
+use Rattle.report_lines.{specs.NumberedLines.told_line, proofs.Numbered.numbered-next}
 use Rattle.report_lines.proofs.jobs.job_lines.Goals as goal
 
 pub loop-i-preserved : goal.loop-i-preserved

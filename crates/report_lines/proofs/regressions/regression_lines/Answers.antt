@@ -1,7 +1,6 @@
 use Rattle.std.proofs.Common.{◌∙◌, refl}
 use Rattle.follow_index.specs.Numbered.{followed_in}
-use Rattle.report_lines.specs.NumberedLines.{followed_line}
-use Rattle.report_lines.proofs.Numbered.{numbered-next}
+use Rattle.report_lines.{specs.NumberedLines.followed_line, proofs.Numbered.numbered-next}
 use Rattle.report_lines.proofs.regressions.regression_lines.Goals as goal
 
 pub loop-i-preserved : goal.loop-i-preserved

@@ -1,12 +1,9 @@
-use Rattle.std.proofs.Common.{◌∙◌, List, [], ◌∷◌, ◌++◌, map, take, sym, ap, subst}
-use Rattle.std.specs.Prelude.{All}
-use Rattle.std.proofs.lemmas.List.{map-append, take_more}
+use Rattle.std.{proofs.Common.{◌∙◌, List, [], ◌∷◌, ◌++◌, map, take, sym, ap, subst}, specs.Prelude.All, proofs.lemmas.List.{map-append, take_more}}
 use Rattle.std.proofs.lemmas.List.Elements.{All-push}
 use Rattle.history_model.specs.Runs.{Series}
 use Rattle.report_model.specs.declared.items.SeriesLine.{SeriesLine}
 use Rattle.track_model.specs.Reports.{series_in}
-use Rattle.report_lines.specs.SeriesLines.{IsLine}
-use Rattle.report_lines.proofs.SameSeries.{line-same}
+use Rattle.report_lines.{specs.SeriesLines.IsLine, proofs.SameSeries.line-same}
 use Rattle.report_lines.proofs.series.series_lines.Goals as goal
 
 pub loop-name-preserved : goal.loop-name-preserved

@@ -1,5 +1,4 @@
-use Rattle.std.proofs.Common.{◌≡◌, map, take}
-use Rattle.std.specs.Prelude.{All}
+use Rattle.std.{proofs.Common.{◌≡◌, map, take}, specs.Prelude.All}
 use Rattle.history_model.specs.Runs.{Series}
 use Rattle.series_index.specs.Seen.{seen}
 use Rattle.track_model.specs.Reports.{series_in}

@@ -1,10 +1,7 @@
 use Rattle.std.proofs.Common.{codes, map}
 use Rattle.json.specs.Print.{quoted}
-use Rattle.serde_json.specs.Data.{array}
-use Rattle.serde_json.specs.View.{items_of}
-use Rattle.serde_json.specs.Written.{compact_text}
-use Rattle.report_pages.specs.Json.{job_data, regression_data, series_data}
-use Rattle.report_pages.proofs.Joined.{lists_behind}
+use Rattle.serde_json.specs.{Data.array, View.items_of, Written.compact_text}
+use Rattle.report_pages.{specs.Json.{job_data, regression_data, series_data}, proofs.Joined.lists_behind}
 use Rattle.report_pages.proofs.as_json.put_lists.Goals as goal
 
 -- what the calls appended, one after another

@@ -1,5 +1,4 @@
-use Rattle.std.proofs.Common.{◌≡◌, ◌++◌, take}
-use Rattle.std.specs.Prelude.{flat_map}
+use Rattle.std.{proofs.Common.{◌≡◌, ◌++◌, take}, specs.Prelude.flat_map}
 use Rattle.report_pages.proofs.text.put_all.Given as goal
 
 abbrev pub invariant-loop-row : goal.invariant-loop-row

@@ -1,7 +1,5 @@
-use Rattle.std.proofs.Common.{rules, ◌≡◌, ◌+◌, true, false, refl}
-use Rattle.std.proofs.lemmas.Result.{err_from_is_err_and}
-use Rattle.request_reader.proofs.Stops.{few_kept}
-use Rattle.request_reader.proofs.WholePieces.{needs_body, stops_inside}
+use Rattle.std.proofs.{Common.{rules, ◌≡◌, ◌+◌, true, false, refl}, lemmas.Result.err_from_is_err_and}
+use Rattle.request_reader.proofs.{Stops.few_kept, WholePieces.{needs_body, stops_inside}}
 use Rattle.request_reader.proofs.body_read.gather.Goals as goal
 
 pub returns-in_err-need-clause-stops : goal.returns-in_err-need-clause-stops

@@ -1,7 +1,5 @@
-use Rattle.std.proofs.Common.{◌+◌, ℕ, refl}
-use Rattle.std.proofs.lemmas.Result.{MatchResult-weaker}
-use Rattle.request_reader.proofs.Stops.{few_kept}
-use Rattle.request_reader.proofs.WholePieces.{next_piece}
+use Rattle.std.proofs.{Common.{◌+◌, ℕ, refl}, lemmas.Result.MatchResult-weaker}
+use Rattle.request_reader.proofs.{Stops.few_kept, WholePieces.next_piece}
 use Rattle.request_reader.proofs.body_read.read_short.Goals as goal
 
 pub gather-requires-clause-begins : goal.gather-requires-clause-begins

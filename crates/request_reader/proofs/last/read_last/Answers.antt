@@ -1,8 +1,5 @@
-use Rattle.std.proofs.Common.{rules, arith, ◌≡◌, ℕ, ◌-◌, List, [], length, take, drop, slice_range, sym, ap, subst}
-use Rattle.std.proofs.lemmas.List.{take_all}
-use Rattle.request_words.specs.Bodies.{Item}
-use Rattle.request_words.specs.Heads.{IsHead}
-use Rattle.request_words.specs.Items.{IsSkipped, Counts, Asks}
+use Rattle.std.proofs.{Common.{rules, arith, ◌≡◌, ℕ, ◌-◌, List, [], length, take, drop, slice_range, sym, ap, subst}, lemmas.List.take_all}
+use Rattle.request_words.specs.{Bodies.Item, Heads.IsHead, Items.{IsSkipped, Counts, Asks}}
 use Rattle.request_reader.proofs.LastLines.{last_end, last_item, last_cut}
 use Rattle.request_reader.proofs.last.read_last.Goals as goal
 

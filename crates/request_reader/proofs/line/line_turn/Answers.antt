@@ -1,7 +1,5 @@
-use Rattle.std.proofs.Common.{sym}
-use Rattle.std.proofs.lemmas.Result.{err_from_is_err_and}
-use Rattle.request_reader.specs.Scripts.{IsLine, IsTooLong}
-use Rattle.request_reader.proofs.Stops.{line_reads, stops_long, stops_filling, few_none}
+use Rattle.std.proofs.{Common.sym, lemmas.Result.err_from_is_err_and}
+use Rattle.request_reader.{specs.Scripts.{IsLine, IsTooLong}, proofs.Stops.{line_reads, stops_long, stops_filling, few_none}}
 use Rattle.request_reader.proofs.line.line_turn.Goals as goal
 
 pub returns-in-Long-clause-err : goal.returns-in-Long-clause-err

@@ -1,6 +1,5 @@
 use Rattle.std.proofs.Common.{ℕ, List, [], ◌++◌, ◌≡◌, ◌+◌, ◌-◌, ◌≤◌, Option, Some, None, IfSome, length, take, drop, ap, sym, ◌∙◌, append_assoc, length-append, arith, rules}
-use Rattle.std.proofs.Math.Seq.{take-append_seam, take-append-add}
-use Rattle.std.proofs.lemmas.List.{length-take, take_all, take-append-drop, take-append-le}
+use Rattle.std.proofs.{Math.Seq.{take-append_seam, take-append-add}, lemmas.List.{length-take, take_all, take-append-drop, take-append-le}}
 use Rattle.std.specs.Io.KnownBytes.{IsAtEnd}
 use Rattle.request_reader.proofs.lines.read_onto.Goals as goal
 

@@ -1,5 +1,4 @@
-use Rattle.std.proofs.Common.{arith, [], ◌++◌}
-use Rattle.std.proofs.lemmas.Result.{err_from_is_err_and}
+use Rattle.std.proofs.{Common.{arith, [], ◌++◌}, lemmas.Result.err_from_is_err_and}
 use Rattle.request_reader.proofs.Stops.{gains_none, gains_join, fails_gain, few_gain, needs_more, gathers_gain, need_falls}
 use Rattle.request_reader.proofs.need.need.Goals as goal
 

@@ -1,5 +1,4 @@
-use Rattle.std.proofs.Common.{rules, ◌<◌, length, ap}
-use Rattle.std.proofs.lemmas.Result.{err_from_is_err_and}
+use Rattle.std.proofs.{Common.{rules, ◌<◌, length, ap}, lemmas.Result.err_from_is_err_and}
 use Rattle.request_reader.proofs.Stops.{needs_now, stops_filling}
 use Rattle.request_reader.proofs.need.need_turn.Goals as goal
 

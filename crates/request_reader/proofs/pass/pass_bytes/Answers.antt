@@ -1,7 +1,5 @@
-use Rattle.std.proofs.Common.{arith, [], ◌++◌, length-append}
-use Rattle.std.proofs.lemmas.Result.{err_from_is_err_and}
-use Rattle.request_reader.proofs.Moving.{moves_none, moves_join, few_moved}
-use Rattle.request_reader.proofs.Passing.{passing_stops, passes_gain, turn_falls}
+use Rattle.std.proofs.{Common.{arith, [], ◌++◌, length-append}, lemmas.Result.err_from_is_err_and}
+use Rattle.request_reader.proofs.{Moving.{moves_none, moves_join, few_moved}, Passing.{passing_stops, passes_gain, turn_falls}}
 use Rattle.request_reader.proofs.pass.pass_bytes.Goals as goal
 
 pub loop-rest-init : goal.loop-rest-init

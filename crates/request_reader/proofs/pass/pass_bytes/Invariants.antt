@@ -1,6 +1,5 @@
 use Rattle.std.proofs.Common.{ℕ, ◌≡◌, ◌+◌, ◌-◌, ◌≤◌, List, length}
-use Rattle.request_reader.specs.Scripts.{input_limit}
-use Rattle.request_reader.specs.Passes.{Moves}
+use Rattle.request_reader.specs.{Scripts.input_limit, Passes.Moves}
 use Rattle.request_reader.proofs.pass.pass_bytes.Given as goal
 
 -- so many were passed that the others are left

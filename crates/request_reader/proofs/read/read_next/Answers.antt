@@ -1,5 +1,4 @@
-use Rattle.std.proofs.Common.{arith, [], ◌++◌, ◌∙◌}
-use Rattle.std.proofs.lemmas.Result.{err_from_is_err_and}
+use Rattle.std.proofs.{Common.{arith, [], ◌++◌, ◌∙◌}, lemmas.Result.err_from_is_err_and}
 use Rattle.request_reader.proofs.Moving.{moves_none, moves_join, no_pieces, pieces_pass, fails_moved, takes_moved, place_falls}
 use Rattle.request_reader.proofs.read.read_next.Goals as goal
 

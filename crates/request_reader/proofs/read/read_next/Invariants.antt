@@ -1,6 +1,5 @@
 use Rattle.std.proofs.Common.{ℕ, ◌-◌, ◌≤◌, List, []}
-use Rattle.request_reader.specs.Scripts.{ArePieces, input_limit}
-use Rattle.request_reader.specs.Passes.{Moves}
+use Rattle.request_reader.specs.{Scripts.{ArePieces, input_limit}, Passes.Moves}
 use Rattle.request_reader.proofs.read.read_next.Given as goal
 
 -- pieces that ask nothing were passed

@@ -1,7 +1,5 @@
 use Rattle.std.proofs.lemmas.Result.{MatchResult-weaker}
-use Rattle.request_reader.proofs.Stops.{fails_gain}
-use Rattle.request_reader.proofs.Moving.{piece_gain}
-use Rattle.request_reader.proofs.LastLines.{takes_last}
+use Rattle.request_reader.proofs.{Stops.fails_gain, Moving.piece_gain, LastLines.takes_last}
 use Rattle.request_reader.proofs.read.read_piece.Goals as goal
 
 pub returns-in-Feed-clause-next : goal.returns-in-Feed-clause-next

@@ -1,5 +1,4 @@
-use Rattle.std.proofs.Common.{rules, ◌≡◌, ◌<◌, true, false}
-use Rattle.std.proofs.lemmas.Result.{err_from_is_err_and}
+use Rattle.std.proofs.{Common.{rules, ◌≡◌, ◌<◌, true, false}, lemmas.Result.err_from_is_err_and}
 use Rattle.request_words.specs.Items.{body_limit}
 use Rattle.request_reader.proofs.Passing.{long_fails, long_cut, long_next}
 use Rattle.request_reader.proofs.whole.read_body.Goals as goal

@@ -1,8 +1,6 @@
-use Rattle.std.proofs.Common.{rules, take}
-use Rattle.std.proofs.lemmas.Result.{err_from_is_err_and}
+use Rattle.std.proofs.{Common.{rules, take}, lemmas.Result.err_from_is_err_and}
 use Rattle.request_words.specs.Items.{IsSkipped}
-use Rattle.request_reader.proofs.Stops.{few_none}
-use Rattle.request_reader.proofs.Passing.{skips_piece, line_taken}
+use Rattle.request_reader.proofs.{Stops.few_none, Passing.{skips_piece, line_taken}}
 use Rattle.request_reader.proofs.whole.read_whole.Goals as goal
 
 pub returns-then-is_skipped-clause-next : goal.returns-then-is_skipped-clause-next

@@ -1,9 +1,7 @@
 use Rattle.std.proofs.Common.{rules, ◌≡◌, ℕ, List, ◌∷◌, refl, sym, ap, ◌∙◌, arith}
 use Rattle.line_text.specs.Lines.{words_of}
-use Rattle.request_words.specs.Forms.{of_job, job_word, IsOfForm}
-use Rattle.request_words.proofs.HeadLines.{unnamed_machine, named_head, formless_head, job_form}
-use Rattle.request_words.proofs.FormWords.{behind}
-use Rattle.request_words.proofs.found_head.job_head.Goals.{In-Some}
+use Rattle.request_words.{specs.Forms.{of_job, job_word, IsOfForm}, proofs.HeadLines.{unnamed_machine, named_head, formless_head, job_form}}
+use Rattle.request_words.proofs.{FormWords.behind, found_head.job_head.Goals.In-Some}
 use Rattle.request_words.proofs.found_head.job_head.Goals as goal
 
 -- the line is of the form

@@ -1,5 +1,4 @@
-use Rattle.std.proofs.Common.{refl}
-use Rattle.std.proofs.lemmas.Result.{MatchResult-weaker}
+use Rattle.std.proofs.{Common.refl, lemmas.Result.MatchResult-weaker}
 use Rattle.request_words.proofs.head.item_of.Goals as goal
 
 pub returns-in-Refused : goal.returns-in-Refused

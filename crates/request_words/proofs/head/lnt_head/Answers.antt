@@ -1,8 +1,6 @@
 use Rattle.std.proofs.Common.{rules, ◌≡◌, ℕ, List, ◌∷◌, codes, refl, sym, ap, ◌∙◌}
 use Rattle.line_text.specs.Lines.{words_of}
-use Rattle.request_words.specs.Forms.{submit_lnt, IsOfForm}
-use Rattle.request_words.proofs.HeadLines.{unnamed_head, named_head, long_head, formless_behind}
-use Rattle.request_words.proofs.FormWords.{behind}
+use Rattle.request_words.{specs.Forms.{submit_lnt, IsOfForm}, proofs.HeadLines.{unnamed_head, named_head, long_head, formless_behind}, proofs.FormWords.behind}
 use Rattle.request_words.proofs.head.lnt_head.Goals.{In-Some}
 use Rattle.request_words.proofs.head.lnt_head.Goals as goal
 

@@ -1,8 +1,6 @@
 use Rattle.std.proofs.Common.{rules, ◌≡◌, ◌≢◌, ℕ, List, ◌∷◌}
 use Rattle.line_text.specs.Lines.{words_of}
-use Rattle.request_words.specs.Verbs.{word_of}
-use Rattle.request_words.specs.declared.verb.Verb.{Verb}
-use Rattle.request_words.proofs.HeadLines.{no_verb, formless_head}
+use Rattle.request_words.{specs.Verbs.word_of, specs.declared.verb.Verb.Verb, proofs.HeadLines.{no_verb, formless_head}}
 use Rattle.request_words.proofs.head.read_head.Goals as goal
 
 pub returns-in_default-read_verb : goal.returns-in_default-read_verb

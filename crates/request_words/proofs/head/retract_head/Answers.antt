@@ -1,8 +1,6 @@
 use Rattle.std.proofs.Common.{◌≡◌, ℕ, List, ◌∷◌, codes, refl, sym, ap, ◌∙◌, arith}
 use Rattle.line_text.specs.Lines.{words_of}
-use Rattle.request_words.specs.Forms.{retract, IsOfForm}
-use Rattle.request_words.proofs.HeadLines.{unnamed_head, named_head, formless_behind}
-use Rattle.request_words.proofs.FormWords.{behind}
+use Rattle.request_words.{specs.Forms.{retract, IsOfForm}, proofs.HeadLines.{unnamed_head, named_head, formless_behind}, proofs.FormWords.behind}
 use Rattle.request_words.proofs.head.retract_head.Goals.{In-Some}
 use Rattle.request_words.proofs.head.retract_head.Goals as goal
 

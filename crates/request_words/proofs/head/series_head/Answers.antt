@@ -1,9 +1,7 @@
 use Rattle.std.proofs.Common.{◌≡◌, ℕ, List, ◌∷◌, refl, sym, ap, ◌∙◌, arith}
 use Rattle.line_text.specs.Lines.{words_of}
-use Rattle.request_words.specs.Forms.{of_series, series_word, IsOfForm}
-use Rattle.request_words.proofs.HeadLines.{unnamed_head, named_head, formless_head, series_form}
-use Rattle.request_words.proofs.FormWords.{behind}
-use Rattle.request_words.proofs.head.series_head.Goals.{In-Some}
+use Rattle.request_words.{specs.Forms.{of_series, series_word, IsOfForm}, proofs.HeadLines.{unnamed_head, named_head, formless_head, series_form}}
+use Rattle.request_words.proofs.{FormWords.behind, head.series_head.Goals.In-Some}
 use Rattle.request_words.proofs.head.series_head.Goals as goal
 
 -- the line is of the form

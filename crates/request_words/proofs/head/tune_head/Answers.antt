@@ -1,13 +1,8 @@
-use Rattle.std.proofs.Common.{rules, ◌≡◌, ℕ, ◌<◌, ◌^◌, List, ◌∷◌, codes, pos, FitsSigned, subst, sym, refl, ap, ◌∙◌, arith}
-use Rattle.std.specs.Str.Parse.{digits_value}
-use Rattle.std.specs.Int.{w128}
-use Rattle.std.proofs.lemmas.Int.{ints, to_z-of_z}
+use Rattle.std.{proofs.Common.{rules, ◌≡◌, ℕ, ◌<◌, ◌^◌, List, ◌∷◌, codes, pos, FitsSigned, subst, sym, refl, ap, ◌∙◌, arith}, specs.Str.Parse.digits_value}
+use Rattle.std.{specs.Int.w128, proofs.lemmas.Int.{ints, to_z-of_z}}
 use Rattle.line_text.specs.Lines.{words_of}
-use Rattle.request_words.specs.Forms.{tune, IsOfForm}
-use Rattle.request_words.proofs.HeadLines.{unnamed_head, wide_head, off_head, named_head, formless_behind}
-use Rattle.request_words.proofs.FormWords.{behind}
-use Rattle.request_words.proofs.Given.{given-all, all-given}
-use Rattle.request_words.proofs.head.tune_head.Goals.{In-Some}
+use Rattle.request_words.{specs.Forms.{tune, IsOfForm}, proofs.HeadLines.{unnamed_head, wide_head, off_head, named_head, formless_behind}}
+use Rattle.request_words.proofs.{FormWords.behind, Given.{given-all, all-given}, head.tune_head.Goals.In-Some}
 use Rattle.request_words.proofs.head.tune_head.Goals as goal
 
 -- the line is of the form

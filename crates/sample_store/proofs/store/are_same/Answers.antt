@@ -1,8 +1,7 @@
 use Rattle.std.proofs.Common.{◌≡◌, ◌<◌, ◌∙◌, ap, sym, length, arith, get_or}
 use Rattle.sample_model.specs.Samples.{Measurement}
 use Rattle.history_model.specs.Runs.{same_sample}
-use Rattle.sample_store.proofs.Same.{same-more, same-not}
-use Rattle.sample_store.proofs.store.are_same.Goals.{After-is_same}
+use Rattle.sample_store.proofs.{Same.{same-more, same-not}, store.are_same.Goals.After-is_same}
 use Rattle.sample_store.proofs.store.are_same.Goals as goal
 
 same_there : (x y a b : Measurement) → x ≡ a → y ≡ b → same_sample a b ≡ same_sample x y

@@ -1,13 +1,9 @@
-use Rattle.std.proofs.Common.{◌∙◌, List, [], ◌∷◌, sym, subst, ap, arith}
-use Rattle.std.specs.Prelude.{option_map}
-use Rattle.std.specs.Vec.Iter.{into_iter_items}
+use Rattle.std.{proofs.Common.{◌∙◌, List, [], ◌∷◌, sym, subst, ap, arith}, specs.Prelude.option_map, specs.Vec.Iter.into_iter_items}
 use Rattle.track_outside.specs.declared.files.Files as files
 use Rattle.track_outside.specs.declared.source.Source as source
 use Rattle.track_outside.specs.declared.sink.Sink as sink
-use Rattle.script_files.specs.declared.open.OpenScript.{OpenScript}
-use Rattle.script_files.specs.Closing.{AreClosable, Closes, with_written, failed_inputs, failed_outputs}
-use Rattle.script_files.proofs.Counted.{rose_more}
-use Rattle.script_files.proofs.Names.{rest_closable, then_written}
+use Rattle.script_files.specs.{declared.open.OpenScript.OpenScript, Closing.{AreClosable, Closes, with_written, failed_inputs, failed_outputs}}
+use Rattle.script_files.proofs.{Counted.rose_more, Names.{rest_closable, then_written}}
 use Rattle.script_files.proofs.close.+close_rest.Goals as goal
 
 module _ {F I O : Type 0} (g : files.Ghosts F I O) (i : source.Ghosts I) (o : sink.Ghosts O) where

@@ -1,5 +1,4 @@
-use Rattle.std.proofs.Common.{length}
-use Rattle.std.specs.Vec.Iter.{into_iter_items}
+use Rattle.std.{proofs.Common.length, specs.Vec.Iter.into_iter_items}
 use Rattle.script_files.proofs.close.+close_rest.Given as goal
 
 abbrev pub decreases-close_rest : goal.decreases-close_rest

@@ -1,11 +1,7 @@
-use Rattle.std.proofs.Common.{◌∙◌, List, [], ◌∷◌, Option, Some, None, arith}
-use Rattle.std.specs.Prelude.{IfSome, IsSome}
+use Rattle.std.{proofs.Common.{◌∙◌, List, [], ◌∷◌, Option, Some, None, arith}, specs.Prelude.{IfSome, IsSome}}
 use Rattle.track_outside.specs.Named.{NamedBytes}
 use Rattle.track_outside.specs.declared.sink.Sink as sink
-use Rattle.script_files.specs.declared.open.OpenScript.{OpenScript}
-use Rattle.script_files.specs.Closing.{AreClosable}
-use Rattle.script_files.proofs.Counted.{rose_one}
-use Rattle.script_files.proofs.Names.{one_written}
+use Rattle.script_files.{specs.declared.open.OpenScript.OpenScript, specs.Closing.AreClosable, proofs.Counted.rose_one, proofs.Names.one_written}
 use Rattle.script_files.proofs.close.close_script.Goals as goal
 
 module _ {I O : Type 0} (o : sink.Ghosts O) where

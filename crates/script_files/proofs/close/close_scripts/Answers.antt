@@ -1,7 +1,5 @@
-use Rattle.std.proofs.Common.{◌∙◌, ap}
-use Rattle.std.specs.Prelude.{option_map}
-use Rattle.script_files.specs.Closing.{with_written}
-use Rattle.script_files.proofs.Written.{have_written}
+use Rattle.std.{proofs.Common.{◌∙◌, ap}, specs.Prelude.option_map}
+use Rattle.script_files.{specs.Closing.with_written, proofs.Written.have_written}
 use Rattle.script_files.proofs.close.close_scripts.Goals as goal
 
 pub returns-clause-each : goal.returns-clause-each

@@ -1,10 +1,6 @@
-use Rattle.std.proofs.Common.{ℕ, List, [], ◌∷◌, ◌++◌, Err, sym, subst}
-use Rattle.std.specs.Prelude.{IfErr}
-use Rattle.std.specs.Borrow.{Bor}
+use Rattle.std.{proofs.Common.{ℕ, List, [], ◌∷◌, ◌++◌, Err, sym, subst}, specs.Prelude.IfErr, specs.Borrow.Bor}
 use Rattle.command_words.specs.Texts.{shown}
-use Rattle.script_files.specs.Closing.{AreClosable}
-use Rattle.script_files.specs.declared.open.OpenFault.TheVariants.{NoMemory}
-use Rattle.script_files.specs.Opening.{Asks}
+use Rattle.script_files.specs.{Closing.AreClosable, declared.open.OpenFault.TheVariants.NoMemory, Opening.Asks}
 use Rattle.script_files.proofs.Asked.{asks_first, asks_then_fault, asks_none, closable_then}
 use Rattle.script_files.proofs.open.+open_rest.Goals as goal
 

@@ -1,9 +1,7 @@
-use Rattle.std.proofs.Common.{◌≡◌, ◌∙◌, ℕ, List, [], ◌∷◌, ◌++◌, true, false, Err, refl, ap, arith}
-use Rattle.std.specs.Prelude.{option_map}
+use Rattle.std.{proofs.Common.{◌≡◌, ◌∙◌, ℕ, List, [], ◌∷◌, ◌++◌, true, false, Err, refl, ap, arith}, specs.Prelude.option_map}
 use Rattle.track_outside.specs.Named.{Call}
 use Rattle.command_words.specs.Plans.{transcript_of}
-use Rattle.script_files.specs.Opening.{opening, creating}
-use Rattle.script_files.proofs.Calls.{none_more, then_more, noted_failed, noted_none}
+use Rattle.script_files.{specs.Opening.{opening, creating}, proofs.Calls.{none_more, then_more, noted_failed, noted_none}}
 use Rattle.script_files.proofs.open.open_script.Goals as goal
 
 pub returns-in-Err-Failed-clause-fault : goal.returns-in-Err-Failed-clause-fault

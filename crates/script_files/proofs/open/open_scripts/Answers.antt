@@ -1,8 +1,6 @@
-use Rattle.std.proofs.Common.{◌≡◌, ◌++◌, ◌∙◌, sym, subst, ap}
-use Rattle.std.specs.List.{AllZip}
+use Rattle.std.{proofs.Common.{◌≡◌, ◌++◌, ◌∙◌, sym, subst, ap}, specs.List.AllZip}
 use Rattle.command_words.specs.Texts.{shown}
-use Rattle.script_files.specs.Opening.{IsOpen}
-use Rattle.script_files.proofs.FromStart.{open_from_start}
+use Rattle.script_files.{specs.Opening.IsOpen, proofs.FromStart.open_from_start}
 use Rattle.script_files.proofs.open.open_scripts.Goals as goal
 
 pub returns-in-Ok-clause-open : goal.returns-in-Ok-clause-open

@@ -1,16 +1,11 @@
-use Rattle.std.proofs.Common.{◌≡◌, ◌+◌, inl, inr, true, false, [], ◌++◌, refl, ap, sym, ◌∙◌}
-use Rattle.std.specs.Prelude.{IfSome}
+use Rattle.std.{proofs.Common.{◌≡◌, ◌+◌, inl, inr, true, false, [], ◌++◌, refl, ap, sym, ◌∙◌}, specs.Prelude.IfSome, proofs.lemmas.Result.err_from_is_err_and}
 use Rattle.track_outside.specs.Calls.{GaveAtMost}
-use Rattle.request_reader.specs.Scripts.{AsksFirst, input_limit}
-use Rattle.script_loop.specs.Outputs.{IsOutput}
-use Rattle.script_loop.specs.Turns.{Gathers}
-use Rattle.std.proofs.lemmas.Result.{err_from_is_err_and}
-use Rattle.request_reader.specs.Next.{items_of}
+use Rattle.request_reader.specs.{Scripts.{AsksFirst, input_limit}, Next.items_of}
+use Rattle.script_loop.specs.{Outputs.IsOutput, Turns.Gathers}
 use Rattle.script_loop.proofs.Answering.{output_none, output_join, gathers_none, gathers_more, gathers_on, failed_on, stands_read, written_read}
 use Rattle.script_loop.proofs.Each.{one_item, splits-all, splits-last, lost-answers, pending-of, pending-failed}
 use Rattle.script_loop.proofs.Sources.{taken_none, taken_next, asks_none, asks_these, asks_more, ends_here, nothing_left, stops, few_stop, few_next}
-use Rattle.script_loop.proofs.script.answer_all.Given.{Over}
-use Rattle.script_loop.proofs.script.answer_all.Goals.{In_ok-asked, In-Ok-answer_next}
+use Rattle.script_loop.proofs.script.answer_all.{Given.Over, Goals.{In_ok-asked, In-Ok-answer_next}}
 use Rattle.script_loop.proofs.script.answer_all.Goals as goal
 
 module _ (g : Over) (c : In_ok-asked g) where

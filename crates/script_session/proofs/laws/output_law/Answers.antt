@@ -1,6 +1,5 @@
 use Rattle.script_desk.specs.Sessions.{AnswersFor}
-use Rattle.script_session.proofs.Once.{answers_once, outputs_once, script_once, scripts_once, begins_output}
-use Rattle.script_session.proofs.Computed.{outputs_exist}
+use Rattle.script_session.proofs.{Once.{answers_once, outputs_once, script_once, scripts_once, begins_output}, Computed.outputs_exist}
 use Rattle.script_loop.proofs.Opened.{open_first}
 use Rattle.script_session.proofs.laws.output_law.Goals as goal
 

@@ -1,8 +1,6 @@
-use Rattle.std.proofs.Common.{refl}
-use Rattle.std.proofs.lemmas.Int.{to_z-of_z}
-use Rattle.segment_cost.proofs.Squares.{Fit, fit}
+use Rattle.std.proofs.{Common.refl, lemmas.Int.to_z-of_z}
+use Rattle.segment_cost.proofs.{Squares.{Fit, fit}, square.twice_less.Goals.After-from}
 use Rattle.segment_cost.proofs.square.twice_less.Goals as goal
-use Rattle.segment_cost.proofs.square.twice_less.Goals.{After-from}
 
 fits : (c : After-from) → Fit c.args.sums.count c.args.sums.sum c.args.sums.squares c.args.c
 fits c = fit c.args.sums.count c.args.sums.sum c.args.sums.squares c.args.c c.requires.range c.requires.small

@@ -1,6 +1,5 @@
 use Rattle.std.proofs.Common.{◌++◌, codes}
-use Rattle.series_gen.specs.Script.{in_turn, line, commit_line, turn, retract_line, segment_line}
-use Rattle.series_gen.proofs.Turns.{behind}
+use Rattle.series_gen.{specs.Script.{in_turn, line, commit_line, turn, retract_line, segment_line}, proofs.Turns.behind}
 use Rattle.series_gen.proofs.script.put_parts.Goals as goal
 
 pub returns : goal.returns

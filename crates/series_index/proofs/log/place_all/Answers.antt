@@ -1,8 +1,6 @@
 use Rattle.std.proofs.Common.{◌≡◌, ◌∙◌, List, length, drop, sym, ap, subst, arith}
 use Rattle.segment_model.specs.Limits.{WithinLimits}
-use Rattle.series_index.specs.declared.coming.Coming.{Coming}
-use Rattle.series_index.specs.Log.{all_placed, MayBePlaced}
-use Rattle.series_index.proofs.Placing.{may-rest}
+use Rattle.series_index.{specs.declared.coming.Coming.Coming, specs.Log.{all_placed, MayBePlaced}, proofs.Placing.may-rest}
 use Rattle.series_index.proofs.log.place_all.Goals.{After-drop_first}
 use Rattle.series_index.proofs.log.place_all.Goals as goal
 

@@ -1,10 +1,6 @@
-use Rattle.std.proofs.Common.{◌≡◌, ◌+◌, ◌-◌, ◌∙◌, List, ◌∷◌, length, drop, sym, ap, subst, pos, slice_index_or, arith}
-use Rattle.std.proofs.lemmas.List.{drop_more, length-drop}
-use Rattle.segment_model.specs.Limits.{WithinLimits}
-use Rattle.segment_model.proofs.Inserted.{size-inserted}
-use Rattle.series_index.specs.declared.coming.Coming.{Coming}
-use Rattle.series_index.specs.Log.{observed, all_placed, MayBePlaced}
-use Rattle.series_index.proofs.Placing.{room-first}
+use Rattle.std.proofs.{Common.{◌≡◌, ◌+◌, ◌-◌, ◌∙◌, List, ◌∷◌, length, drop, sym, ap, subst, pos, slice_index_or, arith}, lemmas.List.{drop_more, length-drop}}
+use Rattle.segment_model.{specs.Limits.WithinLimits, proofs.Inserted.size-inserted}
+use Rattle.series_index.{specs.declared.coming.Coming.Coming, specs.Log.{observed, all_placed, MayBePlaced}, proofs.Placing.room-first}
 use Rattle.series_index.proofs.log.place_first.Goals as goal
 
 pub place-requires : goal.place-requires

@@ -1,5 +1,4 @@
-use Rattle.std.proofs.Common.{rules}
-use Rattle.std.proofs.lemmas.List.Sorted.{answers_always}
+use Rattle.std.proofs.{Common.rules, lemmas.List.Sorted.answers_always}
 use Rattle.series_index.proofs.Sorting.{placed-sorted}
 use Rattle.series_index.proofs.log.sort.Goals as goal
 

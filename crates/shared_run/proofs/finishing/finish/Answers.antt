@@ -1,10 +1,6 @@
 use Rattle.std.proofs.Common.{◌≡◌, ℕ, List, ap, subst, ◌∙◌, arith}
-use Rattle.worker_crew.specs.Runs.{BisectsLast, RecomputesLast}
-use Rattle.worker_crew.specs.Whole.{tallies}
-use Rattle.worker_crew.specs.Work.{Work}
-use Rattle.worker_crew.specs.Sights.{tracks_of}
-use Rattle.shared_run.specs.Crews.{word_of}
-use Rattle.shared_run.proofs.AtLast.{bisects-long, both-back, first-true, recomputes-long, second-true, written-back}
+use Rattle.worker_crew.specs.{Runs.{BisectsLast, RecomputesLast}, Whole.tallies, Work.Work, Sights.tracks_of}
+use Rattle.shared_run.{specs.Crews.word_of, proofs.AtLast.{bisects-long, both-back, first-true, recomputes-long, second-true, written-back}}
 use Rattle.shared_run.proofs.finishing.finish.Goals as goal
 
 pub returns-clause-done : goal.returns-clause-done

@@ -1,7 +1,5 @@
 use Rattle.std.proofs.Common.{length, map, refl, sym, ap, ◌∙◌}
-use Rattle.worker_crew.specs.Sights.{tracks_of}
-use Rattle.worker_crew.specs.Seated.{tally_of}
-use Rattle.worker_crew.specs.Whole.{tallies}
+use Rattle.worker_crew.specs.{Sights.tracks_of, Seated.tally_of, Whole.tallies}
 use Rattle.shared_run.proofs.AtLast.{bisects-none, bisects-some, when-ok}
 use Rattle.shared_run.proofs.finishing.finish_jobs.Goals as goal
 

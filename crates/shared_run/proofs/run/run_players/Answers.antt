@@ -1,24 +1,16 @@
-use Rattle.std.proofs.Common.{◌≡◌, ◌++◌, ℕ, List, Ok, length, map, sym, subst, ap, ◌∙◌, arith}
-use Rattle.std.proofs.lemmas.List.{length-map, length-take}
-use Rattle.std.proofs.lemmas.Result.{err_from_is_err_and}
-use Rattle.std.proofs.lemmas.Slice.Zip.{AllZip-long}
-use Rattle.std.specs.List.{AllByRecursion, AllZip}
+use Rattle.std.proofs.{Common.{◌≡◌, ◌++◌, ℕ, List, Ok, length, map, sym, subst, ap, ◌∙◌, arith}, lemmas.List.{length-map, length-take}}
+use Rattle.std.{proofs.lemmas.Result.err_from_is_err_and, proofs.lemmas.Slice.Zip.AllZip-long, specs.List.{AllByRecursion, AllZip}}
 use Rattle.std.specs.Prelude.{Result, take, drop}
 use Rattle.command_words.specs.Texts.{shown}
-use Rattle.script_files.specs.Closing.{AreApart, AreClosable, Closes, HaveWritten}
-use Rattle.script_files.specs.Opening.{Asks, IsOpen}
-use Rattle.script_files.specs.declared.open.OpenScript.{OpenScript}
+use Rattle.script_files.specs.{Closing.{AreApart, AreClosable, Closes, HaveWritten}, Opening.{Asks, IsOpen}, declared.open.OpenScript.OpenScript}
 use Rattle.script_loop.specs.declared.stop.Stop.{Stop}
 use Rattle.side_by_side.specs.Runs.{AllWorked}
-use Rattle.worker_crew.specs.Sights.{Sight}
+use Rattle.worker_crew.specs.{Sights.Sight, Players.{Playing, Plays, end_of, open_of, players_from}}
 use Rattle.worker_crew.specs.Players as players
-use Rattle.worker_crew.specs.Players.{Playing, Plays, end_of, open_of, players_from}
 use Rattle.worker_crew.specs.Workers as workers
 use Rattle.worker_crew.specs.Workers.{Bisects, HaveWorked, IsOfRoom, Recomputes, Working, workers_from}
-use Rattle.shared_run.specs.Crews.{word_of}
-use Rattle.shared_run.proofs.Running.{can-play, closable-played, none-made, not-open, of-room, seated-all, shorter, still-of-room}
-use Rattle.shared_run.proofs.Workers.{all-seated, as-many, bisectors-there, others-at, recomputers-there, worked-at, workers-long}
-use Rattle.shared_run.proofs.run.run_players.Given.{Over}
+use Rattle.shared_run.{specs.Crews.word_of, proofs.Running.{can-play, closable-played, none-made, not-open, of-room, seated-all, shorter, still-of-room}}
+use Rattle.shared_run.proofs.{Workers.{all-seated, as-many, bisectors-there, others-at, recomputers-there, worked-at, workers-long}, run.run_players.Given.Over}
 use Rattle.shared_run.proofs.run.run_players.Goals as goal
 use Rattle.shared_run.proofs.run.run_players.Goals.{After-run_crew}
 

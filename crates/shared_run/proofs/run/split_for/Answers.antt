@@ -1,5 +1,4 @@
-use Rattle.std.proofs.Common.{◌++◌, length, ap, arith}
-use Rattle.std.proofs.lemmas.List.{length-map}
+use Rattle.std.proofs.{Common.{◌++◌, length, ap, arith}, lemmas.List.length-map}
 use Rattle.shared_run.proofs.Workers.{splits-go-on}
 use Rattle.shared_run.proofs.run.split_for.Goals as goal
 

@@ -1,16 +1,8 @@
-use Rattle.std.proofs.Common.{subst, arith}
-use Rattle.std.specs.List.{AllByRecursion, AllZip}
-use Rattle.std.proofs.lemmas.List.{length-map}
-use Rattle.worker_crew.specs.Rooms.{IsWhole}
-use Rattle.worker_crew.specs.Sights.{IsFirstOf, tracks_of}
-use Rattle.worker_crew.specs.Work.{Work}
-use Rattle.shared_run.specs.Ran.{HasLegalHistory}
-use Rattle.shared_run.proofs.AtLast.{finishes-less, first-true}
-use Rattle.shared_run.proofs.Beginning.{room-different}
-use Rattle.shared_run.proofs.Fitted.{is-whole, left-long}
-use Rattle.shared_run.proofs.scripts.run_machines.Given.{Over}
+use Rattle.std.{proofs.Common.{subst, arith}, specs.List.{AllByRecursion, AllZip}, proofs.lemmas.List.length-map}
+use Rattle.worker_crew.specs.{Rooms.IsWhole, Sights.{IsFirstOf, tracks_of}, Work.Work}
+use Rattle.shared_run.{specs.Ran.HasLegalHistory, proofs.AtLast.{finishes-less, first-true}, proofs.Beginning.room-different}
+use Rattle.shared_run.proofs.{Fitted.{is-whole, left-long}, scripts.run_machines.Given.Over, scripts.run_machines.Goals.After-crew_law}
 use Rattle.shared_run.proofs.scripts.run_machines.Goals as goal
-use Rattle.shared_run.proofs.scripts.run_machines.Goals.{After-crew_law}
 
 module _ (g : Over) (c : After-crew_law g) where
   -- the first pass has seen what the machines had

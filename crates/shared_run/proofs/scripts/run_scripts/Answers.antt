@@ -1,18 +1,9 @@
-use Rattle.std.proofs.Common.{Err, ◌≤◌, inl, length, refl, sym, subst}
-use Rattle.std.specs.List.{AllByRecursion}
-use Rattle.metric_table.specs.Limits.{most}
-use Rattle.metric_table.specs.declared.limits.Limit.TheVariants.{Machines}
-use Rattle.keep_rows.specs.Loading.{Stored}
-use Rattle.keep_rows.specs.Machines.{AreDifferent, names_of}
-use Rattle.worker_crew.specs.Fitting.{IsUnasked}
-use Rattle.worker_crew.specs.Whole.{tallies}
-use Rattle.shared_run.specs.Beginnings.{Begins}
-use Rattle.shared_run.specs.Crews.{asked_by}
-use Rattle.shared_run.proofs.AtLast.{still-unasked}
-use Rattle.shared_run.proofs.Beginning.{first-different}
-use Rattle.shared_run.proofs.Due.{as-due}
-use Rattle.shared_run.proofs.Early.{no-machines, no-scripts}
-use Rattle.shared_run.proofs.Late.{ends-late, ok-apart}
+use Rattle.std.{proofs.Common.{Err, ◌≤◌, inl, length, refl, sym, subst}, specs.List.AllByRecursion}
+use Rattle.metric_table.specs.{Limits.most, declared.limits.Limit.TheVariants.Machines}
+use Rattle.keep_rows.specs.{Loading.Stored, Machines.{AreDifferent, names_of}}
+use Rattle.worker_crew.specs.{Fitting.IsUnasked, Whole.tallies}
+use Rattle.shared_run.{specs.Beginnings.Begins, specs.Crews.asked_by, proofs.AtLast.still-unasked, proofs.Beginning.first-different, proofs.Due.as-due}
+use Rattle.shared_run.proofs.{Early.{no-machines, no-scripts}, Late.{ends-late, ok-apart}}
 use Rattle.shared_run.proofs.scripts.run_scripts.Goals as goal
 
 pub run_machines-requires-clause-different : goal.run_machines-requires-clause-different

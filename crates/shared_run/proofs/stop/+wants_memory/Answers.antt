@@ -1,5 +1,4 @@
-use Rattle.std.proofs.Common.{◌≡◌, ◌↔◌, List, true, Err, refl, sym, subst}
-use Rattle.std.specs.Prelude.{Contains, IsTrue, Result}
+use Rattle.std.{proofs.Common.{◌≡◌, ◌↔◌, List, true, Err, refl, sym, subst}, specs.Prelude.{Contains, IsTrue, Result}}
 use Rattle.script_loop.specs.declared.stop.Stop.{Stop}
 use Rattle.script_loop.specs.declared.stop.Stop.TheVariants as script
 use Rattle.shared_run.proofs.Stopped.{found_first, found_behind}

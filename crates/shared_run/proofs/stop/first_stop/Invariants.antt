@@ -1,5 +1,4 @@
-use Rattle.std.proofs.Common.{◌≡◌, ℕ, ◌<◌, Some, Ok}
-use Rattle.std.specs.Prelude.{slice_get}
+use Rattle.std.{proofs.Common.{◌≡◌, ℕ, ◌<◌, Some, Ok}, specs.Prelude.slice_get}
 use Rattle.shared_run.proofs.stop.first_stop.Given as goal
 
 abbrev pub invariant-loop-i : goal.invariant-loop-i

@@ -1,5 +1,4 @@
-use Rattle.std.proofs.Common.{◌≡◌, ◌++◌, take}
-use Rattle.std.specs.Prelude.{flat_map}
+use Rattle.std.{proofs.Common.{◌≡◌, ◌++◌, take}, specs.Prelude.flat_map}
 use Rattle.track_outside.specs.Kept.{bytes_of}
 use Rattle.store_rows.proofs.append.put_each.Given as goal
 

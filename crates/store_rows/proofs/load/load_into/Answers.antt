@@ -1,7 +1,5 @@
-use Rattle.std.proofs.Common.{◌∙◌, ◌+◌, subst, arith, List, ℕ, Option}
-use Rattle.std.specs.Prelude.{IfSome}
-use Rattle.store_rows.specs.Loading.{Takes}
-use Rattle.store_rows.proofs.Leading.{leads_on}
+use Rattle.std.{proofs.Common.{◌∙◌, ◌+◌, subst, arith, List, ℕ, Option}, specs.Prelude.IfSome}
+use Rattle.store_rows.{specs.Loading.Takes, proofs.Leading.leads_on}
 use Rattle.store_rows.proofs.load.load_into.Goals as goal
 
 pub loop-k-preserved : goal.loop-k-preserved

@@ -1,5 +1,4 @@
-use Rattle.std.proofs.Common.{◌≡◌, ◌≤◌, take}
-use Rattle.std.specs.Prelude.{IfSome}
+use Rattle.std.{proofs.Common.{◌≡◌, ◌≤◌, take}, specs.Prelude.IfSome}
 use Rattle.store_rows.specs.Loading.{LeadsTo}
 use Rattle.store_rows.proofs.load.load_into.Given as goal
 

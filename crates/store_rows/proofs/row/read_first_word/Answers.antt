@@ -1,8 +1,7 @@
 use Rattle.std.proofs.Common.{◌≡◌, ◌∙◌, ap, Err, take, All}
-use Rattle.store_rows.specs.declared.row.RowFault.{RowFault}
+use Rattle.store_rows.{specs.declared.row.RowFault.RowFault, proofs.Spaces.{no_space, word_is}}
 use Rattle.store_rows.specs.declared.row.RowFault.TheVariants as fault
 use Rattle.line_text.specs.Names.{spelling, MayStand}
-use Rattle.store_rows.proofs.Spaces.{no_space, word_is}
 use Rattle.store_rows.proofs.row.read_first_word.Goals as goal
 
 pub returns-in_default-clause-bad : goal.returns-in_default-clause-bad

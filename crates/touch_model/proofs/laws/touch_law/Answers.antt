@@ -1,5 +1,4 @@
-use Rattle.touch_model.proofs.Retractions.{retracted-stays}
-use Rattle.touch_model.proofs.Touches.{touches-grow, touches-past}
+use Rattle.touch_model.proofs.{Retractions.retracted-stays, Touches.{touches-grow, touches-past}}
 use Rattle.touch_model.proofs.laws.touch_law.Goals as goal
 
 pub returns-clause-last : goal.returns-clause-last

@@ -1,6 +1,5 @@
 use Rattle.std.proofs.Common.{[], ◌∙◌, ap, ap₂}
-use Rattle.history_model.specs.declared.entries.Entry.TheVariants.{Job}
-use Rattle.history_model.specs.declared.events.JobEvent.TheVariants.{Answer}
+use Rattle.history_model.specs.declared.{entries.Entry.TheVariants.Job, events.JobEvent.TheVariants.Answer}
 use Rattle.track_entry.proofs.Readers.{kept_err}
 use Rattle.track_entry.proofs.events.read_answer.Goals as goal
 

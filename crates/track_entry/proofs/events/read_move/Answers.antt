@@ -1,6 +1,5 @@
 use Rattle.std.proofs.Common.{[], ap₂}
-use Rattle.history_model.specs.declared.entries.Entry.TheVariants.{Regression}
-use Rattle.history_model.specs.declared.events.RegressionEvent.TheVariants.{Move}
+use Rattle.history_model.specs.declared.{entries.Entry.TheVariants.Regression, events.RegressionEvent.TheVariants.Move}
 use Rattle.track_entry.proofs.Readers.{kept_err}
 use Rattle.track_entry.proofs.events.read_move.Goals as goal
 

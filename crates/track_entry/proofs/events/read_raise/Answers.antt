@@ -1,5 +1,4 @@
-use Rattle.track_entry.proofs.Same.{same_change}
-use Rattle.track_entry.proofs.Readers.{kept_err}
+use Rattle.track_entry.proofs.{Same.same_change, Readers.kept_err}
 use Rattle.track_entry.proofs.events.read_raise.Goals as goal
 
 pub returns-in_err-test : goal.returns-in_err-test

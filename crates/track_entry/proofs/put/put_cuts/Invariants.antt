@@ -1,5 +1,4 @@
-use Rattle.std.proofs.Common.{◌≡◌, ◌++◌, take, map, decimal}
-use Rattle.std.specs.Prelude.{flat_map}
+use Rattle.std.{proofs.Common.{◌≡◌, ◌++◌, take, map, decimal}, specs.Prelude.flat_map}
 use Rattle.track_entry.specs.Texts.{next}
 use Rattle.track_entry.proofs.put.put_cuts.Given as goal
 

@@ -1,6 +1,5 @@
 use Rattle.std.proofs.Common.{◌<◌, ◌^◌, map, decimal, refl, ◌∙◌, sym, ap, ◌++◌, ◌∷◌, [], arith}
-use Rattle.track_entry.proofs.Readers.{kept_err}
-use Rattle.track_entry.proofs.OneByOne.{some_next, none_next}
+use Rattle.track_entry.proofs.{Readers.kept_err, OneByOne.{some_next, none_next}}
 use Rattle.track_entry.proofs.read.read_cuts.Goals as goal
 
 pub returns-in_err-cut : goal.returns-in_err-cut

@@ -1,9 +1,6 @@
-use Rattle.std.proofs.Common.{length, FitsSigned, subst, sym, ap, ◌∙◌}
-use Rattle.std.specs.Int.{w128}
-use Rattle.std.proofs.lemmas.Int.{to_z-of_z}
+use Rattle.std.{proofs.Common.{length, FitsSigned, subst, sym, ap, ◌∙◌}, specs.Int.w128, proofs.lemmas.Int.to_z-of_z}
 use Rattle.history_model.specs.declared.entries.Entry.TheVariants.{Publish}
-use Rattle.track_entry.proofs.Same.{same_publication}
-use Rattle.track_entry.proofs.Readers.{kept_err}
+use Rattle.track_entry.proofs.{Same.same_publication, Readers.kept_err}
 use Rattle.track_entry.proofs.read.read_publish.Goals as goal
 
 pub returns-in_err-test : goal.returns-in_err-test

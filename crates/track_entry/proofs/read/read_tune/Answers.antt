@@ -1,9 +1,5 @@
-use Rattle.std.proofs.Common.{[], ◌∷◌, FitsSigned, decimal, subst, sym, ◌∙◌}
-use Rattle.std.specs.Int.{w128}
-use Rattle.std.proofs.lemmas.Int.{to_z-of_z}
-use Rattle.std.specs.Fmt.{signed_decimal}
-use Rattle.track_entry.proofs.Same.{same_tune}
-use Rattle.track_entry.proofs.Readers.{kept_err}
+use Rattle.std.{proofs.Common.{[], ◌∷◌, FitsSigned, decimal, subst, sym, ◌∙◌}, specs.Int.w128, proofs.lemmas.Int.to_z-of_z, specs.Fmt.signed_decimal}
+use Rattle.track_entry.proofs.{Same.same_tune, Readers.kept_err}
 use Rattle.track_entry.proofs.read.read_tune.Goals as goal
 
 pub returns-in_err-metric : goal.returns-in_err-metric

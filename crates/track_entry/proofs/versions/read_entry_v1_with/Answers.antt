@@ -1,10 +1,6 @@
-use Rattle.std.proofs.Common.{◌≡◌, ◌++◌, codes, Result, Ok, Err, IfOk, subst, sym, ap, ◌∙◌, List, ℕ}
+use Rattle.std.{proofs.Common.{◌≡◌, ◌++◌, codes, Result, Ok, Err, IfOk, subst, sym, ap, ◌∙◌, List, ℕ}, specs.Prelude.{IsErr, IsErrAnd}}
 use Rattle.history_model.specs.declared.entries.Entry.{Entry}
-use Rattle.std.specs.Prelude.{IsErr, IsErrAnd}
-use Rattle.track_entry.specs.declared.fault.EntryFault.{EntryFault}
-use Rattle.track_entry.specs.declared.fault.EntryFault.TheVariants.{NotEntry}
-use Rattle.track_entry.specs.Texts.{SpellsEntry}
-use Rattle.track_entry.specs.Versions.{SpellsV1}
+use Rattle.track_entry.specs.{declared.fault.EntryFault.EntryFault, declared.fault.EntryFault.TheVariants.NotEntry, Texts.SpellsEntry, Versions.SpellsV1}
 use Rattle.track_entry.proofs.OlderTexts.{spells-longer, spells-shorter, spells-same, same-spells, of-v1}
 use Rattle.track_entry.proofs.versions.read_entry_v1_with.Goals as goal
 

@@ -1,12 +1,8 @@
-use Rattle.std.proofs.Common.{◌≡◌, ℕ, ◌+◌, List, length, sym, ap, subst, ◌∙◌, Some}
-use Rattle.std.specs.Prelude.{option_copied}
-use Rattle.bisect_core.specs.Bisections.{Bisection, IsRecorded}
-use Rattle.bisect_core.specs.Turns.{tested}
-use Rattle.history_model.specs.declared.entries.Entry.{Entry}
+use Rattle.std.{proofs.Common.{◌≡◌, ℕ, ◌+◌, List, length, sym, ap, subst, ◌∙◌, Some}, specs.Prelude.option_copied}
+use Rattle.bisect_core.specs.{Bisections.{Bisection, IsRecorded}, Turns.tested}
+use Rattle.history_model.specs.{declared.entries.Entry.Entry, Entries.entries_of, Jobs.{jobs, job_in}}
 use Rattle.history_model.specs.declared.entries.Entry.TheVariants as entry
 use Rattle.history_model.specs.declared.events.JobEvent.TheVariants as job_event
-use Rattle.history_model.specs.Entries.{entries_of}
-use Rattle.history_model.specs.Jobs.{jobs, job_in}
 use Rattle.track_follow.proofs.Bisecting.{is-said, job-put, takes-answer}
 use Rattle.track_follow.proofs.jobs.answered.Goals as goal
 

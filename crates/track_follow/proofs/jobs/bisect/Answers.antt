@@ -1,8 +1,5 @@
-use Rattle.std.proofs.Common.{◌≡◌, ℕ, List, refl, sym, subst, ◌∙◌, Option, Some}
-use Rattle.std.specs.Prelude.{IsSome, unwrap_or}
-use Rattle.history_model.specs.declared.entries.Entry.{Entry}
-use Rattle.history_model.specs.Commits.{name_of, number_of}
-use Rattle.history_model.specs.Entries.{entries_of}
+use Rattle.std.{proofs.Common.{◌≡◌, ℕ, List, refl, sym, subst, ◌∙◌, Option, Some}, specs.Prelude.{IsSome, unwrap_or}}
+use Rattle.history_model.specs.{declared.entries.Entry.Entry, Commits.{name_of, number_of}, Entries.entries_of}
 use Rattle.track_replay.proofs.Named.{number-is-named}
 use Rattle.track_follow.proofs.jobs.bisect.Goals as goal
 

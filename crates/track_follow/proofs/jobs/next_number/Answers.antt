@@ -2,9 +2,7 @@ use Rattle.std.proofs.Common.{◌≡◌, ◌≤◌, List, length, ap, ◌∙◌,
 use Rattle.bisect_core.specs.Bisections.{Bisection}
 use Rattle.metric_table.specs.Limits.{most}
 use Rattle.metric_table.specs.declared.limits.Limit.TheVariants as limit
-use Rattle.history_model.specs.declared.entries.Entry.{Entry}
-use Rattle.history_model.specs.Entries.{entries_of}
-use Rattle.history_model.specs.Jobs.{jobs}
+use Rattle.history_model.specs.{declared.entries.Entry.Entry, Entries.entries_of, Jobs.jobs}
 use Rattle.track_follow.proofs.Bisecting.{few-jobs}
 use Rattle.track_follow.proofs.jobs.next_number.Goals as goal
 

@@ -1,10 +1,6 @@
-use Rattle.std.proofs.Common.{◌≡◌, ℕ, ◌<◌, List, sym, ap, subst, ◌∙◌, Some, arith}
-use Rattle.std.specs.Prelude.{IsSome, option_copied}
+use Rattle.std.{proofs.Common.{◌≡◌, ℕ, ◌<◌, List, sym, ap, subst, ◌∙◌, Some, arith}, specs.Prelude.{IsSome, option_copied}}
 use Rattle.bisect_core.specs.Bisections.{Bisection}
-use Rattle.history_model.specs.declared.entries.Entry.{Entry}
-use Rattle.history_model.specs.Commits.{name_of}
-use Rattle.history_model.specs.Entries.{entries_of}
-use Rattle.history_model.specs.Jobs.{jobs, job_in}
+use Rattle.history_model.specs.{declared.entries.Entry.Entry, Commits.name_of, Entries.entries_of, Jobs.{jobs, job_in}}
 use Rattle.track_follow.proofs.jobs.resume.Goals as goal
 
 pub begin-requires : goal.begin-requires

@@ -1,31 +1,18 @@
-use Rattle.std.proofs.Common.{◌≡◌, ℕ, ◌+◌, ◌<◌, ◌≤◌, Bool, true, false, List, length, refl, sym, ap, subst, ◌∙◌, Some, arith}
-use Rattle.std.proofs.lemmas.List.{length-map}
+use Rattle.std.proofs.{Common.{◌≡◌, ℕ, ◌+◌, ◌<◌, ◌≤◌, Bool, true, false, List, length, refl, sym, ap, subst, ◌∙◌, Some, arith}, lemmas.List.length-map}
 use Rattle.metric_table.specs.Limits.{most}
 use Rattle.metric_table.specs.declared.limits.Limit.TheVariants as limit
 use Rattle.segment_cost.specs.declared.done.Done.{Done}
-use Rattle.history_model.specs.declared.entries.Entry.{Entry}
+use Rattle.history_model.specs.declared.{entries.Entry.Entry, entries.Placed.Placed, events.Raised.Raised, events.RegressionEvent.TheVariants.Raise}
 use Rattle.history_model.specs.declared.entries.Entry.TheVariants as entry
-use Rattle.history_model.specs.declared.entries.Placed.{Placed}
-use Rattle.history_model.specs.declared.events.Raised.{Raised}
-use Rattle.history_model.specs.declared.events.RegressionEvent.TheVariants.{Raise}
-use Rattle.history_model.specs.Allowed.{Allowed}
-use Rattle.history_model.specs.Entries.{entries_of}
-use Rattle.history_model.specs.Regressions.{is_number, regressions}
-use Rattle.history_model.specs.Runs.{Series}
+use Rattle.history_model.specs.{Allowed.Allowed, Entries.entries_of, Regressions.{is_number, regressions}, Runs.Series}
 use Rattle.request_model.specs.declared.replies.Answer.TheVariants as answer
 use Rattle.request_model.specs.declared.replies.Refusal.TheVariants as refusal
 use Rattle.request_model.specs.declared.replies.Reply.{Reply}
 use Rattle.track_model.specs.Following as following
 use Rattle.track_model.specs.Outcomes.{Outcome, refuses}
-use Rattle.track_replay.specs.Made.{publication_from}
-use Rattle.track_replay.specs.State.{IsLast}
-use Rattle.track_replay.proofs.Followed.{followed-length}
-use Rattle.track_follow.proofs.Raising.{comes, change-is, none-such, free, full, added}
-use Rattle.track_replay.proofs.Published.{tells-none}
-use Rattle.track_replay.proofs.Series.{no-more}
-use Rattle.track_replay.proofs.Steps.{added-step}
-use Rattle.track_replay.proofs.Told.{tells-it}
-use Rattle.track_follow.proofs.regressions.regress.Goals.{After-is_number, In_ok-raised}
+use Rattle.track_replay.{specs.Made.publication_from, specs.State.IsLast, proofs.Followed.followed-length, proofs.Published.tells-none, proofs.Series.no-more}
+use Rattle.track_follow.proofs.{Raising.{comes, change-is, none-such, free, full, added}, regressions.regress.Goals.{After-is_number, In_ok-raised}}
+use Rattle.track_replay.proofs.{Steps.added-step, Told.tells-it}
 use Rattle.track_follow.proofs.regressions.regress.Goals as goal
 
 -- the publication whose change is raised, of which the tests tell

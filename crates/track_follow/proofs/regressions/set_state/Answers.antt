@@ -1,7 +1,6 @@
 use Rattle.std.proofs.Common.{refl}
 use Rattle.history_model.specs.declared.entries.Entry.TheVariants as entry
-use Rattle.history_model.specs.declared.events.RegressionEvent.TheVariants.{Move}
-use Rattle.history_model.specs.Entries.{entries_of}
+use Rattle.history_model.specs.{declared.events.RegressionEvent.TheVariants.Move, Entries.entries_of}
 use Rattle.track_replay.proofs.Series.{no-more}
 use Rattle.track_follow.proofs.regressions.set_state.Goals as goal
 

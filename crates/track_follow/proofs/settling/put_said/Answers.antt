@@ -1,8 +1,6 @@
-use Rattle.std.proofs.Common.{refl, arith}
-use Rattle.std.proofs.lemmas.List.{length-map}
+use Rattle.std.proofs.{Common.{refl, arith}, lemmas.List.length-map}
 use Rattle.history_model.specs.declared.entries.Entry.TheVariants as entry
-use Rattle.history_model.specs.declared.entries.Placed.{Placed}
-use Rattle.history_model.specs.Entries.{entries_of}
+use Rattle.history_model.specs.{declared.entries.Placed.Placed, Entries.entries_of}
 use Rattle.track_replay.proofs.Series.{no-more}
 use Rattle.track_follow.proofs.settling.put_said.Goals as goal
 

@@ -1,13 +1,8 @@
-use Rattle.std.proofs.Common.{◌≡◌, ℕ, ◌<◌, List, length, sym, subst, Option, Some, None, arith}
-use Rattle.std.proofs.lemmas.Grind.{common_steps}
+use Rattle.std.proofs.{Common.{◌≡◌, ℕ, ◌<◌, List, length, sym, subst, Option, Some, None, arith}, lemmas.Grind.common_steps}
 use Rattle.metric_table.specs.Limits.{most}
 use Rattle.metric_table.specs.declared.limits.Limit.TheVariants as limit
-use Rattle.history_model.specs.declared.entries.Entry.{Entry}
+use Rattle.history_model.specs.{declared.entries.Entry.Entry, declared.events.JobEvent.JobEvent, Allowed.{Allowed, KeepsLimits}, Entries.entries_of, Jobs.asked}
 use Rattle.history_model.specs.declared.entries.Entry.TheVariants as entry
-use Rattle.history_model.specs.declared.events.JobEvent.{JobEvent}
-use Rattle.history_model.specs.Allowed.{Allowed, KeepsLimits}
-use Rattle.history_model.specs.Entries.{entries_of}
-use Rattle.history_model.specs.Jobs.{asked}
 use Rattle.track_model.specs.Laws.{SayIsAllowed, GiveUpIsAllowed}
 use Rattle.track_follow.specs.Settling.{entry_said}
 use Rattle.track_follow.proofs.settling.settle.Goals as goal

@@ -1,5 +1,4 @@
-use Rattle.track_model.proofs.Forms.{tune-steps-full, tune-added}
-use Rattle.track_model.proofs.Tunings.{free-follows, follows-free}
+use Rattle.track_model.proofs.{Forms.{tune-steps-full, tune-added}, Tunings.{free-follows, follows-free}}
 use Rattle.track_model.proofs.laws.tune_law.Goals as goal
 
 pub returns-clause-steps_full : goal.returns-clause-steps_full

@@ -1,6 +1,5 @@
 use Rattle.std.proofs.Common.{◌≡◌, drop}
-use Rattle.track_outside.specs.Asked.{verdict_on}
-use Rattle.track_outside.specs.Bench.{verdicts_in}
+use Rattle.track_outside.specs.{Asked.verdict_on, Bench.verdicts_in}
 use Rattle.track_outside.proofs.mem_runner.found_verdict.Given as goal
 
 abbrev pub invariant-loop-verdict : goal.invariant-loop-verdict

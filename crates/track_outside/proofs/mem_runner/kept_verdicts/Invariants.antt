@@ -1,6 +1,5 @@
 use Rattle.std.proofs.Common.{◌≡◌, take}
-use Rattle.track_outside.specs.Asked.{verdicts_of}
-use Rattle.track_outside.specs.Bench.{verdicts_in}
+use Rattle.track_outside.specs.{Asked.verdicts_of, Bench.verdicts_in}
 use Rattle.track_outside.proofs.mem_runner.kept_verdicts.Given as goal
 
 abbrev pub invariant-loop-answer : goal.invariant-loop-answer

@@ -1,5 +1,4 @@
-use Rattle.std.proofs.Common.{◌≡◌, length, sym, arith}
-use Rattle.std.proofs.lemmas.Bool.Decides.{nat_tests}
+use Rattle.std.proofs.{Common.{◌≡◌, length, sym, arith}, lemmas.Bool.Decides.nat_tests}
 use Rattle.track_outside.proofs.Repeats.{repeat-empty}
 use Rattle.track_outside.proofs.repeat_source.turns_of.Goals as goal
 

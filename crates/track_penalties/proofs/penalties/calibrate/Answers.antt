@@ -1,17 +1,11 @@
 use Rattle.std.proofs.Common.{◌≡◌, ℕ, ◌≤◌, ◌<◌, ◌&&◌, Bool, true, false, List, length, refl, sym, ap, subst, ◌∙◌, Option, Some, None, arith, nat_lt}
-use Rattle.std.specs.Prelude.{nat_le}
-use Rattle.std.proofs.lemmas.Bool.{lt-ltb, le-leb, lt-leb}
+use Rattle.std.{specs.Prelude.nat_le, proofs.lemmas.Bool.{lt-ltb, le-leb, lt-leb}}
 use Rattle.segment_model.specs.Segments.{Position}
-use Rattle.history_model.specs.declared.entries.Entry.{Entry}
-use Rattle.history_model.specs.Entries.{entries_of}
-use Rattle.history_model.specs.Positions.{positions}
-use Rattle.history_model.specs.Runs.{Series, is_known}
+use Rattle.history_model.specs.{declared.entries.Entry.Entry, Entries.entries_of, Positions.positions, Runs.{Series, is_known}}
 use Rattle.request_model.specs.declared.replies.Answer.TheVariants as answer
 use Rattle.request_model.specs.declared.replies.Refusal.TheVariants as refusal
-use Rattle.track_model.specs.Outcomes.{Outcome}
-use Rattle.track_model.specs.Publishing.{CalibrateComesTo, OfKnown, OfMany, IsCalibrated, is_factor}
-use Rattle.track_replay.specs.State.{IsFound}
-use Rattle.track_replay.proofs.Told.{tells-it, factor-out, factor-in, unknown, known, few}
+use Rattle.track_model.specs.{Outcomes.Outcome, Publishing.{CalibrateComesTo, OfKnown, OfMany, IsCalibrated, is_factor}}
+use Rattle.track_replay.{specs.State.IsFound, proofs.Told.{tells-it, factor-out, factor-in, unknown, known, few}}
 use Rattle.track_penalties.proofs.penalties.calibrate.Goals as goal
 use Rattle.track_penalties.proofs.penalties.calibrate.Goals.{then-factor-lt1-via-then-factor-lt1, then-factor-lt1-via-else-factor-lt1+then-factor-gt1000}
 

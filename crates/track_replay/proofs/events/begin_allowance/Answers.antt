@@ -1,7 +1,6 @@
 use Rattle.std.proofs.Common.{arith}
 use Rattle.history_model.specs.declared.entries.Entry.TheVariants as entry
-use Rattle.history_model.specs.declared.events.JobEvent.TheVariants.{Begin}
-use Rattle.history_model.specs.Entries.{entries_of}
+use Rattle.history_model.specs.{declared.events.JobEvent.TheVariants.Begin, Entries.entries_of}
 use Rattle.track_replay.proofs.Allowances.{steps-refused, jobs-refused, begin-allowed}
 use Rattle.track_replay.proofs.events.begin_allowance.Goals as goal
 

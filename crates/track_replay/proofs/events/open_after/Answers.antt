@@ -1,9 +1,7 @@
 use Rattle.std.proofs.Common.{◌≡◌, ◌≤◌, List, ap, ◌∙◌, arith}
 use Rattle.metric_table.specs.Limits.{most}
 use Rattle.metric_table.specs.declared.limits.Limit.TheVariants as limit
-use Rattle.history_model.specs.declared.entries.Entry.{Entry}
-use Rattle.history_model.specs.Entries.{entries_of}
-use Rattle.history_model.specs.Jobs.{jobs, open_count}
+use Rattle.history_model.specs.{declared.entries.Entry.Entry, Entries.entries_of, Jobs.{jobs, open_count}}
 use Rattle.track_replay.proofs.events.open_after.Goals as goal
 use Rattle.track_replay.proofs.events.open_after.Goals.{then-len-gt2, else-len-gt2}
 

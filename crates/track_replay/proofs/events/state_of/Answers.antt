@@ -1,9 +1,6 @@
-use Rattle.std.proofs.Common.{◌≡◌, List, sym, ap, ◌∙◌, Some, None}
-use Rattle.std.specs.Prelude.{option_copied}
-use Rattle.history_model.specs.declared.entries.Entry.{Entry}
-use Rattle.history_model.specs.Entries.{entries_of}
-use Rattle.follow_index.specs.Followed.{followed}
-use Rattle.follow_index.specs.Numbered.{followed_in}
+use Rattle.std.{proofs.Common.{◌≡◌, List, sym, ap, ◌∙◌, Some, None}, specs.Prelude.option_copied}
+use Rattle.history_model.specs.{declared.entries.Entry.Entry, Entries.entries_of}
+use Rattle.follow_index.specs.{Followed.followed, Numbered.followed_in}
 use Rattle.track_replay.proofs.Allowances.{state-some, state-none}
 use Rattle.track_replay.proofs.events.state_of.Goals as goal
 

@@ -1,6 +1,5 @@
 use Rattle.std.proofs.Common.{ℤ, sym, ap, subst, ◌∙◌, Some, None}
-use Rattle.history_model.specs.declared.entries.Entry.{Entry}
-use Rattle.history_model.specs.Entries.{entries_of}
+use Rattle.history_model.specs.{declared.entries.Entry.Entry, Entries.entries_of}
 use Rattle.track_replay.specs.Replays.{IsAllowance, tuning_fits}
 use Rattle.track_replay.proofs.Replaying.{commit-fits, commit-refused, retraction-fits, retraction-refused, tuning-fits, tuning-refused}
 use Rattle.track_replay.proofs.kept.allowance.Goals as goal

@@ -1,11 +1,7 @@
 use Rattle.std.proofs.Common.{List, subst}
-use Rattle.history_model.specs.declared.entries.Entry.{Entry}
+use Rattle.history_model.specs.{declared.entries.Entry.Entry, Entries.entries_of, Allowed.run_limits}
 use Rattle.history_model.specs.declared.entries.Entry.TheVariants as entry
-use Rattle.history_model.specs.Entries.{entries_of}
-use Rattle.history_model.specs.Allowed.{run_limits}
-use Rattle.track_replay.specs.declared.verdict.Verdict.{Verdict}
-use Rattle.track_replay.specs.Verdicts.{IsVerdict}
-use Rattle.track_replay.proofs.Replaying.{passed}
+use Rattle.track_replay.{specs.declared.verdict.Verdict.Verdict, specs.Verdicts.IsVerdict, proofs.Replaying.passed}
 use Rattle.track_replay.proofs.kept.run_allowance.Goals as goal
 
 pub returns-in-Full : goal.returns-in-Full

@@ -1,10 +1,6 @@
-use Rattle.std.proofs.Common.{◌≡◌, Bool, true, false, not, List, length, refl, arith}
-use Rattle.std.proofs.lemmas.List.{length-map}
-use Rattle.history_model.specs.declared.entries.Entry.{Entry}
-use Rattle.history_model.specs.declared.entries.Placed.{Placed}
-use Rattle.history_model.specs.Entries.{entries_of}
-use Rattle.track_replay.proofs.Verdicts.{Few, full-samples, full-series, full-series-samples, full-positions, none-full}
-use Rattle.track_replay.proofs.limits.room_for.Goals.{After-most-4}
+use Rattle.std.proofs.{Common.{◌≡◌, Bool, true, false, not, List, length, refl, arith}, lemmas.List.length-map}
+use Rattle.history_model.specs.{declared.entries.Entry.Entry, declared.entries.Placed.Placed, Entries.entries_of}
+use Rattle.track_replay.proofs.{Verdicts.{Few, full-samples, full-series, full-series-samples, full-positions, none-full}, limits.room_for.Goals.After-most-4}
 use Rattle.track_replay.proofs.limits.room_for.Goals as goal
 
 -- what would make a test good where it isn't

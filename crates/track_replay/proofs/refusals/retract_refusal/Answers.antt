@@ -1,9 +1,7 @@
-use Rattle.std.proofs.Common.{◌≡◌, ℕ, List, sym, ap, ◌∙◌}
-use Rattle.std.specs.Prelude.{find, option_map}
-use Rattle.history_model.specs.declared.entries.Entry.{Entry}
+use Rattle.std.{proofs.Common.{◌≡◌, ℕ, List, sym, ap, ◌∙◌}, specs.Prelude.{find, option_map}}
+use Rattle.history_model.specs.{declared.entries.Entry.Entry, Entries.entries_of}
 use Rattle.request_model.specs.declared.replies.Answer.TheVariants as answer
 use Rattle.request_model.specs.declared.replies.Refusal.TheVariants as refusal
-use Rattle.history_model.specs.Entries.{entries_of}
 use Rattle.sample_store.specs.Runs.{names}
 use Rattle.machine_state.specs.Indexes.{stored_runs}
 use Rattle.track_replay.proofs.Retractions.{refusal-unknown, refusal-stored}

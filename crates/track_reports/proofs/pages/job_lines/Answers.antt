@@ -1,5 +1,4 @@
-use Rattle.history_model.specs.Entries.{entries_of}
-use Rattle.history_model.specs.Jobs.{jobs}
+use Rattle.history_model.specs.{Entries.entries_of, Jobs.jobs}
 use Rattle.report_lines.specs.NumberedLines.{HasNames, told_line}
 use Rattle.track_reports.proofs.Reporting.{has-names, jobs-named, same-lines, told-lines}
 use Rattle.track_reports.proofs.pages.job_lines.Goals as goal

@@ -1,5 +1,4 @@
-use Rattle.history_model.specs.Entries.{entries_of}
-use Rattle.history_model.specs.Regressions.{regressions}
+use Rattle.history_model.specs.{Entries.entries_of, Regressions.regressions}
 use Rattle.report_lines.specs.NumberedLines.{HasEnds, followed_line}
 use Rattle.track_reports.proofs.Reporting.{followed-ends, followed-lines, has-names, same-lines}
 use Rattle.track_reports.proofs.pages.regression_lines.Goals as goal

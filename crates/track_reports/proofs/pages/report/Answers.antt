@@ -1,10 +1,7 @@
-use Rattle.std.proofs.Common.{sym, subst}
-use Rattle.std.specs.Prelude.{IfOk}
+use Rattle.std.{proofs.Common.{sym, subst}, specs.Prelude.IfOk}
 use Rattle.history_model.specs.Entries.{entries_of}
 use Rattle.request_model.specs.declared.replies.Reply.{Reply}
-use Rattle.track_model.specs.Outcomes.{Outcome}
-use Rattle.track_model.specs.Reports.{AreSeriesLines, ReportComesTo}
-use Rattle.track_model.specs.Tracks.{IsTold, Track}
+use Rattle.track_model.specs.{Outcomes.Outcome, Reports.{AreSeriesLines, ReportComesTo}, Tracks.{IsTold, Track}}
 use Rattle.track_reports.proofs.pages.report.Goals as goal
 
 pub report_with-requires : goal.report_with-requires

@@ -1,16 +1,9 @@
 use Rattle.std.proofs.Common.{◌≡◌, ℕ, List, map, ap, ◌∙◌}
 use Rattle.segment_cost.specs.declared.done.Done.{Done}
-use Rattle.history_model.specs.declared.entries.Declaration.{Declaration}
-use Rattle.history_model.specs.declared.entries.Entry.{Entry}
-use Rattle.history_model.specs.Entries.{entries_of}
-use Rattle.history_model.specs.Runs.{Series}
+use Rattle.history_model.specs.{declared.entries.Declaration.Declaration, declared.entries.Entry.Entry, Entries.entries_of, Runs.Series}
 use Rattle.request_model.specs.declared.replies.Answer.TheVariants as answer
-use Rattle.track_model.specs.Outcomes.{tells}
-use Rattle.track_model.specs.Publishing.{named, TellsChanges}
-use Rattle.track_model.specs.Replies.{reply_of}
-use Rattle.track_reports.specs.Lines.{named_by}
-use Rattle.track_reports.proofs.Declared.{all-have-names}
-use Rattle.track_reports.proofs.Telling.{changed, refused, told-last}
+use Rattle.track_model.specs.{Outcomes.tells, Publishing.{named, TellsChanges}, Replies.reply_of}
+use Rattle.track_reports.{specs.Lines.named_by, proofs.Declared.all-have-names, proofs.Telling.{changed, refused, told-last}}
 use Rattle.track_reports.proofs.told.changes.Goals as goal
 
 pub returns-in-Err : goal.returns-in-Err

@@ -1,12 +1,8 @@
-use Rattle.std.proofs.Common.{◌≡◌, ◌<◌, List, [], ◌∷◌, ◌++◌, length, get_or, sym, subst, ◌∙◌, arith}
-use Rattle.std.specs.List.{AllZip}
-use Rattle.std.proofs.lemmas.Iterator.Adapters.{YieldsList-from_vec}
-use Rattle.std.proofs.lemmas.Iterator.Consumers.{YieldsList-turn}
-use Rattle.std.proofs.lemmas.List.{length-map, length_push, map_push}
+use Rattle.std.{proofs.Common.{◌≡◌, ◌<◌, List, [], ◌∷◌, ◌++◌, length, get_or, sym, subst, ◌∙◌, arith}, specs.List.AllZip}
+use Rattle.std.proofs.lemmas.{Iterator.Adapters.YieldsList-from_vec, Iterator.Consumers.YieldsList-turn, List.{length-map, length_push, map_push}}
 use Rattle.track_model.specs.Tracks.{Track}
 use Rattle.track_state.specs.Work.{Work}
-use Rattle.track_room.specs.Sights.{Sight, Ends, EndsWhole, IsWholeSight, tracks_of}
-use Rattle.track_room.proofs.Places.{all-at, moved-on, next-is, zip-long, zip-push}
+use Rattle.track_room.{specs.Sights.{Sight, Ends, EndsWhole, IsWholeSight, tracks_of}, proofs.Places.{all-at, moved-on, next-is, zip-long, zip-push}}
 use Rattle.track_room.proofs.closing.close_each.Goals as goal
 use Rattle.track_room.proofs.closing.close_each.Goals.{In-Some-next}
 

@@ -1,8 +1,5 @@
-use Rattle.std.proofs.Common.{◌≡◌, ◌≤◌, ◌++◌, length, map}
-use Rattle.std.specs.Prelude.{vec_capacity}
-use Rattle.std.specs.List.{AllZip}
-use Rattle.track_room.specs.Rooms.{IsWhole}
-use Rattle.track_room.specs.Sights.{Sight, Ends, EndsWhole, tracks_of}
+use Rattle.std.{proofs.Common.{◌≡◌, ◌≤◌, ◌++◌, length, map}, specs.Prelude.vec_capacity, specs.List.AllZip}
+use Rattle.track_room.specs.{Rooms.IsWhole, Sights.{Sight, Ends, EndsWhole, tracks_of}}
 use Rattle.track_room.proofs.closing.close_each.Given as goal
 
 abbrev pub invariant-loop-pass : goal.invariant-loop-pass

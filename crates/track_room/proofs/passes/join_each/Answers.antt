@@ -1,13 +1,8 @@
-use Rattle.std.proofs.Common.{◌≡◌, ℕ, ◌<◌, List, length, sym, subst, ◌∙◌, arith}
-use Rattle.std.proofs.lemmas.Iterator.Adapters.{YieldsList-from_vec}
-use Rattle.std.proofs.lemmas.Iterator.Consumers.{YieldsList-turn, YieldsList-end}
-use Rattle.std.proofs.lemmas.List.{length_push}
-use Rattle.track_room.specs.Sights.{Sight, Joins}
-use Rattle.track_room.proofs.Places.{all-given, joined-more, rest-stays}
-use Rattle.track_room.specs.Rooms.{JoinsEach}
-use Rattle.track_room.proofs.Splits.{joins-first, joins-homes}
+use Rattle.std.proofs.{Common.{◌≡◌, ℕ, ◌<◌, List, length, sym, subst, ◌∙◌, arith}, lemmas.Iterator.Adapters.YieldsList-from_vec}
+use Rattle.std.proofs.lemmas.{Iterator.Consumers.{YieldsList-turn, YieldsList-end}, List.length_push}
+use Rattle.track_room.{specs.Sights.{Sight, Joins}, proofs.Places.{all-given, joined-more, rest-stays}, specs.Rooms.JoinsEach}
+use Rattle.track_room.proofs.{Splits.{joins-first, joins-homes}, passes.join_each.Goals.In-None}
 use Rattle.track_room.proofs.passes.join_each.Goals as goal
-use Rattle.track_room.proofs.passes.join_each.Goals.{In-None}
 
 pub loop-other-preserved : goal.loop-other-preserved
 loop-other-preserved c =

@@ -1,9 +1,6 @@
-use Rattle.std.proofs.Common.{◌≡◌, ℕ, ◌<◌, List, [], ◌∷◌, ◌++◌, length, map, take, get_or, set, sym, ap, subst, ◌∙◌, arith}
-use Rattle.std.proofs.lemmas.List.{map_more}
+use Rattle.std.proofs.{Common.{◌≡◌, ℕ, ◌<◌, List, [], ◌∷◌, ◌++◌, length, map, take, get_or, set, sym, ap, subst, ◌∙◌, arith}, lemmas.List.map_more}
 use Rattle.std.proofs.lemmas.List.Edits.{map_over_more}
-use Rattle.track_room.specs.Rooms.{HasGivenMarks}
-use Rattle.track_room.specs.Sights.{Sight, splitting, split_off}
-use Rattle.track_room.proofs.Places.{not-yet, all-more}
+use Rattle.track_room.{specs.Rooms.HasGivenMarks, specs.Sights.{Sight, splitting, split_off}, proofs.Places.{not-yet, all-more}}
 use Rattle.track_room.proofs.passes.split_each.Goals as goal
 
 pub loop-i-preserved : goal.loop-i-preserved

@@ -1,6 +1,5 @@
 use Rattle.std.proofs.Common.{◌≡◌, ◌++◌, map, take, drop}
-use Rattle.track_room.specs.Rooms.{HaveGivenMarks}
-use Rattle.track_room.specs.Sights.{splitting, split_off}
+use Rattle.track_room.specs.{Rooms.HaveGivenMarks, Sights.{splitting, split_off}}
 use Rattle.track_room.proofs.passes.split_each.Given as goal
 
 abbrev pub invariant-loop-i : goal.invariant-loop-i

@@ -1,11 +1,6 @@
-use Rattle.std.proofs.Common.{◌≡◌, false, List, sym, ap, subst, ◌∙◌, Some, arith}
-use Rattle.std.specs.Prelude.{bytes_eq, slice_get}
-use Rattle.std.specs.List.{AllByRecursion}
-use Rattle.std.proofs.lemmas.List.{take_all}
-use Rattle.std.proofs.lemmas.Option.{slice_get-get_or}
-use Rattle.std.proofs.lemmas.Slice.Eq.{bytes_eq-Decides}
-use Rattle.track_room.specs.Sights.{Home}
-use Rattle.track_room.proofs.Standing.{not-named}
+use Rattle.std.{proofs.Common.{◌≡◌, false, List, sym, ap, subst, ◌∙◌, Some, arith}, specs.Prelude.{bytes_eq, slice_get}, specs.List.AllByRecursion}
+use Rattle.std.proofs.lemmas.{List.take_all, Option.slice_get-get_or, Slice.Eq.bytes_eq-Decides}
+use Rattle.track_room.{specs.Sights.Home, proofs.Standing.not-named}
 use Rattle.track_room.proofs.place.place_of.Goals as goal
 
 pub returns-then-is_of-clause-some : goal.returns-then-is_of-clause-some

@@ -1,6 +1,4 @@
-use Rattle.std.proofs.Common.{◌≡◌, false, take}
-use Rattle.std.specs.Prelude.{bytes_eq}
-use Rattle.std.specs.List.{AllByRecursion}
+use Rattle.std.{proofs.Common.{◌≡◌, false, take}, specs.Prelude.bytes_eq, specs.List.AllByRecursion}
 use Rattle.track_room.specs.Sights.{Home}
 use Rattle.track_room.proofs.place.place_of.Given as goal
 

@@ -1,5 +1,4 @@
-use Rattle.std.proofs.Common.{List, [], ◌∷◌, ◌++◌, sym, ap, ap₂, ◌∙◌}
-use Rattle.std.proofs.lemmas.List.{map_push}
+use Rattle.std.proofs.{Common.{List, [], ◌∷◌, ◌++◌, sym, ap, ap₂, ◌∙◌}, lemmas.List.map_push}
 use Rattle.track_model.specs.Tracks.{Track}
 use Rattle.track_state.specs.Work.{Work, unclaimed}
 use Rattle.track_room.proofs.states.unclaimed.Goals as goal

@@ -1,5 +1,4 @@
-use Rattle.std.proofs.Common.{◌≡◌}
-use Rattle.std.specs.Prelude.{map}
+use Rattle.std.{proofs.Common.◌≡◌, specs.Prelude.map}
 use Rattle.track_room.specs.Sights.{tracks_of}
 use Rattle.track_state.specs.Work.{unclaimed}
 use Rattle.track_room.proofs.states.unclaimed.Given as goal

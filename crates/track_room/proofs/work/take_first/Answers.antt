@@ -1,9 +1,6 @@
-use Rattle.std.proofs.Common.{rules, get_or, subst, Option, Some, None, arith}
-use Rattle.std.specs.Prelude.{IfSome}
-use Rattle.track_room.specs.Sights.{Visits}
-use Rattle.track_room.specs.Taking.{seen_of}
-use Rattle.track_room.proofs.Firsts.{EntersNext, enters-all, enters-next, enters-none, entered, knows-next, takes-next}
-use Rattle.track_room.proofs.work.take_first.Given.{Over}
+use Rattle.std.{proofs.Common.{rules, get_or, subst, Option, Some, None, arith}, specs.Prelude.IfSome}
+use Rattle.track_room.specs.{Sights.Visits, Taking.seen_of}
+use Rattle.track_room.proofs.{Firsts.{EntersNext, enters-all, enters-next, enters-none, entered, knows-next, takes-next}, work.take_first.Given.Over}
 use Rattle.track_room.proofs.work.take_first.Goals as goal
 use Rattle.track_room.proofs.work.take_first.Goals.{After-take}
 

@@ -1,9 +1,6 @@
-use Rattle.std.proofs.Common.{◌≡◌, [], Option, IfOk, sym, subst}
-use Rattle.std.specs.Int.{w128}
-use Rattle.std.proofs.lemmas.Int.{to_z-of_z}
+use Rattle.std.{proofs.Common.{◌≡◌, [], Option, IfOk, sym, subst}, specs.Int.w128, proofs.lemmas.Int.to_z-of_z}
 use Rattle.pelt_core.specs.Seen.{Tabled, table_of}
-use Rattle.track_series.specs.Begun.{Begins}
-use Rattle.track_series.proofs.Beginning.{begins-some, begins-none}
+use Rattle.track_series.{specs.Begun.Begins, proofs.Beginning.{begins-some, begins-none}}
 use Rattle.track_series.proofs.computing.begun.Goals as goal
 
 pub returns-in-Some : goal.returns-in-Some

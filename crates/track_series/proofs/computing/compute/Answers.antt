@@ -1,16 +1,11 @@
-use Rattle.std.proofs.Common.{◌≡◌, ℕ, ◌-◌, ℤ, length, refl, pos, ◌≤ℤ◌, ◌^◌, ◌<◌, sym, ap, ap₂, subst, ◌∙◌, FitsSigned, unsigned_abs, arith}
-use Rattle.std.specs.Int.{w128}
-use Rattle.std.proofs.lemmas.Int.{to_z-of_z, ints, fits_signed_from_abs}
-use Rattle.std.proofs.lemmas.List.{length-map}
-use Rattle.segment_model.specs.Segments.{position_values}
-use Rattle.segment_model.specs.Limits.{IsLength}
-use Rattle.segment_model.specs.Values.{values_by_position}
+use Rattle.std.{proofs.Common.{◌≡◌, ℕ, ◌-◌, ℤ, length, refl, pos, ◌≤ℤ◌, ◌^◌, ◌<◌, sym, ap, ap₂, subst, ◌∙◌, FitsSigned, unsigned_abs, arith}, specs.Int.w128}
+use Rattle.std.proofs.lemmas.{Int.{to_z-of_z, ints, fits_signed_from_abs}, List.length-map}
+use Rattle.segment_model.specs.{Segments.position_values, Limits.IsLength, Values.values_by_position}
 use Rattle.segment_cost.specs.Certificate.{StandsFor}
 use Rattle.pelt_core.specs.Seen.{Tabled, table_of}
 use Rattle.checkpoint_redo.proofs.Fronts.{common-within, front-first}
-use Rattle.track_series.proofs.Computed.{of-points}
+use Rattle.track_series.proofs.{Computed.of-points, computing.compute.Goals.In_ok-cert}
 use Rattle.track_series.proofs.computing.compute.Goals as goal
-use Rattle.track_series.proofs.computing.compute.Goals.{In_ok-cert}
 
 fits : (z : ℤ) → pos 0 ≤ℤ z → z ≤ℤ pos (10 ^ 36) → FitsSigned w128 z
 fits z low high =

@@ -1,11 +1,6 @@
-use Rattle.std.proofs.Common.{ℕ, cond, List, sym, ap, subst, ◌∙◌, Option, Some, None}
-use Rattle.std.specs.Prelude.{option_copied}
-use Rattle.std.proofs.lemmas.Bool.{lt-ltb, le-ltb}
+use Rattle.std.{proofs.Common.{ℕ, cond, List, sym, ap, subst, ◌∙◌, Option, Some, None}, specs.Prelude.option_copied, proofs.lemmas.Bool.{lt-ltb, le-ltb}}
 use Rattle.segment_cost.specs.declared.done.Done.{Done}
-use Rattle.history_model.specs.declared.entries.Entry.{Entry}
-use Rattle.history_model.specs.declared.publication.Publication.{Publication}
-use Rattle.history_model.specs.Entries.{entries_of}
-use Rattle.history_model.specs.Publications.{last_publication}
+use Rattle.history_model.specs.{declared.entries.Entry.Entry, declared.publication.Publication.Publication, Entries.entries_of, Publications.last_publication}
 use Rattle.publication_index.specs.Kept.{series_of}
 use Rattle.machine_state.specs.State.{IsKept}
 use Rattle.track_series.proofs.Beginning.{later-kept}

@@ -1,6 +1,5 @@
 use Rattle.std.proofs.Common.{sym, ◌∙◌}
-use Rattle.history_model.specs.Entries.{entries_of}
-use Rattle.history_model.specs.Publications.{last_publication}
+use Rattle.history_model.specs.{Entries.entries_of, Publications.last_publication}
 use Rattle.publication_index.specs.Kept.{series_of}
 use Rattle.track_series.proofs.Beginning.{not-later}
 use Rattle.track_series.proofs.publishing.publish.Goals as goal

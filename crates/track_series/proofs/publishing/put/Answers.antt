@@ -1,21 +1,14 @@
 use Rattle.std.proofs.Common.{◌≡◌, ◌+◌, ◌≤◌, ◌<◌, List, [], ◌∷◌, ◌++◌, length, sym, ap, subst, ◌∙◌, arith, refl, Option, Some, None}
 use Rattle.std.proofs.lemmas.List.{length-append, length-map}
-use Rattle.metric_table.specs.Limits.{most}
-use Rattle.metric_table.specs.declared.limits.Limit.{Limit}
+use Rattle.metric_table.specs.{Limits.most, declared.limits.Limit.Limit}
 use Rattle.metric_table.specs.declared.limits.Limit.TheVariants as limit
-use Rattle.history_model.specs.declared.entries.Entry.{Entry}
+use Rattle.history_model.specs.declared.{entries.Entry.Entry, entries.Placed.Placed, publication.Publication.Publication}
 use Rattle.history_model.specs.declared.entries.Entry.TheVariants as entry
-use Rattle.history_model.specs.declared.entries.Placed.{Placed}
-use Rattle.history_model.specs.declared.publication.Publication.{Publication}
-use Rattle.history_model.specs.Allowed.{Allowed, first_passed}
-use Rattle.history_model.specs.Entries.{entries_of}
-use Rattle.history_model.specs.Publications.{cut_count}
+use Rattle.history_model.specs.{Allowed.{Allowed, first_passed}, Entries.entries_of, Publications.cut_count}
 use Rattle.track_model.specs.Tracks.{with_publication}
-use Rattle.machine_state.specs.Made.{publication_from, entry_of}
-use Rattle.track_series.specs.Publications.{IsAdded, passed}
+use Rattle.machine_state.{specs.Made.{publication_from, entry_of}, proofs.Publishing.may-publish}
+use Rattle.track_series.{specs.Publications.{IsAdded, passed}, proofs.publishing.put.Goals.After-most-2}
 use Rattle.track_series.specs.declared.publishing.Published.TheVariants as published
-use Rattle.machine_state.proofs.Publishing.{may-publish}
-use Rattle.track_series.proofs.publishing.put.Goals.{After-most-2}
 use Rattle.track_series.proofs.publishing.put.Goals as goal
 
 -- the entry that it adds, and what the tests leave

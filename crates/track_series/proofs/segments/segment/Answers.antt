@@ -1,25 +1,16 @@
 use Rattle.std.proofs.Common.{◌≡◌, List, length, refl, sym, ap, subst, ◌∙◌, Option}
 use Rattle.metric_table.specs.declared.limits.Limit.{Limit}
-use Rattle.history_model.specs.declared.entries.Entry.{Entry}
-use Rattle.history_model.specs.Allowed.{Legal}
-use Rattle.history_model.specs.Entries.{entries_of}
-use Rattle.history_model.specs.Publications.{last_publication}
-use Rattle.history_model.specs.Runs.{Series, is_known}
+use Rattle.history_model.specs.{declared.entries.Entry.Entry, Allowed.Legal, Entries.entries_of, Publications.last_publication, Runs.{Series, is_known}}
 use Rattle.history_model.proofs.Cases.{any-err}
 use Rattle.request_model.specs.declared.replies.Answer.TheVariants as answer
 use Rattle.request_model.specs.declared.replies.Refusal.TheVariants as refusal
 use Rattle.publication_index.specs.Kept.{series_of}
-use Rattle.track_model.specs.Outcomes.{tells, refuses}
-use Rattle.track_model.specs.Replies.{reply_of}
-use Rattle.track_model.specs.Tracks.{Track, IsSameButTables, base_of}
+use Rattle.track_model.specs.{Outcomes.{tells, refuses}, Replies.reply_of, Tracks.{Track, IsSameButTables, base_of}}
 use Rattle.track_model.specs.Publishing.{IsPublished, publish, SegmentComesTo}
-use Rattle.machine_state.specs.Made.{publication_from, IsMadeFrom}
-use Rattle.track_series.specs.Publications.{IsAdded, passed}
-use Rattle.track_series.specs.Snapshots.{IsSnapshot, IsTakenAt}
-use Rattle.track_series.specs.declared.publishing.Published.{Published}
+use Rattle.machine_state.{specs.Made.{publication_from, IsMadeFrom}, proofs.Told.unknown}
+use Rattle.track_series.specs.{Publications.{IsAdded, passed}, Snapshots.{IsSnapshot, IsTakenAt}, declared.publishing.Published.Published}
 use Rattle.track_series.specs.declared.publishing.Published.TheVariants as published
 use Rattle.track_series.specs.declared.snapshot.Snapshot.{Snapshot}
-use Rattle.machine_state.proofs.Told.{unknown}
 use Rattle.track_series.proofs.Segmenting.{same-tables, taken-tables, taken-history, not-stale, ok-step, full-same, full-step, series-is, made-from, comes, up-to}
 use Rattle.track_series.proofs.segments.segment.Goals as goal
 use Rattle.track_series.proofs.segments.segment.Goals.{After-segmented-answer}

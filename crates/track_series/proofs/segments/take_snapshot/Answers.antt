@@ -1,15 +1,10 @@
-use Rattle.std.proofs.Common.{◌≡◌, ℤ, pos, ◌≤ℤ◌, ◌<◌, ◌^◌, ap, sym, subst, ◌∙◌, Option, FitsSigned, unsigned_abs, arith}
-use Rattle.std.specs.Int.{w128}
+use Rattle.std.{proofs.Common.{◌≡◌, ℤ, pos, ◌≤ℤ◌, ◌<◌, ◌^◌, ap, sym, subst, ◌∙◌, Option, FitsSigned, unsigned_abs, arith}, specs.Int.w128}
 use Rattle.std.proofs.lemmas.Int.{to_z-of_z, ints, fits_signed_from_abs}
 use Rattle.segment_model.specs.Values.{values_by_position}
 use Rattle.pelt_core.specs.Seen.{table_of}
-use Rattle.machine_state.specs.declared.base.Base.{Base}
-use Rattle.history_model.specs.declared.setting.Setting.{Setting}
-use Rattle.history_model.specs.Entries.{entries_of}
-use Rattle.history_model.specs.Runs.{Series, is_known}
+use Rattle.machine_state.{specs.declared.base.Base.Base, specs.State.{BeginsWith, IsBegun, IsFound}, proofs.Bases.taken-none}
+use Rattle.history_model.specs.{declared.setting.Setting.Setting, Entries.entries_of, Runs.{Series, is_known}}
 use Rattle.track_model.specs.Tracks.{Track}
-use Rattle.machine_state.specs.State.{BeginsWith, IsBegun, IsFound}
-use Rattle.machine_state.proofs.Bases.{taken-none}
 use Rattle.track_series.proofs.Beginning.{unknown-base}
 use Rattle.track_series.proofs.segments.take_snapshot.Goals as goal
 

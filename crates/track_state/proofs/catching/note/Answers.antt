@@ -1,16 +1,9 @@
 use Rattle.std.proofs.Common.{◌≡◌, ℕ, zero, suc, [], ◌∷◌, refl, ◌+◌, ◌-◌, ◌<◌, ◌≤◌, List, length, sym, ap, ◌∙◌, Option, Some, None, arith}
-use Rattle.std.specs.Prelude.{OnErr, OnOk, Result, Ok, Err, option_copied, option_map, slice_get}
-use Rattle.std.specs.declared.alloc.AllocError.{AllocError}
-use Rattle.std.proofs.lemmas.List.{length-map}
-use Rattle.std.proofs.lemmas.Option.{slice_get-map}
+use Rattle.std.specs.{Prelude.{OnErr, OnOk, Result, Ok, Err, option_copied, option_map, slice_get}, declared.alloc.AllocError.AllocError}
+use Rattle.std.proofs.lemmas.{List.length-map, Option.slice_get-map}
 use Rattle.metric_table.specs.declared.limits.Limit.TheVariants as limit
-use Rattle.history_model.specs.declared.entries.Entry.{Entry}
-use Rattle.history_model.specs.declared.entries.Placed.{Placed}
-use Rattle.history_model.specs.Entries.{entries_of}
-use Rattle.track_state.specs.Covering.{IsTest}
-use Rattle.track_state.specs.Touching.{touched_by}
-use Rattle.track_state.proofs.Covering.{covers-step, covers-part, claims-part}
-use Rattle.track_state.proofs.Tests.{is-test}
+use Rattle.history_model.specs.{declared.entries.Entry.Entry, declared.entries.Placed.Placed, Entries.entries_of}
+use Rattle.track_state.{specs.Covering.IsTest, specs.Touching.touched_by, proofs.Covering.{covers-step, covers-part, claims-part}, proofs.Tests.is-test}
 use Rattle.track_state.proofs.catching.note.Goals.{After-touch_entry}
 use Rattle.track_state.proofs.catching.note.Goals as goal
 

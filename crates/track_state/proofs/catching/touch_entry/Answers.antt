@@ -1,15 +1,9 @@
-use Rattle.std.proofs.Common.{◌≡◌, ℕ, List, sym, ap, ◌∙◌, Some, None}
-use Rattle.std.specs.Prelude.{find, option_copied}
+use Rattle.std.{proofs.Common.{◌≡◌, ℕ, List, sym, ap, ◌∙◌, Some, None}, specs.Prelude.{find, option_copied}}
 use Rattle.sample_model.specs.Samples.{Measurement}
-use Rattle.history_model.specs.declared.entries.Entry.{Entry}
-use Rattle.history_model.specs.Entries.{entries_of}
-use Rattle.history_model.specs.Runs.{Series}
-use Rattle.sample_store.specs.Runs.{names}
-use Rattle.sample_store.specs.declared.store.Stored.{Stored}
+use Rattle.history_model.specs.{declared.entries.Entry.Entry, Entries.entries_of, Runs.Series}
+use Rattle.sample_store.specs.{Runs.names, declared.store.Stored.Stored}
 use Rattle.track_step.specs.Indexes.{stored_runs}
-use Rattle.track_state.specs.Touching.{named, sampled, touched_by}
-use Rattle.track_state.proofs.Found.{metric-of, no-run, run-of}
-use Rattle.track_state.proofs.Touching.{nothing, same-all, some-same}
+use Rattle.track_state.{specs.Touching.{named, sampled, touched_by}, proofs.Found.{metric-of, no-run, run-of}, proofs.Touching.{nothing, same-all, some-same}}
 use Rattle.track_state.proofs.catching.touch_entry.Goals.{After-touch_named, After-touch_samples-in-Retract}
 use Rattle.track_state.proofs.catching.touch_entry.Goals as goal
 

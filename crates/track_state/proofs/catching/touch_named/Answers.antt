@@ -1,10 +1,7 @@
-use Rattle.std.proofs.Common.{◌≡◌, ℕ, ◌+◌, Bool, true, false, ◌&&◌, ◌||◌, List, take, refl, sym, ap, ap₂, subst, ◌∙◌}
-use Rattle.std.specs.Prelude.{bytes_eq}
+use Rattle.std.{proofs.Common.{◌≡◌, ℕ, ◌+◌, Bool, true, false, ◌&&◌, ◌||◌, List, take, refl, sym, ap, ap₂, subst, ◌∙◌}, specs.Prelude.bytes_eq}
 use Rattle.history_model.specs.Runs.{Series, same_series}
-use Rattle.touch_index.specs.Marks.{Entries}
-use Rattle.touch_index.specs.declared.key.SeriesKey.{SeriesKey}
-use Rattle.track_state.specs.Covering.{AreTouched, SomeAreTouched}
-use Rattle.track_state.specs.Touching.{named}
+use Rattle.touch_index.specs.{Marks.Entries, declared.key.SeriesKey.SeriesKey}
+use Rattle.track_state.specs.{Covering.{AreTouched, SomeAreTouched}, Touching.named}
 use Rattle.track_state.proofs.Touching.{is_key, one-touch, push, same, some, one-more, all-of}
 use Rattle.track_state.proofs.catching.touch_named.Goals as goal
 use Rattle.track_state.proofs.catching.touch_named.Goals.{then-eq+in_ok-key+in_ok-touch, else-eq}

@@ -1,6 +1,5 @@
 use Rattle.std.proofs.Common.{take}
-use Rattle.track_state.specs.Covering.{AreTouched}
-use Rattle.track_state.specs.Touching.{named}
+use Rattle.track_state.specs.{Covering.AreTouched, Touching.named}
 use Rattle.track_state.proofs.catching.touch_named.Given as goal
 
 -- the named series so far were touched

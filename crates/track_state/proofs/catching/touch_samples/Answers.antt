@@ -1,11 +1,8 @@
 use Rattle.std.proofs.Common.{◌≡◌, ℕ, ◌+◌, ◌||◌, Bool, List, take, sym, ap, subst, ◌∙◌}
 use Rattle.sample_model.specs.Samples.{Measurement}
 use Rattle.history_model.specs.Runs.{Series, is_of}
-use Rattle.touch_index.specs.Marks.{Entries}
-use Rattle.touch_index.specs.declared.key.SeriesKey.{SeriesKey}
-use Rattle.track_state.specs.Covering.{SomeAreTouched}
-use Rattle.track_state.specs.Touching.{sampled}
-use Rattle.track_state.proofs.Touching.{is_key, one-touch, push, same, some, one-more, all-of}
+use Rattle.touch_index.specs.{Marks.Entries, declared.key.SeriesKey.SeriesKey}
+use Rattle.track_state.{specs.Covering.SomeAreTouched, specs.Touching.sampled, proofs.Touching.{is_key, one-touch, push, same, some, one-more, all-of}}
 use Rattle.track_state.proofs.catching.touch_samples.Goals as goal
 
 abbrev has : Measurement → Series → Bool

@@ -1,6 +1,5 @@
 use Rattle.std.proofs.Common.{take}
-use Rattle.track_state.specs.Covering.{AreTouched}
-use Rattle.track_state.specs.Touching.{sampled}
+use Rattle.track_state.specs.{Covering.AreTouched, Touching.sampled}
 use Rattle.track_state.proofs.catching.touch_samples.Given as goal
 
 -- the series of the samples so far were touched

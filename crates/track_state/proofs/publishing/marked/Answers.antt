@@ -1,21 +1,10 @@
-use Rattle.std.proofs.Common.{◌≡◌, ◌≤◌, List, length, refl, sym, ap, subst, ◌∙◌, Option, Some, None}
-use Rattle.std.specs.Prelude.{option_copied}
+use Rattle.std.{proofs.Common.{◌≡◌, ◌≤◌, List, length, refl, sym, ap, subst, ◌∙◌, Option, Some, None}, specs.Prelude.option_copied}
 use Rattle.segment_cost.specs.declared.done.Done.{Done}
-use Rattle.history_model.specs.declared.entries.Entry.{Entry}
-use Rattle.history_model.specs.Entries.{entries_of}
-use Rattle.history_model.specs.Publications.{last_publication}
-use Rattle.history_model.specs.Runs.{Series}
-use Rattle.touch_index.specs.Marks.{mark_of}
-use Rattle.touch_index.specs.declared.key.SeriesKey.{SeriesKey}
-use Rattle.touch_index.specs.declared.mark.Claim.TheVariants.{Free}
-use Rattle.touch_index.specs.declared.mark.Mark.{Mark}
-use Rattle.track_step.specs.Made.{publication_from}
-use Rattle.track_step.specs.State.{IsKept}
-use Rattle.track_state.specs.Covering.{Fits}
-use Rattle.track_state.specs.Work.{series_of}
-use Rattle.track_state.proofs.Handed.{kept-none, kept-some, put-claims, put-covers, was-published}
-use Rattle.track_state.proofs.Touching.{same-itself}
-use Rattle.track_state.proofs.publishing.marked.Goals.{In-Some-published}
+use Rattle.history_model.specs.{declared.entries.Entry.Entry, Entries.entries_of, Publications.last_publication, Runs.Series}
+use Rattle.touch_index.specs.{Marks.mark_of, declared.key.SeriesKey.SeriesKey, declared.mark.Claim.TheVariants.Free, declared.mark.Mark.Mark}
+use Rattle.track_step.specs.{Made.publication_from, State.IsKept}
+use Rattle.track_state.{specs.Covering.Fits, specs.Work.series_of, proofs.Handed.{kept-none, kept-some, put-claims, put-covers, was-published}}
+use Rattle.track_state.proofs.{Touching.same-itself, publishing.marked.Goals.In-Some-published}
 use Rattle.track_state.proofs.publishing.marked.Goals as goal
 
 pub unreachable-requires : goal.unreachable-requires

@@ -1,17 +1,9 @@
-use Rattle.std.proofs.Common.{◌≡◌, ℕ, cond, List, sym, subst, ◌∙◌, ap}
-use Rattle.std.specs.Prelude.{nat_lt}
-use Rattle.std.specs.Ordering.{is_eq}
-use Rattle.history_model.specs.declared.entries.Entry.{Entry}
-use Rattle.history_model.specs.Entries.{entries_of}
-use Rattle.history_model.specs.Runs.{same_series}
-use Rattle.touch_index.specs.Marks.{key_cmp, mark_of, with_claim}
-use Rattle.touch_index.specs.declared.key.SeriesKey.{SeriesKey}
-use Rattle.touch_index.specs.declared.mark.Claim.{Claim}
+use Rattle.std.{proofs.Common.{◌≡◌, ℕ, cond, List, sym, subst, ◌∙◌, ap}, specs.Prelude.nat_lt, specs.Ordering.is_eq}
+use Rattle.history_model.specs.{declared.entries.Entry.Entry, Entries.entries_of, Runs.same_series}
+use Rattle.touch_index.specs.{Marks.{key_cmp, mark_of, with_claim}, declared.key.SeriesKey.SeriesKey, declared.mark.Claim.Claim}
 use Rattle.touch_index.specs.declared.mark.Claim.TheVariants.{Free, Refused}
 use Rattle.touch_model.specs.Touches.{last_touch}
-use Rattle.track_state.specs.Covering.{Covers}
-use Rattle.track_state.specs.Work.{series_of}
-use Rattle.track_state.proofs.Handed.{refused-claims, refused-covers}
+use Rattle.track_state.{specs.Covering.Covers, specs.Work.series_of, proofs.Handed.{refused-claims, refused-covers}}
 use Rattle.track_state.proofs.publishing.note_refusal.Goals as goal
 
 pub returns-clause-covers : goal.returns-clause-covers

@@ -1,12 +1,8 @@
-use Rattle.std.proofs.Common.{◌≡◌, ℕ, not, List, sym, ap, ◌∙◌}
-use Rattle.std.specs.Prelude.{find}
+use Rattle.std.{proofs.Common.{◌≡◌, ℕ, not, List, sym, ap, ◌∙◌}, specs.Prelude.find}
 use Rattle.bisect_core.specs.Bisections.{Bisection}
 use Rattle.follow_index.specs.Numbered.{open_numbers}
-use Rattle.history_model.specs.declared.entries.Entry.{Entry}
-use Rattle.history_model.specs.Entries.{entries_of}
-use Rattle.history_model.specs.Jobs.{jobs}
-use Rattle.track_state.specs.Questions.{is_claimed}
-use Rattle.track_state.proofs.Numbers.{first-question, is-asked, no-question}
+use Rattle.history_model.specs.{declared.entries.Entry.Entry, Entries.entries_of, Jobs.jobs}
+use Rattle.track_state.{specs.Questions.is_claimed, proofs.Numbers.{first-question, is-asked, no-question}}
 use Rattle.track_state.proofs.questions.open_question.Goals as goal
 
 pub returns-in_default : goal.returns-in_default

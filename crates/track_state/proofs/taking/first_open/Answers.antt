@@ -1,13 +1,8 @@
-use Rattle.std.proofs.Common.{◌≡◌, ℕ, false, List, sym, ◌∙◌, subst, Option}
-use Rattle.std.specs.Prelude.{IfSome}
-use Rattle.history_model.specs.declared.entries.Entry.{Entry}
-use Rattle.history_model.specs.Entries.{entries_of}
-use Rattle.history_model.specs.Publications.{last_publication}
-use Rattle.touch_index.specs.Marks.{Entries, IsFirstFree}
-use Rattle.touch_index.specs.declared.key.SeriesKey.{SeriesKey}
+use Rattle.std.{proofs.Common.{◌≡◌, ℕ, false, List, sym, ◌∙◌, subst, Option}, specs.Prelude.IfSome}
+use Rattle.history_model.specs.{declared.entries.Entry.Entry, Entries.entries_of, Publications.last_publication}
+use Rattle.touch_index.specs.{Marks.{Entries, IsFirstFree}, declared.key.SeriesKey.SeriesKey}
 use Rattle.touch_model.specs.Stale.{is_behind}
-use Rattle.track_state.specs.Work.{series_of}
-use Rattle.track_state.proofs.Opening.{first-is, removed-claims, removed-covers}
+use Rattle.track_state.{specs.Work.series_of, proofs.Opening.{first-is, removed-claims, removed-covers}}
 use Rattle.track_state.proofs.taking.first_open.Goals as goal
 
 pub returns-then-is_behind-clause-some : goal.returns-then-is_behind-clause-some

@@ -1,12 +1,7 @@
 use Rattle.std.proofs.Common.{◌≡◌, List, length, sym, subst, ◌∙◌, Option, Some, None}
-use Rattle.history_model.specs.declared.entries.Entry.{Entry}
-use Rattle.history_model.specs.Entries.{entries_of}
-use Rattle.history_model.specs.Runs.{Series}
-use Rattle.touch_index.specs.Marks.{mark_of}
-use Rattle.touch_index.specs.declared.mark.Mark.{Mark}
-use Rattle.track_state.specs.Covering.{Fits, IsMark}
-use Rattle.track_state.specs.Work.{series_of}
-use Rattle.track_state.proofs.Covering.{marked-stale, unmarked-fresh}
+use Rattle.history_model.specs.{declared.entries.Entry.Entry, Entries.entries_of, Runs.Series}
+use Rattle.touch_index.specs.{Marks.mark_of, declared.mark.Mark.Mark}
+use Rattle.track_state.{specs.Covering.{Fits, IsMark}, specs.Work.series_of, proofs.Covering.{marked-stale, unmarked-fresh}}
 use Rattle.track_state.proofs.taking.is_stale.Goals as goal
 
 pub returns-in-Some : goal.returns-in-Some

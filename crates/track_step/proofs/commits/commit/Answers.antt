@@ -1,19 +1,12 @@
-use Rattle.std.proofs.Common.{◌≡◌, ◌+◌, length, ℕ, List, sym, ap, ◌∙◌, arith, refl, subst}
-use Rattle.std.specs.Prelude.{None}
-use Rattle.std.proofs.lemmas.List.{length-map}
+use Rattle.std.{proofs.Common.{◌≡◌, ◌+◌, length, ℕ, List, sym, ap, ◌∙◌, arith, refl, subst}, specs.Prelude.None, proofs.lemmas.List.length-map}
 use Rattle.metric_table.specs.declared.limits.Limit.TheVariants as limit
-use Rattle.history_model.specs.declared.entries.Entry.{Entry}
+use Rattle.history_model.specs.{declared.entries.Entry.Entry, declared.entries.Placed.Placed, Allowed.Allowed, Commits.declarations, Entries.entries_of}
 use Rattle.history_model.specs.declared.entries.Entry.TheVariants as entry
-use Rattle.history_model.specs.declared.entries.Placed.{Placed}
 use Rattle.request_model.specs.declared.replies.Answer.TheVariants as answer
 use Rattle.request_model.specs.declared.replies.Refusal.TheVariants as refusal
-use Rattle.history_model.specs.Allowed.{Allowed}
-use Rattle.history_model.specs.Commits.{declarations}
-use Rattle.history_model.specs.Entries.{entries_of}
 use Rattle.track_model.specs.Forms as forms
 use Rattle.track_model.specs.Laws.{CommitFits}
-use Rattle.track_follow.proofs.Steps.{told-step, added-step}
-use Rattle.track_follow.proofs.Series.{no-more}
+use Rattle.track_follow.proofs.{Steps.{told-step, added-step}, Series.no-more}
 use Rattle.track_step.proofs.commits.commit.Goals.{In_default, In_ok-name}
 use Rattle.track_step.proofs.commits.commit.Goals as goal
 

@@ -1,16 +1,10 @@
-use Rattle.std.proofs.Common.{◌≡◌, refl, ◌<◌, length, ℕ, List, sym, ◌∙◌, arith, subst}
-use Rattle.std.specs.Prelude.{None}
-use Rattle.std.proofs.lemmas.List.{length-map}
+use Rattle.std.{proofs.Common.{◌≡◌, refl, ◌<◌, length, ℕ, List, sym, ◌∙◌, arith, subst}, specs.Prelude.None, proofs.lemmas.List.length-map}
 use Rattle.metric_table.specs.Limits.{most}
 use Rattle.metric_table.specs.declared.limits.Limit.TheVariants as limit
-use Rattle.history_model.specs.declared.entries.Entry.{Entry}
+use Rattle.history_model.specs.{declared.entries.Entry.Entry, declared.entries.Placed.Placed, Allowed.{Allowed, KeepsLimits}, Entries.entries_of}
 use Rattle.history_model.specs.declared.entries.Entry.TheVariants as entry
-use Rattle.history_model.specs.declared.entries.Placed.{Placed}
-use Rattle.history_model.specs.Allowed.{Allowed, KeepsLimits}
-use Rattle.history_model.specs.Entries.{entries_of}
 use Rattle.track_model.specs.Forms as forms
-use Rattle.track_follow.proofs.Retractions.{free-run}
-use Rattle.track_follow.proofs.Series.{no-more}
+use Rattle.track_follow.proofs.{Retractions.free-run, Series.no-more}
 use Rattle.track_step.proofs.commits.retract.Goals as goal
 
 pub add-requires-clause-allowed : goal.add-requires-clause-allowed

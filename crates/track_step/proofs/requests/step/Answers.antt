@@ -1,20 +1,12 @@
-use Rattle.std.proofs.Common.{◌≡◌, ℕ, List, refl, sym, ap, subst, ◌∙◌}
-use Rattle.std.specs.Prelude.{IfOk, Result, Ok, Err}
-use Rattle.history_model.specs.declared.entries.Entry.{Entry}
-use Rattle.history_model.specs.Entries.{entries_of}
+use Rattle.std.{proofs.Common.{◌≡◌, ℕ, List, refl, sym, ap, subst, ◌∙◌}, specs.Prelude.{IfOk, Result, Ok, Err}}
+use Rattle.history_model.specs.{declared.entries.Entry.Entry, Entries.entries_of, declared.entries.Author.Author}
 use Rattle.request_model.specs.declared.replies.Answer.TheVariants as answer
-use Rattle.request_model.specs.declared.replies.Reply.{Reply}
-use Rattle.request_model.specs.declared.requests.Request.{Request}
+use Rattle.request_model.specs.{declared.replies.Reply.Reply, declared.requests.Request.Request, Requests.machine_of}
 use Rattle.track_model.specs.Forms as forms
-use Rattle.track_model.specs.Outcomes.{Outcome}
+use Rattle.track_model.specs.{Outcomes.Outcome, Replies.reply_of, Publishing.{ChangesComeTo, VerifyComesTo}, Reports.ReportComesTo}
 use Rattle.track_model.specs.Outcomes as outcomes
 use Rattle.request_model.specs.declared.requests.Request.TheVariants as request
 use Rattle.track_model.specs.Following as following
-use Rattle.track_model.specs.Replies.{reply_of}
-use Rattle.request_model.specs.Requests.{machine_of}
-use Rattle.history_model.specs.declared.entries.Author.{Author}
-use Rattle.track_model.specs.Publishing.{ChangesComeTo, VerifyComesTo}
-use Rattle.track_model.specs.Reports.{ReportComesTo}
 use Rattle.track_model.specs.Tracks.{ComesTo, IsStep, IsTold, Track, with_added}
 use Rattle.track_follow.proofs.Told.{tells-it, any-step}
 use Rattle.track_step.proofs.requests.step.Goals as goal

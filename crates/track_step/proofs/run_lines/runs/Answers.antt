@@ -1,19 +1,12 @@
-use Rattle.std.proofs.Common.{◌≡◌, List, All, ap, ◌∙◌}
-use Rattle.std.specs.Prelude.{IsSome, map}
-use Rattle.std.proofs.lemmas.List.Elements.{All-map}
-use Rattle.history_model.specs.declared.entries.Declaration.{Declaration}
-use Rattle.history_model.specs.declared.entries.Entry.{Entry}
+use Rattle.std.{proofs.Common.{◌≡◌, List, All, ap, ◌∙◌}, specs.Prelude.{IsSome, map}, proofs.lemmas.List.Elements.All-map}
+use Rattle.history_model.specs.{declared.entries.Declaration.Declaration, declared.entries.Entry.Entry, Commits.{declarations, name_in}, Entries.entries_of}
 use Rattle.request_model.specs.declared.replies.Answer.TheVariants as answer
 use Rattle.request_model.specs.declared.runs.RunLine.{RunLine}
-use Rattle.history_model.specs.Commits.{declarations, name_in}
-use Rattle.history_model.specs.Entries.{entries_of}
-use Rattle.track_model.specs.Outcomes.{tells}
-use Rattle.track_model.specs.Replies.{reply_of}
+use Rattle.track_model.specs.{Outcomes.tells, Replies.reply_of}
 use Rattle.history_model.specs.Runs.{acceptances, retractions}
 use Rattle.sample_store.specs.declared.store.Stored.{Stored}
 use Rattle.track_follow.specs.Indexes.{stored, stored_runs}
-use Rattle.track_step.specs.Lines.{line_of}
-use Rattle.track_step.proofs.Listing.{lines-are}
+use Rattle.track_step.{specs.Lines.line_of, proofs.Listing.lines-are}
 use Rattle.track_step.proofs.run_lines.runs.Goals as goal
 
 pub lines_of-requires : goal.lines_of-requires

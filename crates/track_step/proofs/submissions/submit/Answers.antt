@@ -1,14 +1,8 @@
-use Rattle.std.proofs.Common.{◌≡◌, ℕ, List, ap, sym, subst, ◌∙◌}
-use Rattle.std.specs.Prelude.{Option, IsSome, None, unwrap_or}
-use Rattle.history_model.specs.declared.entries.Entry.{Entry}
-use Rattle.history_model.specs.declared.run.Run.{Run}
-use Rattle.history_model.specs.Commits.{name_of}
-use Rattle.history_model.specs.Entries.{entries_of}
+use Rattle.std.{proofs.Common.{◌≡◌, ℕ, List, ap, sym, subst, ◌∙◌}, specs.Prelude.{Option, IsSome, None, unwrap_or}}
+use Rattle.history_model.specs.{declared.entries.Entry.Entry, declared.run.Run.Run, Commits.name_of, Entries.entries_of}
 use Rattle.track_model.specs.Forms as forms
 use Rattle.sample_model.specs.Samples.{AreSamples}
-use Rattle.track_follow.specs.Verdict.{Verdict}
-use Rattle.track_follow.specs.Verdicts.{IsVerdict}
-use Rattle.track_follow.proofs.Named.{number-is-named}
+use Rattle.track_follow.{specs.Verdict.Verdict, specs.Verdicts.IsVerdict, proofs.Named.number-is-named}
 use Rattle.track_step.proofs.Submits.{free-submit}
 use Rattle.track_step.proofs.submissions.submit.Goals as goal
 

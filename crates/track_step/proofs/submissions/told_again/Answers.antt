@@ -3,8 +3,7 @@ use Rattle.history_model.specs.Entries.{entries_of}
 use Rattle.sample_store.specs.Judged as judge
 use Rattle.sample_store.specs.declared.store.Stored.{Stored}
 use Rattle.track_follow.specs.Indexes.{stored_runs}
-use Rattle.track_step.specs.Told.{told_of}
-use Rattle.track_step.proofs.ToldAgain.{told-by-judge}
+use Rattle.track_step.{specs.Told.told_of, proofs.ToldAgain.told-by-judge}
 use Rattle.track_step.proofs.submissions.told_again.Goals as goal
 
 pub returns : goal.returns

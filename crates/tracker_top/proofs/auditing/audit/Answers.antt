@@ -1,12 +1,6 @@
-use Rattle.std.proofs.Common.{◌≡◌, ◌∙◌, ℕ, List, length, ap, sym, subst, inr, arith, IfNone, IfSome}
-use Rattle.std.proofs.lemmas.List.{length-map}
-use Rattle.std.specs.Borrow.{Bor}
-use Rattle.command_words.specs.declared.command.Command.TheVariants.{Audit}
-use Rattle.command_words.specs.Commands.{AreNoCommand, IsSpelled}
-use Rattle.command_words.specs.Plans.{Files}
-use Rattle.command_words.specs.Texts.{shown, texts}
-use Rattle.tracker_top.proofs.Audits.{is-told-of, named-ends, never-bad-audit}
-use Rattle.tracker_top.proofs.AuditsDue.{bad-audit-due, ends-due, wanting-audit-due}
+use Rattle.std.{proofs.Common.{◌≡◌, ◌∙◌, ℕ, List, length, ap, sym, subst, inr, arith, IfNone, IfSome}, proofs.lemmas.List.length-map, specs.Borrow.Bor}
+use Rattle.command_words.specs.{declared.command.Command.TheVariants.Audit, Commands.{AreNoCommand, IsSpelled}, Plans.Files, Texts.{shown, texts}}
+use Rattle.tracker_top.proofs.{Audits.{is-told-of, named-ends, never-bad-audit}, AuditsDue.{bad-audit-due, ends-due, wanting-audit-due}}
 use Rattle.tracker_top.proofs.auditing.audit.Goals as goal
 
 pub audit_files-requires-clause-some : goal.audit_files-requires-clause-some

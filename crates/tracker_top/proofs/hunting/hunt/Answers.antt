@@ -1,13 +1,8 @@
 use Rattle.std.proofs.Common.{◌≡◌, ◌∙◌, ℕ, List, length, ap, sym, subst, inr, arith, IfNone, IfSome}
-use Rattle.command_words.specs.declared.command.Command.TheVariants.{Hunt}
-use Rattle.command_words.specs.declared.command.HuntPlan.{HuntPlan}
-use Rattle.command_words.specs.Commands.{AreNoCommand, IsSpelled}
-use Rattle.command_words.specs.Texts.{texts}
+use Rattle.command_words.specs.{declared.command.Command.TheVariants.Hunt, declared.command.HuntPlan.HuntPlan, Commands.{AreNoCommand, IsSpelled}, Texts.texts}
 use Rattle.hunt_command.specs.Endings.{EndsHunt as PutsHunt}
-use Rattle.tracker_top.specs.Hunts.{HuntsAsDue}
-use Rattle.tracker_top.specs.declared.status.Status.{Status}
-use Rattle.tracker_top.proofs.Hunts.{as-many, bad-hunt-due, hunt-due, never-bad-hunt, wanting-hunt-due}
-use Rattle.tracker_top.proofs.Plans.{whole-of}
+use Rattle.tracker_top.specs.{Hunts.HuntsAsDue, declared.status.Status.Status}
+use Rattle.tracker_top.proofs.{Hunts.{as-many, bad-hunt-due, hunt-due, never-bad-hunt, wanting-hunt-due}, Plans.whole-of}
 use Rattle.tracker_top.proofs.hunting.hunt.Goals as goal
 
 pub returns-in_default-clause-complete : goal.returns-in_default-clause-complete

@@ -1,5 +1,4 @@
-use Rattle.std.proofs.Common.{ap, ◌∙◌, ℕ, List, option_map}
-use Rattle.std.specs.Borrow.{Bor}
+use Rattle.std.{proofs.Common.{ap, ◌∙◌, ℕ, List, option_map}, specs.Borrow.Bor}
 use Rattle.tracker_top.proofs.Plans.{name-of}
 use Rattle.tracker_top.proofs.naming.name_of.Goals as goal
 

@@ -1,8 +1,7 @@
 use Rattle.std.proofs.Common.{ℕ, List, Option, sym, subst, arith, OnOk, OnErr}
 use Rattle.command_words.specs.Texts.{shown}
 use Rattle.track_outside.specs.Calls.{Took, FailedIn}
-use Rattle.tracker_top.specs.Plays.{long_line}
-use Rattle.tracker_top.proofs.Audits.{behind-journal}
+use Rattle.tracker_top.{specs.Plays.long_line, proofs.Audits.behind-journal}
 use Rattle.tracker_top.proofs.naming.put_file_too_long.Goals as goal
 
 pub returns-clause-ok : goal.returns-clause-ok

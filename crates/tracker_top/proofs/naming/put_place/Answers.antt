@@ -1,7 +1,5 @@
-use Rattle.std.proofs.Common.{ℕ, List, [], ◌∷◌, ◌++◌, decimal, subst}
-use Rattle.std.proofs.lemmas.Result.{MatchResult-weaker}
-use Rattle.track_outside.specs.Calls.{Took, FailedIn}
-use Rattle.track_outside.proofs.InParts.{took_more, failed_first, failed_more}
+use Rattle.std.proofs.{Common.{ℕ, List, [], ◌∷◌, ◌++◌, decimal, subst}, lemmas.Result.MatchResult-weaker}
+use Rattle.track_outside.{specs.Calls.{Took, FailedIn}, proofs.InParts.{took_more, failed_first, failed_more}}
 use Rattle.history_model.proofs.Cases.{any-err}
 use Rattle.tracker_top.proofs.naming.put_place.Goals as goal
 

@@ -1,15 +1,9 @@
 use Rattle.std.proofs.Common.{◌≡◌, ◌∙◌, length, sym, ap, subst, inr, IfNone, IfSome}
-use Rattle.command_words.specs.declared.command.Command.TheVariants.{Play}
-use Rattle.command_words.specs.Commands.{AreNoCommand, IsSpelled}
-use Rattle.command_words.specs.Plans.{Plan}
-use Rattle.command_words.specs.Texts.{shown, texts}
-use Rattle.tracker_top.specs.Plays.{PlaysAsDue, run_status}
-use Rattle.tracker_top.specs.declared.status.Status.{Status}
-use Rattle.shared_run.specs.Crews.{asked_by}
-use Rattle.shared_run.specs.Endings.{EndsRun, Objects, Told}
-use Rattle.tracker_top.proofs.Plans.{are-new, bad-due, is-told, never-bad, plan-due, whole-of}
+use Rattle.command_words.specs.{declared.command.Command.TheVariants.Play, Commands.{AreNoCommand, IsSpelled}, Plans.Plan, Texts.{shown, texts}}
+use Rattle.tracker_top.specs.{Plays.{PlaysAsDue, run_status}, declared.status.Status.Status}
+use Rattle.shared_run.specs.{Crews.asked_by, Endings.{EndsRun, Objects, Told}}
+use Rattle.tracker_top.proofs.{Plans.{are-new, bad-due, is-told, never-bad, plan-due, whole-of}, playing.play.Goals.{in-Ok-run_scripts, in-Err}}
 use Rattle.tracker_top.proofs.playing.play.Goals as goal
-use Rattle.tracker_top.proofs.playing.play.Goals.{in-Ok-run_scripts, in-Err}
 
 pub run_scripts-requires-clause-new : goal.run_scripts-requires-clause-new
 run_scripts-requires-clause-new g c κs within = rw c.deref_mut.ensures.value (are-new g.N.Runner c.args.runners.now.items c.requires.unasked)

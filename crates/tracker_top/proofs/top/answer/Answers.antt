@@ -2,8 +2,7 @@ use Rattle.std.proofs.lemmas.List.Elements.{All-weaker}
 use Rattle.history_model.specs.Entries.{entries_of}
 use Rattle.trial_script.specs.Sessions.{HasLegalHistory}
 use Rattle.track_model.specs.Tracks.{Track}
-use Rattle.tracker_top.specs.Answers.{PublishesWell}
-use Rattle.tracker_top.proofs.Counted.{answers-script}
+use Rattle.tracker_top.{specs.Answers.PublishesWell, proofs.Counted.answers-script}
 use Rattle.tracker_top.proofs.top.answer.Goals as goal
 
 pub returns : goal.returns

@@ -1,6 +1,5 @@
 use Rattle.std.proofs.Common.{List, ℕ, Option, refl, sym, subst}
-use Rattle.tracker_top.specs.Endings.{EndsApply, streams}
-use Rattle.tracker_top.proofs.Endings.{ends-alone}
+use Rattle.tracker_top.{specs.Endings.{EndsApply, streams}, proofs.Endings.ends-alone}
 use Rattle.tracker_top.proofs.top.apply_on.Goals as goal
 
 pub returns-in-None : goal.returns-in-None

@@ -1,9 +1,6 @@
-use Rattle.std.proofs.Common.{inr, subst, sym}
-use Rattle.std.specs.Prelude.{IfSome}
-use Rattle.keep_rows.specs.Kept.{AreKept}
-use Rattle.keep_rows.specs.Loading.{Stored, LeadTo}
-use Rattle.tracker_top.specs.Endings.{streams}
-use Rattle.tracker_top.proofs.Endings.{ends_kept}
+use Rattle.std.{proofs.Common.{inr, subst, sym}, specs.Prelude.IfSome}
+use Rattle.keep_rows.specs.{Kept.AreKept, Loading.{Stored, LeadTo}}
+use Rattle.tracker_top.{specs.Endings.streams, proofs.Endings.ends_kept}
 use Rattle.tracker_top.proofs.top.apply_to.Goals as goal
 
 pub returns-in-Ok-append_all : goal.returns-in-Ok-append_all

@@ -1,7 +1,6 @@
 use Rattle.std.proofs.Common.{refl, ap, Some}
 use Rattle.series_gen.specs.Script.{script as script_of}
-use Rattle.tracker_top.specs.Answers.{new_state}
-use Rattle.tracker_top.proofs.Trials.{runs_none}
+use Rattle.tracker_top.{specs.Answers.new_state, proofs.Trials.runs_none}
 use Rattle.tracker_top.proofs.top.run_trial.Goals as goal
 
 pub returns-in_default : goal.returns-in_default

@@ -1,15 +1,10 @@
-use Rattle.std.proofs.Common.{◌≡◌, List, Ok, Err, subst, sym, ap, ◌∙◌}
-use Rattle.std.proofs.lemmas.List.Elements.{All-weaker}
+use Rattle.std.proofs.{Common.{◌≡◌, List, Ok, Err, subst, sym, ap, ◌∙◌}, lemmas.List.Elements.All-weaker}
 use Rattle.history_model.specs.declared.entries.Author.TheVariants as author
 use Rattle.history_model.specs.Entries.{entries_of}
 use Rattle.script_loop.specs.Endings.{HasAnswered}
-use Rattle.trial_script.specs.Counting.{Counting, counted}
-use Rattle.trial_script.specs.Sessions.{State, AnswersSome, HasLegalHistory}
+use Rattle.trial_script.specs.{Counting.{Counting, counted}, Sessions.{State, AnswersSome, HasLegalHistory}}
 use Rattle.track_model.specs.Tracks.{Track}
-use Rattle.tracker_top.specs.Answers.{new_state, PublishesWell}
-use Rattle.tracker_top.specs.Endings.{RunsScript}
-use Rattle.tracker_top.specs.declared.status.Status.{Status}
-use Rattle.tracker_top.proofs.Trials.{runs}
+use Rattle.tracker_top.{specs.Answers.{new_state, PublishesWell}, specs.Endings.RunsScript, specs.declared.status.Status.Status, proofs.Trials.runs}
 use Rattle.tracker_top.proofs.top.try_script.Goals as goal
 
 pub returns-in-Ok : goal.returns-in-Ok

@@ -1,5 +1,4 @@
-use Rattle.std.proofs.Common.{ap, sym, ◌∙◌}
-use Rattle.std.specs.Option.{option_copied}
+use Rattle.std.{proofs.Common.{ap, sym, ◌∙◌}, specs.Option.option_copied}
 use Rattle.tracker_top.proofs.Plans.{asks-first}
 use Rattle.tracker_top.proofs.words.asks.Goals as goal
 

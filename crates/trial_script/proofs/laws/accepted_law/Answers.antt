@@ -1,5 +1,4 @@
-use Rattle.trial_script.specs.Accepted.{EachIsAccepted}
-use Rattle.trial_script.proofs.AllAccepted.{each_is_accepted, none_is_refused}
+use Rattle.trial_script.{specs.Accepted.EachIsAccepted, proofs.AllAccepted.{each_is_accepted, none_is_refused}}
 use Rattle.trial_script.proofs.laws.accepted_law.Goals.{After-publish_law}
 use Rattle.trial_script.proofs.laws.accepted_law.Goals as goal
 

@@ -1,7 +1,5 @@
 use denote.Param.Send.{sendable}
-use Rattle.worker_crew.specs.Workers.{IsSeated}
-use Rattle.worker_crew.proofs.Paired.{can-work}
-use Rattle.worker_crew.proofs.Sent.{worker_send}
+use Rattle.worker_crew.{specs.Workers.IsSeated, proofs.Paired.can-work, proofs.Sent.worker_send}
 use Rattle.worker_crew.proofs.beside.work_beside.Goals as goal
 
 pub run_with_workers-requires-send-H : goal.run_with_workers-requires-send-H

@@ -1,5 +1,4 @@
-use Rattle.worker_crew.proofs.Seated.{bisectors-sit, joins-go-on, recomputers-sit, seats-share, splits-go-on}
-use Rattle.worker_crew.proofs.Whole.{crew-gives}
+use Rattle.worker_crew.proofs.{Seated.{bisectors-sit, joins-go-on, recomputers-sit, seats-share, splits-go-on}, Whole.crew-gives}
 use Rattle.worker_crew.proofs.laws.crew_law.Goals as goal
 
 pub returns-clause-recompute : goal.returns-clause-recompute

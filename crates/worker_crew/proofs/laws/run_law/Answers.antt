@@ -1,5 +1,4 @@
-use Rattle.worker_crew.proofs.Quieting.{players-quiet}
-use Rattle.worker_crew.proofs.Running.{players-fit}
+use Rattle.worker_crew.proofs.{Quieting.players-quiet, Running.players-fit}
 use Rattle.worker_crew.proofs.laws.run_law.Goals as goal
 
 pub returns-clause-fits : goal.returns-clause-fits

@@ -1,5 +1,4 @@
-use Rattle.std.proofs.Common.{length}
-use Rattle.std.specs.Vec.Iter.{into_iter_items}
+use Rattle.std.{proofs.Common.length, specs.Vec.Iter.into_iter_items}
 use Rattle.worker_crew.proofs.seating.+seat_rest.Given as goal
 
 abbrev pub decreases-seat_rest : goal.decreases-seat_rest

@@ -1,11 +1,8 @@
 use Rattle.std.proofs.Common.{◌≡◌, ◌≤◌, ◌<◌, ◌-◌, ◌∙◌, ap, sym, arith, List, ℤ, length, take, drop, refl}
 use Rattle.segment_model.specs.Values.{joined, values_between}
 use Rattle.prefix_sums.specs.Prefixes.{Summed}
-use Rattle.absolute_cost.specs.Blocks.{HaveSameSums, all_of}
-use Rattle.absolute_cost.proofs.Segments.{counts_rise, counts_within, part_is}
-use Rattle.absolute_cost.proofs.Sorted.{same_by}
-use Rattle.absolute_cost.proofs.Counts.{same_length, same_small}
-use Rattle.absolute_cost.proofs.absolute.Absolute.segment.Goals.{After-cut}
+use Rattle.absolute_cost.{specs.Blocks.{HaveSameSums, all_of}, proofs.Segments.{counts_rise, counts_within, part_is}, proofs.Sorted.same_by}
+use Rattle.absolute_cost.proofs.{Counts.{same_length, same_small}, absolute.Absolute.segment.Goals.After-cut}
 use Rattle.absolute_cost.proofs.absolute.Absolute.segment.Goals as goal
 
 pub cut-requires-clause-rising : goal.cut-requires-clause-rising

@@ -1,8 +1,6 @@
-use Rattle.std.proofs.Common.{◌<◌, ◌∙◌, arith, length, FitsSigned, w64}
-use Rattle.std.proofs.lemmas.Int.{to_z-of_z}
+use Rattle.std.proofs.{Common.{◌<◌, ◌∙◌, arith, length, FitsSigned, w64}, lemmas.Int.to_z-of_z}
 use Rattle.segment_model.specs.Values.{values_between}
-use Rattle.absolute_cost.specs.Blocks.{all_of}
-use Rattle.absolute_cost.proofs.Counts.{same_length, same_middle}
+use Rattle.absolute_cost.{specs.Blocks.all_of, proofs.Counts.{same_length, same_middle}}
 use Rattle.absolute_cost.proofs.absolute.AbsoluteCost.centre.Goals as goal
 
 pub returns : goal.returns

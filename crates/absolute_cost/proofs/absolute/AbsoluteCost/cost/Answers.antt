@@ -1,11 +1,8 @@
-use Rattle.std.proofs.Common.{◌≡◌, ◌≤◌, ◌<◌, ◌*◌, ◌^◌, ◌∙◌, ap, arith, pos, length, FitsSigned, w64}
-use Rattle.std.specs.Int.{w128}
+use Rattle.std.{proofs.Common.{◌≡◌, ◌≤◌, ◌<◌, ◌*◌, ◌^◌, ◌∙◌, ap, arith, pos, length, FitsSigned, w64}, specs.Int.w128}
 use Rattle.std.proofs.lemmas.Int.{to_z-of_z, to_z_pos, ints}
 use Rattle.segment_model.specs.Values.{values_between}
-use Rattle.distance_model.specs.Distances.{distances_about}
-use Rattle.distance_model.proofs.Middles.{distances_fit}
-use Rattle.absolute_cost.specs.Blocks.{all_of}
-use Rattle.absolute_cost.proofs.Counts.{same_length, same_distances}
+use Rattle.distance_model.{specs.Distances.distances_about, proofs.Middles.distances_fit}
+use Rattle.absolute_cost.{specs.Blocks.all_of, proofs.Counts.{same_length, same_distances}}
 use Rattle.absolute_cost.proofs.absolute.AbsoluteCost.cost.Goals as goal
 
 pub sum_of_distances-requires : goal.sum_of_distances-requires

@@ -1,8 +1,7 @@
 use Rattle.std.proofs.Common.{◌≡◌, ◌≤◌, ◌*◌, ◌/◌, ◌∙◌, ap, sym, take, length, arith}
 use Rattle.segment_model.specs.Values.{joined}
 use Rattle.prefix_sums.specs.Prefixes.{Summed}
-use Rattle.absolute_cost.proofs.Segments.{front_is}
-use Rattle.absolute_cost.proofs.Sorted.{first_values}
+use Rattle.absolute_cost.proofs.{Segments.front_is, Sorted.first_values}
 use Rattle.absolute_cost.proofs.absolute.AbsoluteCost.cut_back.Goals as goal
 
 pub invariant_of-self : goal.invariant_of-self

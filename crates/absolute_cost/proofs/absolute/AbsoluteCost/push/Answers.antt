@@ -1,6 +1,5 @@
 use Rattle.std.proofs.Common.{◌∙◌, sym, subst, List, ℤ}
-use Rattle.absolute_cost.specs.Blocks.{AreBlocksOf}
-use Rattle.absolute_cost.proofs.Sorted.{more_values}
+use Rattle.absolute_cost.{specs.Blocks.AreBlocksOf, proofs.Sorted.more_values}
 use Rattle.absolute_cost.proofs.absolute.AbsoluteCost.push.Goals as goal
 
 pub add_blocks-requires : goal.add_blocks-requires

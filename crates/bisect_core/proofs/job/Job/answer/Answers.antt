@@ -1,6 +1,5 @@
 use Rattle.std.proofs.Common.{◌∙◌, arith}
-use Rattle.bisect_core.specs.declared.progress.Progress.{Progress}
-use Rattle.bisect_core.proofs.Turned.{IsHalfWay}
+use Rattle.bisect_core.{specs.declared.progress.Progress.Progress, proofs.Turned.IsHalfWay}
 use Rattle.bisect_core.proofs.Sounds.{is_asked, asked_half, questions_fit, sound_status, recorded_status}
 use Rattle.bisect_core.proofs.job.Job.answer.Goals as goal
 

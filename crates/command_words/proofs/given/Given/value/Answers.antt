@@ -1,6 +1,5 @@
 use Rattle.std.proofs.Common.{List, ap, ◌∙◌}
-use Rattle.clap.specs.Words.{Row, first_of, found_of}
-use Rattle.clap.proofs.WalkLemmas.{first_value-rows}
+use Rattle.clap.{specs.Words.{Row, first_of, found_of}, proofs.WalkLemmas.first_value-rows}
 use Rattle.command_words.proofs.given.Given.value.Goals as goal
 
 pub returns : goal.returns

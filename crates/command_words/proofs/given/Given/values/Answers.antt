@@ -1,6 +1,5 @@
 use Rattle.std.proofs.Common.{ℕ, List, [], Option, unwrap_or, ap, ◌∙◌}
-use Rattle.clap.specs.Words.{Row, all_of, found_of}
-use Rattle.clap.proofs.WalkLemmas.{raw_values-rows}
+use Rattle.clap.{specs.Words.{Row, all_of, found_of}, proofs.WalkLemmas.raw_values-rows}
 use Rattle.command_words.specs.Texts.{shown}
 use Rattle.command_words.proofs.given.Given.values.Goals as goal
 

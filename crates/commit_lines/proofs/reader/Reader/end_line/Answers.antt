@@ -1,9 +1,6 @@
-use Rattle.std.proofs.Common.{◌≡◌, ◌<◌, ◌≤◌, length, List, [], ◌∷◌, ◌++◌, ℕ, sym, subst, arith}
-use Rattle.std.proofs.lemmas.Result.{err_from_is_err_and}
-use Rattle.commit_lines.specs.HasRead.{kept_by, TakesLine}
-use Rattle.commit_lines.specs.Reading.{Breaks}
+use Rattle.std.proofs.{Common.{◌≡◌, ◌<◌, ◌≤◌, length, List, [], ◌∷◌, ◌++◌, ℕ, sym, subst, arith}, lemmas.Result.err_from_is_err_and}
+use Rattle.commit_lines.{specs.HasRead.{kept_by, TakesLine}, specs.Reading.Breaks, proofs.PieceSteps.{cause, end_cause}}
 use Rattle.line_pieces.specs.Pieces.{OnRefused}
-use Rattle.commit_lines.proofs.PieceSteps.{cause, end_cause}
 use Rattle.commit_lines.proofs.ReaderSteps.{line_taken, long_taken, line_refused}
 use Rattle.commit_lines.proofs.reader.Reader.end_line.Goals as goal
 

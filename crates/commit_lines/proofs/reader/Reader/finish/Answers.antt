@@ -1,6 +1,5 @@
 use Rattle.std.proofs.lemmas.Result.{err_from_is_err_and}
-use Rattle.commit_lines.specs.HasRead.{kept_by}
-use Rattle.commit_lines.proofs.ReaderSteps.{accepted_whole}
+use Rattle.commit_lines.{specs.HasRead.kept_by, proofs.ReaderSteps.accepted_whole}
 use Rattle.commit_lines.proofs.reader.Reader.finish.Goals as goal
 
 pub returns-clause-ok : goal.returns-clause-ok

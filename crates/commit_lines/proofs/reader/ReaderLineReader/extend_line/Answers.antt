@@ -1,11 +1,6 @@
-use Rattle.std.proofs.Common.{◌≡◌, ◌++◌, ◌<◌, ◌≤◌, length, List, ℕ, take, refl, sym, ap, subst, ◌∙◌, arith}
-use Rattle.std.proofs.lemmas.Bool.{false≢true}
-use Rattle.commit_lines.specs.Lines.{IsSkipped}
-use Rattle.commit_lines.specs.HasRead.{kept_by}
-use Rattle.line_pieces.specs.declared.stop.Refusal.TheVariants.{Bad}
-use Rattle.line_pieces.specs.declared.stop.Stop.TheVariants.{Refused}
-use Rattle.commit_lines.proofs.PieceSteps.{cause}
-use Rattle.commit_lines.proofs.ReaderSteps.{has_short, has_long, long_refused}
+use Rattle.std.proofs.{Common.{◌≡◌, ◌++◌, ◌<◌, ◌≤◌, length, List, ℕ, take, refl, sym, ap, subst, ◌∙◌, arith}, lemmas.Bool.false≢true}
+use Rattle.commit_lines.{specs.Lines.IsSkipped, specs.HasRead.kept_by, proofs.PieceSteps.cause, proofs.ReaderSteps.{has_short, has_long, long_refused}}
+use Rattle.line_pieces.specs.declared.stop.{Refusal.TheVariants.Bad, Stop.TheVariants.Refused}
 use Rattle.commit_lines.proofs.reader.ReaderLineReader.extend_line.Goals as goal
 
 pub returns-then-len-le-LINE_LIMIT-clause-ok : goal.returns-then-len-le-LINE_LIMIT-clause-ok

@@ -1,12 +1,6 @@
-use Rattle.std.proofs.Common.{◌<◌, ◌≤◌, [], ◌++◌, length, sym, subst, arith}
-use Rattle.std.proofs.lemmas.Bool.{both_ways}
-use Rattle.commit_lines.specs.Lines.{MayGo}
-use Rattle.commit_lines.specs.HasRead.{kept_by}
-use Rattle.line_pieces.specs.declared.stop.Refusal.TheVariants.{Bad}
-use Rattle.line_pieces.specs.declared.stop.Stop.TheVariants.{Refused}
-use Rattle.commit_lines.proofs.Fronts.{shows_more}
-use Rattle.commit_lines.proofs.PieceSteps.{cause}
-use Rattle.commit_lines.proofs.ReaderSteps.{is_open, not_open}
+use Rattle.std.proofs.{Common.{◌<◌, ◌≤◌, [], ◌++◌, length, sym, subst, arith}, lemmas.Bool.both_ways}
+use Rattle.commit_lines.{specs.Lines.MayGo, specs.HasRead.kept_by, proofs.Fronts.shows_more, proofs.PieceSteps.cause, proofs.ReaderSteps.{is_open, not_open}}
+use Rattle.line_pieces.specs.declared.stop.{Refusal.TheVariants.Bad, Stop.TheVariants.Refused}
 use Rattle.commit_lines.proofs.reader.ReaderLineReader.may_go_on.Goals as goal
 
 pub returns-then-len-gt-LINE_LIMIT-clause-ok : goal.returns-then-len-gt-LINE_LIMIT-clause-ok

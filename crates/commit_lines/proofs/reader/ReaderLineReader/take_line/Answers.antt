@@ -1,5 +1,4 @@
-use Rattle.std.proofs.Common.{[], ◌∷◌}
-use Rattle.std.proofs.lemmas.Result.{err_from_is_err_and, MatchResult-weaker}
+use Rattle.std.proofs.{Common.{[], ◌∷◌}, lemmas.Result.{err_from_is_err_and, MatchResult-weaker}}
 use Rattle.line_pieces.proofs.Parts.{read_on, refused_before, refused_behind}
 use Rattle.commit_lines.specs.Pieces.{reading}
 use Rattle.commit_lines.proofs.reader.ReaderLineReader.take_line.Goals as goal

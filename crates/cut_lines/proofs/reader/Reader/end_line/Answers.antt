@@ -1,8 +1,5 @@
-use Rattle.std.proofs.Common.{ℕ, ◌+◌, [], ◌∷◌, ◌++◌, refl, subst}
-use Rattle.std.proofs.lemmas.Result.{err_from_is_err_and}
-use Rattle.cut_lines.specs.Adding.{TakesLine, RefusesLine}
-use Rattle.cut_lines.specs.HasRead.{kept_by}
-use Rattle.cut_lines.proofs.PieceSteps.{cause, end_cause}
+use Rattle.std.proofs.{Common.{ℕ, ◌+◌, [], ◌∷◌, ◌++◌, refl, subst}, lemmas.Result.err_from_is_err_and}
+use Rattle.cut_lines.{specs.Adding.{TakesLine, RefusesLine}, specs.HasRead.kept_by, proofs.PieceSteps.{cause, end_cause}}
 use Rattle.cut_lines.proofs.ReaderSteps.{line_taken, line_refused}
 use Rattle.cut_lines.proofs.reader.Reader.end_line.Goals as goal
 

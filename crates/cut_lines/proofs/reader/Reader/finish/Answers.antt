@@ -1,7 +1,5 @@
-use Rattle.std.proofs.Common.{subst}
-use Rattle.std.proofs.lemmas.Result.{err_from_is_err_and}
-use Rattle.cut_lines.specs.HasRead.{AreLinesPoints, kept_by}
-use Rattle.cut_lines.proofs.ReaderSteps.{accepted_whole}
+use Rattle.std.proofs.{Common.subst, lemmas.Result.err_from_is_err_and}
+use Rattle.cut_lines.{specs.HasRead.{AreLinesPoints, kept_by}, proofs.ReaderSteps.accepted_whole}
 use Rattle.cut_lines.proofs.reader.Reader.finish.Goals as goal
 
 pub returns-in_err-end_line-clause-err : goal.returns-in_err-end_line-clause-err

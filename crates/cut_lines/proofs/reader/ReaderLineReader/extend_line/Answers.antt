@@ -1,11 +1,6 @@
-use Rattle.std.proofs.Common.{◌≡◌, ℕ, ◌-◌, ◌<◌, List, ◌++◌, length, drop, refl, sym, ◌∙◌, arith}
-use Rattle.std.proofs.lemmas.List.{take_rest}
-use Rattle.std.proofs.lemmas.Bool.{false≢true}
-use Rattle.line_pieces.specs.declared.stop.Refusal.TheVariants.{Bad}
-use Rattle.line_pieces.specs.declared.stop.Stop.TheVariants.{Refused}
-use Rattle.cut_lines.specs.HasRead.{kept_by}
-use Rattle.cut_lines.proofs.PieceSteps.{cause}
-use Rattle.cut_lines.proofs.ReaderSteps.{Extends, has_short, has_long, long_refused}
+use Rattle.std.proofs.{Common.{◌≡◌, ℕ, ◌-◌, ◌<◌, List, ◌++◌, length, drop, refl, sym, ◌∙◌, arith}, lemmas.List.take_rest, lemmas.Bool.false≢true}
+use Rattle.line_pieces.specs.declared.stop.{Refusal.TheVariants.Bad, Stop.TheVariants.Refused}
+use Rattle.cut_lines.{specs.HasRead.kept_by, proofs.PieceSteps.cause, proofs.ReaderSteps.{Extends, has_short, has_long, long_refused}}
 use Rattle.cut_lines.proofs.reader.ReaderLineReader.extend_line.Goals.{After-deref}
 use Rattle.cut_lines.proofs.reader.ReaderLineReader.extend_line.Goals as goal
 

@@ -1,11 +1,6 @@
-use Rattle.std.proofs.Common.{◌<◌, ◌≤◌, [], ◌++◌, length, arith}
-use Rattle.std.proofs.lemmas.Bool.{both_ways}
-use Rattle.line_pieces.specs.declared.stop.Refusal.TheVariants.{Bad}
-use Rattle.line_pieces.specs.declared.stop.Stop.TheVariants.{Refused}
-use Rattle.cut_lines.specs.HasRead.{kept_by}
-use Rattle.cut_lines.proofs.Refusals.{shows_more}
-use Rattle.cut_lines.proofs.PieceSteps.{cause}
-use Rattle.cut_lines.proofs.ReaderSteps.{is_open, not_open}
+use Rattle.std.proofs.{Common.{◌<◌, ◌≤◌, [], ◌++◌, length, arith}, lemmas.Bool.both_ways}
+use Rattle.line_pieces.specs.declared.stop.{Refusal.TheVariants.Bad, Stop.TheVariants.Refused}
+use Rattle.cut_lines.{specs.HasRead.kept_by, proofs.Refusals.shows_more, proofs.PieceSteps.cause, proofs.ReaderSteps.{is_open, not_open}}
 use Rattle.cut_lines.proofs.reader.ReaderLineReader.may_go_on.Goals as goal
 
 pub returns-then-len-gt-LINE_LIMIT-clause-ok : goal.returns-then-len-gt-LINE_LIMIT-clause-ok

@@ -1,13 +1,7 @@
-use Rattle.std.proofs.Common.{◌≡◌, ◌≤◌, [], ◌∷◌, ◌++◌, length, refl, sym, ◌∙◌, arith}
-use Rattle.std.specs.Vec.{vec_len}
-use Rattle.std.proofs.lemmas.Bool.{eqb-true}
-use Rattle.std.proofs.lemmas.List.{nil_from_length}
-use Rattle.std.proofs.lemmas.Result.{err_from_is_err_and, MatchResult-weaker}
+use Rattle.std.{proofs.Common.{◌≡◌, ◌≤◌, [], ◌∷◌, ◌++◌, length, refl, sym, ◌∙◌, arith}, specs.Vec.vec_len, proofs.lemmas.Bool.eqb-true}
+use Rattle.std.proofs.lemmas.{List.nil_from_length, Result.{err_from_is_err_and, MatchResult-weaker}}
 use Rattle.line_pieces.proofs.Parts.{read_on, refused_before, refused_behind}
-use Rattle.cut_lines.specs.HasRead.{kept_by}
-use Rattle.cut_lines.specs.Pieces.{reading}
-use Rattle.cut_lines.proofs.PieceSteps.{cause}
-use Rattle.cut_lines.proofs.ReaderSteps.{whole_taken, whole_refused}
+use Rattle.cut_lines.{specs.HasRead.kept_by, specs.Pieces.reading, proofs.PieceSteps.cause, proofs.ReaderSteps.{whole_taken, whole_refused}}
 use Rattle.cut_lines.proofs.reader.ReaderLineReader.take_line.Goals as goal
 
 pub returns-in_err-extend_line-clause-err : goal.returns-in_err-extend_line-clause-err

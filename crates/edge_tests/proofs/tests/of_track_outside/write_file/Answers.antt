@@ -1,7 +1,5 @@
 use Rattle.std.proofs.Common.{rules, ◌≡◌, ◌∙◌, [], ap}
-use Rattle.track_outside.specs.Memory.{Output}
-use Rattle.track_outside.specs.Named.{Folder, with_bytes}
-use Rattle.track_outside.proofs.Places.{bytes_at-with_bytes}
+use Rattle.track_outside.{specs.Memory.Output, specs.Named.{Folder, with_bytes}, proofs.Places.bytes_at-with_bytes}
 use Rattle.edge_tests.proofs.tests.of_track_outside.write_file.Goals as goal
 
 pub close_output-requires : goal.close_output-requires

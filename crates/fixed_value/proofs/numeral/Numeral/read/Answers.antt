@@ -1,13 +1,8 @@
 use Rattle.std.proofs.Common.{rules, ◌≡◌, Some, ◌+◌, ◌*◌, ◌^◌, ◌≤◌, length, take, sym, ap, ◌∙◌, subst, FitsSigned, arith}
-use Rattle.std.specs.Int.{w128, cast_signed, cast_unsigned}
-use Rattle.std.proofs.lemmas.Int.{to_z-of_z}
-use Rattle.std.proofs.lemmas.List.{length-take-le}
+use Rattle.std.{specs.Int.{w128, cast_signed, cast_unsigned}, proofs.lemmas.Int.to_z-of_z, proofs.lemmas.List.length-take-le}
 use Rattle.std.specs.Str.Parse.{digits_value_after}
-use Rattle.fixed_value.specs.declared.numeral.Numeral.{Numeral}
-use Rattle.fixed_value.specs.Numerals.{IsNumeralText}
-use Rattle.fixed_value.proofs.Grammar.{if_none, Front, some_whole, too_many, numeral_split, numeral_made, numeral_only}
-use Rattle.fixed_value.proofs.Powers.{ten_grows}
-use Rattle.fixed_value.proofs.Reading.{fits_behind}
+use Rattle.fixed_value.specs.{declared.numeral.Numeral.Numeral, Numerals.IsNumeralText}
+use Rattle.fixed_value.proofs.{Grammar.{if_none, Front, some_whole, too_many, numeral_split, numeral_made, numeral_only}, Powers.ten_grows, Reading.fits_behind}
 use Rattle.fixed_value.proofs.numeral.Numeral.read.Goals as goal
 
 pub returns-then-whole-eq0-clause-none : goal.returns-then-whole-eq0-clause-none

@@ -1,8 +1,7 @@
 use Rattle.std.proofs.Common.{◌≡◌, ℕ, ◌+◌, List, [], ◌∷◌, ◌++◌, length, cond, sym, ap, ◌∙◌, arith}
 use Rattle.bisect_core.specs.Bisections.{Bisection}
 use Rattle.history_model.specs.Jobs.{is_under_way}
-use Rattle.follow_index.specs.Numbered.{open_numbers}
-use Rattle.follow_index.proofs.Counts.{open-push}
+use Rattle.follow_index.{specs.Numbered.open_numbers, proofs.Counts.open-push}
 use Rattle.follow_index.proofs.jobs.JobIndex.begin.Goals as goal
 
 pub invariant_of-self-2 : goal.invariant_of-self-2

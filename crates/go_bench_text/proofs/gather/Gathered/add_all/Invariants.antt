@@ -1,6 +1,5 @@
 use Rattle.std.proofs.Common.{take}
-use Rattle.go_bench_text.specs.Gathering.{Gains}
-use Rattle.go_bench_text.specs.Pairs.{samples_of}
+use Rattle.go_bench_text.specs.{Gathering.Gains, Pairs.samples_of}
 use Rattle.go_bench_text.proofs.gather.Gathered.add_all.Given as goal
 
 abbrev pub invariant-loop-pair : goal.invariant-loop-pair

@@ -1,6 +1,5 @@
 use Rattle.std.proofs.Common.{rules, Bool, subst}
-use Rattle.history_lock.specs.Steps.{MayAdd, in_slot}
-use Rattle.history_lock.proofs.Keeps.{counts}
+use Rattle.history_lock.{specs.Steps.{MayAdd, in_slot}, proofs.Keeps.counts}
 use Rattle.history_lock.proofs.lock.HistoryLock.count_new.Goals as goal
 
 pub fetch_add-requires : goal.fetch_add-requires

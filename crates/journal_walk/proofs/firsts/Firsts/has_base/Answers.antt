@@ -1,8 +1,6 @@
-use Rattle.std.proofs.Common.{◌≡◌, ℕ, ◌<◌, List, Option, Some, None, true, ltb, ap, ap₂, sym, subst, ◌∙◌, arith}
-use Rattle.std.proofs.lemmas.Bool.{false≢true}
+use Rattle.std.proofs.{Common.{◌≡◌, ℕ, ◌<◌, List, Option, Some, None, true, ltb, ap, ap₂, sym, subst, ◌∙◌, arith}, lemmas.Bool.false≢true}
 use Rattle.std.proofs.lemmas.Bool.Decides.{nat_tests}
-use Rattle.journal_walk.specs.Firsts.{IsBefore, Places, base_key, place_of}
-use Rattle.journal_walk.specs.declared.firsts.SeriesVersion.{SeriesVersion}
+use Rattle.journal_walk.specs.{Firsts.{IsBefore, Places, base_key, place_of}, declared.firsts.SeriesVersion.SeriesVersion}
 use Rattle.journal_walk.proofs.firsts.Firsts.has_base.Goals as goal
 
 less : (a b : ℕ) → ltb a b ≡ true → a < b

@@ -1,8 +1,6 @@
 use Rattle.std.proofs.Common.{◌≡◌, ℕ, ◌+◌, ◌-◌, ◌<◌, Option, Some, length, drop, cond, ap, sym, ◌∙◌, arith}
-use Rattle.history_model.specs.declared.entries.Placed.{Placed}
-use Rattle.history_model.specs.Entries.{entries_of}
-use Rattle.journal_walk.specs.Firsts.{first_from, place_of, publishes}
-use Rattle.journal_walk.proofs.FirstPlaces.{one-before}
+use Rattle.history_model.specs.{declared.entries.Placed.Placed, Entries.entries_of}
+use Rattle.journal_walk.{specs.Firsts.{first_from, place_of, publishes}, proofs.FirstPlaces.one-before}
 use Rattle.journal_walk.proofs.firsts.Firsts.of.Goals as goal
 
 pub loop-place-preserved : goal.loop-place-preserved

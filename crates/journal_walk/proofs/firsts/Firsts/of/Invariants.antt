@@ -1,7 +1,6 @@
 use Rattle.std.proofs.Common.{◌≡◌, ◌≤◌, length, drop}
 use Rattle.history_model.specs.Entries.{entries_of}
-use Rattle.journal_walk.specs.Firsts.{first_from, place_of}
-use Rattle.journal_walk.specs.declared.firsts.SeriesVersion.{SeriesVersion}
+use Rattle.journal_walk.specs.{Firsts.{first_from, place_of}, declared.firsts.SeriesVersion.SeriesVersion}
 use Rattle.journal_walk.proofs.firsts.Firsts.of.Given as goal
 
 abbrev pub invariant-loop-place : goal.invariant-loop-place

@@ -1,9 +1,6 @@
-use Rattle.std.proofs.Common.{◌≡◌, ℕ, List, Some, cond, ap, ap₂, sym, ◌∙◌}
-use Rattle.std.specs.Ordering.{is_eq}
-use Rattle.history_model.specs.declared.entries.Entry.{Entry}
-use Rattle.history_model.specs.declared.entries.Entry.TheVariants.{Publish}
-use Rattle.journal_walk.specs.Firsts.{Places, key_cmp, key_of, place_of, publishes}
-use Rattle.journal_walk.specs.declared.firsts.SeriesVersion.{SeriesVersion}
+use Rattle.std.{proofs.Common.{◌≡◌, ℕ, List, Some, cond, ap, ap₂, sym, ◌∙◌}, specs.Ordering.is_eq}
+use Rattle.history_model.specs.declared.entries.Entry.{Entry, TheVariants.Publish}
+use Rattle.journal_walk.specs.{Firsts.{Places, key_cmp, key_of, place_of, publishes}, declared.firsts.SeriesVersion.SeriesVersion}
 use Rattle.journal_walk.proofs.firsts.Firsts.put.Goals as goal
 
 pub returns-in_ok-insert : goal.returns-in_ok-insert

@@ -1,11 +1,8 @@
 use Rattle.std.proofs.Common.{◌≡◌, ℕ, List, length, sym, ap, ◌∙◌, subst}
-use Rattle.history_model.specs.declared.entries.Placed.{Placed}
-use Rattle.history_model.specs.Allowed.{Legal}
-use Rattle.history_model.specs.Entries.{entries_of}
+use Rattle.history_model.specs.{declared.entries.Placed.Placed, Allowed.Legal, Entries.entries_of}
 use Rattle.track_model.specs.Tracks.{Track}
 use Rattle.journal_reader.specs.Judging.{AreAllowed}
-use Rattle.journal_walk.specs.Walks.{Walked, added}
-use Rattle.journal_walk.proofs.Judging.{are-allowed}
+use Rattle.journal_walk.{specs.Walks.{Walked, added}, proofs.Judging.are-allowed}
 use Rattle.journal_walk.proofs.judge.ByWalkJudge.count_allowed.Goals as goal
 
 pub returns : goal.returns

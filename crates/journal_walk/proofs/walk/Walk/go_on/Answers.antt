@@ -1,8 +1,5 @@
-use Rattle.std.proofs.Common.{◌≡◌, List, length, sym, ap, ◌∙◌, subst, Some}
-use Rattle.std.specs.Prelude.{slice_get}
-use Rattle.history_model.specs.declared.entries.Entry.{Entry}
-use Rattle.history_model.specs.declared.entries.Placed.{Placed}
-use Rattle.history_model.specs.Entries.{entries_of}
+use Rattle.std.{proofs.Common.{◌≡◌, List, length, sym, ap, ◌∙◌, subst, Some}, specs.Prelude.slice_get}
+use Rattle.history_model.specs.{declared.entries.Entry.Entry, declared.entries.Placed.Placed, Entries.entries_of}
 use Rattle.machine_state.specs.Made.{IsPlain}
 use Rattle.track_step.specs.Replays.{IsReplayed}
 use Rattle.journal_walk.specs.Walks.{GoesOn, IsPublishedNext, IsStuck, PublishesNothing, Walked, coming}

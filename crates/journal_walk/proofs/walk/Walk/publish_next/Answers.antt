@@ -1,12 +1,7 @@
-use Rattle.std.proofs.Common.{◌≡◌, List, length, sym, ap, ◌∙◌, subst, Some}
-use Rattle.std.specs.Prelude.{slice_get}
-use Rattle.history_model.specs.declared.entries.Entry.TheVariants.{Publish}
-use Rattle.history_model.specs.declared.entries.Placed.{Placed}
-use Rattle.history_model.specs.declared.publication.Publication.{Publication}
-use Rattle.history_model.specs.Allowed.{Allowed}
-use Rattle.history_model.specs.Entries.{entries_of}
-use Rattle.journal_walk.specs.Steps.{Publishes}
-use Rattle.journal_walk.specs.Walks.{IsPublishedNext, PublishesNothing, Walked}
+use Rattle.std.{proofs.Common.{◌≡◌, List, length, sym, ap, ◌∙◌, subst, Some}, specs.Prelude.slice_get}
+use Rattle.history_model.specs.declared.{entries.Entry.TheVariants.Publish, entries.Placed.Placed, publication.Publication.Publication}
+use Rattle.history_model.specs.{Allowed.Allowed, Entries.entries_of}
+use Rattle.journal_walk.specs.{Steps.Publishes, Walks.{IsPublishedNext, PublishesNothing, Walked}}
 use Rattle.journal_walk.proofs.Going.{Met, if-more, item-at, met-now, none-more, nothing-published, published-next, ready, walk}
 use Rattle.journal_walk.proofs.walk.Walk.publish_next.Goals as goal
 use Rattle.journal_walk.proofs.walk.Walk.publish_next.Goals.{After-get-p}

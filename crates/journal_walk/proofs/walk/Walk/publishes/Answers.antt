@@ -1,7 +1,6 @@
 use Rattle.std.proofs.Common.{◌≡◌, length, sym, subst, Some}
 use Rattle.journal_lines.specs.Authors.{IsPublication}
-use Rattle.journal_walk.specs.Walks.{Walked, coming}
-use Rattle.journal_walk.proofs.Going.{item-at}
+use Rattle.journal_walk.{specs.Walks.{Walked, coming}, proofs.Going.item-at}
 use Rattle.journal_walk.proofs.walk.Walk.publishes.Goals as goal
 
 pub returns-in-Publish-clause-next : goal.returns-in-Publish-clause-next

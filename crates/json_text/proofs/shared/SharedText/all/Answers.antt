@@ -1,5 +1,4 @@
-use Rattle.std.proofs.Common.{◌≡◌, ℕ, List, arith, ap, length, subst, sym}
-use Rattle.std.specs.Str.{IsUtf8, IsCharBoundary}
+use Rattle.std.{proofs.Common.{◌≡◌, ℕ, List, arith, ap, length, subst, sym}, specs.Str.{IsUtf8, IsCharBoundary}}
 use Rattle.std.proofs.lemmas.Str.{IsCharBoundary-start, IsCharBoundary-end}
 use Rattle.json_text.proofs.shared.SharedText.all.Goals as goal
 

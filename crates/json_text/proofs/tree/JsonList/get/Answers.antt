@@ -1,7 +1,5 @@
 use Rattle.std.proofs.Common.{◌∙◌, map, sym, ap}
-use Rattle.json_text.specs.View.{items_of, tree_of}
-use Rattle.json_text.proofs.Views.{items_view-opened}
-use Rattle.json_text.proofs.Parts.{items_listed, got}
+use Rattle.json_text.{specs.View.{items_of, tree_of}, proofs.Views.items_view-opened, proofs.Parts.{items_listed, got}}
 use Rattle.json_text.proofs.tree.JsonList.get.Goals as goal
 
 pub returns : goal.returns

@@ -1,8 +1,5 @@
 use Rattle.std.proofs.Common.{◌∙◌, sym, ap}
-use Rattle.json_text.specs.Parts.{item_count}
-use Rattle.json_text.specs.declared.tree.JsonList.{out-JsonList}
-use Rattle.json_text.proofs.Views.{items_view-opened}
-use Rattle.json_text.proofs.Parts.{items_listed, counted}
+use Rattle.json_text.{specs.Parts.item_count, specs.declared.tree.JsonList.out-JsonList, proofs.Views.items_view-opened, proofs.Parts.{items_listed, counted}}
 use Rattle.json_text.proofs.tree.JsonList.len.Goals as goal
 
 pub returns : goal.returns

@@ -1,5 +1,4 @@
-use Rattle.json_text.proofs.Views.{items_view-made, items_view-opened}
-use Rattle.json_text.proofs.Parts.{items_listed, added}
+use Rattle.json_text.proofs.{Views.{items_view-made, items_view-opened}, Parts.{items_listed, added}}
 use Rattle.json_text.proofs.tree.JsonList.push.Goals as goal
 
 pub returns-clause-ok : goal.returns-clause-ok

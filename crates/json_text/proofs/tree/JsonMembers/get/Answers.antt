@@ -1,7 +1,5 @@
 use Rattle.std.proofs.Common.{◌∙◌, map, sym, ap}
-use Rattle.json_text.specs.View.{members_of, entry_of}
-use Rattle.json_text.proofs.Views.{members_view-opened}
-use Rattle.json_text.proofs.Parts.{members_listed, got}
+use Rattle.json_text.{specs.View.{members_of, entry_of}, proofs.Views.members_view-opened, proofs.Parts.{members_listed, got}}
 use Rattle.json_text.proofs.tree.JsonMembers.get.Goals as goal
 
 pub returns : goal.returns

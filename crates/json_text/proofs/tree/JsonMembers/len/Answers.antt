@@ -1,7 +1,5 @@
 use Rattle.std.proofs.Common.{◌∙◌, sym, ap}
-use Rattle.json_text.specs.Parts.{member_count}
-use Rattle.json_text.specs.declared.tree.JsonMembers.{out-JsonMembers}
-use Rattle.json_text.proofs.Views.{members_view-opened}
+use Rattle.json_text.{specs.Parts.member_count, specs.declared.tree.JsonMembers.out-JsonMembers, proofs.Views.members_view-opened}
 use Rattle.json_text.proofs.Parts.{members_listed, counted}
 use Rattle.json_text.proofs.tree.JsonMembers.len.Goals as goal
 

@@ -1,5 +1,4 @@
-use Rattle.json_text.proofs.Views.{members_view-made, members_view-opened}
-use Rattle.json_text.proofs.Parts.{members_listed, added}
+use Rattle.json_text.proofs.{Views.{members_view-made, members_view-opened}, Parts.{members_listed, added}}
 use Rattle.json_text.proofs.tree.JsonMembers.push.Goals as goal
 
 pub returns-clause-ok : goal.returns-clause-ok

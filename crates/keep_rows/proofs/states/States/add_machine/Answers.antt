@@ -1,11 +1,6 @@
-use Rattle.std.proofs.Common.{◌≡◌, List, [], ◌∷◌, ◌++◌, None, sym, ap, subst, ◌∙◌, arith}
-use Rattle.std.specs.Prelude.{find}
+use Rattle.std.{proofs.Common.{◌≡◌, List, [], ◌∷◌, ◌++◌, None, sym, ap, subst, ◌∙◌, arith}, specs.Prelude.find}
 use Rattle.track_model.specs.Tracks.{Track}
-use Rattle.keep_rows.specs.Kept.{AreKept}
-use Rattle.keep_rows.specs.Loading.{stored_track}
-use Rattle.keep_rows.specs.Machines.{is_track}
-use Rattle.keep_rows.proofs.Machines.{machine_more}
-use Rattle.keep_rows.proofs.Replayed.{none_of}
+use Rattle.keep_rows.{specs.Kept.AreKept, specs.Loading.stored_track, specs.Machines.is_track, proofs.Machines.machine_more, proofs.Replayed.none_of}
 use Rattle.keep_rows.proofs.states.States.add_machine.Goals as goal
 
 pub invariant_of-self-2 : goal.invariant_of-self-2

@@ -1,10 +1,6 @@
-use Rattle.std.proofs.Common.{◌≡◌, true, false, List, IfOk, refl, sym, subst, ◌∙◌}
-use Rattle.std.specs.Prelude.{set}
+use Rattle.std.{proofs.Common.{◌≡◌, true, false, List, IfOk, refl, sym, subst, ◌∙◌}, specs.Prelude.set}
 use Rattle.track_model.specs.Tracks.{Track}
-use Rattle.keep_rows.specs.Kept.{is_kept}
-use Rattle.keep_rows.specs.Loading.{Stored, AddsEntry}
-use Rattle.keep_rows.specs.Places.{IsFirstAt}
-use Rattle.keep_rows.proofs.Once.{one_in}
+use Rattle.keep_rows.{specs.Kept.is_kept, specs.Loading.{Stored, AddsEntry}, specs.Places.IsFirstAt, proofs.Once.one_in}
 use Rattle.keep_rows.proofs.Replayed.{first_is, replayed_kept, replayed_adds, replayed_refuses}
 use Rattle.keep_rows.proofs.states.States.add_text.Goals as goal
 

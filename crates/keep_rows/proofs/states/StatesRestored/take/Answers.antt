@@ -1,8 +1,7 @@
 use Rattle.std.proofs.Common.{◌≡◌, ◌≢◌, true, false, List, ℕ, Option, IfOk, sym, subst, ◌∙◌, drop, true≢false}
 use Rattle.store_rows.specs.Rows.{machine_row, entry_row, row_at, IsRowOf}
 use Rattle.track_model.specs.Tracks.{Track}
-use Rattle.keep_rows.specs.Loading.{Stored, Adds, Makes}
-use Rattle.keep_rows.proofs.Replayed.{refused_made, taken_made, format_made, format_refused}
+use Rattle.keep_rows.{specs.Loading.{Stored, Adds, Makes}, proofs.Replayed.{refused_made, taken_made, format_made, format_refused}}
 use Rattle.keep_rows.proofs.states.StatesRestored.take.Goals as goal
 
 pub returns-in-None-clause-refused : goal.returns-in-None-clause-refused

@@ -1,5 +1,4 @@
-use Rattle.std.proofs.Common.{ℕ, ◌≢◌, subst, ◌∙◌}
-use Rattle.std.specs.Prelude.{slice_index}
+use Rattle.std.{proofs.Common.{ℕ, ◌≢◌, subst, ◌∙◌}, specs.Prelude.slice_index}
 use Rattle.line_text.proofs.Plain.{spells-itself}
 use Rattle.line_text.proofs.kept.Kept.new.Goals as goal
 

@@ -1,25 +1,13 @@
 use Rattle.metric_table.specs.declared.limits.Limit.TheVariants as limit
-use Rattle.std.proofs.Common.{◌≡◌, ℕ, ◌≤◌, ◌+◌, List, [], ◌∷◌, ◌++◌, length, sym, ap, subst, ◌∙◌, arith}
-use Rattle.std.specs.Prelude.{option_to_list}
+use Rattle.std.{proofs.Common.{◌≡◌, ℕ, ◌≤◌, ◌+◌, List, [], ◌∷◌, ◌++◌, length, sym, ap, subst, ◌∙◌, arith}, specs.Prelude.option_to_list}
 use Rattle.std.proofs.lemmas.List.{length-map}
-use Rattle.history_model.specs.declared.entries.Entry.{Entry}
-use Rattle.history_model.specs.declared.entries.Placed.{Placed}
-use Rattle.history_model.specs.Allowed.{Allowed}
-use Rattle.history_model.specs.declared.entries.Declaration.{Declaration}
-use Rattle.history_model.specs.Commits.{declaration, declarations}
-use Rattle.machine_state.specs.Following.{IsFollowed}
-use Rattle.machine_state.proofs.Followed.{followed-after}
-use Rattle.history_model.specs.Entries.{entries_of}
+use Rattle.history_model.specs.{declared.entries.Entry.Entry, declared.entries.Placed.Placed, Allowed.Allowed, declared.entries.Declaration.Declaration}
+use Rattle.history_model.{specs.Commits.{declaration, declarations}, specs.Entries.entries_of, proofs.Chosen.entries-push, specs.Runs.{Series, known_series}}
+use Rattle.machine_state.{specs.Following.IsFollowed, proofs.Followed.followed-after, specs.Indexes.{TakesIn, runs_after, seen_after, given_after}}
 use Rattle.track_model.specs.Tracks.{Track}
-use Rattle.history_model.proofs.Chosen.{entries-push}
 use Rattle.publication_index.specs.Given.{given}
-use Rattle.machine_state.specs.Indexes.{TakesIn, runs_after, seen_after, given_after}
-use Rattle.history_model.specs.Runs.{Series, known_series}
 use Rattle.series_index.specs.Seen.{seen}
-use Rattle.machine_state.proofs.Series.{takes-in}
-use Rattle.machine_state.proofs.OneMore.{follows}
-use Rattle.machine_state.proofs.Publishing.{plain-kept, plain-counted}
-use Rattle.machine_state.proofs.Ready.{ready}
+use Rattle.machine_state.proofs.{Series.takes-in, OneMore.follows, Publishing.{plain-kept, plain-counted}, Ready.ready}
 use Rattle.machine_state.proofs.state.MachineState.add.Goals.{In_ok-reserve}
 use Rattle.machine_state.proofs.state.MachineState.add.Goals as goal
 

@@ -1,17 +1,11 @@
 use Rattle.std.proofs.Common.{◌≡◌, ◌≤◌, List, [], ◌∷◌, ◌++◌, length, refl, sym, ap, subst, ◌∙◌, arith}
 use Rattle.metric_table.specs.Limits.{most}
 use Rattle.metric_table.specs.declared.limits.Limit.TheVariants as limit
-use Rattle.history_model.specs.declared.entries.Entry.{Entry}
+use Rattle.history_model.specs.{declared.entries.Entry.Entry, declared.publication.Publication.Publication, Allowed.Allowed, Entries.entries_of}
 use Rattle.history_model.specs.declared.entries.Entry.TheVariants as entry
-use Rattle.history_model.specs.declared.publication.Publication.{Publication}
-use Rattle.history_model.specs.Allowed.{Allowed}
-use Rattle.history_model.specs.Entries.{entries_of}
-use Rattle.history_model.specs.Publications.{cut_count}
-use Rattle.history_model.proofs.Chosen.{entries-push}
+use Rattle.history_model.{specs.Publications.cut_count, proofs.Chosen.entries-push}
 use Rattle.track_model.specs.Tracks.{Track}
-use Rattle.machine_state.specs.Made.{IsMadeFrom}
-use Rattle.machine_state.specs.Made.{entry_of}
-use Rattle.machine_state.proofs.OneMore.{publishes, stays}
+use Rattle.machine_state.{specs.Made.IsMadeFrom, specs.Made.entry_of, proofs.OneMore.{publishes, stays}}
 use Rattle.machine_state.proofs.state.MachineState.add_publication.Goals as goal
 
 pub invariant_of-self-in_err-insert : goal.invariant_of-self-in_err-insert

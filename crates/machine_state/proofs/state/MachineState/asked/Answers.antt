@@ -1,18 +1,11 @@
-use Rattle.std.proofs.Common.{◌≡◌, ◌+◌, ◌<◌, ◌≤◌, not, false, List, All, length, sym, ap, subst, ◌∙◌, arith}
-use Rattle.std.specs.Prelude.{filter, map}
+use Rattle.std.{proofs.Common.{◌≡◌, ◌+◌, ◌<◌, ◌≤◌, not, false, List, All, length, sym, ap, subst, ◌∙◌, arith}, specs.Prelude.{filter, map}}
 use Rattle.std.proofs.lemmas.List.Elements.{All-weaker}
-use Rattle.segment_model.specs.Segments.{Position, values_of}
-use Rattle.segment_model.specs.Limits.{IsSmall}
-use Rattle.segment_model.specs.Edits.{has_commit}
-use Rattle.history_model.specs.declared.entries.Entry.{Entry}
-use Rattle.history_model.specs.Entries.{entries_of}
-use Rattle.history_model.specs.Runs.{Series, is_of, is_known, distinct, same_series, measured}
+use Rattle.segment_model.specs.{Segments.{Position, values_of}, Limits.IsSmall, Edits.has_commit}
+use Rattle.history_model.specs.{declared.entries.Entry.Entry, Entries.entries_of, Runs.{Series, is_of, is_known, distinct, same_series, measured}}
 use Rattle.sample_model.specs.Samples.{Measurement, IsSample}
 use Rattle.track_model.specs.Tracks.{Track}
-use Rattle.series_index.specs.Demands.{Kept, is_new}
-use Rattle.series_index.specs.Seen.{seen}
-use Rattle.machine_state.specs.State.{IsTracked}
-use Rattle.machine_state.proofs.Asked.{none-is}
+use Rattle.series_index.specs.{Demands.{Kept, is_new}, Seen.seen}
+use Rattle.machine_state.{specs.State.IsTracked, proofs.Asked.none-is}
 use Rattle.history_model.proofs.Lists.{filter-same}
 use Rattle.machine_state.proofs.state.MachineState.asked.Goals as goal
 

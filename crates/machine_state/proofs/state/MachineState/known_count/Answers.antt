@@ -1,7 +1,6 @@
 use Rattle.std.proofs.Common.{◌≤◌, length, ap, ◌∙◌, arith}
 use Rattle.metric_table.specs.declared.limits.Limit.TheVariants as limit
-use Rattle.history_model.specs.Entries.{entries_of}
-use Rattle.history_model.specs.Runs.{known_series}
+use Rattle.history_model.specs.{Entries.entries_of, Runs.known_series}
 use Rattle.track_model.specs.Tracks.{Track}
 use Rattle.machine_state.proofs.state.MachineState.known_count.Goals as goal
 

@@ -1,6 +1,5 @@
 use Rattle.std.proofs.Common.{◌≡◌, ap, sym, ◌∙◌}
-use Rattle.history_model.specs.Entries.{entries_of}
-use Rattle.history_model.specs.Runs.{is_known}
+use Rattle.history_model.specs.{Entries.entries_of, Runs.is_known}
 use Rattle.track_model.specs.Tracks.{Track}
 use Rattle.machine_state.proofs.state.MachineState.known_series.Goals as goal
 

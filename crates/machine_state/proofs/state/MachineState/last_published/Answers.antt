@@ -1,17 +1,10 @@
-use Rattle.std.proofs.Common.{◌≡◌, true, false, List, sym, ap, subst, ◌∙◌, Option, None, Some}
-use Rattle.std.specs.Prelude.{option_copied}
+use Rattle.std.{proofs.Common.{◌≡◌, true, false, List, sym, ap, subst, ◌∙◌, Option, None, Some}, specs.Prelude.option_copied}
 use Rattle.segment_cost.specs.declared.done.Done.{Done}
-use Rattle.history_model.specs.declared.entries.Entry.{Entry}
-use Rattle.history_model.specs.Entries.{entries_of}
-use Rattle.history_model.specs.Publications.{last_publication}
-use Rattle.history_model.specs.Runs.{Series, is_known}
+use Rattle.history_model.specs.{declared.entries.Entry.Entry, Entries.entries_of, Publications.last_publication, Runs.{Series, is_known}}
 use Rattle.request_model.specs.declared.replies.Answer.TheVariants as answer
 use Rattle.request_model.specs.declared.replies.Refusal.TheVariants as refusal
-use Rattle.track_model.specs.Outcomes.{tells}
-use Rattle.track_model.specs.Publishing.{OfPublished}
-use Rattle.machine_state.specs.State.{IsKept}
-use Rattle.machine_state.proofs.Published.{nothing, something, of-series, published-none}
-use Rattle.machine_state.proofs.Told.{unknown, known}
+use Rattle.track_model.specs.{Outcomes.tells, Publishing.OfPublished}
+use Rattle.machine_state.{specs.State.IsKept, proofs.Published.{nothing, something, of-series, published-none}, proofs.Told.{unknown, known}}
 use Rattle.machine_state.proofs.state.MachineState.last_published.Goals as goal
 
 pub returns-then-not-is_known-clause-none : goal.returns-then-not-is_known-clause-none

@@ -1,9 +1,7 @@
 use Rattle.std.proofs.Common.{List, ap, ap₂, ◌∙◌}
 use Rattle.std.specs.FinSet as set
-use Rattle.history_model.specs.declared.entries.Placed.{Placed}
-use Rattle.history_model.specs.SeriesOrder.{series_cmp}
-use Rattle.publication_index.specs.Homes.{homes}
-use Rattle.publication_index.proofs.Homes.{homes-none}
+use Rattle.history_model.specs.{declared.entries.Placed.Placed, SeriesOrder.series_cmp}
+use Rattle.publication_index.{specs.Homes.homes, proofs.Homes.homes-none}
 use Rattle.track_model.specs.Tracks.{Track}
 use Rattle.machine_state.proofs.state.MachineState.new.Goals as goal
 

@@ -1,11 +1,7 @@
-use Rattle.std.proofs.Common.{List, sym, ap, subst, Option}
+use Rattle.std.{proofs.Common.{List, sym, ap, subst, Option}, specs.Prelude.◌≡◌}
 use Rattle.segment_cost.specs.declared.done.Done.{Done}
-use Rattle.history_model.specs.declared.entries.Entry.{Entry}
-use Rattle.history_model.specs.Entries.{entries_of}
-use Rattle.history_model.specs.Publications.{last_publication}
-use Rattle.history_model.specs.Runs.{Series}
+use Rattle.history_model.specs.{declared.entries.Entry.Entry, Entries.entries_of, Publications.last_publication, Runs.Series}
 use Rattle.publication_index.specs.Kept.{kept}
-use Rattle.std.specs.Prelude.{◌≡◌}
 use Rattle.track_model.specs.Tracks.{Track}
 use Rattle.machine_state.specs.State.{IsKept}
 use Rattle.machine_state.proofs.state.MachineState.published.Goals as goal

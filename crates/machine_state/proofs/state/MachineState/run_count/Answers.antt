@@ -1,7 +1,5 @@
-use Rattle.std.proofs.Common.{List, length, ap, ◌∙◌}
-use Rattle.std.proofs.lemmas.List.{length-map}
-use Rattle.history_model.specs.Entries.{entries_of}
-use Rattle.history_model.specs.Runs.{acceptances, retractions}
+use Rattle.std.proofs.{Common.{List, length, ap, ◌∙◌}, lemmas.List.length-map}
+use Rattle.history_model.specs.{Entries.entries_of, Runs.{acceptances, retractions}}
 use Rattle.track_model.specs.Tracks.{Track}
 use Rattle.sample_store.specs.declared.store.Stored.{Stored}
 use Rattle.machine_state.specs.Indexes.{stored, stored_runs}

@@ -1,11 +1,9 @@
 use Rattle.std.proofs.Common.{◌≡◌, ◌≤◌, ap, ◌∙◌, arith}
 use Rattle.metric_table.specs.declared.limits.Limit.TheVariants as limit
-use Rattle.history_model.specs.Entries.{entries_of}
-use Rattle.history_model.specs.Runs.{acceptances, retractions, sample_count}
+use Rattle.history_model.specs.{Entries.entries_of, Runs.{acceptances, retractions, sample_count}}
 use Rattle.track_model.specs.Tracks.{Track}
 use Rattle.sample_store.specs.Runs.{samples_in}
-use Rattle.machine_state.specs.Indexes.{stored_runs}
-use Rattle.machine_state.proofs.Ready.{samples-stored}
+use Rattle.machine_state.{specs.Indexes.stored_runs, proofs.Ready.samples-stored}
 use Rattle.machine_state.proofs.state.MachineState.samples_before.Goals as goal
 
 pub returns-clause-count : goal.returns-clause-count

@@ -1,18 +1,11 @@
-use Rattle.std.proofs.Common.{◌≡◌, List, ap, refl, subst}
-use Rattle.std.proofs.lemmas.Result.{IfOk-weaker}
-use Rattle.history_model.specs.declared.entries.Entry.{Entry}
-use Rattle.history_model.specs.Entries.{entries_of}
-use Rattle.history_model.specs.Publications.{last_publication}
-use Rattle.history_model.specs.Runs.{Series}
+use Rattle.std.proofs.{Common.{◌≡◌, List, ap, refl, subst}, lemmas.Result.IfOk-weaker}
+use Rattle.history_model.specs.{declared.entries.Entry.Entry, Entries.entries_of, Publications.last_publication, Runs.Series}
 use Rattle.publication_index.specs.Kept.{kept}
 use Rattle.series_index.specs.Seen.{seen}
 use Rattle.report_lines.specs.SeriesLines.{AreLines}
 use Rattle.report_model.specs.declared.items.SeriesLine.{SeriesLine}
-use Rattle.track_model.specs.Reports.{AreSeriesLines}
-use Rattle.track_model.specs.Tracks.{Track}
-use Rattle.machine_state.specs.State.{IsKept, IsTracked}
-use Rattle.machine_state.proofs.Reporting.{series-lines}
-use Rattle.machine_state.proofs.OneMore.{stays}
+use Rattle.track_model.specs.{Reports.AreSeriesLines, Tracks.Track}
+use Rattle.machine_state.{specs.State.{IsKept, IsTracked}, proofs.Reporting.series-lines, proofs.OneMore.stays}
 use Rattle.machine_state.proofs.state.MachineState.series_lines.Goals as goal
 
 pub invariant_of-self : goal.invariant_of-self

@@ -1,22 +1,11 @@
-use Rattle.std.proofs.Common.{◌≡◌, ℕ, ◌<◌, List, refl, sym, ap, subst, ◌∙◌, Some, true, false}
-use Rattle.std.specs.Prelude.{option_copied}
+use Rattle.std.{proofs.Common.{◌≡◌, ℕ, ◌<◌, List, refl, sym, ap, subst, ◌∙◌, Some, true, false}, specs.Prelude.option_copied}
 use Rattle.std.specs.FinSet as set
-use Rattle.history_model.specs.Allowed.{Legal}
-use Rattle.history_model.specs.SeriesOrder.{series_cmp}
-use Rattle.publication_index.specs.Standing.{IsKeptTable}
-use Rattle.machine_state.specs.declared.base.Base.{Base}
-use Rattle.history_model.specs.declared.entries.Entry.{Entry}
-use Rattle.history_model.specs.Entries.{entries_of}
-use Rattle.history_model.specs.Penalties.{setting_of}
-use Rattle.history_model.specs.Publications.{last_publication}
-use Rattle.history_model.specs.Runs.{Series}
-use Rattle.publication_index.specs.Homes.{homes}
-use Rattle.publication_index.specs.Kept.{kept, kept_at_home}
+use Rattle.history_model.specs.{Allowed.Legal, SeriesOrder.series_cmp, declared.entries.Entry.Entry, Entries.entries_of, Penalties.setting_of}
+use Rattle.publication_index.specs.{Standing.IsKeptTable, Homes.homes, Kept.{kept, kept_at_home}}
+use Rattle.machine_state.specs.{declared.base.Base.Base, Made.setting_in, State.{BeginsWith, IsKept}}
+use Rattle.history_model.specs.{Publications.last_publication, Runs.Series}
 use Rattle.track_model.specs.Tracks.{Track, is_setting, base_of, with_home}
-use Rattle.machine_state.specs.Made.{setting_in}
-use Rattle.machine_state.specs.State.{BeginsWith, IsKept}
-use Rattle.machine_state.proofs.Bases.{base-none, base-other, begins, taken-none, taken-some}
-use Rattle.machine_state.proofs.OneMore.{stays}
+use Rattle.machine_state.proofs.{Bases.{base-none, base-other, begins, taken-none, taken-some}, OneMore.stays}
 use Rattle.machine_state.proofs.state.MachineState.take_base.Goals as goal
 use Rattle.machine_state.proofs.state.MachineState.take_base.Goals.{After-is_made_at}
 

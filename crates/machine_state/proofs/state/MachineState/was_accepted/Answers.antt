@@ -1,13 +1,8 @@
-use Rattle.std.proofs.Common.{◌≡◌, List, sym, ap, ◌∙◌, Option, Some, None, is_some, refl, Bor}
-use Rattle.std.specs.Prelude.{find, option_map, option_copied}
-use Rattle.history_model.specs.declared.entries.Entry.{Entry}
-use Rattle.history_model.specs.Entries.{entries_of}
-use Rattle.history_model.specs.Runs.{accepted, retractions}
+use Rattle.std.{proofs.Common.{◌≡◌, List, sym, ap, ◌∙◌, Option, Some, None, is_some, refl, Bor}, specs.Prelude.{find, option_map, option_copied}}
+use Rattle.history_model.specs.{declared.entries.Entry.Entry, Entries.entries_of, Runs.{accepted, retractions}}
 use Rattle.track_model.specs.Tracks.{Track}
-use Rattle.sample_store.specs.Runs.{names}
-use Rattle.sample_store.specs.declared.store.Stored.{Stored}
-use Rattle.machine_state.specs.Indexes.{stored, stored_runs}
-use Rattle.machine_state.proofs.Marks.{look-up}
+use Rattle.sample_store.specs.{Runs.names, declared.store.Stored.Stored}
+use Rattle.machine_state.{specs.Indexes.{stored, stored_runs}, proofs.Marks.look-up}
 use Rattle.machine_state.proofs.state.MachineState.was_accepted.Goals as goal
 
 some-map : {A B : Type 0} (f : A → B) (o : Option A) → is_some (option_map f o) ≡ is_some o

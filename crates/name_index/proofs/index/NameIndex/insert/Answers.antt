@@ -1,7 +1,5 @@
-use Rattle.std.proofs.Common.{◌≡◌, ◌∙◌, ℕ, List, length, sym, ap, subst, arith}
-use Rattle.std.specs.Prelude.{bytes_eq, position}
-use Rattle.name_index.specs.Placed.{IsAt, AreFound, AreDistinct, StandsAt}
-use Rattle.name_index.proofs.Finding.{position-misses, still-found, found-push, distinct-push}
+use Rattle.std.{proofs.Common.{◌≡◌, ◌∙◌, ℕ, List, length, sym, ap, subst, arith}, specs.Prelude.{bytes_eq, position}}
+use Rattle.name_index.{specs.Placed.{IsAt, AreFound, AreDistinct, StandsAt}, proofs.Finding.{position-misses, still-found, found-push, distinct-push}}
 use Rattle.name_index.proofs.index.NameIndex.insert.Goals as goal
 
 pub invariant_of-self-in_err-put : goal.invariant_of-self-in_err-put

@@ -1,9 +1,5 @@
-use Rattle.std.proofs.Common.{◌≡◌, ◌∙◌, ◌-◌, sym, ap, Some, None, arith}
-use Rattle.std.specs.Ordering.{nat_cmp}
-use Rattle.std.specs.Cmp.Lexicographic.{slice_cmp}
-use Rattle.std.specs.BTreeMap.{get}
-use Rattle.name_index.specs.Placed.{slot, hard_hash}
-use Rattle.name_index.proofs.Finding.{nowhere, untold, position-at, position-none}
+use Rattle.std.{proofs.Common.{◌≡◌, ◌∙◌, ◌-◌, sym, ap, Some, None, arith}, specs.Ordering.nat_cmp, specs.Cmp.Lexicographic.slice_cmp, specs.BTreeMap.get}
+use Rattle.name_index.{specs.Placed.{slot, hard_hash}, proofs.Finding.{nowhere, untold, position-at, position-none}}
 use Rattle.name_index.proofs.places.Places.find.Goals as goal
 
 pub returns-then-slot-eq0 : goal.returns-then-slot-eq0

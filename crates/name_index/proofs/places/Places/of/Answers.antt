@@ -1,6 +1,4 @@
-use Rattle.std.proofs.Common.{◌≡◌, ◌<◌, ℕ, List, [], length, get_or, subst, ◌∙◌, arith, inl, inr}
-use Rattle.std.proofs.lemmas.Bool.{cases_lt}
-use Rattle.std.proofs.lemmas.List.{get_or_read}
+use Rattle.std.proofs.{Common.{◌≡◌, ◌<◌, ℕ, List, [], length, get_or, subst, ◌∙◌, arith, inl, inr}, lemmas.Bool.cases_lt, lemmas.List.get_or_read}
 use Rattle.name_index.specs.Placed.{IsAt}
 use Rattle.name_index.proofs.places.Places.of.Goals as goal
 

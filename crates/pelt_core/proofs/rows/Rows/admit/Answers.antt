@@ -1,7 +1,4 @@
-use Rattle.std.proofs.Common.{◌≡◌, length, refl, pos, FitsSigned, ◌∙◌, ap, arith}
-use Rattle.std.specs.Int.{w128}
-use Rattle.std.specs.Vec.{with_items}
-use Rattle.std.proofs.lemmas.Int.{ints, to_z-of_z}
+use Rattle.std.{proofs.Common.{◌≡◌, length, refl, pos, FitsSigned, ◌∙◌, ap, arith}, specs.Int.w128, specs.Vec.with_items, proofs.lemmas.Int.{ints, to_z-of_z}}
 use Rattle.std.proofs.lemmas.List.{take_at, get_or_read}
 use Rattle.segment_model.specs.Tables.{int_at}
 use Rattle.pelt_core.proofs.rows.Rows.admit.Goals as goal

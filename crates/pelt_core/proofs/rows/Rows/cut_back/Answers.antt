@@ -1,11 +1,8 @@
-use Rattle.std.proofs.Common.{◌≡◌, ℕ, ◌+◌, ◌-◌, ◌^◌, ◌<◌, ◌≤◌, length, take, slice_index, pos, neg_ℤ, refl, ap, ◌∙◌, arith}
-use Rattle.std.proofs.lemmas.Int.{ints}
+use Rattle.std.proofs.{Common.{◌≡◌, ℕ, ◌+◌, ◌-◌, ◌^◌, ◌<◌, ◌≤◌, length, take, slice_index, pos, neg_ℤ, refl, ap, ◌∙◌, arith}, lemmas.Int.ints}
 use Rattle.std.proofs.lemmas.List.{take_at, length-take, get_or-take}
 use Rattle.segment_model.specs.Tables.{int_at, IsUnmarkedBehind}
-use Rattle.pelt_core.specs.Candidates.{open_places}
-use Rattle.pelt_core.specs.Bounds.{HaveBounds}
-use Rattle.pelt_core.proofs.Growth.{table-by, candidates-by, open-few, places-below, unmarked-at, totals}
-use Rattle.pelt_core.proofs.Blocks.{bounds-by, bounds-reset}
+use Rattle.pelt_core.specs.{Candidates.open_places, Bounds.HaveBounds}
+use Rattle.pelt_core.proofs.{Growth.{table-by, candidates-by, open-few, places-below, unmarked-at, totals}, Blocks.{bounds-by, bounds-reset}}
 use Rattle.pelt_core.proofs.rows.Rows.cut_back.Goals as goal
 
 pub returns-clause-pruned : goal.returns-clause-pruned

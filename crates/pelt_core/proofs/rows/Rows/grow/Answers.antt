@@ -1,12 +1,7 @@
 use Rattle.std.proofs.Common.{◌≡◌, ℕ, ℤ, List, [], ◌∷◌, ◌++◌, ◌+◌, ◌-◌, ◌*◌, ◌<◌, ◌≤◌, length, slice_index, vec_capacity, ◌+ℤ◌, ◌∙◌, ap, FitsSigned, arith}
-use Rattle.std.specs.Int.{w128}
-use Rattle.std.proofs.lemmas.Int.{ints, to_z-of_z}
-use Rattle.std.proofs.lemmas.List.{length-append}
+use Rattle.std.{specs.Int.w128, proofs.lemmas.Int.{ints, to_z-of_z}, proofs.lemmas.List.length-append}
 use Rattle.segment_model.specs.Values.{cost_between}
-use Rattle.pelt_core.specs.Candidates.{open_places}
-use Rattle.pelt_core.specs.Bounds.{AreInRange, HaveBounds}
-use Rattle.pelt_core.specs.Rows.{AddsRow}
-use Rattle.pelt_core.proofs.Growth.{table-by}
+use Rattle.pelt_core.{specs.Candidates.open_places, specs.Bounds.{AreInRange, HaveBounds}, specs.Rows.AddsRow, proofs.Growth.table-by}
 use Rattle.pelt_core.proofs.Growing.{IsStep, least-size, are, next-candidates, next-totals, next-size, left-are, left-few, whole-table, whole-candidates, left-bounds, whole-bounds, filter-by, admitted-none, admitted-one}
 use Rattle.pelt_core.proofs.rows.Rows.grow.Goals as goal
 use Rattle.pelt_core.proofs.rows.Rows.grow.Goals.{After-renew}

@@ -1,11 +1,7 @@
-use Rattle.std.proofs.Common.{◌≡◌, ℕ, ℤ, List, ◌+◌, ◌<◌, ◌≤◌, length, slice_index, ◌⊎◌, inl, inr, ◌∙◌, arith}
-use Rattle.std.specs.Vec.{with_items}
-use Rattle.std.proofs.lemmas.List.{take_at, get_or_read}
-use Rattle.std.proofs.lemmas.Bool.{cases_eq}
-use Rattle.segment_model.specs.Tables.{MayBegin, IsCandidate}
-use Rattle.segment_model.specs.Values.{cost_between}
-use Rattle.pelt_core.specs.Candidates.{AreLookedAt, IsAmong, IsNear}
-use Rattle.pelt_core.proofs.Marks.{both-looked, looked-as}
+use Rattle.std.{proofs.Common.{◌≡◌, ℕ, ℤ, List, ◌+◌, ◌<◌, ◌≤◌, length, slice_index, ◌⊎◌, inl, inr, ◌∙◌, arith}, specs.Vec.with_items}
+use Rattle.std.proofs.lemmas.{List.{take_at, get_or_read}, Bool.cases_eq}
+use Rattle.segment_model.specs.{Tables.{MayBegin, IsCandidate}, Values.cost_between}
+use Rattle.pelt_core.{specs.Candidates.{AreLookedAt, IsAmong, IsNear}, proofs.Marks.{both-looked, looked-as}}
 use Rattle.pelt_core.proofs.rows.Rows.mark_dear.Goals as goal
 
 candidate-begins : (len t s : ℕ) → IsCandidate len t s → MayBegin len s

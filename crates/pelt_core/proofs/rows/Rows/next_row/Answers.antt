@@ -1,11 +1,7 @@
-use Rattle.std.proofs.Common.{ℕ, ℤ, List, [], ◌∷◌, ◌++◌, ◌-◌, ◌*◌, ◌^◌, ap, ◌∙◌, length, pos, neg_ℤ, ◌+ℤ◌, ◌≤ℤ◌, FitsSigned, refl, arith}
-use Rattle.std.specs.Int.{w128}
-use Rattle.std.proofs.lemmas.Int.{ints, to_z-of_z}
-use Rattle.std.proofs.lemmas.List.{take_at, get_or_read}
+use Rattle.std.{proofs.Common.{ℕ, ℤ, List, [], ◌∷◌, ◌++◌, ◌-◌, ◌*◌, ◌^◌, ap, ◌∙◌, length, pos, neg_ℤ, ◌+ℤ◌, ◌≤ℤ◌, FitsSigned, refl, arith}, specs.Int.w128}
+use Rattle.std.proofs.lemmas.{Int.{ints, to_z-of_z}, List.{take_at, get_or_read}}
 use Rattle.segment_model.specs.Values.{cost_between}
-use Rattle.pelt_core.specs.Bounds.{AreInRange, IsFirst}
-use Rattle.pelt_core.proofs.Search.{found}
-use Rattle.pelt_core.proofs.Growth.{first-at}
+use Rattle.pelt_core.{specs.Bounds.{AreInRange, IsFirst}, proofs.Search.found, proofs.Growth.first-at}
 use Rattle.pelt_core.proofs.Growing.{last, some, few, bounds-for, are-candidates}
 use Rattle.pelt_core.proofs.rows.Rows.next_row.Goals as goal
 

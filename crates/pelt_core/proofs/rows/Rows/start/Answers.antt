@@ -1,9 +1,6 @@
-use Rattle.std.proofs.Common.{◌≡◌, ℕ, ◌+◌, ◌-◌, ℤ, [], ◌∷◌, length, pos, neg_ℤ, ◌-ℤ◌, FitsSigned, refl, ap, ◌∙◌, arith}
-use Rattle.std.specs.Int.{w128}
-use Rattle.std.proofs.lemmas.Int.{ints, to_z-of_z}
-use Rattle.std.proofs.lemmas.List.{take_at}
-use Rattle.pelt_core.proofs.Growth.{table-by, candidates-by}
-use Rattle.pelt_core.proofs.Blocks.{first-bounds, bounds-by}
+use Rattle.std.{proofs.Common.{◌≡◌, ℕ, ◌+◌, ◌-◌, ℤ, [], ◌∷◌, length, pos, neg_ℤ, ◌-ℤ◌, FitsSigned, refl, ap, ◌∙◌, arith}, specs.Int.w128}
+use Rattle.std.proofs.lemmas.{Int.{ints, to_z-of_z}, List.take_at}
+use Rattle.pelt_core.proofs.{Growth.{table-by, candidates-by}, Blocks.{first-bounds, bounds-by}}
 use Rattle.pelt_core.proofs.rows.Rows.start.Goals as goal
 
 -- the last place of the candidates of the first position

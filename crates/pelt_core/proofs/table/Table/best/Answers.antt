@@ -1,14 +1,8 @@
-use Rattle.std.proofs.Common.{◌≡◌, ℕ, ℤ, List, length, reverse, ◌^◌, ◌<◌, ◌∙◌, sym, ap, FitsSigned, arith}
-use Rattle.std.specs.Int.{w128}
+use Rattle.std.{proofs.Common.{◌≡◌, ℕ, ℤ, List, length, reverse, ◌^◌, ◌<◌, ◌∙◌, sym, ap, FitsSigned, arith}, specs.Int.w128}
 use Rattle.std.proofs.lemmas.Int.{ints, to_z-of_z}
-use Rattle.segment_model.specs.Cuts.{IsBest, total}
-use Rattle.segment_model.specs.Tables.{int_at, IsWalk}
-use Rattle.segment_model.specs.Values.{cost_between}
-use Rattle.pelt_core.specs.Seen.{Tabled}
-use Rattle.pelt_core.proofs.Growth.{read-at}
-use Rattle.pelt_core.proofs.Tables.{total-of-none}
+use Rattle.segment_model.specs.{Cuts.{IsBest, total}, Tables.{int_at, IsWalk}, Values.cost_between}
+use Rattle.pelt_core.{specs.Seen.Tabled, proofs.Growth.read-at, proofs.Tables.total-of-none, proofs.table.Table.best.Goals.{then-n-eq0, else-n-eq0}}
 use Rattle.pelt_core.proofs.table.Table.best.Goals as goal
-use Rattle.pelt_core.proofs.table.Table.best.Goals.{then-n-eq0, else-n-eq0}
 
 pub cuts_back-requires-clause-below : goal.cuts_back-requires-clause-below
 cuts_back-requires-clause-below g c = λ s lt.

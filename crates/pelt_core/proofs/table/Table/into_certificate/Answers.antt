@@ -1,6 +1,4 @@
-use Rattle.std.proofs.Common.{refl, FitsSigned, rules, arith}
-use Rattle.std.specs.Int.{w128}
-use Rattle.std.proofs.lemmas.Int.{ints, to_z-of_z}
+use Rattle.std.{proofs.Common.{refl, FitsSigned, rules, arith}, specs.Int.w128, proofs.lemmas.Int.{ints, to_z-of_z}}
 use Rattle.pelt_core.proofs.Tables.{certified}
 use Rattle.pelt_core.proofs.table.Table.into_certificate.Goals as goal
 

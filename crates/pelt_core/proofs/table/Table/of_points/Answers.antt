@@ -1,9 +1,6 @@
-use Rattle.std.proofs.Common.{◌≡◌, List, ℤ, ℕ, ◌<◌, [], ◌∷◌, ◌++◌, ◌+◌, take, length, ap, ◌∙◌, refl, arith}
-use Rattle.std.specs.Int.{w128}
-use Rattle.std.proofs.lemmas.Int.{to_z-of_z}
-use Rattle.segment_model.specs.Values.{values_by_position}
+use Rattle.std.{proofs.Common.{◌≡◌, List, ℤ, ℕ, ◌<◌, [], ◌∷◌, ◌++◌, ◌+◌, take, length, ap, ◌∙◌, refl, arith}, specs.Int.w128, proofs.lemmas.Int.to_z-of_z}
+use Rattle.segment_model.{specs.Values.values_by_position, proofs.Filling.{filled-next, filled-within, filled-all}}
 use Rattle.pelt_core.specs.Seen.{Tabled, table_of}
-use Rattle.segment_model.proofs.Filling.{filled-next, filled-within, filled-all}
 use Rattle.pelt_core.proofs.table.Table.of_points.Goals as goal
 
 -- a table of more positions with the same penalty and length

@@ -1,12 +1,8 @@
-use Rattle.std.proofs.Common.{◌≡◌, [], ◌∷◌, ◌++◌, ap, ◌∙◌, length, FitsSigned, arith}
-use Rattle.std.specs.Int.{w128}
-use Rattle.std.proofs.lemmas.Int.{ints, to_z-of_z}
+use Rattle.std.{proofs.Common.{◌≡◌, [], ◌∷◌, ◌++◌, ap, ◌∙◌, length, FitsSigned, arith}, specs.Int.w128, proofs.lemmas.Int.{ints, to_z-of_z}}
 use Rattle.std.proofs.lemmas.List.{length-append}
 use Rattle.segment_model.specs.Values.{AreWithinLimits}
-use Rattle.pelt_core.specs.Seen.{Tabled}
-use Rattle.pelt_core.proofs.Tables.{table-same, before-push, after-push}
+use Rattle.pelt_core.{specs.Seen.Tabled, proofs.Tables.{table-same, before-push, after-push}, proofs.table.Table.push.Goals.After-push}
 use Rattle.pelt_core.proofs.table.Table.push.Goals as goal
-use Rattle.pelt_core.proofs.table.Table.push.Goals.{After-push}
 
 within : (g : _) (c : After-push g) → AreWithinLimits (g.C.Cost.positions c.self.inside.cost ++ c.args.values.now ∷ [])
 within g c = rw (ap (λ (t : Tabled). t.positions) c.self.view_is) c.requires.limits

@@ -1,6 +1,5 @@
 use Rattle.std.proofs.Common.{◌≤◌, length, ap}
-use Rattle.pelt_core.specs.Seen.{Tabled}
-use Rattle.pelt_core.proofs.Tables.{first-ones}
+use Rattle.pelt_core.{specs.Seen.Tabled, proofs.Tables.first-ones}
 use Rattle.pelt_core.proofs.table.Table.rewind.Goals as goal
 
 pub invariant_of-self : goal.invariant_of-self

@@ -1,8 +1,7 @@
 use Rattle.std.proofs.Common.{◌≡◌, ℕ, List, length, Some, None, sym, subst, ◌∙◌, arith}
 use Rattle.history_model.specs.declared.entries.Author.TheVariants.{Script}
 use Rattle.journal_walk.specs.Walks.{Walked}
-use Rattle.play_audit.specs.Places.{IsBy, IsPlace}
-use Rattle.play_audit.proofs.Telling.{names_nothing, out_of_range, outside_is}
+use Rattle.play_audit.{specs.Places.{IsBy, IsPlace}, proofs.Telling.{names_nothing, out_of_range, outside_is}}
 use Rattle.play_audit.proofs.place.Place.hear.Goals as goal
 
 pub returns-then-is_outside-clause-none : goal.returns-then-is_outside-clause-none

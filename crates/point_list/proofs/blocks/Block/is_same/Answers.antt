@@ -1,10 +1,6 @@
-use Rattle.std.proofs.Common.{◌≡◌, ◌∙◌, length, sym, ap, ap₂}
-use Rattle.std.specs.Cmp.Rules.{signed_items}
-use Rattle.std.specs.Cmp.Lexicographic.{bytes_decides}
+use Rattle.std.{proofs.Common.{◌≡◌, ◌∙◌, length, sym, ap, ap₂}, specs.Cmp.Rules.signed_items, specs.Cmp.Lexicographic.bytes_decides}
 use Rattle.segment_model.specs.Segments.{values_of}
-use Rattle.point_list.specs.Places.{common}
-use Rattle.point_list.specs.Blocks.{heads_of}
-use Rattle.point_list.proofs.Joined.{same-blocks}
+use Rattle.point_list.{specs.Places.common, specs.Blocks.heads_of, proofs.Joined.same-blocks}
 use Rattle.point_list.proofs.blocks.Block.is_same.Goals as goal
 
 pub returns-then-eq : goal.returns-then-eq

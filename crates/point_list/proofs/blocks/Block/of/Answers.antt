@@ -1,8 +1,7 @@
 use Rattle.std.proofs.Common.{◌≡◌, ◌+◌, ◌-◌, ◌<◌, ◌∙◌, ℕ, ℤ, List, [], ◌∷◌, ◌++◌, length, take, drop, get_or, sym, ap, ap₂, arith}
 use Rattle.std.proofs.lemmas.List.{get_or-drop, length-drop, take_more, append_assoc}
 use Rattle.segment_model.specs.Segments.{Position, values_of}
-use Rattle.point_list.specs.Blocks.{heads_of}
-use Rattle.point_list.proofs.Joined.{heads-push, values-push}
+use Rattle.point_list.{specs.Blocks.heads_of, proofs.Joined.{heads-push, values-push}}
 use Rattle.point_list.proofs.blocks.Block.of.Goals as goal
 
 pub loop-i-preserved : goal.loop-i-preserved

@@ -1,8 +1,6 @@
-use Rattle.std.proofs.Common.{◌≡◌, ◌*◌, ◌-◌, ◌∙◌, ◌++◌, length, sym, ap, subst, refl, arith}
-use Rattle.std.specs.Arc.{arc_value}
+use Rattle.std.{proofs.Common.{◌≡◌, ◌*◌, ◌-◌, ◌∙◌, ◌++◌, length, sym, ap, subst, refl, arith}, specs.Arc.arc_value}
 use Rattle.segment_model.specs.Limits.{WithinLimits}
-use Rattle.point_list.specs.Blocks.{joined}
-use Rattle.point_list.proofs.Joined.{same-full, whole}
+use Rattle.point_list.{specs.Blocks.joined, proofs.Joined.{same-full, whole}}
 use Rattle.point_list.proofs.frozen.FrozenPoints.of.Goals as goal
 
 pub invariant_of-new : goal.invariant_of-new

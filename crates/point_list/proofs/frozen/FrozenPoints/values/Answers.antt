@@ -1,6 +1,5 @@
 use Rattle.std.proofs.Common.{◌∙◌, List, get_or, sym, ap}
-use Rattle.segment_model.specs.Segments.{Position, position_values}
-use Rattle.segment_model.proofs.Segments.{one-position}
+use Rattle.segment_model.{specs.Segments.{Position, position_values}, proofs.Segments.one-position}
 use Rattle.point_list.proofs.frozen.FrozenPoints.values.Goals as goal
 
 pub returns : goal.returns

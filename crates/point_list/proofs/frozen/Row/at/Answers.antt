@@ -1,9 +1,7 @@
-use Rattle.std.proofs.Common.{◌≡◌, ◌+◌, ◌*◌, ◌/◌, ◌%◌, ◌-◌, ◌<◌, ◌≤◌, ◌∙◌, ◌++◌, ℕ, List, length, get_or, sym, ap, arith}
-use Rattle.std.specs.Arc.{arc_value}
+use Rattle.std.{proofs.Common.{◌≡◌, ◌+◌, ◌*◌, ◌/◌, ◌%◌, ◌-◌, ◌<◌, ◌≤◌, ◌∙◌, ◌++◌, ℕ, List, length, get_or, sym, ap, arith}, specs.Arc.arc_value}
 use Rattle.std.proofs.lemmas.List.{get_or-append-add}
 use Rattle.segment_model.specs.Segments.{Position}
-use Rattle.point_list.specs.Blocks.{joined}
-use Rattle.point_list.proofs.Joined.{row-length, joined-length, full-at, at-block}
+use Rattle.point_list.{specs.Blocks.joined, proofs.Joined.{row-length, joined-length, full-at, at-block}}
 use Rattle.point_list.proofs.frozen.Row.at.Goals.{After-deref, After-len-else-block-len}
 use Rattle.point_list.proofs.frozen.Row.at.Goals as goal
 

@@ -1,5 +1,4 @@
-use Rattle.std.proofs.Common.{length, ap, arith}
-use Rattle.std.specs.Arc.{arc_value}
+use Rattle.std.{proofs.Common.{length, ap, arith}, specs.Arc.arc_value}
 use Rattle.point_list.proofs.Joined.{row-length}
 use Rattle.point_list.proofs.frozen.Row.len.Goals as goal
 

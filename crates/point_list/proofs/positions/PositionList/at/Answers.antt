@@ -1,5 +1,4 @@
-use Rattle.std.proofs.Common.{◌≡◌, ◌∙◌, ◌<◌, ℕ, List, length, get_or, arith}
-use Rattle.std.proofs.lemmas.List.{get_or_read}
+use Rattle.std.proofs.{Common.{◌≡◌, ◌∙◌, ◌<◌, ℕ, List, length, get_or, arith}, lemmas.List.get_or_read}
 use Rattle.segment_model.specs.Segments.{Position}
 use Rattle.point_list.proofs.Slots.{below-at, order-length, order-read}
 use Rattle.point_list.proofs.positions.PositionList.at.Goals as goal

@@ -1,8 +1,6 @@
-use Rattle.std.proofs.Common.{◌≡◌, ◌∙◌, ◌++◌, ◌∷◌, [], ℕ, List, length, ap, ap₂, arith}
-use Rattle.std.specs.Prelude.{insert}
+use Rattle.std.{proofs.Common.{◌≡◌, ◌∙◌, ◌++◌, ◌∷◌, [], ℕ, List, length, ap, ap₂, arith}, specs.Prelude.insert}
 use Rattle.segment_model.specs.Segments.{Position}
-use Rattle.point_list.specs.Slots.{in_order}
-use Rattle.point_list.proofs.Slots.{order-length, order-insert, order-longer}
+use Rattle.point_list.{specs.Slots.in_order, proofs.Slots.{order-length, order-insert, order-longer}}
 use Rattle.point_list.proofs.positions.PositionList.insert.Goals as goal
 
 pub invariant_of-self-2 : goal.invariant_of-self-2

@@ -1,10 +1,7 @@
-use Rattle.std.proofs.Common.{◌≡◌, ◌∙◌, ◌<◌, ℕ, List, Result, Ok, Err, OnOk, FitsSigned, w64, length, get_or, set, ap, ap₂, arith}
-use Rattle.std.proofs.lemmas.Int.{to_z-of_z}
+use Rattle.std.proofs.{Common.{◌≡◌, ◌∙◌, ◌<◌, ℕ, List, Result, Ok, Err, OnOk, FitsSigned, w64, length, get_or, set, ap, ap₂, arith}, lemmas.Int.to_z-of_z}
 use Rattle.std.proofs.lemmas.List.{get_or_read}
-use Rattle.segment_model.specs.Segments.{Observation, Position}
-use Rattle.segment_model.specs.Edits.{with_value}
-use Rattle.point_list.specs.Slots.{in_order}
-use Rattle.point_list.proofs.Slots.{below-at, order-length, order-read, order-set}
+use Rattle.segment_model.specs.{Segments.{Observation, Position}, Edits.with_value}
+use Rattle.point_list.{specs.Slots.in_order, proofs.Slots.{below-at, order-length, order-read, order-set}}
 use Rattle.point_list.proofs.positions.PositionList.push_at.Goals as goal
 
 on_ok : {T E : Type 0} (r : Result T E) {P Q : Type 0} → OnOk r P → (P → Q) → OnOk r Q

@@ -1,11 +1,7 @@
-use Rattle.std.proofs.Common.{◌≡◌, ◌∙◌, ◌<◌, ◌+◌, ◌-◌, ℕ, List, length, map, ap, ap₂, arith}
-use Rattle.std.specs.Prelude.{remove}
-use Rattle.std.specs.List.{swap_remove}
-use Rattle.std.specs.VecDeque.{deque_with_items}
-use Rattle.std.proofs.lemmas.List.{length-map}
+use Rattle.std.{proofs.Common.{◌≡◌, ◌∙◌, ◌<◌, ◌+◌, ◌-◌, ℕ, List, length, map, ap, ap₂, arith}, specs.Prelude.remove, specs.List.swap_remove}
+use Rattle.std.{specs.VecDeque.deque_with_items, proofs.lemmas.List.length-map}
 use Rattle.segment_model.specs.Segments.{Position}
-use Rattle.point_list.specs.Slots.{in_order, renamed}
-use Rattle.point_list.proofs.Slots.{below-at, order-length, order-remove, order-shorter}
+use Rattle.point_list.{specs.Slots.{in_order, renamed}, proofs.Slots.{below-at, order-length, order-remove, order-shorter}}
 use Rattle.point_list.proofs.positions.PositionList.remove.Goals.{After-rename}
 use Rattle.point_list.proofs.positions.PositionList.remove.Goals as goal
 

@@ -1,11 +1,7 @@
-use Rattle.std.proofs.Common.{◌≡◌, ◌∙◌, ◌<◌, ◌+◌, ℕ, List, length, get_or, set, sym, subst, ap, ap₂, arith}
-use Rattle.std.specs.Prelude.{filter}
+use Rattle.std.{proofs.Common.{◌≡◌, ◌∙◌, ◌<◌, ◌+◌, ℕ, List, length, get_or, set, sym, subst, ap, ap₂, arith}, specs.Prelude.filter}
 use Rattle.std.proofs.lemmas.List.{get_or_read}
-use Rattle.segment_model.specs.Segments.{Position}
-use Rattle.segment_model.specs.Limits.{HasStepsInOrder}
-use Rattle.segment_model.specs.Edits.{by_another}
-use Rattle.point_list.specs.Slots.{in_order}
-use Rattle.point_list.proofs.Slots.{below-at, order-length, order-read, order-set}
+use Rattle.segment_model.specs.{Segments.Position, Limits.HasStepsInOrder, Edits.by_another}
+use Rattle.point_list.{specs.Slots.in_order, proofs.Slots.{below-at, order-length, order-read, order-set}}
 use Rattle.point_list.proofs.positions.PositionList.take_step_at.Goals.{After-index_mut-position}
 use Rattle.point_list.proofs.positions.PositionList.take_step_at.Goals as goal
 

@@ -1,10 +1,6 @@
-use Rattle.std.proofs.Common.{◌<◌, ◌∙◌, ap, length, get_or, FitsSigned, rules, arith}
-use Rattle.std.specs.Int.{w128}
-use Rattle.std.proofs.lemmas.Int.{to_z-of_z}
-use Rattle.prefix_sums.specs.Lists.{Listed}
-use Rattle.prefix_sums.proofs.SumLists.{length-sums, sums-at}
+use Rattle.std.{proofs.Common.{◌<◌, ◌∙◌, ap, length, get_or, FitsSigned, rules, arith}, specs.Int.w128, proofs.lemmas.Int.to_z-of_z}
+use Rattle.prefix_sums.{specs.Lists.Listed, proofs.SumLists.{length-sums, sums-at}, proofs.sum_list.SumList.at.Goals.After-self}
 use Rattle.prefix_sums.proofs.sum_list.SumList.at.Goals as goal
-use Rattle.prefix_sums.proofs.sum_list.SumList.at.Goals.{After-self}
 
 inside : (c : After-self) → c.args.i < length c.self.inside.totals.items
 inside c = omega (arith, c.requires, ap (λ (l : Listed). length l.items) c.self.view_is, length-sums c.self.inside.counts.items c.self.inside.totals.items c.self.invariant)

@@ -1,6 +1,5 @@
 use Rattle.std.proofs.Common.{◌∙◌, sym, ap, length}
-use Rattle.prefix_sums.specs.Lists.{Listed}
-use Rattle.prefix_sums.proofs.SumLists.{length-sums}
+use Rattle.prefix_sums.{specs.Lists.Listed, proofs.SumLists.length-sums}
 use Rattle.prefix_sums.proofs.sum_list.SumList.len.Goals as goal
 
 pub returns : goal.returns

@@ -1,9 +1,5 @@
-use Rattle.std.proofs.Common.{◌≡◌, ◌∙◌, ◌++◌, ◌∷◌, [], ap, ap₂, FitsSigned, rules}
-use Rattle.std.specs.Int.{w128}
-use Rattle.std.proofs.lemmas.Int.{to_z-of_z}
-use Rattle.prefix_sums.specs.declared.sum_list.Totals.{Totals}
-use Rattle.prefix_sums.specs.Lists.{Listed, sums_in}
-use Rattle.prefix_sums.proofs.SumLists.{sums-push}
+use Rattle.std.{proofs.Common.{◌≡◌, ◌∙◌, ◌++◌, ◌∷◌, [], ap, ap₂, FitsSigned, rules}, specs.Int.w128, proofs.lemmas.Int.to_z-of_z}
+use Rattle.prefix_sums.{specs.declared.sum_list.Totals.Totals, specs.Lists.{Listed, sums_in}, proofs.SumLists.sums-push}
 use Rattle.prefix_sums.proofs.sum_list.SumList.push_reserved.Goals as goal
 
 pub returns-clause-items : goal.returns-clause-items

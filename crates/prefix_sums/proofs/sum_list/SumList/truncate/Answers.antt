@@ -1,6 +1,5 @@
 use Rattle.std.proofs.Common.{◌∙◌, ap, ap₂, take}
-use Rattle.prefix_sums.specs.Lists.{Listed, sums_in}
-use Rattle.prefix_sums.proofs.SumLists.{sums-take}
+use Rattle.prefix_sums.{specs.Lists.{Listed, sums_in}, proofs.SumLists.sums-take}
 use Rattle.prefix_sums.proofs.sum_list.SumList.truncate.Goals as goal
 
 pub returns-clause-items : goal.returns-clause-items

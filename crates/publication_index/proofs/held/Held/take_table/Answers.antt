@@ -1,7 +1,6 @@
 use Rattle.std.proofs.Common.{sym, subst, Option}
 use Rattle.pelt_core.specs.Seen.{Tabled}
-use Rattle.publication_index.specs.Standing.{IsTableFor}
-use Rattle.publication_index.proofs.Standing.{stands-for}
+use Rattle.publication_index.{specs.Standing.IsTableFor, proofs.Standing.stands-for}
 use Rattle.publication_index.proofs.held.Held.take_table.Goals as goal
 
 pub returns-clause-stands : goal.returns-clause-stands

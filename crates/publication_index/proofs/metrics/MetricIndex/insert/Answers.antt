@@ -1,8 +1,5 @@
-use Rattle.std.proofs.Common.{◌≡◌, ℕ, List, Option, Some, cond, ap, ◌∙◌}
-use Rattle.std.specs.Prelude.{bytes_eq}
-use Rattle.publication_index.specs.declared.held.Held.{Held}
-use Rattle.publication_index.specs.Kept.{is_same, held_of, done_in, table_in}
-use Rattle.publication_index.proofs.Written.{by-bytes, read-cond}
+use Rattle.std.{proofs.Common.{◌≡◌, ℕ, List, Option, Some, cond, ap, ◌∙◌}, specs.Prelude.bytes_eq}
+use Rattle.publication_index.{specs.declared.held.Held.Held, specs.Kept.{is_same, held_of, done_in, table_in}, proofs.Written.{by-bytes, read-cond}}
 use Rattle.publication_index.proofs.metrics.MetricIndex.insert.Goals as goal
 
 -- what is read of a metric after the write

@@ -1,9 +1,6 @@
-use Rattle.std.proofs.Common.{◌≡◌, ◌∙◌, List, ℕ, Some, None, cond, ap, sym}
-use Rattle.std.specs.Prelude.{bytes_eq}
-use Rattle.publication_index.specs.declared.held.Held.{Held}
-use Rattle.publication_index.specs.Kept.{held_of, done_in, table_in}
+use Rattle.std.{proofs.Common.{◌≡◌, ◌∙◌, List, ℕ, Some, None, cond, ap, sym}, specs.Prelude.bytes_eq}
+use Rattle.publication_index.{specs.declared.held.Held.Held, specs.Kept.{held_of, done_in, table_in}, proofs.Standing.kept-table}
 use Rattle.history_model.proofs.Cases.{some-is}
-use Rattle.publication_index.proofs.Standing.{kept-table}
 use Rattle.publication_index.proofs.Written.{written-there, keeps-there}
 use Rattle.publication_index.proofs.metrics.MetricIndex.take_table.Goals as goal
 

@@ -1,14 +1,8 @@
-use Rattle.std.proofs.Common.{◌≡◌, ◌∙◌, List, [], ℕ, Option, Some, None, cond, ap, sym}
-use Rattle.std.specs.Prelude.{unwrap_or, bytes_eq}
-use Rattle.std.specs.Option.{option_copied_mut}
-use Rattle.std.specs.BTreeMap.{BTreeMap}
-use Rattle.std.specs.Map.{lookup}
-use Rattle.history_model.specs.Runs.{Series, same_series}
-use Rattle.publication_index.specs.declared.held.Held.{Held}
-use Rattle.publication_index.specs.Kept.{is_same, held_of, held, done_in, table_in, series_of}
-use Rattle.history_model.proofs.Cases.{any-err}
-use Rattle.publication_index.proofs.Homes.{same-homes, homes-with}
-use Rattle.publication_index.proofs.Written.{Metrics, read-within, read-through, same-through}
+use Rattle.std.{proofs.Common.{◌≡◌, ◌∙◌, List, [], ℕ, Option, Some, None, cond, ap, sym}, specs.Prelude.{unwrap_or, bytes_eq}, specs.Option.option_copied_mut}
+use Rattle.std.specs.{BTreeMap.BTreeMap, Map.lookup}
+use Rattle.history_model.{specs.Runs.{Series, same_series}, proofs.Cases.any-err}
+use Rattle.publication_index.specs.{declared.held.Held.Held, Kept.{is_same, held_of, held, done_in, table_in, series_of}}
+use Rattle.publication_index.proofs.{Homes.{same-homes, homes-with}, Written.{Metrics, read-within, read-through, same-through}}
 use Rattle.publication_index.proofs.published.PublicationIndex.insert.Goals as goal
 use Rattle.publication_index.proofs.published.PublicationIndex.insert.Goals.{In_err-insert, In_ok-insert, In_ok-insert-3}
 

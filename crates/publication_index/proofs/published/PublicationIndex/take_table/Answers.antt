@@ -1,14 +1,8 @@
-use Rattle.std.proofs.Common.{◌≡◌, ◌∙◌, List, [], ℕ, Option, Some, None, cond, ap, sym}
-use Rattle.std.specs.Prelude.{unwrap_or}
-use Rattle.std.specs.Map.{lookup}
-use Rattle.std.specs.BTreeMap.{BTreeMap}
+use Rattle.std.{proofs.Common.{◌≡◌, ◌∙◌, List, [], ℕ, Option, Some, None, cond, ap, sym}, specs.Prelude.unwrap_or, specs.Map.lookup, specs.BTreeMap.BTreeMap}
 use Rattle.std.specs.Option.{option_copied_mut}
 use Rattle.history_model.specs.Runs.{Series, same_series}
-use Rattle.publication_index.specs.declared.held.Held.{Held}
-use Rattle.publication_index.specs.Kept.{is_same, held_of, done_in, table_in, kept, home}
-use Rattle.publication_index.proofs.Homes.{absent, homes-without}
-use Rattle.publication_index.proofs.Standing.{moved-table}
-use Rattle.publication_index.proofs.Written.{read-through, same-through}
+use Rattle.publication_index.{specs.declared.held.Held.Held, specs.Kept.{is_same, held_of, done_in, table_in, kept, home}, proofs.Homes.{absent, homes-without}}
+use Rattle.publication_index.proofs.{Standing.moved-table, Written.{read-through, same-through}}
 use Rattle.publication_index.proofs.published.PublicationIndex.take_table.Goals as goal
 
 pub returns-in-Some-clause-stands : goal.returns-in-Some-clause-stands

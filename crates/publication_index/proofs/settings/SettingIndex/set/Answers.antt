@@ -1,11 +1,6 @@
-use Rattle.std.proofs.Common.{◌≡◌, ℕ, List, Option, Some, cond, ap, ◌∙◌}
-use Rattle.std.specs.Prelude.{unwrap_or, bytes_eq}
-use Rattle.std.specs.Map.{lookup}
-use Rattle.history_model.specs.declared.setting.Setting.{Setting}
-use Rattle.history_model.specs.Penalties.{default_setting}
-use Rattle.publication_index.specs.Kept.{is_same}
-use Rattle.publication_index.specs.Given.{given}
-use Rattle.publication_index.proofs.Written.{by-bytes, either-or}
+use Rattle.std.{proofs.Common.{◌≡◌, ℕ, List, Option, Some, cond, ap, ◌∙◌}, specs.Prelude.{unwrap_or, bytes_eq}, specs.Map.lookup}
+use Rattle.history_model.specs.{declared.setting.Setting.Setting, Penalties.default_setting}
+use Rattle.publication_index.{specs.Kept.is_same, specs.Given.given, proofs.Written.{by-bytes, either-or}}
 use Rattle.publication_index.proofs.settings.SettingIndex.set.Goals as goal
 
 pub returns-clause-ok : goal.returns-clause-ok

@@ -1,8 +1,6 @@
 use Rattle.std.proofs.Common.{codes, decimal}
 use Rattle.line_text.specs.Names.{spelling}
-use Rattle.report_pages.specs.Alignment.{left_aligned, right_aligned}
-use Rattle.report_pages.specs.Text.{count_text, centre_text}
-use Rattle.report_pages.proofs.Appends.{series_pieces}
+use Rattle.report_pages.{specs.Alignment.{left_aligned, right_aligned}, specs.Text.{count_text, centre_text}, proofs.Appends.series_pieces}
 use Rattle.report_pages.proofs.text.SeriesLineRow.put.Goals as goal
 
 -- what the calls appended, one after another

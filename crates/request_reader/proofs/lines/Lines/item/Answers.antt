@@ -1,6 +1,5 @@
 use Rattle.std.proofs.Common.{◌≡◌, ℕ, List, drop, slice_range, IfOk, ap, ◌∙◌, subst}
-use Rattle.request_words.specs.Heads.{IsHead}
-use Rattle.request_words.specs.Items.{Asks}
+use Rattle.request_words.specs.{Heads.IsHead, Items.Asks}
 use Rattle.request_reader.specs.Unread.{Unread}
 use Rattle.request_reader.proofs.lines.Lines.item.Goals as goal
 

@@ -1,5 +1,4 @@
-use Rattle.std.proofs.Common.{rules, ◌≡◌, ℕ, ◌^◌, ◌<◌, sym, ◌∙◌, arith}
-use Rattle.std.proofs.lemmas.Fmt.{decimal_injective}
+use Rattle.std.proofs.{Common.{rules, ◌≡◌, ℕ, ◌^◌, ◌<◌, sym, ◌∙◌, arith}, lemmas.Fmt.decimal_injective}
 use Rattle.request_words.proofs.FormWords.{first_of}
 use Rattle.request_words.proofs.words.Words.status.Goals as goal
 

@@ -1,5 +1,4 @@
-use Rattle.std.proofs.Common.{subst}
-use Rattle.std.specs.List.{AllByRecursion}
+use Rattle.std.{proofs.Common.subst, specs.List.AllByRecursion}
 use Rattle.keep_rows.specs.Growth.{MayBeKept}
 use Rattle.script_desk.proofs.GoingOn.{kept_come_back}
 use Rattle.script_desk.proofs.session.Session.comes_back_law.Goals as goal

@@ -1,6 +1,4 @@
-use Rattle.std.proofs.Common.{◌≡◌, List, All, ap, subst, ◌∙◌, sym, arith}
-use Rattle.std.proofs.lemmas.List.{take_all}
-use Rattle.std.proofs.lemmas.List.Elements.{All-more}
+use Rattle.std.proofs.{Common.{◌≡◌, List, All, ap, subst, ◌∙◌, sym, arith}, lemmas.List.take_all, lemmas.List.Elements.All-more}
 use Rattle.track_model.specs.Tracks.{Track}
 use Rattle.script_desk.specs.Sessions.{State, HasLegalHistory}
 use Rattle.script_desk.proofs.session.Session.histories_law.Goals as goal

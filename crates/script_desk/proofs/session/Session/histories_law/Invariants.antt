@@ -1,5 +1,4 @@
-use Rattle.std.proofs.Common.{take}
-use Rattle.std.specs.Prelude.{All}
+use Rattle.std.{proofs.Common.take, specs.Prelude.All}
 use Rattle.script_desk.specs.Sessions.{HasLegalHistory}
 use Rattle.script_desk.proofs.session.Session.histories_law.Given as goal
 

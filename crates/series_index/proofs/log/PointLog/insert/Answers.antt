@@ -1,10 +1,6 @@
-use Rattle.std.proofs.Common.{◌≡◌, ◌∙◌, List, [], ◌∷◌, ◌++◌, length, sym, ap, subst, FitsSigned, w64, arith}
-use Rattle.std.proofs.lemmas.Int.{to_z-of_z}
-use Rattle.segment_model.specs.Segments.{Position}
-use Rattle.segment_model.specs.Limits.{WithinLimits}
-use Rattle.segment_model.specs.Edits.{inserted}
-use Rattle.series_index.specs.declared.coming.Coming.{Coming}
-use Rattle.series_index.specs.Log.{all_placed, MayBePlaced, HaveRoom}
+use Rattle.std.proofs.{Common.{◌≡◌, ◌∙◌, List, [], ◌∷◌, ◌++◌, length, sym, ap, subst, FitsSigned, w64, arith}, lemmas.Int.to_z-of_z}
+use Rattle.segment_model.specs.{Segments.Position, Limits.WithinLimits, Edits.inserted}
+use Rattle.series_index.specs.{declared.coming.Coming.Coming, Log.{all_placed, MayBePlaced, HaveRoom}}
 use Rattle.series_index.proofs.Placing.{placed-push, may-more, within-more}
 use Rattle.series_index.proofs.log.PointLog.insert.Goals as goal
 

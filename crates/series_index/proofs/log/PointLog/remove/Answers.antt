@@ -1,10 +1,7 @@
 use Rattle.std.proofs.Common.{◌∙◌, List, sym, ap, subst, arith}
-use Rattle.segment_model.specs.Segments.{Position}
-use Rattle.segment_model.specs.Edits.{removed}
+use Rattle.segment_model.specs.{Segments.Position, Edits.removed}
 use Rattle.point_list.proofs.Places.{to-rises}
-use Rattle.series_index.specs.declared.coming.Coming.{Coming}
-use Rattle.series_index.specs.Log.{all_placed, MayBePlaced}
-use Rattle.series_index.proofs.Placing.{removed-all, may-fewer}
+use Rattle.series_index.{specs.declared.coming.Coming.Coming, specs.Log.{all_placed, MayBePlaced}, proofs.Placing.{removed-all, may-fewer}}
 use Rattle.series_index.proofs.log.PointLog.remove.Goals as goal
 
 pub invariant_of-self : goal.invariant_of-self

@@ -1,5 +1,4 @@
-use Rattle.std.proofs.Common.{◌≡◌, ◌<◌, ◌∙◌, ◌||◌, nat_lt, Bool, true, false, length, sym, ap, refl, inl, inr, arith}
-use Rattle.std.proofs.lemmas.Bool.{lt-ltb, cases_eq, eq-eqb}
+use Rattle.std.proofs.{Common.{◌≡◌, ◌<◌, ◌∙◌, ◌||◌, nat_lt, Bool, true, false, length, sym, ap, refl, inl, inr, arith}, lemmas.Bool.{lt-ltb, cases_eq, eq-eqb}}
 use Rattle.segment_model.specs.Edits.{has_commit}
 use Rattle.series_index.proofs.Placing.{size-placed}
 use Rattle.series_index.proofs.log.PointLog.takes.Goals as goal

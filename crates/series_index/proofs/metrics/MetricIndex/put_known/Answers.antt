@@ -1,8 +1,6 @@
-use Rattle.std.proofs.Common.{◌≡◌, ◌++◌, List, ℕ, ◌∷◌, [], Bool, sym, ap, ◌∙◌, append_assoc, append-nil}
-use Rattle.std.specs.Prelude.{is_some}
+use Rattle.std.{proofs.Common.{◌≡◌, ◌++◌, List, ℕ, ◌∷◌, [], Bool, sym, ap, ◌∙◌, append_assoc, append-nil}, specs.Prelude.is_some}
 use Rattle.history_model.specs.Runs.{Series}
-use Rattle.series_index.specs.declared.tracked.Tracked.{Tracked}
-use Rattle.series_index.specs.Listed.{put_if, known_of}
+use Rattle.series_index.specs.{declared.tracked.Tracked.Tracked, Listed.{put_if, known_of}}
 use Rattle.series_index.proofs.metrics.MetricIndex.put_known.Goals as goal
 
 pub loop-metric-preserved : goal.loop-metric-preserved

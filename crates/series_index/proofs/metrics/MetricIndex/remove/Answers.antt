@@ -1,7 +1,5 @@
-use Rattle.std.proofs.Common.{◌∙◌, sym, ap}
-use Rattle.std.specs.Option.{option_copied_mut}
-use Rattle.series_index.specs.Seen.{taken_out}
-use Rattle.series_index.proofs.Written.{none-out, seen-through, seen-absent}
+use Rattle.std.{proofs.Common.{◌∙◌, sym, ap}, specs.Option.option_copied_mut}
+use Rattle.series_index.{specs.Seen.taken_out, proofs.Written.{none-out, seen-through, seen-absent}}
 use Rattle.series_index.proofs.metrics.MetricIndex.remove.Goals as goal
 
 pub returns-in-Some : goal.returns-in-Some

@@ -1,8 +1,5 @@
-use Rattle.std.proofs.Common.{◌∙◌, Option, ap, sym}
-use Rattle.std.specs.Prelude.{unwrap_or}
-use Rattle.series_index.specs.declared.tracked.Tracked.{Tracked}
-use Rattle.series_index.specs.Seen.{unseen}
-use Rattle.series_index.proofs.ByPlace.{none-metrics, seen-at, unseen-at}
+use Rattle.std.{proofs.Common.{◌∙◌, Option, ap, sym}, specs.Prelude.unwrap_or}
+use Rattle.series_index.{specs.declared.tracked.Tracked.Tracked, specs.Seen.unseen, proofs.ByPlace.{none-metrics, seen-at, unseen-at}}
 use Rattle.series_index.proofs.series.SeriesIndex.get.Goals as goal
 
 pub returns-in-Some : goal.returns-in-Some

@@ -1,13 +1,8 @@
-use Rattle.std.proofs.Common.{◌≡◌, ◌∙◌, ◌+◌, ◌<◌, ◌&&◌, ℕ, Bool, not, List, length, take, cond, ap, subst, sym, arith}
-use Rattle.std.specs.List.{list_any}
+use Rattle.std.{proofs.Common.{◌≡◌, ◌∙◌, ◌+◌, ◌<◌, ◌&&◌, ℕ, Bool, not, List, length, take, cond, ap, subst, sym, arith}, specs.List.list_any}
 use Rattle.std.proofs.lemmas.List.{take_all}
 use Rattle.sample_model.specs.Samples.{Measurement}
 use Rattle.history_model.specs.Runs.{Series, is_of, measured}
-use Rattle.series_index.specs.Seen.{seen}
-use Rattle.series_index.specs.Taken.{of_series}
-use Rattle.series_index.specs.Demands.{new_ones}
-use Rattle.series_index.specs.Plenty.{HasPlenty}
-use Rattle.series_index.proofs.Firsts.{so-far, new-next, filter-few}
+use Rattle.series_index.{specs.Seen.seen, specs.Taken.of_series, specs.Demands.new_ones, specs.Plenty.HasPlenty, proofs.Firsts.{so-far, new-next, filter-few}}
 use Rattle.series_index.proofs.series.SeriesIndex.have_plenty.Goals as goal
 
 pub loop-sample-preserved : goal.loop-sample-preserved

@@ -1,9 +1,6 @@
 use Rattle.std.proofs.Common.{◌≡◌, ◌<◌, length, take}
 use Rattle.history_model.specs.Runs.{Series}
-use Rattle.series_index.specs.Seen.{seen}
-use Rattle.series_index.specs.Taken.{of_series}
-use Rattle.series_index.specs.Demands.{new_ones}
-use Rattle.series_index.specs.Plenty.{HasPlenty}
+use Rattle.series_index.specs.{Seen.seen, Taken.of_series, Demands.new_ones, Plenty.HasPlenty}
 use Rattle.series_index.proofs.series.SeriesIndex.have_plenty.Given as goal
 
 -- no series of the samples so far is new, and each has plenty

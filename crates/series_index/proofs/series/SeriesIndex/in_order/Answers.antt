@@ -1,10 +1,6 @@
-use Rattle.std.proofs.Common.{◌≡◌, ◌∙◌, ℕ, ◌+◌, ◌-◌, ◌<◌, List, [], drop, get_or, length, Option, ap, sym, arith}
-use Rattle.std.specs.Map.{lookup}
-use Rattle.series_index.specs.declared.tracked.Tracked.{Tracked}
-use Rattle.series_index.specs.Listed.{metrics_at, at_place}
-use Rattle.series_index.specs.Seen.{is_same}
-use Rattle.series_index.proofs.ByPlace.{read-at, none-behind, one-behind}
-use Rattle.series_index.proofs.KnownSeries.{one-place-more}
+use Rattle.std.{proofs.Common.{◌≡◌, ◌∙◌, ℕ, ◌+◌, ◌-◌, ◌<◌, List, [], drop, get_or, length, Option, ap, sym, arith}, specs.Map.lookup}
+use Rattle.series_index.specs.{declared.tracked.Tracked.Tracked, Listed.{metrics_at, at_place}, Seen.is_same}
+use Rattle.series_index.proofs.{ByPlace.{read-at, none-behind, one-behind}, KnownSeries.one-place-more}
 use Rattle.series_index.proofs.series.SeriesIndex.in_order.Goals as goal
 
 abbrev Tests : Type 0

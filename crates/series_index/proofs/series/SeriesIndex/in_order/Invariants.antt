@@ -1,7 +1,5 @@
-use Rattle.std.proofs.Common.{◌≡◌, ℕ, ◌+◌, List, drop, length}
-use Rattle.std.specs.Map.{lookup}
-use Rattle.series_index.specs.Listed.{at_place}
-use Rattle.series_index.specs.Seen.{is_same}
+use Rattle.std.{proofs.Common.{◌≡◌, ℕ, ◌+◌, List, drop, length}, specs.Map.lookup}
+use Rattle.series_index.specs.{Listed.at_place, Seen.is_same}
 use Rattle.series_index.proofs.series.SeriesIndex.in_order.Given as goal
 
 -- those of the tests from the end on that are done

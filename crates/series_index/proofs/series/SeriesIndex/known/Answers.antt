@@ -1,13 +1,7 @@
-use Rattle.std.proofs.Common.{◌≡◌, ◌++◌, List, ℕ, ◌∷◌, [], sym, ap, subst, ◌∙◌, append_assoc, append-nil}
-use Rattle.std.specs.Ordering.{nat_cmp}
-use Rattle.std.specs.Cmp.Lexicographic.{slice_cmp}
-use Rattle.std.specs.List.{AllByRecursion}
-use Rattle.std.specs.List.Sorted.{IsStrictlySortedBy}
-use Rattle.std.specs.Map.{keys_of}
+use Rattle.std.{proofs.Common.{◌≡◌, ◌++◌, List, ℕ, ◌∷◌, [], sym, ap, subst, ◌∙◌, append_assoc, append-nil}, specs.Ordering.nat_cmp}
+use Rattle.std.specs.{Cmp.Lexicographic.slice_cmp, List.AllByRecursion, List.Sorted.IsStrictlySortedBy, Map.keys_of}
 use Rattle.history_model.specs.Runs.{Series}
-use Rattle.series_index.specs.declared.tracked.Tracked.{Tracked}
-use Rattle.series_index.specs.Known.{AreKnown}
-use Rattle.series_index.specs.Listed.{known_of, all_known, metrics_at, in_places}
+use Rattle.series_index.specs.{declared.tracked.Tracked.Tracked, Known.AreKnown, Listed.{known_of, all_known, metrics_at, in_places}}
 use Rattle.series_index.proofs.KnownSeries.{HasSorted, listed-in-order}
 use Rattle.series_index.proofs.series.SeriesIndex.known.Goals as goal
 

@@ -1,7 +1,5 @@
-use Rattle.std.proofs.Common.{◌≡◌, ◌++◌}
-use Rattle.std.specs.List.{AllByRecursion}
-use Rattle.series_index.specs.Listed.{all_known, in_places}
-use Rattle.series_index.proofs.KnownSeries.{HasSorted}
+use Rattle.std.{proofs.Common.{◌≡◌, ◌++◌}, specs.List.AllByRecursion}
+use Rattle.series_index.{specs.Listed.{all_known, in_places}, proofs.KnownSeries.HasSorted}
 use Rattle.series_index.proofs.series.SeriesIndex.known.Given as goal
 
 -- those that are listed, with those to come; and those to come are in order, as the listed ones are

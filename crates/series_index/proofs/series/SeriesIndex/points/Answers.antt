@@ -1,7 +1,5 @@
-use Rattle.std.proofs.Common.{◌≡◌, ◌∙◌, sym, subst}
-use Rattle.std.specs.Prelude.{IfOk}
-use Rattle.series_index.specs.declared.tracked.Tracked.{Tracked}
-use Rattle.series_index.proofs.ByPlace.{none-metrics, put-keys, same-put, seen-at, unseen-at}
+use Rattle.std.{proofs.Common.{◌≡◌, ◌∙◌, sym, subst}, specs.Prelude.IfOk}
+use Rattle.series_index.{specs.declared.tracked.Tracked.Tracked, proofs.ByPlace.{none-metrics, put-keys, same-put, seen-at, unseen-at}}
 use Rattle.series_index.proofs.series.SeriesIndex.points.Goals as goal
 
 pub returns-in-Some-clause-same : goal.returns-in-Some-clause-same

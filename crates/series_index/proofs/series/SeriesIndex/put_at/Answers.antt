@@ -1,11 +1,7 @@
-use Rattle.std.proofs.Common.{◌≡◌, ◌∙◌, ℕ, List, [], length, ap, sym, subst, arith}
-use Rattle.std.specs.Ordering.{nat_cmp}
-use Rattle.std.specs.Cmp.Lexicographic.{slice_cmp}
-use Rattle.std.specs.List.Sorted.{IsStrictlySortedBy}
-use Rattle.std.specs.Map.{keys_of}
+use Rattle.std.{proofs.Common.{◌≡◌, ◌∙◌, ℕ, List, [], length, ap, sym, subst, arith}, specs.Ordering.nat_cmp, specs.Cmp.Lexicographic.slice_cmp}
+use Rattle.std.specs.{List.Sorted.IsStrictlySortedBy, Map.keys_of}
 use Rattle.history_model.proofs.Members.{sorted-nil}
-use Rattle.series_index.specs.declared.tracked.Tracked.{Tracked}
-use Rattle.series_index.proofs.ByPlace.{read-past}
+use Rattle.series_index.{specs.declared.tracked.Tracked.Tracked, proofs.ByPlace.read-past}
 use Rattle.series_index.proofs.series.SeriesIndex.put_at.Goals as goal
 
 abbrev Metrics : Type 0

@@ -1,7 +1,5 @@
 use Rattle.std.proofs.Common.{◌∙◌, sym}
-use Rattle.series_index.specs.Seen.{taken_out}
-use Rattle.series_index.proofs.Written.{none-out}
-use Rattle.series_index.proofs.ByPlace.{none-metrics, put-keys, seen-put, seen-none}
+use Rattle.series_index.{specs.Seen.taken_out, proofs.Written.none-out, proofs.ByPlace.{none-metrics, put-keys, seen-put, seen-none}}
 use Rattle.series_index.proofs.series.SeriesIndex.remove.Goals as goal
 
 pub returns-in-Some : goal.returns-in-Some

@@ -1,10 +1,7 @@
-use Rattle.std.proofs.Common.{◌∙◌, ℕ, take, cond, ap, sym}
-use Rattle.std.specs.List.{list_any}
+use Rattle.std.{proofs.Common.{◌∙◌, ℕ, take, cond, ap, sym}, specs.List.list_any}
 use Rattle.sample_model.specs.Samples.{Measurement}
 use Rattle.history_model.specs.Runs.{is_of}
-use Rattle.series_index.specs.declared.tracked.Tracked.{Tracked}
-use Rattle.series_index.specs.Seen.{seen, taken_out, is_series}
-use Rattle.series_index.proofs.Runs.{series-is, any-next, once-more}
+use Rattle.series_index.{specs.declared.tracked.Tracked.Tracked, specs.Seen.{seen, taken_out, is_series}, proofs.Runs.{series-is, any-next, once-more}}
 use Rattle.series_index.proofs.series.SeriesIndex.remove_all.Goals as goal
 
 pub loop-sample-preserved : goal.loop-sample-preserved

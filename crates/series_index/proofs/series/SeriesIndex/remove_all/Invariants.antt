@@ -1,5 +1,4 @@
-use Rattle.std.proofs.Common.{◌≡◌, take, cond}
-use Rattle.std.specs.List.{list_any}
+use Rattle.std.{proofs.Common.{◌≡◌, take, cond}, specs.List.list_any}
 use Rattle.history_model.specs.Runs.{Series, is_of}
 use Rattle.series_index.specs.Seen.{seen, taken_out}
 use Rattle.series_index.proofs.series.SeriesIndex.remove_all.Given as goal

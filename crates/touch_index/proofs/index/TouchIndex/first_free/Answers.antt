@@ -1,10 +1,5 @@
-use Rattle.std.proofs.Common.{◌≡◌, ℕ, sym, subst, Option, Some, None}
-use Rattle.std.specs.Prelude.{IfSome, IfNone}
-use Rattle.std.specs.List.Sorted.{IsStrictlySortedBy}
-use Rattle.std.specs.Map.{keys_of}
-use Rattle.touch_index.specs.Free.{first_free}
-use Rattle.touch_index.specs.Marks.{Entries, key_cmp, IsFirstFree, NoneIsFree}
-use Rattle.touch_index.specs.declared.key.SeriesKey.{SeriesKey}
+use Rattle.std.{proofs.Common.{◌≡◌, ℕ, sym, subst, Option, Some, None}, specs.Prelude.{IfSome, IfNone}, specs.List.Sorted.IsStrictlySortedBy, specs.Map.keys_of}
+use Rattle.touch_index.specs.{Free.first_free, Marks.{Entries, key_cmp, IsFirstFree, NoneIsFree}, declared.key.SeriesKey.SeriesKey}
 use Rattle.touch_index.proofs.FirstFree.{none-free, some-free}
 use Rattle.touch_index.proofs.index.TouchIndex.first_free.Goals as goal
 

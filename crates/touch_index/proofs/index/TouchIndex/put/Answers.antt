@@ -1,7 +1,5 @@
-use Rattle.std.proofs.Common.{cond, ap, ◌∙◌, Some}
-use Rattle.std.specs.Ordering.{is_eq}
-use Rattle.touch_index.specs.Marks.{Entries, key_cmp, mark_of}
-use Rattle.touch_index.specs.declared.key.SeriesKey.{SeriesKey}
+use Rattle.std.{proofs.Common.{cond, ap, ◌∙◌, Some}, specs.Ordering.is_eq}
+use Rattle.touch_index.specs.{Marks.{Entries, key_cmp, mark_of}, declared.key.SeriesKey.SeriesKey}
 use Rattle.touch_index.proofs.index.TouchIndex.put.Goals as goal
 
 pub returns-clause-ok : goal.returns-clause-ok

@@ -1,8 +1,6 @@
-use Rattle.std.proofs.Common.{◌≡◌, ℕ, ◌+◌, ◌<◌, true, false, cond, length, sym, ap, subst, ◌∙◌, Option, Some, None, is_some, arith}
-use Rattle.std.specs.Prelude.{IsSome}
-use Rattle.touch_index.specs.declared.mark.Mark.{Mark}
+use Rattle.std.{proofs.Common.{◌≡◌, ℕ, ◌+◌, ◌<◌, true, false, cond, length, sym, ap, subst, ◌∙◌, Option, Some, None, is_some, arith}, specs.Prelude.IsSome}
+use Rattle.touch_index.specs.{declared.mark.Mark.Mark, Marks.{Entries, key_cmp, mark_of}}
 use Rattle.std.specs.Ordering.{is_eq}
-use Rattle.touch_index.specs.Marks.{Entries, key_cmp, mark_of}
 use Rattle.touch_index.proofs.index.TouchIndex.remove.Goals as goal
 
 pub returns-clause-marks : goal.returns-clause-marks

@@ -1,12 +1,6 @@
-use Rattle.std.proofs.Common.{◌≡◌, cond, refl, ap, sym, ◌∙◌, inl, inr, Option, Some, None}
-use Rattle.std.specs.Prelude.{IsSome}
-use Rattle.std.specs.Ordering.{is_eq}
-use Rattle.std.specs.Option.{option_copied_mut}
-use Rattle.std.specs.BTreeMap.{BTreeMap}
-use Rattle.std.proofs.lemmas.Bool.{cases_Bool}
-use Rattle.touch_index.specs.Marks.{Entries, key_cmp, mark_of, with_claim}
-use Rattle.touch_index.specs.declared.key.SeriesKey.{SeriesKey}
-use Rattle.touch_index.specs.declared.mark.Mark.{Mark}
+use Rattle.std.{proofs.Common.{◌≡◌, cond, refl, ap, sym, ◌∙◌, inl, inr, Option, Some, None}, specs.Prelude.IsSome, specs.Ordering.is_eq}
+use Rattle.std.{specs.Option.option_copied_mut, specs.BTreeMap.BTreeMap, proofs.lemmas.Bool.cases_Bool}
+use Rattle.touch_index.specs.{Marks.{Entries, key_cmp, mark_of, with_claim}, declared.key.SeriesKey.SeriesKey, declared.mark.Mark.Mark}
 use Rattle.touch_index.proofs.Keys.{same-key}
 use Rattle.touch_index.proofs.index.TouchIndex.set_claim.Goals as goal
 

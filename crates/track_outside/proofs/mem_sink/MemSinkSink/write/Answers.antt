@@ -1,5 +1,4 @@
-use Rattle.std.proofs.Common.{rules, ◌≡◌, ℕ, ◌-◌, ◌≤◌, ◌⊎◌, List, [], ◌∷◌, min, length, refl, inl, inr, arith}
-use Rattle.std.specs.Prelude.{Contains}
+use Rattle.std.{proofs.Common.{rules, ◌≡◌, ℕ, ◌-◌, ◌≤◌, ◌⊎◌, List, [], ◌∷◌, min, length, refl, inl, inr, arith}, specs.Prelude.Contains}
 use Rattle.track_outside.specs.Counts.{one_more}
 use Rattle.track_outside.proofs.mem_sink.MemSinkSink.write.Goals as goal
 

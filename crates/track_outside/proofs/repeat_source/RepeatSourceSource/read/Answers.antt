@@ -1,6 +1,5 @@
 use Rattle.std.proofs.Common.{◌≡◌, rules, ℕ, List, ◌+◌, ◌-◌, take, drop, Some, ap, sym, ◌∙◌, arith}
-use Rattle.track_outside.proofs.Repeats.{goes_on, turn_ends}
-use Rattle.track_outside.proofs.repeat_source.RepeatSourceSource.read.Goals.{After-copy_from_slice}
+use Rattle.track_outside.proofs.{Repeats.{goes_on, turn_ends}, repeat_source.RepeatSourceSource.read.Goals.After-copy_from_slice}
 use Rattle.track_outside.proofs.repeat_source.RepeatSourceSource.read.Goals as goal
 
 -- what was copied is of the pattern

@@ -1,14 +1,10 @@
 use Rattle.std.proofs.Common.{ℕ, List, length, take, sym, ap, subst, ◌∙◌, arith}
 use Rattle.history_lock.specs.Marks.{entries}
-use Rattle.history_model.specs.declared.entries.Entry.{Entry}
-use Rattle.history_model.specs.Entries.{entries_of}
-use Rattle.request_model.specs.declared.replies.Reply.{Reply}
-use Rattle.request_model.specs.declared.requests.Request.{Request}
+use Rattle.history_model.specs.{declared.entries.Entry.Entry, Entries.entries_of}
+use Rattle.request_model.specs.declared.{replies.Reply.Reply, requests.Request.Request}
 use Rattle.track_model.specs.Tracks.{ComesTo}
 use Rattle.track_state.specs.Work.{bare}
-use Rattle.track_room.specs.Asked.{IsReplied}
-use Rattle.track_room.specs.Sights.{Home, Sight, Visits}
-use Rattle.track_room.specs.Visits.{Answers}
+use Rattle.track_room.specs.{Asked.IsReplied, Sights.{Home, Sight, Visits}, Visits.Answers}
 use Rattle.track_room.proofs.Replying.{beside, plain, replied, seen-entries, sees-long, step-seen}
 use Rattle.track_room.proofs.Visiting.{bare-added, found-machine, if-ok, visits-err, visits-ok}
 use Rattle.track_room.proofs.machine.MachineLock.ask.Goals as goal

@@ -1,11 +1,8 @@
 use Rattle.std.proofs.Common.{sym, subst}
 use Rattle.history_lock.specs.declared.lock.Pass.{Pass}
 use Rattle.history_model.specs.declared.entries.Placed.{Placed}
-use Rattle.track_room.specs.declared.guarded.Guarded.{Guarded}
-use Rattle.track_room.specs.declared.guarded.Owner.{Owner}
+use Rattle.track_room.specs.{declared.guarded.Guarded.Guarded, declared.guarded.Owner.Owner, Inside.sight_of, Sights.{Ends, EndsWhole, IsWholeSight, Sight}}
 use Rattle.track_model.specs.Tracks.{Track}
-use Rattle.track_room.specs.Inside.{sight_of}
-use Rattle.track_room.specs.Sights.{Ends, EndsWhole, IsWholeSight, Sight}
 use Rattle.track_room.proofs.Known.{ends, ends-whole}
 use Rattle.track_room.proofs.machine.MachineLock.close.Goals as goal
 

@@ -1,10 +1,7 @@
 use Rattle.std.proofs.Common.{sym, ap, ◌∙◌}
 use Rattle.history_lock.specs.declared.lock.Pass.{Pass}
 use Rattle.history_model.specs.declared.entries.Placed.{Placed}
-use Rattle.track_room.specs.declared.guarded.Guarded.{Guarded}
-use Rattle.track_room.specs.declared.guarded.Owner.{Owner}
-use Rattle.track_room.specs.Sights.{Home, Sight}
-use Rattle.track_room.proofs.Known.{joins}
+use Rattle.track_room.{specs.declared.guarded.Guarded.Guarded, specs.declared.guarded.Owner.Owner, specs.Sights.{Home, Sight}, proofs.Known.joins}
 use Rattle.track_room.proofs.machine.MachineLock.join.Goals as goal
 
 pub returns : goal.returns

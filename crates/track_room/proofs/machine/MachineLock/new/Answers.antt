@@ -1,9 +1,7 @@
 use Rattle.std.proofs.Common.{◌∙◌}
 use Rattle.history_lock.specs.declared.lock.Pass.{Pass}
 use Rattle.history_model.specs.declared.entries.Placed.{Placed}
-use Rattle.track_room.specs.declared.guarded.Guarded.{Guarded}
-use Rattle.track_room.specs.declared.guarded.Owner.{Owner}
-use Rattle.track_room.proofs.Known.{first-of, home-of}
+use Rattle.track_room.{specs.declared.guarded.Guarded.Guarded, specs.declared.guarded.Owner.Owner, proofs.Known.{first-of, home-of}}
 use Rattle.track_room.proofs.machine.MachineLock.new.Goals as goal
 
 pub returns : goal.returns

@@ -1,19 +1,11 @@
-use Rattle.history_model.proofs.Cases.{any-err}
-use Rattle.std.specs.Prelude.{Result, Ok, Err}
-use Rattle.std.specs.declared.alloc.AllocError.{AllocError}
-use Rattle.std.proofs.Common.{◌≡◌, ap, subst}
-use Rattle.history_model.specs.Runs.{Series}
+use Rattle.history_model.{proofs.Cases.any-err, specs.Runs.Series}
+use Rattle.std.{specs.Prelude.{Result, Ok, Err}, specs.declared.alloc.AllocError.AllocError, proofs.Common.{◌≡◌, ap, subst}}
 use Rattle.request_model.specs.declared.replies.Reply.{Reply}
 use Rattle.request_model.specs.declared.requests.Request.TheVariants as request
-use Rattle.track_state.specs.Redone.{Redone}
-use Rattle.track_state.specs.Begun.{Begun}
-use Rattle.track_state.specs.Begun.TheVariants.{Known, Unknown}
-use Rattle.track_room.specs.Asked.{IsReplied}
-use Rattle.track_room.specs.Sights.{Home, Sight, SeesMore, Visits}
-use Rattle.track_room.specs.Visits.{Begins, Finishes}
+use Rattle.track_state.specs.{Redone.Redone, Begun.Begun, Begun.TheVariants.{Known, Unknown}}
+use Rattle.track_room.specs.{Asked.IsReplied, Sights.{Home, Sight, SeesMore, Visits}, Visits.{Begins, Finishes}}
 use Rattle.track_room.proofs.Segments.{made-still, begun-made, begun-sees, sees-again, told-finished, told-unknown}
-use Rattle.track_room.proofs.Visiting.{if-ok, on-err, visits-err, visits-ok}
-use Rattle.track_room.proofs.machine.MachineLock.segment.Given.{Over}
+use Rattle.track_room.proofs.{Visiting.{if-ok, on-err, visits-err, visits-ok}, machine.MachineLock.segment.Given.Over}
 use Rattle.track_room.proofs.machine.MachineLock.segment.Goals as goal
 use Rattle.track_room.proofs.machine.MachineLock.segment.Goals.{In_ok-begun}
 

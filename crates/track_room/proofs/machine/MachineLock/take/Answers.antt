@@ -1,12 +1,8 @@
-use Rattle.std.proofs.Common.{◌≡◌, List, ap, subst}
-use Rattle.std.specs.Prelude.{IfOk, IfSome}
-use Rattle.history_model.specs.declared.entries.Entry.{Entry}
-use Rattle.history_model.specs.Entries.{entries_of}
+use Rattle.std.{proofs.Common.{◌≡◌, List, ap, subst}, specs.Prelude.{IfOk, IfSome}}
+use Rattle.history_model.specs.{declared.entries.Entry.Entry, Entries.entries_of}
 use Rattle.track_model.specs.Tracks.{Track}
 use Rattle.track_state.specs.Work.{history_of}
-use Rattle.track_room.specs.Taking.{seen_of}
-use Rattle.track_room.specs.Visits.{DoesOrStays, Stays}
-use Rattle.track_room.proofs.Visiting.{stays-sees, visits-as, visits-ok}
+use Rattle.track_room.{specs.Taking.seen_of, specs.Visits.{DoesOrStays, Stays}, proofs.Visiting.{stays-sees, visits-as, visits-ok}}
 use Rattle.track_room.proofs.machine.MachineLock.take.Goals as goal
 
 pub returns : goal.returns

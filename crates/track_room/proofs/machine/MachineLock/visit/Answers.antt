@@ -2,11 +2,7 @@ use Rattle.std.proofs.Common.{sym, ap, subst, ◌∙◌, Some, refl}
 use Rattle.history_lock.specs.declared.lock.Pass.{Pass}
 use Rattle.history_model.specs.declared.entries.Placed.{Placed}
 use Rattle.track_state.specs.Work.{Work}
-use Rattle.track_room.specs.declared.guarded.Guarded.{Guarded}
-use Rattle.track_room.specs.declared.guarded.Owner.{Owner}
-use Rattle.track_room.specs.Inside.{sight_of}
-use Rattle.track_room.specs.Sights.{Sight, Visits}
-use Rattle.track_room.specs.Visits.{IsFound}
+use Rattle.track_room.specs.{declared.guarded.Guarded.Guarded, declared.guarded.Owner.Owner, Inside.sight_of, Sights.{Sight, Visits}, Visits.IsFound}
 use Rattle.track_room.proofs.Visiting.{is-found, may-leave, same-owner, visited}
 use Rattle.track_room.proofs.machine.MachineLock.visit.Goals as goal
 

@@ -1,13 +1,7 @@
-use Rattle.std.proofs.Common.{◌≡◌, ℕ, List, map, set, sym, ap, subst, ◌∙◌, Some}
-use Rattle.std.specs.Prelude.{slice_get}
-use Rattle.std.specs.List.{AllZip}
-use Rattle.request_model.specs.declared.replies.Reply.{Reply}
-use Rattle.request_model.specs.declared.requests.Request.{Request}
-use Rattle.track_room.specs.Asked.{Asks, IsReplied}
-use Rattle.track_room.specs.Rooms.{IsFirst, IsPassOf, badge}
-use Rattle.track_room.specs.Sights.{Home, Sight, SeesMore}
-use Rattle.track_room.proofs.Standing.{asked-badge, asks-at, at-get, at-place, same-map, sees-at, still-first}
-use Rattle.track_room.proofs.Visiting.{if-ok, on-err}
+use Rattle.std.{proofs.Common.{◌≡◌, ℕ, List, map, set, sym, ap, subst, ◌∙◌, Some}, specs.Prelude.slice_get, specs.List.AllZip}
+use Rattle.request_model.specs.declared.{replies.Reply.Reply, requests.Request.Request}
+use Rattle.track_room.specs.{Asked.{Asks, IsReplied}, Rooms.{IsFirst, IsPassOf, badge}, Sights.{Home, Sight, SeesMore}}
+use Rattle.track_room.proofs.{Standing.{asked-badge, asks-at, at-get, at-place, same-map, sees-at, still-first}, Visiting.{if-ok, on-err}}
 use Rattle.track_room.proofs.room.Room.ask.Goals as goal
 
 pub returns : goal.returns

@@ -1,9 +1,6 @@
 use Rattle.std.proofs.Common.{ap}
 use Rattle.track_state.specs.Work.{bare}
-use Rattle.track_room.specs.Sights.{SeesMore, Visits}
-use Rattle.track_room.specs.Taking.{Releases}
-use Rattle.track_room.specs.Visits.{Stays}
-use Rattle.track_room.proofs.Visited.{changes-as}
+use Rattle.track_room.{specs.Sights.{SeesMore, Visits}, specs.Taking.Releases, specs.Visits.Stays, proofs.Visited.changes-as}
 use Rattle.track_room.proofs.Visiting.{stays-sees, visits-as}
 use Rattle.track_room.proofs.room.Room.end_claim.Goals as goal
 

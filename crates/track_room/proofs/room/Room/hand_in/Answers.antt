@@ -1,10 +1,6 @@
-use Rattle.std.proofs.Common.{ap, subst, sym, ◌∙◌, Option}
-use Rattle.std.specs.Prelude.{unwrap_or}
+use Rattle.std.{proofs.Common.{ap, subst, sym, ◌∙◌, Option}, specs.Prelude.unwrap_or}
 use Rattle.track_state.specs.Made.{IsMadeFrom}
-use Rattle.track_room.specs.Sights.{Sight}
-use Rattle.track_room.specs.Taking.{Publishes, seen_of}
-use Rattle.track_room.proofs.Segments.{made-still}
-use Rattle.track_room.proofs.Standing.{below-get}
+use Rattle.track_room.{specs.Sights.Sight, specs.Taking.{Publishes, seen_of}, proofs.Segments.made-still, proofs.Standing.below-get}
 use Rattle.track_room.proofs.Visited.{changed-err, changed-ok}
 use Rattle.track_room.proofs.room.Room.hand_in.Goals as goal
 

@@ -1,13 +1,8 @@
-use Rattle.std.proofs.Common.{◌≡◌, List, [], ◌∷◌, ◌++◌, length, sym, ap, ap₂, subst, ◌∙◌, arith}
-use Rattle.std.specs.List.{AllZip}
-use Rattle.std.proofs.lemmas.Iterator.Adapters.{YieldsList-from_vec}
-use Rattle.std.proofs.lemmas.Iterator.Consumers.{YieldsList-end}
-use Rattle.std.proofs.lemmas.List.{length-map, map_push}
+use Rattle.std.{proofs.Common.{◌≡◌, List, [], ◌∷◌, ◌++◌, length, sym, ap, ap₂, subst, ◌∙◌, arith}, specs.List.AllZip}
+use Rattle.std.proofs.lemmas.{Iterator.Adapters.YieldsList-from_vec, Iterator.Consumers.YieldsList-end, List.{length-map, map_push}}
 use Rattle.track_model.specs.Tracks.{Track}
 use Rattle.track_state.specs.Work.{Work}
-use Rattle.track_room.specs.Sights.{Home, Sight, IsFirstOf, tracks_of}
-use Rattle.track_room.proofs.Splits.{begin-first}
-use Rattle.track_room.proofs.Places.{zip-push, zip-long}
+use Rattle.track_room.{specs.Sights.{Home, Sight, IsFirstOf, tracks_of}, proofs.Splits.begin-first, proofs.Places.{zip-push, zip-long}}
 use Rattle.track_room.proofs.room.Room.new.Goals as goal
 
 pub loop-state-preserved : goal.loop-state-preserved

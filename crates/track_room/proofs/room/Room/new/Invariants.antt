@@ -1,6 +1,5 @@
 use Rattle.std.specs.List.{AllZip}
-use Rattle.track_room.specs.Rooms.{IsPassOf}
-use Rattle.track_room.specs.Sights.{IsFirstOf, tracks_of}
+use Rattle.track_room.specs.{Rooms.IsPassOf, Sights.{IsFirstOf, tracks_of}}
 use Rattle.track_room.proofs.room.Room.new.Given as goal
 
 abbrev pub invariant-loop-state : goal.invariant-loop-state

@@ -1,9 +1,5 @@
-use Rattle.std.proofs.Common.{ℕ, ◌<◌, List, length, ap, subst, ◌∙◌, sym, arith}
-use Rattle.std.proofs.lemmas.List.{length-map}
-use Rattle.std.proofs.lemmas.Option.{slice_get_within}
-use Rattle.track_room.specs.Claims.{Claimed, EndsClaim}
-use Rattle.track_room.specs.Rooms.{AreSame, badge}
-use Rattle.track_room.specs.Sights.{Sight}
+use Rattle.std.proofs.{Common.{ℕ, ◌<◌, List, length, ap, subst, ◌∙◌, sym, arith}, lemmas.List.length-map, lemmas.Option.slice_get_within}
+use Rattle.track_room.specs.{Claims.{Claimed, EndsClaim}, Rooms.{AreSame, badge}, Sights.Sight}
 use Rattle.track_room.proofs.room.Room.publish.Goals as goal
 
 still-there : (machine : ℕ) (old new : List Sight) → machine < length old → AreSame old new → machine < length new

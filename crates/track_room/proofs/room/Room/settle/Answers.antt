@@ -1,14 +1,8 @@
-use Rattle.std.proofs.Common.{List, ap, subst, sym, ◌∙◌, Option}
-use Rattle.std.specs.Prelude.{unwrap_or}
+use Rattle.std.{proofs.Common.{List, ap, subst, sym, ◌∙◌, Option}, specs.Prelude.unwrap_or}
 use Rattle.history_lock.specs.Marks.{entries}
-use Rattle.history_model.specs.declared.entries.Entry.{Entry}
-use Rattle.history_model.specs.Entries.{entries_of}
-use Rattle.track_room.specs.Sights.{Sight}
-use Rattle.track_room.specs.Taking.{HasJob, Settles, seen_of}
-use Rattle.track_room.proofs.Jobs.{job-stays}
-use Rattle.track_room.proofs.Segments.{found-parts}
-use Rattle.track_room.proofs.Standing.{below-get}
-use Rattle.track_room.proofs.Visited.{changed-err, changed-ok}
+use Rattle.history_model.specs.{declared.entries.Entry.Entry, Entries.entries_of}
+use Rattle.track_room.{specs.Sights.Sight, specs.Taking.{HasJob, Settles, seen_of}, proofs.Jobs.job-stays, proofs.Segments.found-parts}
+use Rattle.track_room.proofs.{Standing.below-get, Visited.{changed-err, changed-ok}}
 use Rattle.track_room.proofs.room.Room.settle.Goals as goal
 
 pub visit-requires-clause-there : goal.visit-requires-clause-there

@@ -1,12 +1,7 @@
-use Rattle.std.proofs.Common.{◌≡◌, ◌<◌, List, length, map, set, sym, ap, subst, ◌∙◌, Some, refl}
-use Rattle.std.specs.Prelude.{slice_get}
-use Rattle.track_room.specs.Asked.{ChangesAt}
-use Rattle.track_room.specs.Rooms.{IsPassOf, badge}
-use Rattle.track_room.specs.Sights.{Sight, Visits}
-use Rattle.track_room.proofs.Standing.{get-at, same-map, still-of, visits-badge}
-use Rattle.track_room.proofs.room.Room.visit.Given.{Over}
+use Rattle.std.{proofs.Common.{◌≡◌, ◌<◌, List, length, map, set, sym, ap, subst, ◌∙◌, Some, refl}, specs.Prelude.slice_get}
+use Rattle.track_room.specs.{Asked.ChangesAt, Rooms.{IsPassOf, badge}, Sights.{Sight, Visits}}
+use Rattle.track_room.proofs.{Standing.{get-at, same-map, still-of, visits-badge}, room.Room.visit.Given.Over, room.Room.visit.Goals.After-index_mut}
 use Rattle.track_room.proofs.room.Room.visit.Goals as goal
-use Rattle.track_room.proofs.room.Room.visit.Goals.{After-index_mut}
 
 at : (g : Over) (c : After-index_mut g) → slice_get c.pass.inside.machines.items c.args.machine ≡ Some c.index_mut.result.now
 at g c =

@@ -1,13 +1,8 @@
-use Rattle.std.proofs.Common.{◌≡◌, ap, subst, Option, Some, None, sym}
-use Rattle.std.specs.Prelude.{IfSome}
-use Rattle.history_model.specs.Allowed.{Legal}
-use Rattle.history_model.specs.Entries.{entries_of}
+use Rattle.std.{proofs.Common.{◌≡◌, ap, subst, Option, Some, None, sym}, specs.Prelude.IfSome}
+use Rattle.history_model.specs.{Allowed.Legal, Entries.entries_of}
 use Rattle.track_model.specs.Tracks.{Track}
-use Rattle.track_state.specs.Work.{Work, bare, history_of}
-use Rattle.track_state.specs.declared.questions.Question.{Question}
-use Rattle.track_state.specs.Questions.{TakesNext}
-use Rattle.track_room.specs.Taking.{IsQuestion, TakesJob}
-use Rattle.track_room.proofs.Visiting.{does-or-stays, if-ok, stays-if}
+use Rattle.track_state.specs.{Work.{Work, bare, history_of}, declared.questions.Question.Question, Questions.TakesNext}
+use Rattle.track_room.{specs.Taking.{IsQuestion, TakesJob}, proofs.Visiting.{does-or-stays, if-ok, stays-if}}
 use Rattle.track_room.proofs.taking.OpenQuestionTake.take.Goals as goal
 
 takes-stays : (w u : Work) (found : Option Question) → TakesNext w found u → bare u.track ≡ bare w.track

@@ -1,9 +1,6 @@
 use Rattle.std.proofs.Common.{ap}
 use Rattle.track_state.specs.Work.{Work, bare}
-use Rattle.track_room.specs.Taking.{Publishes}
-use Rattle.track_room.specs.Visits.{DoesOrStays}
-use Rattle.track_room.proofs.Visiting.{does-grows, does-or-stays}
-use Rattle.track_room.proofs.Visiting.{publish-grows}
+use Rattle.track_room.{specs.Taking.Publishes, specs.Visits.DoesOrStays, proofs.Visiting.{does-grows, does-or-stays}, proofs.Visiting.publish-grows}
 use Rattle.track_room.proofs.taking.PublishingAct.act.Goals as goal
 
 pub returns : goal.returns

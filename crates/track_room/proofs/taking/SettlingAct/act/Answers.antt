@@ -1,9 +1,6 @@
 use Rattle.std.proofs.Common.{ap}
 use Rattle.track_state.specs.Work.{Work, bare}
-use Rattle.track_room.specs.Taking.{Settles}
-use Rattle.track_room.specs.Visits.{DoesOrStays}
-use Rattle.track_room.proofs.Visiting.{does-grows, does-or-stays}
-use Rattle.track_room.proofs.Visiting.{settle-grows}
+use Rattle.track_room.{specs.Taking.Settles, specs.Visits.DoesOrStays, proofs.Visiting.{does-grows, does-or-stays}, proofs.Visiting.settle-grows}
 use Rattle.track_room.proofs.taking.SettlingAct.act.Goals as goal
 
 pub returns : goal.returns

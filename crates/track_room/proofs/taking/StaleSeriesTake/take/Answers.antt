@@ -1,15 +1,9 @@
-use Rattle.std.proofs.Common.{◌≡◌, ap, subst, Option, Some, None, sym, List}
-use Rattle.std.specs.Prelude.{IfSome}
-use Rattle.history_model.specs.declared.entries.Entry.{Entry}
-use Rattle.history_model.specs.Allowed.{Legal}
-use Rattle.history_model.specs.Entries.{entries_of}
+use Rattle.std.{proofs.Common.{◌≡◌, ap, subst, Option, Some, None, sym, List}, specs.Prelude.IfSome}
+use Rattle.history_model.specs.{declared.entries.Entry.Entry, Allowed.Legal, Entries.entries_of}
 use Rattle.track_model.specs.Tracks.{Track}
-use Rattle.track_state.specs.Work.{Work, bare, history_of, series_of}
-use Rattle.track_state.specs.declared.taking.TakenSeries.{TakenSeries}
-use Rattle.track_state.specs.Taking.{Takes}
+use Rattle.track_state.specs.{Work.{Work, bare, history_of, series_of}, declared.taking.TakenSeries.TakenSeries, Taking.Takes}
 use Rattle.track_state.proofs.Snapped.{bare-taken, entries-taken}
-use Rattle.track_room.specs.Taking.{IsTaken, TakesSeries}
-use Rattle.track_room.proofs.Visiting.{does-or-stays, if-ok, stays-if}
+use Rattle.track_room.{specs.Taking.{IsTaken, TakesSeries}, proofs.Visiting.{does-or-stays, if-ok, stays-if}}
 use Rattle.track_room.proofs.taking.StaleSeriesTake.take.Goals as goal
 
 takes-stays : (w u : Work) (found : Option TakenSeries) → Takes w found u → bare u.track ≡ bare w.track

@@ -1,9 +1,6 @@
 use Rattle.std.proofs.Common.{ap}
 use Rattle.track_state.specs.Work.{Work, bare}
-use Rattle.track_room.specs.Visits.{Answers}
-use Rattle.track_room.specs.Visits.{DoesOrStays}
-use Rattle.track_room.proofs.Visiting.{does-grows, does-or-stays}
-use Rattle.track_room.proofs.Visiting.{step-grows}
+use Rattle.track_room.{specs.Visits.Answers, specs.Visits.DoesOrStays, proofs.Visiting.{does-grows, does-or-stays}, proofs.Visiting.step-grows}
 use Rattle.track_room.proofs.visits.AnsweringAct.act.Goals as goal
 
 pub returns : goal.returns

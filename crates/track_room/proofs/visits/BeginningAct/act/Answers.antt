@@ -1,15 +1,8 @@
 use Rattle.std.proofs.Common.{◌≡◌, ap, subst, inl}
-use Rattle.history_model.specs.Allowed.{Legal}
-use Rattle.history_model.specs.Entries.{entries_of}
-use Rattle.history_model.specs.Runs.{Series}
+use Rattle.history_model.specs.{Allowed.Legal, Entries.entries_of, Runs.Series}
 use Rattle.track_model.specs.Tracks.{Track}
-use Rattle.track_state.specs.Beside.{IsBegun}
-use Rattle.track_state.specs.Begun.{Begun}
-use Rattle.track_state.specs.Taking.{IsBegunOn}
-use Rattle.track_state.specs.Work.{Work, bare, history_of}
-use Rattle.track_state.proofs.Snapped.{bare-taken}
-use Rattle.track_room.specs.Visits.{Begins}
-use Rattle.track_room.proofs.Visiting.{both-ok, does-or-stays, stays-result}
+use Rattle.track_state.{specs.Beside.IsBegun, specs.Begun.Begun, specs.Taking.IsBegunOn, specs.Work.{Work, bare, history_of}, proofs.Snapped.bare-taken}
+use Rattle.track_room.{specs.Visits.Begins, proofs.Visiting.{both-ok, does-or-stays, stays-result}}
 use Rattle.track_room.proofs.visits.BeginningAct.act.Goals as goal
 
 pub returns : goal.returns

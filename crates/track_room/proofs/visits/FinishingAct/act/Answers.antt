@@ -1,10 +1,7 @@
 use Rattle.std.proofs.Common.{ap}
 use Rattle.track_state.specs.Work.{Work, bare}
 use Rattle.publication_index.specs.Kept.{series_of}
-use Rattle.track_room.specs.Visits.{Finishes}
-use Rattle.track_room.specs.Visits.{DoesOrStays}
-use Rattle.track_room.proofs.Visiting.{does-grows, does-or-stays}
-use Rattle.track_room.proofs.Visiting.{finish-grows}
+use Rattle.track_room.{specs.Visits.Finishes, specs.Visits.DoesOrStays, proofs.Visiting.{does-grows, does-or-stays}, proofs.Visiting.finish-grows}
 use Rattle.track_room.proofs.visits.FinishingAct.act.Goals as goal
 
 pub returns : goal.returns

@@ -1,28 +1,16 @@
-use Rattle.std.proofs.Common.{◌≡◌, ◌≢◌, ℕ, cond, List, refl, sym, ap, subst, ◌∙◌, None, true}
-use Rattle.std.specs.Prelude.{nat_lt}
+use Rattle.std.{proofs.Common.{◌≡◌, ◌≢◌, ℕ, cond, List, refl, sym, ap, subst, ◌∙◌, None, true}, specs.Prelude.nat_lt}
 use Rattle.metric_table.specs.declared.limits.Limit.{Limit}
 use Rattle.segment_cost.specs.declared.done.Done.{Done}
-use Rattle.history_model.specs.declared.entries.Author.{Author}
-use Rattle.history_model.specs.declared.entries.Entry.{Entry}
-use Rattle.history_model.specs.Entries.{entries_of}
-use Rattle.history_model.specs.Publications.{last_publication}
-use Rattle.history_model.specs.Runs.{Series, is_known, same_series}
+use Rattle.history_model.specs.{declared.entries.Author.Author, declared.entries.Entry.Entry, Entries.entries_of, Publications.last_publication}
+use Rattle.history_model.{specs.Runs.{Series, is_known, same_series}, proofs.Cases.any-err}
 use Rattle.publication_index.specs.Kept.{series_of as series_of_done}
-use Rattle.touch_index.specs.Marks.{mark_of}
-use Rattle.touch_index.specs.declared.key.SeriesKey.{SeriesKey}
-use Rattle.touch_index.specs.declared.mark.Claim.{Claim}
-use Rattle.touch_index.specs.declared.mark.Claim.TheVariants.{Free, Refused}
+use Rattle.touch_index.specs.{Marks.mark_of, declared.key.SeriesKey.SeriesKey, declared.mark.Claim.Claim, declared.mark.Claim.TheVariants.{Free, Refused}}
 use Rattle.touch_model.specs.Touches.{last_touch}
 use Rattle.track_model.specs.Tracks.{Track}
-use Rattle.track_step.specs.Publications.{IsPublished, later}
-use Rattle.track_step.specs.Published.{Published}
+use Rattle.track_step.specs.{Publications.{IsPublished, later}, Published.Published}
 use Rattle.track_step.specs.Published.TheVariants as published
-use Rattle.track_state.specs.Covering.{Covers, MakeSame}
-use Rattle.track_state.specs.Taking.{Finishes, Publishes, claim_after}
-use Rattle.track_state.specs.Work.{Work, claim_by, key_of, series_of}
-use Rattle.history_model.proofs.Cases.{any-err}
-use Rattle.track_state.proofs.Snapped.{is-same}
-use Rattle.track_state.proofs.Handed.{freed, is-full}
+use Rattle.track_state.specs.{Covering.{Covers, MakeSame}, Taking.{Finishes, Publishes, claim_after}, Work.{Work, claim_by, key_of, series_of}}
+use Rattle.track_state.proofs.{Snapped.is-same, Handed.{freed, is-full}}
 use Rattle.track_state.proofs.state.TrackState.hand_in.Goals as goal
 
 -- a limit refused it: nothing was published, and no later version had been

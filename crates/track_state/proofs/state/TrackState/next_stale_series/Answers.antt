@@ -1,21 +1,10 @@
-use Rattle.std.proofs.Common.{◌≡◌, ℕ, cond, List, length, refl, sym, ap, ◌∙◌, subst, Option}
-use Rattle.std.specs.Prelude.{IfSome}
-use Rattle.history_model.specs.declared.entries.Entry.{Entry}
-use Rattle.history_model.specs.Entries.{entries_of}
-use Rattle.history_model.specs.Runs.{same_series}
-use Rattle.touch_index.specs.Marks.{mark_of}
-use Rattle.touch_index.specs.declared.key.SeriesKey.{SeriesKey}
-use Rattle.touch_index.specs.declared.mark.Claim.{Claim}
-use Rattle.touch_index.specs.declared.mark.Claim.TheVariants.{Taken}
+use Rattle.std.{proofs.Common.{◌≡◌, ℕ, cond, List, length, refl, sym, ap, ◌∙◌, subst, Option}, specs.Prelude.IfSome}
+use Rattle.history_model.specs.{declared.entries.Entry.Entry, Entries.entries_of, Runs.same_series}
+use Rattle.touch_index.specs.{Marks.mark_of, declared.key.SeriesKey.SeriesKey, declared.mark.Claim.Claim, declared.mark.Claim.TheVariants.Taken}
 use Rattle.track_model.specs.Tracks.{Track, with_taken}
-use Rattle.track_step.specs.Snapshots.{IsSnapshot, IsTakenAt}
-use Rattle.track_step.specs.Snapshot.{Snapshot}
-use Rattle.track_state.specs.Covering.{Covers, MakeSame}
-use Rattle.track_state.specs.Taking.{TakesFirst}
-use Rattle.track_state.specs.Work.{Work, IsFirstBy, claim_by, key_of, series_of}
-use Rattle.track_state.specs.declared.taking.TakenSeries.{TakenSeries}
-use Rattle.track_state.proofs.Snapped.{entries-taken}
-use Rattle.track_state.proofs.Opening.{claimed-covers, first-same, taken-claims}
+use Rattle.track_step.specs.{Snapshots.{IsSnapshot, IsTakenAt}, Snapshot.Snapshot}
+use Rattle.track_state.specs.{Covering.{Covers, MakeSame}, Taking.TakesFirst, Work.{Work, IsFirstBy, claim_by, key_of, series_of}}
+use Rattle.track_state.{specs.declared.taking.TakenSeries.TakenSeries, proofs.Snapped.entries-taken, proofs.Opening.{claimed-covers, first-same, taken-claims}}
 use Rattle.track_state.proofs.state.TrackState.next_stale_series.Goals as goal
 
 pub invariant_of-self-2 : goal.invariant_of-self-2

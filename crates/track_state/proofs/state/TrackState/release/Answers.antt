@@ -1,11 +1,7 @@
 use Rattle.std.proofs.Common.{cond, List, ap, ◌∙◌}
-use Rattle.history_model.specs.declared.entries.Entry.{Entry}
-use Rattle.history_model.specs.Entries.{entries_of}
-use Rattle.history_model.specs.Runs.{same_series}
-use Rattle.touch_index.specs.Marks.{mark_of}
-use Rattle.touch_index.specs.declared.mark.Claim.TheVariants.{Free}
-use Rattle.track_state.specs.Work.{Work, claim_on, key_of, series_of}
-use Rattle.track_state.proofs.Opening.{claimed-claims, claimed-covers, makes-free}
+use Rattle.history_model.specs.{declared.entries.Entry.Entry, Entries.entries_of, Runs.same_series}
+use Rattle.touch_index.specs.{Marks.mark_of, declared.mark.Claim.TheVariants.Free}
+use Rattle.track_state.{specs.Work.{Work, claim_on, key_of, series_of}, proofs.Opening.{claimed-claims, claimed-covers, makes-free}}
 use Rattle.track_state.proofs.state.TrackState.release.Goals as goal
 
 pub invariant_of-self : goal.invariant_of-self

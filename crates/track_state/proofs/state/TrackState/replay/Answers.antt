@@ -1,10 +1,8 @@
 use Rattle.std.proofs.Common.{◌≡◌, Bool, true, false, cond, Option, Some, None, subst}
-use Rattle.history_model.specs.declared.entries.Author.TheVariants.{Kept}
-use Rattle.history_model.specs.declared.entries.Entry.{Entry}
+use Rattle.history_model.specs.declared.entries.{Author.TheVariants.Kept, Entry.Entry}
 use Rattle.track_model.specs.Tracks.{Track, with_added, with_entry}
 use Rattle.track_step.specs.Replays.{IsReplayed}
-use Rattle.track_state.specs.Work.{Work}
-use Rattle.track_state.proofs.Stepping.{keeps-claims, step-covers}
+use Rattle.track_state.{specs.Work.Work, proofs.Stepping.{keeps-claims, step-covers}}
 use Rattle.track_state.proofs.state.TrackState.replay.Goals as goal
 
 -- what is added

@@ -1,13 +1,9 @@
 use Rattle.std.proofs.Common.{◌≡◌, true, List, sym, ap, subst, ◌∙◌, Option}
-use Rattle.history_model.specs.declared.entries.Entry.{Entry}
-use Rattle.history_model.specs.Entries.{entries_of}
-use Rattle.history_model.specs.Runs.{Series}
+use Rattle.history_model.specs.{declared.entries.Entry.Entry, Entries.entries_of, Runs.Series}
 use Rattle.touch_model.specs.Stale.{is_stale}
 use Rattle.track_model.specs.Tracks.{Track}
-use Rattle.track_step.specs.Snapshots.{IsSnapshot, IsTakenAt}
-use Rattle.track_step.specs.Snapshot.{Snapshot}
-use Rattle.track_state.specs.Work.{Work, history_of, series_of}
-use Rattle.track_state.proofs.Snapped.{is-begun}
+use Rattle.track_step.specs.{Snapshots.{IsSnapshot, IsTakenAt}, Snapshot.Snapshot}
+use Rattle.track_state.{specs.Work.{Work, history_of, series_of}, proofs.Snapped.is-begun}
 use Rattle.track_state.proofs.state.TrackState.stale_snapshot.Goals as goal
 
 pub returns-clause-taken : goal.returns-clause-taken

@@ -1,8 +1,6 @@
 use Rattle.std.proofs.Common.{subst}
-use Rattle.track_model.specs.Outcomes.{Outcome}
-use Rattle.track_model.specs.Tracks.{ComesTo, IsStep}
-use Rattle.track_state.specs.Work.{Work, history_of}
-use Rattle.track_state.proofs.Stepping.{keeps-claims, step-covers}
+use Rattle.track_model.specs.{Outcomes.Outcome, Tracks.{ComesTo, IsStep}}
+use Rattle.track_state.{specs.Work.{Work, history_of}, proofs.Stepping.{keeps-claims, step-covers}}
 use Rattle.track_state.proofs.state.TrackState.step.Goals as goal
 
 pub invariant_of-self-2 : goal.invariant_of-self-2

@@ -1,6 +1,5 @@
 use Rattle.std.proofs.Common.{◌∙◌, ap, sym}
-use Rattle.wide_bisect.specs.Answers.{ending}
-use Rattle.wide_bisect.specs.Searches.{Search}
+use Rattle.wide_bisect.specs.{Answers.ending, Searches.Search}
 use Rattle.wide_bisect.proofs.wide.Wide.answer.Goals as goal
 
 pub move_on-requires : goal.move_on-requires

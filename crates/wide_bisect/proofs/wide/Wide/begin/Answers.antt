@@ -1,5 +1,4 @@
-use Rattle.std.proofs.Common.{◌≡◌, ◌-◌, arith}
-use Rattle.std.specs.List.{range_with_len}
+use Rattle.std.{proofs.Common.{◌≡◌, ◌-◌, arith}, specs.List.range_with_len}
 use Rattle.wide_bisect.proofs.Rounds.{begun_sound}
 use Rattle.wide_bisect.proofs.wide.Wide.begin.Goals as goal
 

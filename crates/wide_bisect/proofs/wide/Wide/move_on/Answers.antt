@@ -1,8 +1,5 @@
-use Rattle.std.proofs.Common.{◌≡◌, ◌∙◌, ap, sym, subst, rules, arith, filter}
-use Rattle.std.proofs.lemmas.Fn.{filter_same}
-use Rattle.wide_bisect.specs.Searches.{Search, search_of, stays, moved}
-use Rattle.wide_bisect.specs.Sound.{IsSound, GoesOn}
-use Rattle.wide_bisect.proofs.Rounds.{goes_sound, goes_apart, made_is}
+use Rattle.std.proofs.{Common.{◌≡◌, ◌∙◌, ap, sym, subst, rules, arith, filter}, lemmas.Fn.filter_same}
+use Rattle.wide_bisect.{specs.Searches.{Search, search_of, stays, moved}, specs.Sound.{IsSound, GoesOn}, proofs.Rounds.{goes_sound, goes_apart, made_is}}
 use Rattle.wide_bisect.proofs.wide.Wide.move_on.Goals as goal
 
 pub overflow_add-self : goal.overflow_add-self

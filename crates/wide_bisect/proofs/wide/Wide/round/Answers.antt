@@ -1,5 +1,4 @@
-use Rattle.std.proofs.Common.{◌+◌, arith}
-use Rattle.std.proofs.lemmas.List.FromFn.{map-range_with_len_more}
+use Rattle.std.proofs.{Common.{◌+◌, arith}, lemmas.List.FromFn.map-range_with_len_more}
 use Rattle.wide_bisect.specs.Searches.{place_in_round}
 use Rattle.wide_bisect.proofs.wide.Wide.round.Goals as goal
 

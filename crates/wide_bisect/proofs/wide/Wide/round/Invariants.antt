@@ -1,5 +1,4 @@
-use Rattle.std.proofs.Common.{◌≡◌, map}
-use Rattle.std.specs.List.{range_with_len}
+use Rattle.std.{proofs.Common.{◌≡◌, map}, specs.List.range_with_len}
 use Rattle.wide_bisect.specs.Searches.{asks, place_in_round}
 use Rattle.wide_bisect.proofs.wide.Wide.round.Given as goal
 

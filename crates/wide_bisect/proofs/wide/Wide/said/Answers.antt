@@ -1,5 +1,4 @@
-use Rattle.std.proofs.Common.{◌≡◌, ◌∙◌, ◌+◌, ◌-◌, ap, length, arith}
-use Rattle.std.proofs.lemmas.List.FromFn.{map-range_with_len_more, length-map-range_with_len}
+use Rattle.std.proofs.{Common.{◌≡◌, ◌∙◌, ◌+◌, ◌-◌, ap, length, arith}, lemmas.List.FromFn.{map-range_with_len_more, length-map-range_with_len}}
 use Rattle.wide_bisect.specs.Searches.{said_at}
 use Rattle.wide_bisect.proofs.wide.Wide.said.Goals as goal
 

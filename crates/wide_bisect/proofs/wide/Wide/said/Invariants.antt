@@ -1,5 +1,4 @@
-use Rattle.std.proofs.Common.{◌≡◌, map}
-use Rattle.std.specs.List.{range_with_len}
+use Rattle.std.{proofs.Common.{◌≡◌, map}, specs.List.range_with_len}
 use Rattle.wide_bisect.specs.Searches.{asks, said_at}
 use Rattle.wide_bisect.proofs.wide.Wide.said.Given as goal
 
