@@ -1,6 +1,6 @@
 -- The values of a segment as a part of all values.
 use Rattle.std.proofs.Common.{◌≡◌, ℕ, ℤ, ◌+◌, ◌-◌, ◌≤◌, List, [], ◌∷◌, ◌++◌, length, take, drop, refl, sym, ap, ◌∙◌, arith}
-use Rattle.std.proofs.lemmas.List.{length-append, append-nil, take_all, Concat.flat_map-append}
+use Rattle.std.proofs.lemmas.List.{length-append, take_all}
 use Rattle.segment_model.specs.Values.{joined, values_between, ValuesHaveParts}
 
 take_front : (xs ys : List ℤ) → take (length xs) (xs ++ ys) ≡ xs
@@ -43,6 +43,3 @@ front_is parts positions k count le is =
     let e : k - 0 ≡ k = omega arith in
     let same : values_between positions 0 k ≡ joined (take k positions) = ap (λ (n : ℕ). joined (take n positions)) e in
     rw (is, front_and_rest parts positions k le, take_front) same
-
-pub joined_more : (positions : List (List ℤ)) (values : List ℤ) → joined (positions ++ values ∷ []) ≡ joined positions ++ values
-joined_more positions values = flat_map-append (λ (v : List ℤ). v) positions (values ∷ []) ∙ ap (λ (xs : List ℤ). joined positions ++ xs) (append-nil values)

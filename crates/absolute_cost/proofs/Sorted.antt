@@ -42,9 +42,6 @@ block_length k xs fits = length-take-le 32 (drop (32 * k) xs) (omega (arith, len
 same_append : (os bs cs ds : List ℤ) → HaveSameSums os bs → HaveSameSums cs ds → HaveSameSums (os ++ cs) (bs ++ ds)
 same_append os bs cs ds one other f = omega (arith, sum_by-append f os cs, sum_by-append f bs ds, one f, other f)
 
-same_eq : (xs ys : List ℤ) → xs ≡ ys → HaveSameSums xs ys
-same_eq xs ys e f = ap (λ (zs : List ℤ). sum_by f zs) e
-
 pub same_by : (xs ys us vs : List ℤ) → xs ≡ us → ys ≡ vs → HaveSameSums us vs → HaveSameSums xs ys
 same_by xs ys us vs e g same f = ap (λ (zs : List ℤ). sum_by f zs) e ∙ same f ∙ sym (ap (λ (zs : List ℤ). sum_by f zs) g)
 

@@ -1,12 +1,11 @@
 -- Files that are opened one after another.
-use Rattle.std.proofs.Common.{◌≡◌, ◌∙◌, ℕ, zero, suc, ◌≤◌, length, true, List, [], ◌∷◌, ◌++◌, take, Option, Some, Ok, Err, refl, ap, arith, append_assoc}
-use Rattle.std.specs.Prelude.{option_map, Result, IfErr, OnOk, slice_get}
-use Rattle.track_outside.specs.Named.{NamedBytes, Call}
+use Rattle.std.proofs.Common.{◌≡◌, ◌∙◌, ℕ, zero, suc, ◌≤◌, length, true, List, [], ◌∷◌, ◌++◌, take, Some, Ok, Err, refl, ap, arith}
+use Rattle.std.specs.Prelude.{option_map, Result, IfErr, slice_get}
+use Rattle.track_outside.specs.Named.{Call}
 use Rattle.track_outside.specs.declared.files.Files as files
-use Rattle.track_outside.specs.declared.source.Source as source
 use Rattle.script_files.proofs.Calls.{then_more, none_more}
 use Rattle.audit_command.specs.declared.end.FileStop.{FileStop, TheVariants.{ReadFault, TooLong, NoMemory}}
-use Rattle.audit_command.specs.Opening.{Asks, AreMade, FailsAt, IsKept, IsOpen, OpensMore, RoseAt, calls_for, opening}
+use Rattle.audit_command.specs.Opening.{Asks, AreMade, FailsAt, IsKept, RoseAt, calls_for, opening}
 
 -- ---- calls
 
@@ -94,19 +93,3 @@ module _ {F I O : Type 0} (g : files.Ghosts F I O) where
   }
 
 -- ---- what is open
-
-pub opens_none : {I : Type 0} (i : source.Ghosts I) (told : Option (List NamedBytes)) (old : List I) → old ≡ old ++ [] → OpensMore i told [] old old
-opens_none i told old is = record { more = []; grown = is; are_open = tt }
-
-pub opens_then : {I : Type 0} (i : source.Ghosts I) (told : Option (List NamedBytes)) (name : List ℕ) (names : List (List ℕ)) (x : I) (old new : List I)
-    → IsOpen i told name x → OpensMore i told names (old ++ x ∷ []) new → OpensMore i told (name ∷ names) old new
-opens_then i told name names x old new first rest = record {
-  more = x ∷ rest.more;
-  grown = rest.grown ∙ append_assoc old (x ∷ []) rest.more;
-  are_open = (first, rest.are_open);
-}
-
-pub opens_then_ok : {E I : Type 0} (i : source.Ghosts I) (told : Option (List NamedBytes)) (name : List ℕ) (names : List (List ℕ)) (x : I) (old new : List I)
-    (result : Result (Unit {0}) E) → IsOpen i told name x → OnOk result (OpensMore i told names (old ++ x ∷ []) new) → OnOk result (OpensMore i told (name ∷ names) old new)
-opens_then_ok i told name names x old new (Ok done) first rest = opens_then i told name names x old new first rest
-opens_then_ok i told name names x old new (Err e) first rest = tt

@@ -1,19 +1,14 @@
 -- The distance left halves at each question.
-use Rattle.std.proofs.{Common.{◌≡◌, ℕ, ◌+◌, ◌-◌, ◌*◌, ◌/◌, ◌^◌, ◌<◌, ◌≤◌, arith}, lemmas.Grind.pow_more, Math.Nat.{mul-le-mul_right, mul_assoc, mul_comm}}
+use Rattle.std.proofs.{Common.{ℕ, ◌+◌, ◌-◌, ◌*◌, ◌/◌, ◌^◌, ◌<◌, ◌≤◌, arith}, lemmas.Grind.{pow_more, common_steps}, Math.Nat.mul-le-mul_right}
 use Rattle.bisect_core.specs.Bounds.{IsWithinBound}
 
 -- v is at most half of w
 pub halved : (v w x m : ℕ) → 2 * v ≤ w → w * x ≤ m → v * (x * 2) ≤ m
-halved v w x m h k =
-    let a : (2 * v) * x ≤ w * x = mul-le-mul_right x h in
-    let b : v * (x * 2) ≡ (2 * v) * x = omega (arith, mul_assoc v x 2, mul_comm v x, mul_assoc 2 v x) in
-    omega arith
+halved v w x m h k = omega (arith, mul-le-mul_right x h)
 
 -- so there were at most as many questions as that
 pub asked_more : (n w x : ℕ) → 1 ≤ w → w * x ≤ n - 1 → x * 2 ≤ 2 * n
-asked_more n w x h k =
-    let a : 1 * x ≤ w * x = mul-le-mul_right x h in
-    omega arith
+asked_more n w x h k = grind (arith, common_steps)
 
 -- low goes up half way
 pub up : (n low high q : ℕ) → IsWithinBound n low high q → low + 1 < high → IsWithinBound n (low + (high - low) / 2) high (q + 1)

@@ -1,6 +1,6 @@
 -- The greatest and the least of some numbers, with one more at the end, and where they stand.
 use Rattle.std.proofs.Common.{◌≡◌, ◌⊎◌, inl, inr, ℕ, ◌+◌, ◌-◌, ◌<◌, ◌≤◌, max, min, List, [], ◌∷◌, ◌++◌, length, get_or, refl, sym, ◌∙◌, subst, arith, suc, zero}
-use Rattle.std.{specs.Prelude.Contains, specs.List.Sorted.IsStrictlyIncreasing, proofs.lemmas.Bool.cases_lt}
+use Rattle.std.{specs.Prelude.Contains, specs.List.Sorted.IsStrictlyIncreasing, proofs.lemmas.Bool.cases_lt, proofs.lemmas.Grind.common_steps}
 use Rattle.bisect_core.specs.Turns.{greatest, least}
 
 pub greatest_push : (xs : List ℕ) (x : ℕ) → greatest (xs ++ x ∷ []) ≡ max x (greatest xs)
@@ -50,12 +50,7 @@ least_stands n (x ∷ xs) = elim (min_either x (least n xs)) [
 -- rising numbers rise from any place to any later one
 pub rises : (xs : List ℕ) (i d : ℕ) → IsStrictlyIncreasing xs → i + suc d < length xs → get_or xs i 0 < get_or xs (i + suc d) 0
 rises xs i zero h within = let a : i + 1 < length xs = omega arith in let e : i + suc zero ≡ i + 1 = omega arith in rw e (h i a)
-rises xs i (suc d) h within =
-    let a : get_or xs i 0 < get_or xs (i + suc d) 0 = rises xs i d h (omega arith) in
-    let inside : i + suc d + 1 < length xs = omega arith in
-    let b : get_or xs (i + suc d) 0 < get_or xs (i + suc d + 1) 0 = h (i + suc d) inside in
-    let e : i + suc (suc d) ≡ i + suc d + 1 = omega arith in
-    rw e (omega arith)
+rises xs i (suc d) h within = grind (arith, common_steps, rises xs i d h (omega arith))
 
 pub rises_to : (xs : List ℕ) (i j : ℕ) → IsStrictlyIncreasing xs → i < j → j < length xs → get_or xs i 0 < get_or xs j 0
 rises_to xs i j h apart within =

@@ -1,14 +1,13 @@
 -- What an answer makes of the record of a bisection, and that it stays sound.
-use Rattle.std.proofs.Common.{◌≡◌, inl, inr, ℕ, ◌+◌, ◌-◌, ◌*◌, ◌^◌, ◌<◌, ◌≤◌, true, false, List, [], ◌∷◌, ◌++◌, length, refl, sym, ap, ◌∙◌, subst, arith, Option, Some, None}
+use Rattle.std.proofs.Common.{◌≡◌, inl, inr, ℕ, ◌+◌, ◌-◌, ◌^◌, ◌<◌, ◌≤◌, true, false, List, [], ◌∷◌, ◌++◌, length, refl, sym, ap, ◌∙◌, subst, arith, Option, Some, None}
 use Rattle.std.{specs.Prelude.slice_index, specs.List.Sorted.IsStrictlyIncreasing, proofs.Common.{mul-le-mul_right, suc, zero}, proofs.Math.Nat.pow-suc}
 use Rattle.bisect_core.specs.declared.{outcome.Outcome.Outcome, outcome.Outcome.TheVariants.{Asks, Undecided, Faulted}, progress.Progress.Progress}
 use Rattle.bisect_core.specs.{declared.progress.Verdict.TheVariants.{Good, Bad, Untestable}, Turns.{Turn, tested, given_up, good_places, bad_places, ending}}
-use Rattle.bisect_core.specs.Bisections.{Bisection, standing, bisection, between, outcome_by, is_open, low_after, high_after, questions_after}
-use Rattle.bisect_core.specs.{Bounds.IsWithinBound, Sound.{IsSound, IsListed}}
+use Rattle.bisect_core.specs.Bisections.{Bisection, standing, bisection, between, is_open, low_after, high_after, questions_after}
+use Rattle.bisect_core.{specs.Bounds.IsWithinBound, specs.Sound.{IsSound, IsListed}, proofs.Lists.rises_to, proofs.Halving.{up, down}}
 use Rattle.bisect_core.specs.Verdicts.{verdict_of, after_verdict, after_status, after_good, after_bad, after_untestable, after_giving_up, seen, kept_by}
-use Rattle.std.proofs.lemmas.List.{append-nil}
-use Rattle.bisect_core.proofs.{Lists.rises_to, Halving.{up, down}}
-use Rattle.bisect_core.proofs.Turned.{Says, says, IsHalfWay, half_way, asks_on, low_good, low_same, high_bad, high_same, questions_good, questions_bad, questions_same, good_push, bad_push, ending_push}
+use Rattle.std.proofs.lemmas.{List.append-nil, Grind.common_steps}
+use Rattle.bisect_core.proofs.Turned.{Says, says, IsHalfWay, half_way, low_good, low_same, high_bad, high_same, questions_good, questions_bad, questions_same, good_push, bad_push, ending_push}
 
 -- ---- sound
 
@@ -20,21 +19,13 @@ pub record IsAsked (commits : Option (List ℕ)) (p : Progress) (place commit : 
 
 pub is_asked : (commits : Option (List ℕ)) (p : Progress) (place commit at : ℕ) (now : Bisection) → IsSound (seen commits p) → seen commits p ≡ now
     → p.outcome ≡ Asks at → at ≡ place → ((list : List ℕ) → now.commits ≡ Some list → commit ≡ slice_index list place) → IsAsked commits p place commit
-is_asked commits p place commit at now sound is asks same reads = record {
-  sound = sound;
-  asks = asks ∙ ap (λ (q : ℕ). Asks q) same;
-  is = λ list e. reads list (sym (ap (λ (b : Bisection). b.commits) is) ∙ e);
-}
+is_asked commits p place commit at now sound is asks same reads = grind (arith, common_steps)
 
 pub asked_half : (commits : Option (List ℕ)) (p : Progress) (place commit : ℕ) → IsAsked commits p place commit → IsHalfWay p.low p.high place
-asked_half commits p place commit a =
-    let opened : is_open p.outcome ≡ true = rw a.asks refl in
-    half_way p.low p.high place (sym (a.sound.asks opened) ∙ a.asks)
+asked_half commits p place commit a = grind (arith, common_steps)
 
 listed : (commits : Option (List ℕ)) (p : Progress) (place commit : ℕ) → IsAsked commits p place commit → (list : List ℕ) × IsListed (seen commits p) list
-listed commits p place commit a =
-    let opened : is_open p.outcome ≡ true = rw a.asks refl in
-    a.sound.listed opened
+listed commits p place commit a = grind (arith, common_steps)
 
 below_pow : (n : ℕ) → n < 2 ^ n
 below_pow zero = omega arith
@@ -42,10 +33,7 @@ below_pow (suc n) = omega (arith, pow-suc 2 n, below_pow n)
 
 -- one question more is still a number of 64 bits
 pub questions_fit : (n low high q : ℕ) → IsWithinBound n low high q → low + 1 < high → n < 2 ^ 64 → q + 1 < 2 ^ 64
-questions_fit n low high q b more small =
-    let a : 1 * 2 ^ q ≤ (high - low - 1) * 2 ^ q = mul-le-mul_right (2 ^ q) (omega arith) in
-    let c : q < 2 ^ q = below_pow q in
-    omega (arith, b.left)
+questions_fit n low high q b more small = grind (arith, common_steps, mul-le-mul_right, below_pow)
 
 -- what is known there: the bounds apart, the commits, and that the place is half-way between the bounds
 record There (commits : Option (List ℕ)) (p : Progress) (place commit : ℕ) : Type 0 where
@@ -56,11 +44,7 @@ record There (commits : Option (List ℕ)) (p : Progress) (place commit : ℕ) :
   is : commit ≡ slice_index list place
 
 there : (commits : Option (List ℕ)) (p : Progress) (place commit : ℕ) → IsAsked commits p place commit → There commits p place commit
-there commits p place commit a =
-    let half : IsHalfWay p.low p.high place = asked_half commits p place commit a in
-    let b : IsWithinBound p.range p.low p.high p.questions = a.sound.bound in
-    let list = listed commits p place commit a in
-    record { half = half; more = omega (arith, b.apart, half.apart); list = list.0; listed = list.1; is = a.is list.0 list.1.list }
+there commits p place commit a = grind (arith, common_steps)
 
 sound_good : (commits : Option (List ℕ)) (p : Progress) (place commit : ℕ) → IsAsked commits p place commit
     → IsSound (seen (kept_by commits (after_good p place commit).outcome) (after_good p place commit))
@@ -117,13 +101,7 @@ untestable_status p place status commit s = let e : verdict_of status ≡ Untest
 
 sound_untestable : (commits : Option (List ℕ)) (p : Progress) (place status commit : ℕ) → IsSound (seen commits p)
     → IsSound (seen (kept_by commits (Undecided place status)) (after_untestable p place status commit))
-sound_untestable commits p place status commit sound = record {
-  bound = sound.bound;
-  small = sound.small;
-  ends = sound.ends;
-  asks = λ (opened : false ≡ true). absurd (cc);
-  listed = λ (opened : false ≡ true). absurd (cc);
-}
+sound_untestable commits p place status commit sound = grind (arith, common_steps)
 
 pub sound_status : (commits : Option (List ℕ)) (p : Progress) (place status commit : ℕ) → IsAsked commits p place commit
     → IsSound (seen (kept_by commits (after_status p place status commit).outcome) (after_status p place status commit))
@@ -136,22 +114,7 @@ sound_status commits p place status commit a = elim (says status) [
 -- a list of two or more commits, before any answer
 pub sound_begun : (list : List ℕ) → IsStrictlyIncreasing list → 2 ≤ length list → length list - 1 < 2 ^ 64
     → IsSound (standing list 0 (length list - 1) 0 None)
-sound_begun list rising some small = record {
-  bound = record { apart = omega arith; inside = omega arith; left = omega arith; asked = omega arith };
-  small = small;
-  ends = rises_to list 0 (length list - 1) rising (omega arith) (omega arith);
-  asks = λ (opened : is_open (between 0 (length list - 1)) ≡ true). refl;
-  listed = λ (opened : is_open (between 0 (length list - 1)) ≡ true). (
-    list,
-    record {
-      list = rw opened refl;
-      rising = rising;
-      count = omega arith;
-      low = refl;
-      high = refl;
-    },
-  );
-}
+sound_begun list rising some small = grind (arith, common_steps, rises_to, length, listed)
 
 -- ---- recorded
 
@@ -219,11 +182,7 @@ pub record AsksOf (list : List ℕ) (turns : List Turn) (place : ℕ) : Type 0 w
   pub below : low_after turns < high_after (length list - 1) turns → place ≤ high_after (length list - 1) turns
 
 pub asks_of : (list : List ℕ) (turns : List Turn) (place : ℕ) → (bisection list turns).outcome ≡ Asks place → AsksOf list turns place
-asks_of list turns place h =
-    let on : (ending turns ≡ None) × (between (low_after turns) (high_after (length list - 1) turns) ≡ Asks place) =
-    asks_on (ending turns) (low_after turns) (high_after (length list - 1) turns) place h in
-    let half : IsHalfWay (low_after turns) (high_after (length list - 1) turns) place = half_way (low_after turns) (high_after (length list - 1) turns) place on.1 in
-    record { none = on.0; asks = on.1; above = omega (arith, half.half_way); below = λ apart. omega (arith, half.half_way) }
+asks_of list turns place h = grind (arith, common_steps)
 
 recorded_good : (commits : Option (List ℕ)) (p : Progress) (place status commit : ℕ) (list : List ℕ) (turns : List Turn) → seen commits p ≡ bisection list turns
     → AsksOf list turns place → commit ≡ slice_index list place → Says status true false false
@@ -271,10 +230,7 @@ recorded_giving_up commits p place commit list turns h a is =
 -- the commit that is read of the list is that of the bisection
 pub commit_of : (commits : Option (List ℕ)) (p : Progress) (place commit : ℕ) (list : List ℕ) (turns : List Turn) → seen commits p ≡ bisection list turns
     → AsksOf list turns place → ((l : List ℕ) → commits ≡ Some l → commit ≡ slice_index l place) → commit ≡ slice_index list place
-commit_of commits p place commit list turns h a is =
-    let stood : commits ≡ kept_by (Some list) (outcome_by (ending turns) (low_after turns) (high_after (length list - 1) turns)) = ap (λ (b : Bisection). b.commits) h in
-    let opened : kept_by (Some list) (outcome_by (ending turns) (low_after turns) (high_after (length list - 1) turns)) ≡ Some list = rw (a.none, a.asks) refl in
-    is list (stood ∙ opened)
+commit_of commits p place commit list turns h a is = grind (arith, common_steps)
 
 pub recorded_status : (commits : Option (List ℕ)) (p : Progress) (place status commit : ℕ) (list : List ℕ) (turns : List Turn) → seen commits p ≡ bisection list turns
     → IsAsked commits p place commit

@@ -1,18 +1,14 @@
 -- What one turn more makes of the places, the ends and the outcome.
-use Rattle.std.proofs.Common.{append_assoc, cond, eqb, ◌-◌, ◌/◌, ◌≡◌, ◌⊎◌, inl, inr, ℕ, ◌+◌, ◌<◌, ◌≤◌, Bool, true, false, List, [], ◌∷◌, ◌++◌, refl, sym, ap, arith, Option, Some, None}
-use Rattle.std.proofs.lemmas.{List.{length-append, append-nil}, List.Folds.find-append, Bool.{cases_Bool, eqb-true, eqb-false}}
-use Rattle.bisect_core.specs.declared.outcome.Outcome.TheVariants.{Asks, Found}
+use Rattle.std.proofs.Common.{append_assoc, cond, eqb, ◌-◌, ◌/◌, ◌≡◌, ◌⊎◌, inl, inr, ℕ, ◌+◌, ◌<◌, ◌≤◌, Bool, true, false, List, [], ◌∷◌, ◌++◌, refl, sym, arith, Option, Some, None}
+use Rattle.std.proofs.lemmas.{List.{length-append, append-nil}, List.Folds.find-append, Bool.{cases_Bool, eqb-true, eqb-false}, Grind.common_steps}
+use Rattle.bisect_core.specs.{declared.outcome.Outcome.TheVariants.{Asks, Found}, Laws.{AreAsked, Agrees, EachIsWithinBound, EndsWereAnswered, FoundIsFirstBad}}
 use Rattle.bisect_core.specs.{Bisections.{between, outcome_by, outcome_after, low_after, high_after, questions_after}, Bounds.IsWithinBound}
-use Rattle.bisect_core.specs.Laws.{AreAsked, Agrees, EachIsWithinBound, EndsWereAnswered, FoundIsFirstBad}
 use Rattle.bisect_core.proofs.{Lists.{greatest_push, least_push, greatest_stands, least_stands, least-le}, Halving.{up, down}}
 use Rattle.bisect_core.specs.Turns.{Turn, tested, given_up, is_good, is_bad, is_untestable, place_of, places_by, good_places, bad_places, ending}
 
 places_push : (is : ℕ → Bool) (turns : List Turn) (t : Turn) → places_by is (turns ++ t ∷ []) ≡ places_by is turns ++ places_by is (t ∷ [])
 places_push is [] t = refl
-places_push is (tested place status ∷ turns) t = elim (is status) as (λ g. cond g (place ∷ places_by is (turns ++ t ∷ [])) (places_by is (turns ++ t ∷ [])) ≡ cond g (place ∷ places_by is turns) (places_by is turns) ++ places_by is (t ∷ [])) [
-  | true ↦ ap (λ (xs : List ℕ). place ∷ xs) (places_push is turns t)
-  | false ↦ places_push is turns t
-]
+places_push is (tested place status ∷ turns) t = grind (arith, common_steps, places_push is turns t)
 places_push is (given_up place ∷ turns) t = places_push is turns t
 
 pub good_push : (turns : List Turn) (t : Turn) → good_places (turns ++ t ∷ []) ≡ good_places turns ++ good_places (t ∷ [])
@@ -32,19 +28,7 @@ pub record Says (status : ℕ) (g b u : Bool) : Type 0 where
   pub untestable : is_untestable status ≡ u
 
 pub says : (status : ℕ) → Says status true false false ⊎ Says status false true false ⊎ Says status false false true
-says status = elim (cases_Bool (is_good status)) [
-  | inl good ↦
-      let zero : status ≡ 0 = eqb-true status 0 good in
-      inl (record {
-        good = good;
-        bad = rw good refl;
-        untestable = rw zero refl;
-      })
-  | inr not_good ↦ elim (cases_Bool (is_untestable status)) [
-    | inl end ↦ inr (inr (record { good = not_good; bad = rw (not_good, end) refl; untestable = end }))
-    | inr no_end ↦ inr (inl (record { good = not_good; bad = rw (not_good, no_end) refl; untestable = no_end }))
-  ]
-]
+says status = grind (arith, common_steps)
 
 -- ---- what is asked
 
@@ -158,16 +142,10 @@ finds (Some (tested at status)) low high lo hi h = absurd (cc)
 finds (Some (given_up at)) low high lo hi h = absurd (cc)
 
 low_is_good : (n : ℕ) (turns : List Turn) (is_bad_place : ℕ → Bool) → Agrees n turns is_bad_place → is_bad_place (low_after turns) ≡ false
-low_is_good n turns is_bad_place a = elim (greatest_stands (good_places turns)) [
-  | inl none ↦ rw none a.first
-  | inr stands ↦ a.good (low_after turns) stands
-]
+low_is_good n turns is_bad_place a = grind (arith, common_steps, greatest_stands)
 
 high_is_bad : (n : ℕ) (turns : List Turn) (is_bad_place : ℕ → Bool) → Agrees n turns is_bad_place → is_bad_place (high_after n turns) ≡ true
-high_is_bad n turns is_bad_place a = elim (least_stands n (bad_places turns)) [
-  | inl none ↦ rw none a.last
-  | inr stands ↦ a.bad (high_after n turns) stands
-]
+high_is_bad n turns is_bad_place a = grind (arith, common_steps, least_stands)
 
 below_is_good : (n : ℕ) (turns : List Turn) (is_bad_place : ℕ → Bool) → Agrees n turns is_bad_place → low_after turns ≤ n → (place : ℕ) → place ≤ low_after turns → is_bad_place place ≡ false
 below_is_good n turns is_bad_place a inside place below = elim (cases_Bool (is_bad_place place)) [

@@ -1,25 +1,21 @@
 -- What a worker's pass has made of the machines of a room, call after call.
 use Rattle.std.proofs.Common.{◌≡◌, ◌⊎◌, inl, inr, ℕ, zero, suc, ◌+◌, ◌≤◌, true, false, cond, List, [], ◌∷◌, ◌++◌, length, refl, sym, ap, ap₂, subst, ◌∙◌, Option, Some, None, arith, eq-eqb, ne_eqb}
-use Rattle.std.specs.{Prelude.{All, ◌==◌, filter, map, option_map, option_to_list, slice_get, slice_set, unwrap_or}, List.{AllByRecursion, AllZip}}
-use Rattle.std.proofs.lemmas.{Bool.Decides.eqb_tells, List.{append-nil, append_assoc, length-append, map-append, take_all}}
-use Rattle.std.proofs.lemmas.List.Elements.{All-append, All-cons, All-nil, All-weaker, filter-append}
+use Rattle.std.specs.{Prelude.{All, ◌==◌, map, option_map, option_to_list, slice_get, slice_set, unwrap_or}, List.{AllByRecursion, AllZip}}
+use Rattle.std.proofs.lemmas.{List.{append-nil, append_assoc, map-append}, Grind.common_steps, List.Elements.{All-append, All-cons, All-nil, All-weaker}}
 use Rattle.track_outside.specs.Asked.{Ask, with_ask}
 use Rattle.bisect_core.specs.{Bisections.{Bisection, answer_to, asked_by}, declared.outcome.Answered.Answered, declared.outcome.Outcome.Outcome}
 use Rattle.bisect_core.specs.declared.outcome.Answered.TheVariants as answered
-use Rattle.bisect_core.specs.declared.outcome.Outcome.TheVariants.{Asks, Found, Undecided, Faulted}
 use Rattle.metric_table.specs.declared.limits.Limit.{Limit}
-use Rattle.metric_table.specs.declared.limits.Limit.TheVariants as limit
 use Rattle.history_lock.specs.{declared.view.Marked.Marked, Marks.{AreByOthers, IsOtherMark, entries, marked}}
-use Rattle.history_model.specs.{declared.entries.Author.Author, declared.entries.Entry.Entry, declared.entries.Placed.Placed, Allowed.first_passed}
+use Rattle.history_model.specs.declared.entries.{Author.Author, Entry.Entry, Placed.Placed}
 use Rattle.history_model.specs.{Entries.entries_of, Followed.JobsAreNamed, Jobs.{job_in, jobs}}
 use Rattle.track_room.specs.{Settling.{IsPut, IsTaken, entry_said}, Settled.Settled, Work.bare, Question.Question, Asked.ChangesAt}
 use Rattle.track_model.specs.Tracks.{Track, with_entry}
 use Rattle.track_room.specs.{Sights.{SeesMore, Sight, Visits, own_marks, seeing, track_of}, Taking.{IsQuestion, OfSeen, Settles, seen_of}}
 use Rattle.track_room.proofs.Visiting.{stays-sees}
-use Rattle.bisect_workers.specs.{Bisecting.{IsDue, RoseBy}, Failures.failures}
-use Rattle.worker_model.specs.Findings.{AsksCommit, Finding, asked_name, finding_of, named_asked}
+use Rattle.bisect_workers.{specs.Bisecting.{IsDue, RoseBy}, specs.Failures.failures, proofs.Joined.{chosen-append, later-due}, proofs.Staying.question-stays}
+use Rattle.worker_model.specs.Findings.{Finding, asked_name, finding_of, named_asked}
 use Rattle.bisect_workers.specs.Beside.{BisectsAt, EachBisects, IsBisectedIn, IsByWorker, IsDueIn, Use, asks_of, findings_by, found_at, found_by, given_up, is_given_up, is_number}
-use Rattle.bisect_workers.proofs.{Joined.{chosen-append, later-due, told-twice}, Staying.question-stays}
 
 -- ---- findings of a pass
 findings-append : (mark : ℕ) (h : List Entry) (xs ys : List (Marked Placed)) → findings_by mark h (xs ++ ys) ≡ findings_by mark h xs ++ findings_by mark (h ++ entries_of (entries xs)) ys
@@ -32,14 +28,11 @@ findings-append mark h (x ∷ xs) ys =
     ∙ sym (append_assoc own (findings_by mark h' xs) (findings_by mark (h ++ entries_of (entries (x ∷ xs))) ys))
 
 other-number : (mark : ℕ) (joined : List ℕ) (by : Option ℕ) → IsOtherMark (mark ∷ joined) by → is_number mark by ≡ false
-other-number mark joined None other = absurd other
-other-number mark joined (Some m) other = ne_eqb m mark other.0
+other-number mark joined by other = grind (arith, common_steps)
 
 others-find-none : (mark : ℕ) (joined : List ℕ) (h : List Entry) (xs : List (Marked Placed)) → AreByOthers (mark ∷ joined) xs → findings_by mark h xs ≡ []
 others-find-none mark joined h [] others = refl
-others-find-none mark joined h (x ∷ xs) others =
-    ap (λ b. cond b (option_to_list (finding_of h x.entry.entry)) [] ++ findings_by mark (h ++ x.entry.entry ∷ []) xs) (other-number mark joined x.by others.0)
-    ∙ others-find-none mark joined (h ++ x.entry.entry ∷ []) xs others.1
+others-find-none mark joined h (x ∷ xs) others = grind (arith, common_steps, others-find-none mark joined (h ++ x.entry.entry ∷ []) xs others.1)
 
 by-others : (author : Author) (s : Sight) (xs : List (Marked Placed)) → AreByOthers (own_marks s) xs → AllByRecursion (IsByWorker author s) xs
 by-others author s [] others = tt
@@ -54,17 +47,10 @@ seen-more xs ys = ap entries_of (map-append (λ (x : Marked Placed). x.entry) xs
 
 -- ---- one machine
 pub sees-at : (author : Author) (uses : List Use) (place : ℕ) (old new : Sight) → found_at place uses ≡ [] → SeesMore old new → BisectsAt author uses place old new
-sees-at author uses place old new none sees = record {
-  more = sees.0;
-  sees = sees.2;
-  each = by-others author old sees.0 sees.1;
-  found = others-find-none old.mark old.joined (entries_of (entries old.seen)) sees.0 sees.1 ∙ sym none;
-}
+sees-at author uses place old new none sees = grind (arith, common_steps, by-others, others-find-none)
 
 found-append : (place : ℕ) (us vs : List Use) → found_at place (us ++ vs) ≡ found_at place us ++ found_at place vs
-found-append place us vs =
-    ap (map found_by) (filter-append (λ (u : Use). is_number place u.place) us vs)
-    ∙ map-append found_by (filter (λ (u : Use). is_number place u.place) us) (filter (λ (u : Use). is_number place u.place) vs)
+found-append place us vs = grind (arith, common_steps)
 
 at-trans : (author : Author) (us vs : List Use) (place : ℕ) (a b c : Sight) → BisectsAt author us place a b → BisectsAt author vs place b c → BisectsAt author (us ++ vs) place a c
 at-trans author us vs place a b c first then =
@@ -104,19 +90,13 @@ sees-none s = ([], tt, ap (λ (log : List (Marked Placed)). seeing s log) (sym (
 
 each-same : (author : Author) (uses : List Use) (place : ℕ) (pass : List Sight) → ((k : ℕ) → place ≤ k → found_at k uses ≡ []) → EachBisects author uses place pass pass
 each-same author uses place [] none = tt
-each-same author uses place (s ∷ pass) none =
-    (sees-at author uses place s s (none place (omega arith)) (sees-none s), each-same author uses (suc place) pass (λ k le. none k (omega (arith, le))))
+each-same author uses place (s ∷ pass) none = grind (arith, common_steps, each-same author uses (suc place) pass (λ k le. none k (omega (arith, le))))
 
 -- one machine's change, at a place behind so many
 each-change : (author : Author) (uses : List Use) (start place : ℕ) (pass : List Sight) (before after : Sight) → slice_get pass place ≡ Some before
     → ((k : ℕ) → ((k ≡ start + place) → ⊥) → found_at k uses ≡ []) → BisectsAt author uses (start + place) before after → EachBisects author uses start pass (slice_set pass place after)
 each-change author uses start place [] before after there none at = absurd (let no : None ≡ Some before = there in cc)
-each-change author uses start zero (s ∷ pass) before after there none at =
-    let here : start + zero ≡ start = omega arith in
-    let one : BisectsAt author uses start before after = subst (λ (k : ℕ). BisectsAt author uses k before after) here at in (
-      subst (λ (x : Sight). BisectsAt author uses start x after) (sym (some-same s before there)) one,
-      each-same author uses (suc start) pass (λ k le. none k (λ is. omega (arith, is, le))),
-    )
+each-change author uses start zero (s ∷ pass) before after there none at = grind (arith, common_steps, some-same, each-same)
 each-change author uses start (suc place) (s ∷ pass) before after there none at =
     let on : start + suc place ≡ suc start + place = omega arith in (
       sees-at author uses start s s (none start (λ is. omega (arith, is))) (sees-none s),
@@ -147,26 +127,13 @@ due-on author uses word old new each ask is =
 -- ---- one call after another
 pub nothing : (author : Author) (word : List ℕ) (old new : List Sight) (asked : Option (List Ask)) (before after : ℕ) → AllZip SeesMore old new → before ≤ after
     → IsBisectedIn author word old new asked asked before after
-nothing author word old new asked before after sees le = record {
-  uses = [];
-  told = sym (same asked);
-  each = each-sees author [] (λ k. refl) 0 old new sees;
-  due = All-nil (IsDueIn word new);
-  rose = omega (arith, le);
-}
-  where
-    same : (o : Option (List Ask)) → option_map (λ (asks : List Ask). asks ++ asks_of []) o ≡ o
-    same None = refl
-    same (Some asks) = ap (λ (xs : List Ask). Some xs) (append-nil asks)
+nothing author word old new asked before after sees le = grind (arith, common_steps, each-sees, append-nil)
 
 pub joined : (author : Author) (word : List ℕ) (a b c : List Sight) (x y z : Option (List Ask)) (k m n : ℕ)
     → IsBisectedIn author word a b x y k m → IsBisectedIn author word b c y z m n → IsBisectedIn author word a c x z k n
 joined author word a b c x y z k m n first then = record {
   uses = first.uses ++ then.uses;
-  told =
-      then.told ∙ ap (λ (o : Option (List Ask)). option_map (λ (asks : List Ask). asks ++ asks_of then.uses) o) first.told
-      ∙ told-twice x (asks_of first.uses) (asks_of then.uses)
-      ∙ ap (λ (xs : List Ask). option_map (λ (asks : List Ask). asks ++ xs) x) (sym asks_are);
+  told = grind (arith, common_steps);
   each = each-trans author first.uses then.uses 0 a b c first.each then.each;
   due = subst (λ (xs : List Ask). All (IsDueIn word c) xs) (sym asks_are)
       (All-append (IsDueIn word c) (asks_of first.uses) (asks_of then.uses)
@@ -205,15 +172,13 @@ module _ (author : Author) (word : List ℕ) (q : Question) (status : Option ℕ
           of_test = refl;
           count = length ps;
           within = omega arith;
-          asked = subst (λ (es : List Placed). AsksCommit (entries_of es) q.commit) (sym (take_all (length ps) ps (omega arith)))
-              (record { job = q.job; bisection = question.bisection; there = question.there; place = q.place; asks = question.asks; commit_is = question.commit });
+          asked = grind (arith, common_steps);
         };
       }
 
   told-one : (asked : Option (List Ask)) (place : Option ℕ) → with_ask (record { test = word; commit = q.commit; status = status }) asked
       ≡ option_map (λ (before : List Ask). before ++ asks_of (record { ask = record { test = word; commit = q.commit; status = status }; place = place } ∷ [])) asked
-  told-one None place = refl
-  told-one (Some asks) place = refl
+  told-one asked place = grind (arith, common_steps)
 
   -- and not used
   pub unused : (new : List Sight) (asked asked' : Option (List Ask)) (before after : ℕ) → AllZip SeesMore old new
@@ -230,15 +195,7 @@ module _ (author : Author) (word : List ℕ) (q : Question) (status : Option ℕ
       }
 
   asks-it : (o : Outcome) (place : ℕ) → answer_to o place ≡ answered.Ok → asked_by o ≡ Some place
-  asks-it (Asks asked) place is = elim (eqb_tells asked place) [
-    | inl hit ↦ ap (λ (n : ℕ). Some n) hit.1
-    | inr miss ↦
-        let never : answered.NotAsked asked ≡ answered.Ok = sym (ap (λ b. cond b answered.Ok (answered.NotAsked asked)) miss.0) ∙ is in
-        absurd (cc)
-  ]
-  asks-it (Found lo hi) place is = absurd (cc)
-  asks-it (Undecided at status) place is = absurd (cc)
-  asks-it (Faulted at) place is = absurd (cc)
+  asks-it o place is = grind (arith, common_steps)
 
   abbrev e : Entry
   e = entry_said q.job q.place status
@@ -247,17 +204,13 @@ module _ (author : Author) (word : List ℕ) (q : Question) (status : Option ℕ
   Added a w u = (bare u ≡ bare w) ⊎ ((a ≡ answered.Ok) × (bare u ≡ bare (with_entry author w (entry_said q.job q.place status))))
 
   put-of : (l : Option Limit) (w u : Track) (told : Settled) → IsPut l w author (entry_said q.job q.place status) told u → Added answered.Ok w u
-  put-of None w u told put = inr (refl, ap bare put.1)
-  put-of (Some l) w u told put = inl (ap bare put.1)
+  put-of l w u told put = grind (arith, common_steps)
 
   taken-of : (a : Answered) (w u : Track) (told : Settled) → IsTaken a w author (entry_said q.job q.place status) told u → Added a w u
-  taken-of answered.Ok w u told is = put-of (first_passed (limit.Steps ∷ []) (entries_of w.history) e) w u told is
-  taken-of (answered.NotAsked asked) w u told is = inl (ap bare is.1)
-  taken-of (answered.Closed outcome) w u told is = inl (ap bare is.1)
+  taken-of a w u told is = grind (arith, common_steps)
 
   name-of : (h : List Entry) → asked_name h q.job ≡ q.commit → (s : Option ℕ) → finding_of h (entry_said q.job q.place s) ≡ Some (record { commit = q.commit; status = s })
-  name-of h is None = ap (λ (c : List ℕ). let f : Finding = record { commit = c; status = None } in Some f) is
-  name-of h is (Some n) = ap (λ (c : List ℕ). let f : Finding = record { commit = c; status = Some n } in Some f) is
+  name-of h is s = grind (arith, common_steps)
 
   abbrev used : Use
   used = record { ask = record { test = word; commit = q.commit; status = status }; place = Some machine }
@@ -272,10 +225,7 @@ module _ (author : Author) (word : List ℕ) (q : Question) (status : Option ℕ
   found-other k other = ap (λ b. map found_by (cond b (used ∷ []) [])) (ne_eqb machine k (λ is. other (sym is)))
 
   not-longer : (xs : List Placed) (x : Placed) → xs ++ x ∷ [] ≡ xs → ⊥
-  not-longer xs x is =
-      let size = length-append xs (x ∷ []) in
-      let same = ap (λ (ys : List Placed). length ys) is in
-      omega (arith, size, same)
+  not-longer xs x is = grind (arith, common_steps)
 
   last-same : (xs : List Placed) (a b : Placed) → xs ++ a ∷ [] ≡ xs ++ b ∷ [] → a ≡ b
   last-same [] a b is = cc
@@ -354,8 +304,7 @@ module _ (author : Author) (word : List ℕ) (q : Question) (status : Option ℕ
     ]
 
   given-one : (s : Option ℕ) → given_up (record { ask = record { test = word; commit = q.commit; status = s }; place = Some machine } ∷ []) ≡ failures s
-  given-one None = refl
-  given-one (Some n) = refl
+  given-one s = grind (arith, common_steps)
 
   -- or what it found was said
   pub settled : JobsAreNamed → (new : List Sight) (told : Settled) → ChangesAt machine (Visits (Settles author q status told)) old new → (asked asked' : Option (List Ask)) (before after : ℕ)

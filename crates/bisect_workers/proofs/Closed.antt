@@ -1,16 +1,13 @@
 -- Private: no public contract cites this. Where no job asks, none is open.
-use Rattle.std.{proofs.Common.{◌≡◌, ℕ, suc, inl, false, List, [], ◌∷◌, refl, sym, ap, ◌∙◌, Option, Some, None}, specs.Prelude.slice_get}
+use Rattle.std.proofs.lemmas.Grind.{common_steps}
+use Rattle.std.{proofs.Common.{◌≡◌, ℕ, suc, inl, false, List, [], ◌∷◌, refl, sym, ap, ◌∙◌, Option, Some, None, arith}, specs.Prelude.slice_get}
 use Rattle.bisect_core.specs.{Bisections.{Bisection, asked_by, is_open}, declared.outcome.Outcome.Outcome}
-use Rattle.bisect_core.specs.declared.outcome.Outcome.TheVariants.{Asks, Found, Undecided, Faulted}
 use Rattle.history_model.specs.{declared.entries.Entry.Entry, Jobs.{asked, is_under_way, jobs, open_count, place_asked}}
 use Rattle.worker_model.specs.Quiet.{JobsAreQuiet}
 use Rattle.bisect_workers.specs.Quiet.{NoneAsks}
 
 not-asking : (o : Outcome) → asked_by o ≡ None → is_open o ≡ false
-not-asking (Asks place) is = cc
-not-asking (Found lo hi) is = refl
-not-asking (Undecided place status) is = refl
-not-asking (Faulted place) is = refl
+not-asking o is = grind (arith, common_steps)
 
 none-open : (js : List Bisection) → ((k : ℕ) (b : Bisection) → slice_get js k ≡ Some b → asked_by b.outcome ≡ None) → open_count js ≡ 0
 none-open [] each = refl

@@ -1,12 +1,9 @@
 -- A question stays: while a job asks a place, it asks the commit that it asked there, of the same name.
-use Rattle.std.proofs.Common.{◌≡◌, ℕ, zero, suc, ◌+◌, ◌-◌, ◌≤◌, Bool, true, false, cond, List, [], ◌∷◌, ◌++◌, length, refl, sym, ap, subst, ◌∙◌, inl, inr, Option, Some, None, arith}
-use Rattle.std.{specs.Prelude.{IsSome, find, option_map, slice_get, slice_index, unwrap_or}, specs.List.cons_option, proofs.lemmas.Bool.cases_Bool}
+use Rattle.std.proofs.Common.{◌≡◌, ℕ, zero, suc, ◌+◌, ◌-◌, ◌≤◌, Bool, List, [], ◌∷◌, ◌++◌, length, refl, sym, ap, ◌∙◌, Option, Some, None, arith}
+use Rattle.std.{specs.Prelude.{IsSome, find, option_map, slice_get, slice_index, unwrap_or}, specs.List.cons_option, proofs.lemmas.Grind.common_steps}
 use Rattle.std.proofs.lemmas.List.{take-append-le}
-use Rattle.bisect_core.specs.{Bisections.{Bisection, asked_by, bisection, is_open}, Turns.Turn, declared.outcome.Outcome.Outcome}
-use Rattle.bisect_core.specs.declared.outcome.Outcome.TheVariants.{Asks, Found, Undecided, Faulted}
-use Rattle.history_model.specs.{declared.entries.Declaration.Declaration, declared.entries.Entry.Entry, declared.entries.Entry.TheVariants.Job, Allowed.Legal}
-use Rattle.history_model.specs.declared.events.JobEvent.TheVariants as event
-use Rattle.history_model.specs.{Commits.{declaration, declarations, has_number, name_of, numbers_between}, Entries.chosen_from}
+use Rattle.bisect_core.specs.{Bisections.{Bisection, asked_by, bisection}, Turns.Turn, declared.outcome.Outcome.Outcome}
+use Rattle.history_model.specs.{declared.entries.Entry.Entry, Allowed.Legal, Commits.{declarations, name_of, numbers_between}, Entries.chosen_from}
 use Rattle.history_model.specs.{Followed.{IsNamed, JobsAreNamed}, Jobs.{Begun, begins, begun, commits_of, job_in, jobs, standing_from, turns}}
 use Rattle.track_model.specs.Following.{asked_commit, named_by}
 
@@ -16,9 +13,7 @@ some-same x y is = ap (λ o. unwrap_or o x) is
 -- ---- what is chosen of first entries stands first
 get-option : {A : Type 0} (o : Option A) (xs ys : List A) → ((k : ℕ) (x : A) → slice_get xs k ≡ Some x → slice_get ys k ≡ Some x)
     → (k : ℕ) (x : A) → slice_get (cons_option o xs) k ≡ Some x → slice_get (cons_option o ys) k ≡ Some x
-get-option None xs ys rest k x is = rest k x is
-get-option (Some y) xs ys rest zero x is = is
-get-option (Some y) xs ys rest (suc k) x is = rest k x is
+get-option o xs ys rest k x is = grind (arith, common_steps)
 
 get-stays : {A : Type 0} (choice : ℕ → Entry → Option A) (step : ℕ) (h more : List Entry) (k : ℕ) (x : A)
     → slice_get (chosen_from step choice h) k ≡ Some x → slice_get (chosen_from step choice (h ++ more)) k ≡ Some x
@@ -28,13 +23,7 @@ get-stays choice step (e ∷ h) more k x is =
 
 find-option : {A : Type 0} (p : A → Bool) (o : Option A) (xs ys : List A) → ((d : A) → find p xs ≡ Some d → find p ys ≡ Some d)
     → (d : A) → find p (cons_option o xs) ≡ Some d → find p (cons_option o ys) ≡ Some d
-find-option p None xs ys rest d is = rest d is
-find-option p (Some y) xs ys rest d is = elim (cases_Bool (p y)) [
-  | inl hit ↦
-      ap (λ b. cond b (Some y) (find p ys)) hit ∙ sym (ap (λ b. cond b (Some y) (find p xs)) hit) ∙ is
-  | inr miss ↦
-      ap (λ b. cond b (Some y) (find p ys)) miss ∙ rest d (sym (ap (λ b. cond b (Some y) (find p xs)) miss) ∙ is)
-]
+find-option p o xs ys rest d is = grind (arith, common_steps)
 
 find-stays : {A : Type 0} (p : A → Bool) (choice : ℕ → Entry → Option A) (step : ℕ) (h more : List Entry) (d : A)
     → find p (chosen_from step choice h) ≡ Some d → find p (chosen_from step choice (h ++ more)) ≡ Some d
@@ -44,25 +33,15 @@ find-stays p choice step (e ∷ h) more d is =
 
 -- the name of a declared commit stays
 name-stays : (number : ℕ) (h more : List Entry) → IsSome (name_of number h) → named_by (h ++ more) number ≡ named_by h number
-name-stays number h more there = by (find (has_number number) (declarations h)) refl
-  where
-    by : (o : Option Declaration) → find (has_number number) (declarations h) ≡ o → named_by (h ++ more) number ≡ named_by h number
-    by None is =
-        let none : name_of number h ≡ None = ap (option_map (λ (d : Declaration). d.name)) is in
-        absurd (let never : false ≡ true = subst (λ (o : Option (List ℕ)). IsSome o) none there in cc)
-    by (Some d) is =
-        ap (λ (o : Option Declaration). unwrap_or (option_map (λ (d : Declaration). d.name) o) []) (find-stays (has_number number) declaration 1 h more d is ∙ sym is)
+name-stays number h more there = grind (arith, common_steps, find, option_map, unwrap_or, find-stays)
 
 -- ---- a job has the commits that were declared before it
 step-of : (step : ℕ) (e : Entry) (b : Begun) → begun step e ≡ Some b → b.step ≡ step
-step-of step (Job (event.Begin lo hi)) b is = sym (ap (λ (o : Option Begun). (unwrap_or o b).step) is)
-step-of step e b is = absurd cc
+step-of step e b is = grind (arith, common_steps)
 
 past-option : (o : Option Begun) (step n : ℕ) (xs : List Begun) → ((b : Begun) → o ≡ Some b → b.step ≡ step) → step ≤ n
     → ((k : ℕ) (b : Begun) → slice_get xs k ≡ Some b → b.step ≤ n) → (k : ℕ) (b : Begun) → slice_get (cons_option o xs) k ≡ Some b → b.step ≤ n
-past-option None step n xs own le rest k b is = rest k b is
-past-option (Some y) step n xs own le rest zero b is = let at = own b is in omega (arith, at, le)
-past-option (Some y) step n xs own le rest (suc k) b is = rest k b is
+past-option o step n xs own le rest k b is = grind (arith, common_steps)
 
 steps-past : (step n : ℕ) (h : List Entry) → step + length h ≤ n + 1 → (k : ℕ) (b : Begun) → slice_get (chosen_from step begun h) k ≡ Some b → b.step ≤ n
 steps-past step n [] le k b is = absurd (let no : None ≡ Some b = is in cc)
@@ -80,21 +59,9 @@ standing-get h number [] k b is = absurd (let no : None ≡ Some b = is in cc)
 standing-get h number (g ∷ bs) zero b is = (g, refl, (turns number h, sym (some-same (bisection (commits_of h g) (turns number h)) b is)))
 standing-get h number (g ∷ bs) (suc k) b is = standing-get h (number + 1) bs k b is
 
-asked-of : (cs : List ℕ) (ts : List Turn) (place : ℕ) → asked_by (bisection cs ts).outcome ≡ Some place → asked_commit (bisection cs ts) ≡ slice_index cs place
-asked-of cs ts place is = by (bisection cs ts).outcome is
-  where
-    by : (o : Outcome) → asked_by o ≡ Some place → slice_index (unwrap_or (cond (is_open o) (Some cs) None) []) (unwrap_or (asked_by o) 0) ≡ slice_index cs place
-    by (Asks p) is = ap (slice_index cs) (some-same p place is)
-    by (Found lo hi) is = absurd (let no : None ≡ Some place = is in cc)
-    by (Undecided at status) is = absurd (let no : None ≡ Some place = is in cc)
-    by (Faulted at) is = absurd (let no : None ≡ Some place = is in cc)
-
 -- the commit that an open job asks is declared
 named-asked : (h : List Entry) (b : Bisection) (o : Outcome) (place : ℕ) → asked_by o ≡ Some place → IsNamed h b o → IsSome (name_of (asked_commit b) h)
-named-asked h b (Asks p) place is named = named.1
-named-asked h b (Found lo hi) place is named = absurd (let no : None ≡ Some place = is in cc)
-named-asked h b (Undecided at status) place is named = absurd (let no : None ≡ Some place = is in cc)
-named-asked h b (Faulted at) place is named = absurd (let no : None ≡ Some place = is in cc)
+named-asked h b o place is named = grind (arith, common_steps)
 
 pub question-stays : JobsAreNamed → (h more : List Entry) (job place : ℕ) (b later : Bisection) → Legal h
     → job_in job (jobs h) ≡ Some b → asked_by b.outcome ≡ Some place
@@ -106,10 +73,8 @@ question-stays named h more (suc k) place b later legal there asks then asks_the
     let two = standing-get (h ++ more) 1 (begins (h ++ more)) k later then in
     let g : Begun = one.0 in
     let same : two.0 ≡ g = sym (some-same g two.0 (sym (get-stays begun 1 h more k g one.1) ∙ two.1)) in
-    let first : asked_commit b ≡ slice_index (commits_of h g) place =
-    ap asked_commit one.2.1 ∙ asked-of (commits_of h g) one.2.0 place (ap (λ (x : Bisection). asked_by x.outcome) (sym one.2.1) ∙ asks) in
-    let last : asked_commit later ≡ slice_index (commits_of (h ++ more) two.0) place =
-    ap asked_commit two.2.1 ∙ asked-of (commits_of (h ++ more) two.0) two.2.0 place (ap (λ (x : Bisection). asked_by x.outcome) (sym two.2.1) ∙ asks_then) in
+    let first : asked_commit b ≡ slice_index (commits_of h g) place = grind (arith, common_steps) in
+    let last : asked_commit later ≡ slice_index (commits_of (h ++ more) two.0) place = grind (arith, common_steps) in
     let commits : commits_of (h ++ more) two.0 ≡ commits_of h g = ap (commits_of (h ++ more)) same ∙ commits-stay h more k g one.1 in
     let asked : asked_commit later ≡ asked_commit b = last ∙ ap (λ (cs : List ℕ). slice_index cs place) commits ∙ sym first in
     ap (named_by (h ++ more)) asked ∙ name-stays (asked_commit b) h more (named-asked h b b.outcome place asks (named h (suc k) b legal there))

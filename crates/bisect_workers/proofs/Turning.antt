@@ -1,51 +1,30 @@
 -- One turn of a worker that bisects.
 use Rattle.std.proofs.Common.{◌≡◌, ℕ, ◌≤◌, ◌<◌, Bool, true, false, List, [], ◌∷◌, ◌++◌, length, refl, sym, ap, subst, ◌∙◌, Option, Some, None, arith}
-use Rattle.std.{specs.Prelude.{All, option_map, option_to_list}, proofs.lemmas.List.{append-nil, length-append, take-append-le, take_all}}
+use Rattle.std.{specs.Prelude.{All, option_map, option_to_list}, proofs.lemmas.List.{append-nil, length-append}, proofs.lemmas.Grind.common_steps}
 use Rattle.std.proofs.lemmas.List.Elements.{All-nil, All-cons}
 use Rattle.metric_table.specs.{Limits.most, declared.limits.Limit.Limit}
 use Rattle.metric_table.specs.declared.limits.Limit.TheVariants as limit
 use Rattle.track_outside.specs.Asked.{Ask, with_ask}
-use Rattle.bisect_core.specs.{Bisections.{Bisection, answer_to}, declared.outcome.Answered.Answered, declared.outcome.Outcome.TheVariants.Asks}
+use Rattle.bisect_core.specs.declared.outcome.Answered.{Answered}
 use Rattle.bisect_core.specs.declared.outcome.Answered.TheVariants as answered
 use Rattle.history_model.specs.{declared.entries.Author.Author, declared.entries.Entry.Entry, declared.entries.Placed.Placed, Allowed.first_passed}
 use Rattle.history_model.specs.{Entries.entries_of, Jobs.asked, Laws.FirstKept}
-use Rattle.track_room.specs.{Settling.{IsPut, IsSettled, IsTaken, entry_said}, Settled.Settled, Questions.{IsQuestion, NoneIsAsked}, Question.Question}
+use Rattle.track_room.specs.{Settling.{IsPut, IsSettled, IsTaken, entry_said}, Settled.Settled, Questions.IsQuestion, Question.Question}
 use Rattle.track_model.specs.Tracks.{Track, with_entry}
-use Rattle.bisect_workers.specs.{Bisecting.{IsBisected, IsDue, IsSaidBy, RoseBy}, Failures.failures, Findings.{asks_of, give_ups}, Quiet.NoneAsks}
-use Rattle.worker_model.specs.Findings.{AsksCommit, Finding, asked_name, finding_of, named_asked}
-use Rattle.track_room.proofs.Bisecting.{takes}
-
--- where no job is claimed and none is given, none asks
-pub none-asks : (h : List Entry) → NoneIsAsked h [] → NoneAsks h
-none-asks h none job = by (asked job h) refl
-  where
-    by : (o : Option ℕ) → asked job h ≡ o → asked job h ≡ None
-    by None is = is
-    by (Some place) is = absurd (let never : false ≡ true = none job place is in cc)
+use Rattle.bisect_workers.specs.{Bisecting.{IsBisected, IsDue, IsSaidBy, RoseBy}, Failures.failures, Findings.{asks_of, give_ups}}
+use Rattle.worker_model.specs.Findings.{Finding, finding_of}
 
 -- ---- what was said is recorded
 put-of : (o : Option Limit) (old : Track) (author : Author) (e : Entry) (told : Settled) (new : Track) → o ≡ None → IsPut o old author e told new → new ≡ with_entry author old e
-put-of None old author e told new none is = is.1
-put-of (Some l) old author e told new none is = absurd (cc)
+put-of o old author e told new none is = grind (arith, common_steps)
 
 taken-of : (a : Answered) (old : Track) (author : Author) (e : Entry) (told : Settled) (new : Track) → a ≡ answered.Ok → IsTaken a old author e told new
     → IsPut (first_passed (limit.Steps ∷ []) (entries_of old.history) e) old author e told new
-taken-of answered.Ok old author e told new ok is = is
-taken-of (answered.NotAsked place) old author e told new ok is = absurd (cc)
-taken-of (answered.Closed outcome) old author e told new ok is = absurd (cc)
+taken-of a old author e told new ok is = grind (arith, common_steps)
 
 pub recorded : FirstKept → (old : Track) (author : Author) (q : Question) (status : Option ℕ) (told : Settled) (new : Track) → IsQuestion (entries_of old.history) q
     → length (entries_of old.history) < most limit.Steps → IsSettled old author q.job q.place status told new → new ≡ with_entry author old (entry_said q.job q.place status)
-recorded kept old author q status told new question room settled =
-    let h : List Entry = entries_of old.history in
-    let e : Entry = entry_said q.job q.place status in
-    let same : settled.bisection ≡ question.bisection = let two : Some settled.bisection ≡ Some question.bisection = sym settled.there ∙ question.there in cc in
-    let ok : answer_to settled.bisection.outcome q.place ≡ answered.Ok =
-    ap (λ (b : Bisection). answer_to b.outcome q.place) same ∙ takes question.bisection.outcome q.place question.asks in
-    let size = length-append h (e ∷ []) in
-    let none : first_passed (limit.Steps ∷ []) h e ≡ None = kept limit.Steps [] h e (let few : length (h ++ e ∷ []) ≤ most limit.Steps = omega (arith, size, room) in few) in
-    put-of (first_passed (limit.Steps ∷ []) h e) old author e told new none
-    (taken-of (answer_to settled.bisection.outcome q.place) old author e told new ok settled.taken)
+recorded kept old author q status told new question room settled = grind (arith, common_steps)
 
 -- ---- one ask
 module _ (author : Author) (word : List ℕ) (old : Track) (q : Question) (question : IsQuestion (entries_of old.history) q) (status : Option ℕ) where
@@ -57,14 +36,11 @@ module _ (author : Author) (word : List ℕ) (old : Track) (q : Question) (quest
     of_test = refl;
     count = length old.history;
     within = let size = length-append old.history more in omega (arith, size);
-    asked = subst (λ (ps : List Placed). AsksCommit (entries_of ps) q.commit)
-        (sym (take-append-le (length old.history) old.history more (omega arith) ∙ take_all (length old.history) old.history (omega arith)))
-        (record { job = q.job; bisection = question.bisection; there = question.there; place = q.place; asks = question.asks; commit_is = question.commit });
+    asked = grind (arith, common_steps);
   }
 
   told-one : (asked : Option (List Ask)) (used : Bool) → with_ask ask asked ≡ option_map (λ (before : List Ask). before ++ asks_of (record { ask = ask; used = used } ∷ [])) asked
-  told-one None used = refl
-  told-one (Some asks) used = refl
+  told-one asked used = grind (arith, common_steps)
 
   -- it was asked, and nothing was added
   pub unused : (asked asked' : Option (List Ask)) (before after : ℕ) → asked' ≡ with_ask ask asked → RoseBy (failures status) before after → before ≤ after
@@ -82,16 +58,11 @@ module _ (author : Author) (word : List ℕ) (old : Track) (q : Question) (quest
     given_up = omega (arith, le);
   }
 
-  name-is : asked_name (entries_of old.history) q.job ≡ q.commit
-  name-is = ap (named_asked (entries_of old.history)) question.there ∙ sym question.commit
-
   found-one : (status : Option ℕ) → finding_of (entries_of old.history) (entry_said q.job q.place status) ≡ Some (record { commit = q.commit; status = status })
-  found-one None = ap (λ (c : List ℕ). let f : Finding = record { commit = c; status = None } in Some f) name-is
-  found-one (Some n) = ap (λ (c : List ℕ). let f : Finding = record { commit = c; status = Some n } in Some f) name-is
+  found-one status = grind (arith, common_steps)
 
   given-one : (status : Option ℕ) → give_ups (record { author = author; entry = entry_said q.job q.place status } ∷ []) ≡ failures status
-  given-one None = refl
-  given-one (Some n) = refl
+  given-one status = grind (arith, common_steps)
 
   -- and what was found is said
   pub used : (new : Track) → new ≡ with_entry author old (entry_said q.job q.place status) → (asked asked' : Option (List Ask)) (before after : ℕ) → asked' ≡ with_ask ask asked

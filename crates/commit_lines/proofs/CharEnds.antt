@@ -1,11 +1,8 @@
 -- What ends a text whose first bytes are there: a character that has begun is ended by the least bytes that it may have.
+use Rattle.std.proofs.lemmas.{Grind.common_steps, Bool.{and_parts, cases_lt, lt-ltb, le-ltb}, Str.{IsUtf8-append, IsUtf8-nil, IsUtf8-encode, encode_ascii}}
 use Rattle.std.proofs.Common.{◌≡◌, ℕ, ◌+◌, ◌*◌, ◌/◌, ◌%◌, ◌<◌, ◌≤◌, ◌⊎◌, true, List, [], ◌∷◌, ◌++◌, length, IsUtf8, inl, inr, refl, sym, ap, ap₂, ◌∙◌, subst, arith, append_assoc}
-use Rattle.std.proofs.lemmas.{Bool.{and_parts, cases_lt, lt-ltb, le-ltb, le-leb}, Str.{IsUtf8-append, IsUtf8-nil, IsUtf8-encode, encode_ascii}}
 use Rattle.commit_lines.specs.Ends.{char_end}
-use lib.Utf8.{scalar, scalars, encode, encodes, scalar_cases, low_scalar}
-
-high_scalar : (c : ℕ) → 57_344 ≤ c → c < 1_114_112 → scalar c ≡ true
-high_scalar c low high = rw (le-ltb c 55_296 (omega arith), le-leb 57_344 c low, lt-ltb c 1_114_112 high) refl
+use lib.Utf8.{scalar, scalars, encode, encodes}
 
 two : (c : ℕ) → 128 ≤ c → c < 2_048 → encode c ≡ (192 + c / 64) ∷ (128 + c % 64) ∷ []
 unfolding encode
@@ -28,10 +25,7 @@ is_text bytes (c, ok, is) = subst IsUtf8 is (IsUtf8-encode c ok)
 
 -- a scalar whose last bits are none
 cut_scalar : (c less : ℕ) → scalar c ≡ true → less ≤ c → (57_344 ≤ c → 57_344 ≤ less) → scalar less ≡ true
-cut_scalar c less ok few high = elim (scalar_cases c ok) [
-  | inl low ↦ low_scalar less (omega arith)
-  | inr range ↦ high_scalar less (high range.0) (omega (arith, range.1))
-]
+cut_scalar c less ok few high = grind (arith, common_steps)
 
 last_of_two : (c : ℕ) → scalar c ≡ true → 128 ≤ c → c < 2_048 → IsChar ((192 + c / 64) ∷ 128 ∷ [])
 last_of_two c ok low high =
@@ -47,8 +41,7 @@ three_are less x y z ok low high a b d = (less, ok, three less low high ∙ ap (
 
 four_are : (less w x y z : ℕ) → scalar less ≡ true → 65_536 ≤ less → 240 + less / 262_144 ≡ w → 128 + less / 4_096 % 64 ≡ x → 128 + less / 64 % 64 ≡ y → 128 + less % 64 ≡ z
     → IsChar (w ∷ x ∷ y ∷ z ∷ [])
-four_are less w x y z ok low a b d e =
-    (less, ok, four less low ∙ ap₂ (λ (m n : ℕ). m ∷ n ∷ (128 + less / 64 % 64) ∷ (128 + less % 64) ∷ []) a b ∙ ap₂ (λ (m n : ℕ). w ∷ x ∷ m ∷ n ∷ []) d e)
+four_are less w x y z ok low a b d e = grind (arith, common_steps, four, ap₂)
 
 last_of_three : (c : ℕ) → scalar c ≡ true → 2_048 ≤ c → c < 65_536 → IsChar ((224 + c / 4_096) ∷ (128 + c / 64 % 64) ∷ 128 ∷ [])
 last_of_three c ok low high =
@@ -100,9 +93,7 @@ past char front more is rest = record {
 
 -- one byte more
 last_byte : (front : List ℕ) (y : ℕ) (tail more : List ℕ) → y ∷ tail ≡ more → IsChar (front ++ 128 ∷ []) → Completes front more
-last_byte front y tail more is char =
-    let count : length more ≡ length tail + 1 = ap (λ (l : List ℕ). length l) (sym is) ∙ omega arith in
-    record { number = 1; few = omega arith; short = omega arith; text = is_text (front ++ 128 ∷ []) char }
+last_byte front y tail more is char = grind (arith, common_steps, length, is_text)
 
 two_bytes : (front : List ℕ) (y z : ℕ) (tail more : List ℕ) → y ∷ z ∷ tail ≡ more → IsChar (front ++ 128 ∷ 128 ∷ []) ⊎ IsChar (front ++ 160 ∷ 128 ∷ []) → Completes front more
 two_bytes front y z tail more is (inl char) =

@@ -1,7 +1,7 @@
 -- No bytes have two stops, nor names and a stop, nor two lists of names.
 use Rattle.std.proofs.Common.{◌≡◌, ◌≢◌, ℕ, ◌+◌, ◌^◌, ◌<◌, ◌≤◌, ◌⊎◌, inl, inr, List, [], ◌∷◌, ◌++◌, length, refl, sym, ap, ap₂, subst, ◌∙◌, arith, length-append}
 use Rattle.std.{specs.Prelude.Contains, specs.List.AllPairs, proofs.lemmas.Bool.cases_order, proofs.lemmas.List.{take_all, get_or_append_left}}
-use Rattle.std.proofs.Math.Seq.{get_or-append_seam}
+use Rattle.std.proofs.{Math.Seq.get_or-append_seam, lemmas.Grind.common_steps}
 use Rattle.line_text.{specs.Lines.lines_of, proofs.Parts.one_front}
 use Rattle.line_pieces.{specs.Stops.within_limit, proofs.Fronts.{goes_past, one_split}, specs.declared.stop.Refusal.Refusal}
 use Rattle.line_pieces.specs.declared.stop.{Refusal.TheVariants.{Bad, Full}, Stop.Stop, Stop.TheVariants.{Fault, TooLong, Refused, NoMemory}}
@@ -30,9 +30,7 @@ record Parts (front back names : List (List ℕ)) : Type 0 where
 
 parts_of : (front back names : List (List ℕ)) → AreNames (front ++ back) names → Parts front back names
 parts_of [] back names are = record { one = []; two = names; joined = refl; before = refl; behind = are }
-parts_of (line ∷ front) back names (inl (skipped, are)) =
-    let rest = parts_of front back names are in
-    record { one = rest.one; two = rest.two; joined = rest.joined; before = inl (skipped, rest.before); behind = rest.behind }
+parts_of (line ∷ front) back names (inl (skipped, are)) = grind (arith, common_steps, parts_of front back names are)
 parts_of (line ∷ front) back names (inr (name, more, split, is, are)) =
     let rest = parts_of front back more are in
     record {
@@ -74,17 +72,12 @@ not_among why before line behind names all are accepted refused = at parts.behin
 
 -- a line is refused for one reason
 one_reason : (why other : Refusal) (names : List (List ℕ)) (line : List ℕ) → Breaks why names line → Breaks other names line → why ≡ other
-one_reason Bad Bad names line one two = refl
-one_reason Full Full names line one two = refl
-one_reason Bad Full names line bad (many, (name, is, fresh)) = absurd (bad (inr (name, is, fresh)))
-one_reason Full Bad names line (many, (name, is, fresh)) bad = absurd (bad (inr (name, is, fresh)))
+one_reason why other names line one two = grind (arith, common_steps)
 
 -- no lines reach past the first refused one and are accepted
 not_past : (why : Refusal) (lines : List (List ℕ)) (k : ℕ) (first : IsFirstRefused why lines k) (two rest names : List (List ℕ))
     → lines ≡ two ++ rest → AreAccepted two names → length first.before < length two → ⊥
-not_past why lines k first two rest names split are less =
-    let past = goes_past first.before two first.line first.behind rest (sym first.split ∙ split) less in
-    not_among why first.before first.line past.0 first.names names first.accepted.read (subst (λ ls. AreAccepted ls names) past.1 are) first.refused
+not_past why lines k first two rest names split are less = grind (arith, common_steps, goes_past, not_among)
 
 -- the first refused line is one line, refused for one reason
 one_refused : (why other : Refusal) (lines : List (List ℕ)) (k j : ℕ) → IsFirstRefused why lines k → IsFirstRefused other lines j → (why ≡ other) × (k ≡ j)
@@ -93,18 +86,15 @@ one_refused why other lines k j one two = at (cases_order (length one.before) (l
     at : (length one.before ≡ length two.before) ⊎ ((length one.before < length two.before) ⊎ (length two.before < length one.before)) → (why ≡ other) × (k ≡ j)
     at (inl count) =
         let split = one_split one.before two.before one.line two.line one.behind two.behind (sym one.split ∙ two.split) count in
-        let names : two.names ≡ one.names =
-        one_list one.before two.names one.names (subst (λ ls. AreNames ls two.names) (sym split.0) two.accepted.read) one.accepted.read in
-        let again : Breaks other one.names one.line =
-        subst (λ (ns : List (List ℕ)). Breaks other ns one.line) names (subst (λ l. Breaks other two.names l) (sym split.1) two.refused) in
+        let names : two.names ≡ one.names = grind (arith, common_steps, one_list, split.0) in
+        let again : Breaks other one.names one.line = grind (arith, common_steps) in
         (one_reason why other one.names one.line one.refused again, one.number ∙ ap (λ n. n + 1) count ∙ sym two.number)
     at (inr (inl less)) = absurd (not_past why lines k one two.before (two.line ∷ two.behind) two.names two.split two.accepted less)
     at (inr (inr less)) = absurd (not_past other lines j two one.before (one.line ∷ one.behind) one.names one.split one.accepted less)
 
 -- accepted lines have no refused one
 not_accepted : (why : Refusal) (lines : List (List ℕ)) (k : ℕ) (names : List (List ℕ)) → IsFirstRefused why lines k → AreAccepted lines names → ⊥
-not_accepted why lines k names first accepted =
-    not_among why first.before first.line first.behind first.names names first.accepted.read (subst (λ ls. AreAccepted ls names) first.split accepted) first.refused
+not_accepted why lines k names first accepted = grind (arith, common_steps, not_among)
 
 -- ---- what the first bytes refuse
 

@@ -1,5 +1,6 @@
 -- A refusal that some bytes show stands, whatever comes behind them.
-use Rattle.std.{proofs.Common.{◌≡◌, ℕ, ◌+◌, inl, inr, List, [], ◌∷◌, ◌++◌, length, refl, sym, ap, subst, ◌∙◌, append_assoc}, specs.List.slice_split}
+use Rattle.std.proofs.lemmas.Grind.{common_steps}
+use Rattle.std.{proofs.Common.{◌≡◌, ℕ, ◌+◌, inl, inr, List, [], ◌∷◌, ◌++◌, length, refl, sym, ap, subst, ◌∙◌, append_assoc, arith}, specs.List.slice_split}
 use Rattle.line_text.proofs.Parts.{first_part, goes_on}
 use Rattle.line_pieces.{proofs.Lines.{is_feed, on_refused-weaker}, specs.declared.stop.Refusal.Refusal, specs.declared.stop.Refusal.TheVariants.Bad}
 use Rattle.line_pieces.specs.declared.stop.Stop.{Stop}
@@ -20,16 +21,7 @@ ends x (y ∷ behind) =
 
 -- the first refused line stays it where more lines come
 pub first_later : (why : Refusal) (lines more : List (List ℕ)) (k : ℕ) → IsFirstRefused why lines k → IsFirstRefused why (lines ++ more) k
-first_later why lines more k first = record {
-  before = first.before;
-  line = first.line;
-  behind = first.behind ++ more;
-  names = first.names;
-  split = ap (λ (ls : List (List ℕ)). ls ++ more) first.split ∙ append_assoc first.before (first.line ∷ first.behind) more;
-  number = first.number;
-  accepted = first.accepted;
-  refused = first.refused;
-}
+first_later why lines more k first = grind (arith, common_steps)
 
 open_more : (bytes next : List ℕ) (lines : List (List ℕ)) (rest : List ℕ) (names : List (List ℕ)) (k : ℕ) (first : List ℕ) (behind : List (List ℕ))
     → HasBegun bytes lines rest names → k ≡ length lines + 1 → ¬ MayGo names rest → slice_split is_feed next ≡ first ∷ behind → FrontRefuses Bad (bytes ++ next) k

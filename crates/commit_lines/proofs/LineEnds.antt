@@ -1,11 +1,11 @@
 -- A line that has begun and may become a name becomes one by an end that is tried.
-use Rattle.std.proofs.Common.{◌≡◌, ℕ, zero, suc, ◌+◌, ◌*◌, ◌/◌, ◌%◌, ◌<◌, ◌≤◌, ◌⊎◌, inl, inr, List, [], ◌∷◌, ◌++◌, length, take, filter, true, false, eq-eqb, ne_eqb, refl, sym, ap, subst, ◌∙◌, arith, length-append}
-use Rattle.std.{specs.List.{slice_split, onto_first}, specs.Char.digit_char, proofs.lemmas.Bool.cases_eq, proofs.lemmas.Bool.Decides.nat_tests}
-use Rattle.std.{proofs.lemmas.List.Elements.filter-append, specs.Str.IsUtf8}
+use Rattle.std.proofs.Common.{◌≡◌, ℕ, zero, suc, ◌+◌, ◌*◌, ◌<◌, ◌≤◌, ◌⊎◌, inl, inr, List, [], ◌∷◌, ◌++◌, length, take, filter, true, false, eq-eqb, ne_eqb, refl, sym, ap, subst, ◌∙◌, arith, length-append}
+use Rattle.std.{specs.List.{slice_split, onto_first}, proofs.lemmas.Bool.cases_eq}
+use Rattle.std.{proofs.lemmas.List.Elements.filter-append, specs.Str.IsUtf8, proofs.lemmas.Grind.common_steps}
 use Rattle.percent_encoding.{specs.Percent.percent_decode, proofs.PercentLemmas.length-percent_decode}
 use Rattle.line_text.{specs.Lines.{words_of, is_word}, specs.Names.HasWholeEscapes, proofs.Parts.{FirstPart, first_part, goes_on}}
 use Rattle.line_text.proofs.Blank.{is_space, word_first}
-use Rattle.commit_lines.specs.{Lines.{IsSkipped, IsNameLine, EndsWithSpace, MayBecomeName}, Ends.{char_end, digits_of, end_of, end_at}}
+use Rattle.commit_lines.specs.{Lines.{IsSkipped, IsNameLine, EndsWithSpace, MayBecomeName}, Ends.{digits_of, end_of, end_at}}
 use Rattle.commit_lines.{specs.HasRead.{SaysName, IsTried}, proofs.Words.same_first, proofs.WordEnds.{TriedEnd, WordEnds, bytes_of, word_ends}}
 
 -- ---- the last word of a line
@@ -62,26 +62,15 @@ big_take zero bytes all = tt
 big_take (suc n) [] all = tt
 big_take (suc n) (b ∷ bytes) all = (all.0, big_take n bytes all.1)
 
-digit_big : (d : ℕ) → 33 ≤ digit_char d
-digit_big d = grind (arith, nat_tests)
-
 digits_big : (count value : ℕ) → count < 3 → Big (digits_of count value)
-digits_big zero value few = tt
-digits_big (suc zero) value few = (digit_big (value % 16), tt)
-digits_big (suc (suc zero)) value few = (digit_big (value / 16 % 16), (digit_big (value % 16), tt))
-digits_big (suc (suc (suc n))) value few = absurd (omega arith)
+digits_big count value few = grind (arith, common_steps)
 
 end_big : (count value number : ℕ) → count < 3 → Big (end_of count value number)
-end_big count value number few =
-    big-append (digits_of count value) (char_end number) (digits_big count value few)
-    (big_take (number % 4) ((128 + 16 * (number / 4)) ∷ 128 ∷ 128 ∷ []) (omega arith, (omega arith, (omega arith, tt))))
+end_big count value number few = grind (arith, common_steps, big-append, digits_big, big_take)
 
 no_space : (bytes : List ℕ) → Big bytes → slice_split is_space bytes ≡ bytes ∷ []
 no_space [] all = refl
-no_space (b ∷ bytes) all =
-    let told : is_space b ≡ false = ne_eqb b 32 (λ is. omega (arith, all.0)) in
-    let head : slice_split is_space (b ∷ bytes) ≡ onto_first b (slice_split is_space bytes) = rw told refl in
-    head ∙ ap (onto_first b) (no_space bytes all.1)
+no_space (b ∷ bytes) all = grind (arith, common_steps, no_space bytes all.1)
 
 -- ---- the word that goes on
 
@@ -122,12 +111,7 @@ words_on line more last first behind is =
 
 -- by number
 numbered : (e : TriedEnd) → end_at (e.count * 3_072 + e.value * 12 + e.number) ≡ bytes_of e
-numbered e =
-    let n : ℕ = e.count * 3_072 + e.value * 12 + e.number in
-    let one : n / 3_072 ≡ e.count = omega (arith, e.few_values, e.few_numbers) in
-    let two : n / 12 % 256 ≡ e.value = omega (arith, e.few_values, e.few_numbers) in
-    let three : n % 12 ≡ e.number = omega (arith, e.few_numbers) in
-    ap (λ (k : ℕ). end_of k (n / 12 % 256) (n % 12)) one ∙ ap (λ (k : ℕ). end_of e.count k (n % 12)) two ∙ ap (λ (k : ℕ). end_of e.count e.value k) three
+numbered e = grind (arith, common_steps)
 
 word_tried : (line more name : List ℕ) (last : LastWord line) → 0 < length line → IsNameLine (line ++ more) name → IsTried line
 word_tried line more name last some says = (

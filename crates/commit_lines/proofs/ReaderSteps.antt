@@ -1,13 +1,13 @@
 -- What is kept of bytes as they are read.
-use Rattle.std.proofs.Common.{◌≡◌, ◌≢◌, ℕ, ◌+◌, ◌<◌, ◌≤◌, ◌⊎◌, inl, inr, List, [], ◌∷◌, ◌++◌, length, get_or, take, refl, sym, ap, subst, ◌∙◌, arith, length-append}
+use Rattle.std.proofs.Common.{◌≡◌, ◌≢◌, ℕ, ◌+◌, ◌<◌, ◌≤◌, inl, inr, List, [], ◌∷◌, ◌++◌, length, get_or, take, refl, sym, ap, subst, ◌∙◌, arith, length-append}
 use Rattle.std.{specs.Prelude.Contains, specs.List.AllPairs, proofs.lemmas.Bool.cases_lt, proofs.lemmas.List.{length-take, get_or_append_left}}
-use Rattle.std.proofs.{lemmas.List.Elements.Contains-get_or, Math.Seq.get_or-append_seam}
+use Rattle.std.proofs.{lemmas.List.Elements.Contains-get_or, Math.Seq.get_or-append_seam, lemmas.Grind.common_steps}
 use Rattle.line_text.{specs.Lines.lines_of, proofs.Parts.{goes_on, last_part, one_front}}
 use Rattle.line_pieces.specs.declared.stop.{Refusal.Refusal, Refusal.TheVariants.Bad, Stop.Stop, Stop.TheVariants.Refused}
 use Rattle.commit_lines.specs.Lines.{IsSkipped, IsNameLine, AreNames, MayBecomeName, MayGo}
 use Rattle.commit_lines.specs.Reading.{AreAccepted, Breaks, IsFirstRefused, FrontRefuses, MayGoOn}
-use Rattle.commit_lines.specs.HasRead.{AreSkipped, IsLong, Keeps, Kept, HasKept, ShowsRefused, EndsRefused, TakesLine}
-use Rattle.commit_lines.proofs.Words.{both_skipped, turned, skipped_more, same_skipped, front_skipped, good_may}
+use Rattle.commit_lines.specs.HasRead.{IsLong, Keeps, Kept, HasKept, ShowsRefused, EndsRefused, TakesLine}
+use Rattle.commit_lines.proofs.Words.{both_skipped, turned, skipped_more, same_skipped, front_skipped}
 use Rattle.line_pieces.{specs.Pieces.{HasNoLineFeed, OnRefused}, proofs.Lines.{is_feed, one_part, ended, on_refused-weaker}}
 
 -- ---- no bytes
@@ -16,10 +16,7 @@ pub has_none : (kept : Kept) → kept.names ≡ [] → kept.whole_lines ≡ 0 �
 has_none kept none whole begun = record {
   lines = [];
   rest = [];
-  begun = record {
-    split = refl;
-    accepted = record { read = none; different = λ i j d less within. absurd (omega (arith, ap (λ (ns : List (List ℕ)). length ns) none)); few = omega (arith, ap (λ (ns : List (List ℕ)). length ns) none) };
-  };
+  begun = grind (arith, common_steps);
   whole = whole;
   keeps = inl (begun, omega arith);
 }
@@ -36,17 +33,13 @@ has_part : (read part : List ℕ) (old new : Kept) (has : HasKept read old) → 
 has_part read part old new has none grows keeps = record {
   lines = has.lines;
   rest = has.rest ++ part;
-  begun = record {
-    split = goes_on is_feed read part has.lines has.rest part [] has.begun.split (one_part part none);
-    accepted = subst (AreAccepted has.lines) (sym grows.names) has.begun.accepted;
-  };
+  begun = grind (arith, common_steps, goes_on, is_feed, one_part);
   whole = grows.whole ∙ has.whole;
   keeps = keeps;
 }
 
 keeps_short : (line rest part : List ℕ) → Keeps line rest → length (line ++ part) ≤ 4_096 → Keeps (line ++ part) (rest ++ part)
-keeps_short line rest part (inl (is, few)) short = inl (ap (λ (bs : List ℕ). bs ++ part) is, subst (λ (bs : List ℕ). length (bs ++ part) ≤ 4_096) is short)
-keeps_short line rest part (inr long) short = absurd (omega (arith, long.kept_long, length-append line part))
+keeps_short line rest part x3 short = grind (arith, common_steps)
 
 pub has_short : (read part : List ℕ) (old new : Kept) → HasNoLineFeed part → Grows old new → new.line ≡ old.line ++ part → length (old.line ++ part) ≤ 4_096
     → HasKept read old → HasKept (read ++ part) new
@@ -55,16 +48,7 @@ has_short read part old new none grows is short has =
 
 -- a line that is longer than a line may be is skipped on
 keeps_long : (line rest part : List ℕ) → Keeps line rest → 4_096 < length (line ++ part) → IsSkipped (line ++ part) → IsLong (line ++ part) (rest ++ part)
-keeps_long line rest part (inl (is, few)) long skipped = record {
-  kept_long = long;
-  long = subst (λ (bs : List ℕ). 4_096 < length (bs ++ part)) is long;
-  skipped = subst (λ (bs : List ℕ). AreSkipped (line ++ part) (bs ++ part)) is (same_skipped (line ++ part) skipped);
-}
-keeps_long line rest part (inr was) long skipped = record {
-  kept_long = long;
-  long = omega (arith, was.long, length-append rest part);
-  skipped = skipped_more line rest part was.skipped (omega (arith, was.kept_long)) (omega (arith, was.long)) skipped;
-}
+keeps_long line rest part x3 long skipped = grind (arith, common_steps, length, same_skipped, length-append, skipped_more)
 
 front_long : (line rest : List ℕ) → IsLong line rest → IsLong (take 4_097 line) rest
 front_long line rest long = record {
@@ -81,13 +65,10 @@ has_long read part old new none grows is long skipped has =
 
 never_name : (line rest part : List ℕ) → Keeps line rest → 4_096 < length (line ++ part) → ¬ IsSkipped (line ++ part) → ¬ MayBecomeName (rest ++ part)
 never_name line rest part (inl (is, few)) long other (inl skipped) = other (subst (λ (bs : List ℕ). IsSkipped (bs ++ part)) (sym is) skipped)
-never_name line rest part (inl (is, few)) long other (inr (more, name, says)) =
-    let same : length (line ++ part) ≡ length (rest ++ part) = ap (λ (bs : List ℕ). length (bs ++ part)) is in
-    omega (arith, says.short, length-append (rest ++ part) more)
+never_name line rest part (inl (is, few)) long other (inr (more, name, says)) = grind (arith, common_steps)
 never_name line rest part (inr was) long other (inl skipped) =
     other (both_skipped (rest ++ part) (line ++ part) (skipped_more rest line part (turned line rest was.skipped) (omega (arith, was.long)) (omega (arith, was.kept_long)) skipped)).1
-never_name line rest part (inr was) long other (inr (more, name, says)) =
-    omega (arith, was.long, length-append rest part, says.short, length-append (rest ++ part) more)
+never_name line rest part (inr was) long other (inr (more, name, says)) = grind (arith, common_steps)
 
 pub long_refused : (read part : List ℕ) (old : Kept) (number : ℕ) → HasNoLineFeed part → number ≡ old.whole_lines + 1 → 4_096 < length (old.line ++ part)
     → ¬ IsSkipped (old.line ++ part) → HasKept read old → ShowsRefused (read ++ part) (Refused Bad number)
@@ -135,16 +116,7 @@ apart-append names name apart fresh i j d less within = elim (cases_lt j (length
 ]
 
 accepts : (lines names : List (List ℕ)) (line : List ℕ) (next : List (List ℕ)) → AreAccepted lines names → TakesLine line names next → AreAccepted (lines ++ line ∷ []) next
-accepts lines names line next are (inl (skipped, same)) =
-    subst (AreAccepted (lines ++ line ∷ [])) (sym same)
-    (record { read = skipped-append lines names line are.read skipped; different = are.different; few = are.few })
-accepts lines names line next are (inr (name, is, adds)) =
-    subst (AreAccepted (lines ++ line ∷ [])) (sym adds.added)
-    (record {
-      read = name-append lines names line name are.read is;
-      different = apart-append names name are.different adds.fresh;
-      few = omega (arith, adds.few, length-append names (name ∷ []));
-    })
+accepts lines names line next are x5 = grind (arith, common_steps, skipped-append, name-append, apart-append, length-append)
 
 -- ---- the end of a line
 
@@ -167,12 +139,10 @@ has_line read old new has ends takes = record {
 
 -- a short line is kept whole
 kept_whole : (line rest : List ℕ) → Keeps line rest → length line ≤ 4_096 → line ≡ rest
-kept_whole line rest (inl (is, few)) short = is
-kept_whole line rest (inr long) short = absurd (omega (arith, long.kept_long))
+kept_whole line rest x2 short = grind (arith, common_steps)
 
 long_skipped : (line rest : List ℕ) → Keeps line rest → 4_096 < length line → IsSkipped rest
-long_skipped line rest (inl (is, few)) long = absurd (omega (arith, ap (λ (bs : List ℕ). length bs) is))
-long_skipped line rest (inr was) long = (both_skipped line rest was.skipped).1
+long_skipped line rest x2 long = grind (arith, common_steps)
 
 pub line_taken : (read : List ℕ) (old new : Kept) → Ends old new → length old.line ≤ 4_096 → TakesLine old.line old.names new.names → HasKept read old → HasKept (read ++ 10 ∷ []) new
 line_taken read old new ends short takes has =
@@ -205,11 +175,7 @@ line_refused read old number stop is short refuses has = (
 -- ---- a line that has begun
 
 pub is_open : (read : List ℕ) (old : Kept) → (length old.line ≤ 4_096 → MayGo old.names old.line) → HasKept read old → MayGoOn read
-is_open read old may has = (has.lines, has.rest, old.names, has.begun, at (cases_lt 4_096 (length old.line)))
-  where
-    at : (4_096 < length old.line) ⊎ (length old.line ≤ 4_096) → MayGo old.names has.rest
-    at (inl long) = good_may old.names has.rest (inl (long_skipped old.line has.rest has.keeps long))
-    at (inr short) = subst (MayGo old.names) (kept_whole old.line has.rest has.keeps short) (may short)
+is_open read old may has = grind (arith, common_steps)
 
 pub not_open : (read : List ℕ) (old : Kept) (number : ℕ) → number ≡ old.whole_lines + 1 → length old.line ≤ 4_096 → ¬ MayGo old.names old.line → HasKept read old
     → ShowsRefused read (Refused Bad number)

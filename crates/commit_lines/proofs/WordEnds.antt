@@ -1,6 +1,6 @@
 -- What ends a word whose first bytes are there: if any bytes make it spell a name, so do some that are tried.
 use Rattle.std.proofs.Common.{◌≡◌, ◌≢◌, ℕ, zero, suc, ◌+◌, ◌*◌, ◌/◌, ◌%◌, ◌<◌, ◌≤◌, List, [], ◌∷◌, ◌++◌, length, get_or, take, IsUtf8, inl, inr, refl, sym, ap, ap₂, ◌∙◌, subst, arith, append_assoc}
-use Rattle.std.{specs.Char.{digit_value, digit_char}, proofs.lemmas.Bool.cases_eq, proofs.lemmas.Str.digit_value-digit_char}
+use Rattle.std.{specs.Char.{digit_value, digit_char}, proofs.lemmas.Bool.cases_eq, proofs.lemmas.Str.digit_value-digit_char, proofs.lemmas.Grind.common_steps}
 use Rattle.percent_encoding.specs.Percent.{percent_decode}
 use Rattle.percent_encoding.proofs.PercentLemmas.{percent_decode_escape, percent_decode_not_percent, length-percent_decode, percent_decode-nil}
 use Rattle.line_text.specs.Names.{IsHexDigit, HasWholeEscapes}
@@ -120,9 +120,7 @@ digit_is d small = digit_value-digit_char d (omega arith)
 -- what ends a text behind the byte of an escape, ends it behind another spelling of the byte
 of_escape : (front more : List ℕ) (h l : ℕ) → IsHexDigit h → IsHexDigit l → IsUtf8 (front ++ percent_decode (37 ∷ h ∷ l ∷ more))
     → Completes (front ++ (16 * digit_value h + digit_value l) ∷ []) (percent_decode more)
-of_escape front more h l high low text =
-    completes (front ++ (16 * digit_value h + digit_value l) ∷ []) (percent_decode more)
-    (text_in front (percent_decode more) (percent_decode (37 ∷ h ∷ l ∷ more)) (16 * digit_value h + digit_value l) (percent_decode_escape 37 h l more refl high low) text)
+of_escape front more h l high low text = grind (arith, common_steps, completes, digit_value, text_in, percent_decode_escape)
 
 record Spelled (front more : List ℕ) (h l : ℕ) (digit other : ℕ) (number : ℕ) : Type 0 where
   escapes : HasWholeEscapes (37 ∷ digit ∷ other ∷ char_end number)
@@ -210,10 +208,7 @@ word_ends (b ∷ []) more = elim (cases_eq b 37) [
   | inl is ↦ subst (λ (n : ℕ). Ended (n ∷ []) more) (sym is) (percent_ended more)
   | inr other ↦ byte_ended b [] more other (none_ended more)
 ]
-word_ends (b ∷ h ∷ []) more = elim (cases_eq b 37) [
-  | inl is ↦ subst (λ (n : ℕ). Ended (n ∷ h ∷ []) more) (sym is) (digit_ended h more)
-  | inr other ↦ byte_ended b (h ∷ []) more other (word_ends (h ∷ []) more)
-]
+word_ends (b ∷ h ∷ []) more = grind (arith, common_steps, cases_eq, digit_ended, byte_ended, word_ends (h ∷ []) more)
 word_ends (b ∷ h ∷ l ∷ word) more = elim (cases_eq b 37) [
   | inl is ↦ subst (λ (n : ℕ). Ended (n ∷ h ∷ l ∷ word) more) (sym is) (escape_ended h l word more (word_ends word more))
   | inr other ↦ byte_ended b (h ∷ l ∷ word) more other (word_ends (h ∷ l ∷ word) more)

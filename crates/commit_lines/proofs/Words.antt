@@ -1,38 +1,24 @@
 -- Lines that are skipped, and the words of a line that goes on.
-use Rattle.std.proofs.Common.{◌≡◌, ◌≢◌, ℕ, ◌+◌, ◌<◌, ◌≤◌, ◌⊎◌, inl, inr, false, ne_eqb, append-nil, append_assoc, List, [], ◌∷◌, ◌++◌, length, get_or, take, drop, filter, refl, sym, ap, subst, ◌∙◌, arith, length-append}
-use Rattle.std.{specs.List.{slice_split, onto_first}, proofs.lemmas.List.{take-append-drop, get_or-take}, proofs.lemmas.List.Elements.filter-append}
-use Rattle.percent_encoding.specs.Percent.{percent_decode}
+use Rattle.std.proofs.lemmas.Grind.{common_steps}
+use Rattle.std.proofs.Common.{◌≡◌, ◌≢◌, ℕ, ◌+◌, ◌<◌, ◌≤◌, ◌⊎◌, inl, inr, append-nil, append_assoc, List, [], ◌∷◌, ◌++◌, length, get_or, take, drop, filter, refl, sym, ap, subst, ◌∙◌, arith, length-append}
+use Rattle.std.{specs.List.slice_split, proofs.lemmas.List.{take-append-drop, get_or-take}, proofs.lemmas.List.Elements.filter-append}
 use Rattle.line_text.{specs.Names.Spells, specs.Lines.{words_of, is_word}, proofs.Parts.{first_part, last_part, goes_on}}
-use Rattle.std.proofs.lemmas.Bool.{cases_eq}
-use Rattle.line_text.proofs.Blank.{is_space, word_first, blank-append, blank_parts}
+use Rattle.line_text.proofs.Blank.{is_space, blank-append, blank_parts}
 use Rattle.commit_lines.specs.{Lines.{IsSkipped, IsNameLine, IsGood, EndsWithSpace, MayBecomeName, MayGo}, HasRead.AreSkipped}
 
 -- ---- words
 
-hash_word : (more : List ℕ) → words_of (35 ∷ more) ≡ [] → ⊥
-hash_word more none =
-    let part = first_part is_space more in
-    let split : slice_split is_space (35 ∷ more) ≡ (35 ∷ part.first) ∷ part.behind = ap (onto_first 35) part.is in
-    let first : words_of (35 ∷ more) ≡ (35 ∷ part.first) ∷ filter is_word part.behind = ap (filter is_word) split ∙ word_first 35 part.first part.behind in
-    cc
-
 -- a line with no word doesn't begin with a #
 not_hash : (line : List ℕ) → words_of line ≡ [] → get_or line 0 0 ≡ 35 → ⊥
-not_hash [] none is = omega arith
-not_hash (b ∷ line) none is = hash_word line (ap (λ (c : ℕ). words_of (c ∷ line)) (sym is) ∙ none)
+not_hash line none is = grind (arith, common_steps)
 
 -- the first byte of a line that goes on
 pub same_first : (line part : List ℕ) → 0 < length line → get_or (line ++ part) 0 0 ≡ get_or line 0 0
-same_first [] part some = absurd (omega arith)
-same_first (b ∷ line) part some = refl
+same_first line part some = grind (arith, common_steps)
 
 -- the words of a line are no more than those of the line that goes on
 last_counts : (rest first : List ℕ) (behind : List (List ℕ)) → length (filter is_word (rest ∷ [])) ≤ length (filter is_word ((rest ++ first) ∷ behind))
-last_counts [] first behind = omega arith
-last_counts (b ∷ rest) first behind =
-    let one : length (filter is_word ((b ∷ rest) ∷ [])) ≡ 1 = ap (λ (ws : List (List ℕ)). length ws) (word_first b rest []) in
-    let two : length (filter is_word ((b ∷ (rest ++ first)) ∷ behind)) ≡ length ((b ∷ (rest ++ first)) ∷ filter is_word behind) = ap (λ (ws : List (List ℕ)). length ws) (word_first b (rest ++ first) behind) in
-    omega arith
+last_counts rest first behind = grind (arith, common_steps)
 
 words-more : (line more : List ℕ) → length (words_of line) ≤ length (words_of (line ++ more))
 words-more line more =
@@ -49,19 +35,14 @@ words-more line more =
 -- ---- a line that has begun
 
 no_items : (ws : List (List ℕ)) → length ws ≡ 0 → ws ≡ []
-no_items [] none = refl
-no_items (w ∷ ws) none = absurd (omega arith)
+no_items ws none = grind (arith, common_steps)
 
 skipped_front : (line more : List ℕ) → IsSkipped (line ++ more) → IsSkipped line
-skipped_front [] more skipped = inr refl
-skipped_front (b ∷ line) more (inl first) = inl first
-skipped_front (b ∷ line) more (inr none) = inr (blank_parts (b ∷ line) more none).0
+skipped_front line more skipped = grind (arith, common_steps, blank_parts)
 
 -- what may become a name with more bytes may become one
 becomes_front : (line more : List ℕ) → MayBecomeName (line ++ more) → MayBecomeName line
-becomes_front line more (inl skipped) = inl (skipped_front line more skipped)
-becomes_front line more (inr (end, name, says)) =
-    inr (more ++ end, name, subst (λ (bs : List ℕ). IsNameLine bs name) (append_assoc line more end) says)
+becomes_front line more x2 = grind (arith, common_steps, skipped_front, append_assoc)
 
 -- the words behind a space are those of the bytes behind it
 words_behind : (front more : List ℕ) → words_of ((front ++ 32 ∷ []) ++ more) ≡ words_of (front ++ 32 ∷ []) ++ words_of more
@@ -74,22 +55,12 @@ words_behind front more =
     let whole : slice_split is_space ((front ++ 32 ∷ []) ++ more) ≡ before ++ next.first ∷ next.behind =
     goes_on is_space (front ++ 32 ∷ []) more before [] next.first next.behind ended next.is in
     let one : words_of (front ++ 32 ∷ []) ≡ filter is_word before ++ [] = ap (filter is_word) ended ∙ filter-append is_word before ([] ∷ []) in
-    let two : words_of ((front ++ 32 ∷ []) ++ more) ≡ filter is_word before ++ words_of more =
-    ap (filter is_word) whole ∙ filter-append is_word before (next.first ∷ next.behind) ∙ ap (λ (ws : List (List ℕ)). filter is_word before ++ ws) (ap (filter is_word) (sym next.is)) in
+    let two : words_of ((front ++ 32 ∷ []) ++ more) ≡ filter is_word before ++ words_of more = grind (arith, common_steps) in
     two ∙ ap (λ (ws : List (List ℕ)). ws ++ words_of more) (sym (append-nil (filter is_word before)) ∙ sym one)
 
 -- a byte with no word is a space
 one_space : (b : ℕ) → words_of (b ∷ []) ≡ [] → b ≡ 32
-one_space b none = at (cases_eq b 32)
-  where
-    at : (b ≡ 32) ⊎ (b ≡ 32 → ⊥) → b ≡ 32
-    at (inl is) = is
-    at (inr other) =
-        let told : is_space b ≡ false = ne_eqb b 32 other in
-        let split : slice_split is_space (b ∷ []) ≡ (b ∷ []) ∷ [] = rw told refl in
-        let some : words_of (b ∷ []) ≡ (b ∷ []) ∷ [] = ap (filter is_word) split ∙ word_first b [] [] in
-        let never : [] ≡ (b ∷ []) ∷ [] = sym none ∙ some in
-        cc
+one_space b none = grind (arith, common_steps)
 
 -- bytes with no word end with a space
 blank_ends : (bytes : List ℕ) → words_of bytes ≡ [] → (bytes ≡ []) ⊎ EndsWithSpace bytes
@@ -102,18 +73,7 @@ blank_ends (b ∷ bytes) none = let both = blank_parts (b ∷ []) bytes none in 
 
 -- a good line, behind whose one word a space came, was good before more spaces came
 good_front : (names : List (List ℕ)) (line more : List ℕ) → 0 < length line → words_of (line ++ more) ≡ words_of line → IsGood names (line ++ more) → IsGood names line
-good_front names line more some same (inl skipped) = inl (skipped_front line more skipped)
-good_front names line more some same (inr (name, says, fresh)) = inr (
-  name,
-  record {
-    short = omega (arith, says.short, length-append line more);
-    other = λ first. says.other (same_first line more some ∙ first);
-    word = says.word;
-    one = sym same ∙ says.one;
-    spells = says.spells;
-  },
-  fresh,
-)
+good_front names line more some same x5 = grind (arith, common_steps)
 
 -- with no more words behind a space there are spaces alone
 ended_front : (names : List (List ℕ)) (line more : List ℕ) → EndsWithSpace line → words_of more ≡ [] → (EndsWithSpace (line ++ more) → IsGood names (line ++ more)) → IsGood names line
@@ -139,10 +99,8 @@ may_front names line more may = record { ended = ended; becomes = becomes_front 
     at ends (inl skipped) words is = inl (skipped_front line more skipped)
     at ends (inr told) [] is = inl (inr is)
     at (front, ends) (inr (end, name, says)) (word ∷ words) is =
-        let whole : words_of (line ++ more) ≡ words_of line ++ words_of more =
-        ap (λ (bs : List ℕ). words_of (bs ++ more)) ends ∙ words_behind front more ∙ ap (λ (bs : List ℕ). words_of bs ++ words_of more) (sym ends) in
-        let count : length (words_of (line ++ more)) ≡ length (words_of line) + length (words_of more) =
-        ap (λ (ws : List (List ℕ)). length ws) whole ∙ length-append (words_of line) (words_of more) in
+        let whole : words_of (line ++ more) ≡ words_of line ++ words_of more = grind (arith, common_steps, words_of, words_behind) in
+        let count : length (words_of (line ++ more)) ≡ length (words_of line) + length (words_of more) = grind (arith, common_steps) in
         let some : length (words_of line) ≡ length (word ∷ words) = ap (λ (ws : List (List ℕ)). length ws) is in
         let one : length (words_of ((line ++ more) ++ end)) ≡ 1 = ap (λ (ws : List (List ℕ)). length ws) says.one in
         let none : length (words_of more) ≡ 0 = omega (arith, one, words-more (line ++ more) end) in
@@ -161,32 +119,22 @@ good_may names line good = record { ended = λ ends. good; becomes = at good }
 
 -- a line that is skipped says no name
 pub skipped_not_name : (line name : List ℕ) → IsSkipped line → IsNameLine line name → ⊥
-skipped_not_name line name (inl first) says = says.other first
-skipped_not_name line name (inr none) says =
-    let never : [] ≡ says.word ∷ [] = sym none ∙ says.one in
-    cc
+skipped_not_name line name x2 says = grind (arith, common_steps)
 
 -- ---- a long line
 
 pub both_skipped : (one other : List ℕ) → AreSkipped one other → IsSkipped one × IsSkipped other
-both_skipped one other (inl (is, too)) = (inl is, inl too)
-both_skipped one other (inr (none, other_none)) = (inr none, inr other_none)
+both_skipped one other x2 = grind (arith, common_steps)
 
 pub turned : (one other : List ℕ) → AreSkipped one other → AreSkipped other one
-turned one other (inl (is, too)) = inl (too, is)
-turned one other (inr (none, other_none)) = inr (other_none, none)
+turned one other x2 = grind (arith, common_steps)
 
 -- where one is skipped with more bytes, both are
 pub skipped_more : (one other part : List ℕ) → AreSkipped one other → 0 < length one → 0 < length other → IsSkipped (one ++ part) → AreSkipped (one ++ part) (other ++ part)
-skipped_more one other part (inl (is, too)) some more skipped = inl (same_first one part some ∙ is, same_first other part more ∙ too)
-skipped_more one other part (inr (none, other_none)) some more (inl first) = absurd (not_hash one none (sym (same_first one part some) ∙ first))
-skipped_more one other part (inr (none, other_none)) some more (inr all) =
-    let end : words_of part ≡ [] = (blank_parts one part all).1 in
-    inr (all, blank-append other part other_none end)
+skipped_more one other part x3 some more skipped = grind (arith, common_steps, same_first, not_hash, words_of, blank_parts, blank-append)
 
 pub same_skipped : (line : List ℕ) → IsSkipped line → AreSkipped line line
-same_skipped line (inl first) = inl (first, first)
-same_skipped line (inr none) = inr (none, none)
+same_skipped line x1 = grind (arith, common_steps)
 
 -- the first bytes of a line that is skipped
 pub front_skipped : (one other : List ℕ) (n : ℕ) → 0 < n → AreSkipped one other → AreSkipped (take n one) other
@@ -196,36 +144,10 @@ front_skipped one other n some (inr (none, other_none)) =
 
 -- ---- kinds of lines
 
-pub two_words : (line word next : List ℕ) (rest more : List (List ℕ)) → get_or line 0 0 ≢ 35 → words_of line ≡ word ∷ rest → rest ≡ next ∷ more
-    → (¬ IsSkipped line) × ((name : List ℕ) → ¬ IsNameLine line name)
-two_words line word next rest more other words two =
-    let whole : words_of line ≡ word ∷ next ∷ more = words ∙ ap (λ (ws : List (List ℕ)). word ∷ ws) two in (
-      not_skipped whole,
-      λ name says. let never : word ∷ next ∷ more ≡ says.word ∷ [] = sym whole ∙ says.one in cc,
-    )
-  where
-    not_skipped : words_of line ≡ word ∷ next ∷ more → IsSkipped line → ⊥
-    not_skipped whole (inl first) = other first
-    not_skipped whole (inr none) = let never : word ∷ next ∷ more ≡ [] = sym whole ∙ none in cc
-
 pub one_word : (line word : List ℕ) (rest : List (List ℕ)) → get_or line 0 0 ≢ 35 → words_of line ≡ word ∷ rest → rest ≡ [] → ((name : List ℕ) → ¬ Spells word name)
     → (¬ IsSkipped line) × ((name : List ℕ) → ¬ IsNameLine line name)
-one_word line word rest other words none never =
-    let whole : words_of line ≡ word ∷ [] = words ∙ ap (λ (ws : List (List ℕ)). word ∷ ws) none in (
-      not_skipped whole,
-      λ name says.
-          let same : word ∷ [] ≡ says.word ∷ [] = sym whole ∙ says.one in
-          let is : word ≡ says.word = cc in
-          never name (subst (λ (w : List ℕ). Spells w name) (sym is) says.spells),
-    )
-  where
-    not_skipped : words_of line ≡ word ∷ [] → IsSkipped line → ⊥
-    not_skipped whole (inl first) = other first
-    not_skipped whole (inr blank) = let never' : word ∷ [] ≡ [] = sym whole ∙ blank in cc
+one_word line word rest other words none never = grind (arith, common_steps)
 
 -- a line that says a name is no other line's
 pub one_name : (line name other : List ℕ) → IsNameLine line name → IsNameLine line other → name ≡ other
-one_name line name other one two =
-    let same : one.word ∷ [] ≡ two.word ∷ [] = sym one.one ∙ two.one in
-    let is : one.word ≡ two.word = cc in
-    sym one.spells.decoded ∙ ap percent_decode is ∙ two.spells.decoded
+one_name line name other one two = grind (arith, common_steps)

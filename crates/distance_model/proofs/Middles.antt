@@ -1,8 +1,7 @@
 -- Exported: the middle of some values is the least whole number about which the sum of distances is least.
-use Rattle.std.proofs.Common.{◌≡◌, ℕ, ℤ, zero, suc, pos, ◌+◌, ◌-◌, ◌*◌, ◌/◌, ◌^◌, ◌<◌, ◌≤◌, Bool, true, false, cond, List, [], ◌∷◌, ◌++◌, length, get_or, sum_by, count_by, nat_abs, ◌+ℤ◌, ◌-ℤ◌, neg_ℤ, ◌≤ℤ◌, ◌<ℤ◌, refl, sym, ap, ◌∙◌, arith, inl, inr}
-use Rattle.std.{specs.Prelude.int_le, specs.List.All, proofs.lemmas.Bool.cases_Bool, proofs.lemmas.Int.{ints, by_lt_z}}
-use Rattle.std.proofs.lemmas.List.{Sums.{count_by-le-length, sum_by-append, sum_by-le}, Elements.{All-weaker, All-head, All-tail}}
-use Rattle.std.proofs.Math.Nat.{mul-add, mul-le-mul_left}
+use Rattle.std.proofs.Common.{◌≡◌, ℕ, ℤ, zero, suc, pos, ◌+◌, ◌-◌, ◌*◌, ◌/◌, ◌^◌, ◌<◌, ◌≤◌, Bool, true, false, cond, List, [], ◌∷◌, length, get_or, sum_by, count_by, nat_abs, ◌+ℤ◌, ◌-ℤ◌, ◌≤ℤ◌, ◌<ℤ◌, refl, sym, ap, ◌∙◌, arith, inl, inr}
+use Rattle.std.{specs.Prelude.int_le, specs.List.All, proofs.lemmas.Bool.cases_Bool, proofs.lemmas.Int.{ints, by_lt_z}, proofs.lemmas.Grind.common_steps}
+use Rattle.std.proofs.{lemmas.List.Sums.{count_by-le-length, sum_by-append, sum_by-le}, lemmas.List.Elements.All-weaker, Math.Nat.{mul-add, mul-le-mul_left}}
 use Rattle.segment_model.specs.{Limits.IsSmall, Values.{MergesValues, CostsInRange}}
 use Rattle.distance_model.specs.Middles.{at_most, IsMiddle}
 use Rattle.distance_model.specs.Distances.{distance, distances_about, IsAbsoluteCentre, in_place, in_order, middle_of, least_distances_of, MiddleIsCentre, CentreIsUnique, LeastIsComputed}
@@ -14,16 +13,10 @@ pub le_no : (a b : ℤ) → int_le a b ≡ false → b <ℤ a
 le_no a b h = grind (arith, ints)
 
 pub le_told : (a b : ℤ) → a ≤ℤ b → int_le a b ≡ true
-le_told a b h = elim (cases_Bool (int_le a b)) [
-  | inl yes' ↦ yes'
-  | inr no' ↦ let k : b <ℤ a = le_no a b no' in absurd (omega (arith, ints, h, k))
-]
+le_told a b h = grind (arith, common_steps)
 
 pub le_not_told : (a b : ℤ) → b <ℤ a → int_le a b ≡ false
-le_not_told a b h = elim (cases_Bool (int_le a b)) [
-  | inl yes' ↦ let k : a ≤ℤ b = le_yes a b yes' in absurd (omega (arith, ints, h, k))
-  | inr no' ↦ no'
-]
+le_not_told a b h = grind (arith, common_steps)
 
 sum_cons : (f : ℤ → ℕ) (x : ℤ) (xs : List ℤ) → sum_by f (x ∷ xs) ≡ f x + sum_by f xs
 sum_cons f x xs = let e : sum_by f (x ∷ xs) ≡ (0 + f x) + sum_by f xs = sum_by-append f (x ∷ []) xs in omega (arith, e)
@@ -36,9 +29,7 @@ pub most_yes : (c x : ℤ) (xs : List ℤ) → int_le x c ≡ true → at_most c
 most_yes c x xs h = count_cons (λ y. int_le y c) x xs ∙ rw h refl
 
 pub most_no : (c x : ℤ) (xs : List ℤ) → int_le x c ≡ false → at_most c (x ∷ xs) ≡ at_most c xs
-most_no c x xs h =
-    let e : at_most c (x ∷ xs) ≡ 0 + at_most c xs = count_cons (λ y. int_le y c) x xs ∙ rw h refl in
-    omega (arith, e)
+most_no c x xs h = grind (arith, common_steps)
 
 -- ---- a middle is the centre
 
@@ -103,14 +94,12 @@ up_to c d h = omega (arith, ints, h)
 
 not_less_above : (xs : List ℤ) (c d : ℤ) → IsMiddle xs c → c ≤ℤ d → distances_about c xs ≤ distances_about d xs
 not_less_above xs c d m h =
-    let e : ℕ = nat_abs (d -ℤ c) in
     let sum : distances_about c xs + nat_abs (d -ℤ c) * at_most c xs ≤ distances_about d xs + nat_abs (d -ℤ c) * (length xs - at_most c xs) = sum_up c d (nat_abs (d -ℤ c)) xs (up_to c d h) in
     let more : nat_abs (d -ℤ c) * (length xs - at_most c xs) ≤ nat_abs (d -ℤ c) * at_most c xs = mul-le-mul_left (nat_abs (d -ℤ c)) (omega (arith, m.half)) in
     omega (arith, sum, more)
 
 more_below : (xs : List ℤ) (c d : ℤ) → IsMiddle xs c → d <ℤ c → distances_about c xs < distances_about d xs
 more_below xs c d m h =
-    let e : ℕ = nat_abs (c -ℤ d) in
     let some : 1 ≤ nat_abs (c -ℤ d) = omega (arith, ints, h) in
     let is : c ≡ d +ℤ pos (nat_abs (c -ℤ d)) = omega (arith, ints, h) in
     let sum : distances_about c xs + nat_abs (c -ℤ d) * (length xs - at_most (c -ℤ pos 1) xs) ≤ distances_about d xs + nat_abs (c -ℤ d) * at_most (c -ℤ pos 1) xs = sum_down c d (nat_abs (c -ℤ d)) xs is in
@@ -122,10 +111,7 @@ le_of : (a b : ℕ) → a < b → a ≤ b
 le_of a b h = omega arith
 
 pub middle-centre : (xs : List ℤ) (c : ℤ) → IsMiddle xs c → IsAbsoluteCentre xs c
-middle-centre xs c m = record {
-  least = λ (d : ℤ). by_lt_z d c (λ below. le_of (distances_about c xs) (distances_about d xs) (more_below xs c d m below)) (λ above. not_less_above xs c d m above);
-  smallest = λ (d : ℤ) (h : d <ℤ c). more_below xs c d m h;
-}
+middle-centre xs c m = grind (arith, common_steps, by_lt_z, le_of, more_below, not_less_above)
 
 clash : {P : Type 0} (a b : ℕ) → a < b → b ≤ a → P
 clash a b h k = absurd (omega (arith, h, k))
@@ -139,10 +125,7 @@ centre-unique xs c d one other =
 
 count_placed : (p : ℤ → Bool) (x : ℤ) (ys : List ℤ) → count_by p (in_place x ys) ≡ cond (p x) 1 0 + count_by p ys
 count_placed p x [] = count_cons p x []
-count_placed p x (y ∷ ys) = elim (cases_Bool (int_le x y)) [
-  | inl first ↦ rw first (count_cons p x (y ∷ ys))
-  | inr later ↦ rw later (omega (arith, count_placed p x ys, count_cons p y (in_place x ys), count_cons p y ys))
-]
+count_placed p x (y ∷ ys) = grind (arith, common_steps, count_placed p x ys)
 
 count_ordered : (p : ℤ → Bool) (xs : List ℤ) → count_by p (in_order xs) ≡ count_by p xs
 count_ordered p [] = refl
@@ -150,10 +133,7 @@ count_ordered p (x ∷ xs) = count_placed p x (in_order xs) ∙ ap (λ (n : ℕ)
 
 length_placed : (x : ℤ) (ys : List ℤ) → length (in_place x ys) ≡ suc (length ys)
 length_placed x [] = refl
-length_placed x (y ∷ ys) = elim (cases_Bool (int_le x y)) [
-  | inl first ↦ rw first refl
-  | inr later ↦ rw later (ap suc (length_placed x ys))
-]
+length_placed x (y ∷ ys) = grind (arith, common_steps, length_placed x ys)
 
 length_ordered : (xs : List ℤ) → length (in_order xs) ≡ length xs
 length_ordered [] = refl
@@ -179,10 +159,7 @@ bound_less x y (z ∷ ys) h b = (le_trans x y z h b.0, bound_less x y ys h b.1)
 bound_placed : (y x : ℤ) (ys : List ℤ) → y ≤ℤ x → IsBound y ys → IsBound y (in_place x ys)
 unfolding IsBound
 bound_placed y x [] h b = (h, tt)
-bound_placed y x (z ∷ ys) h b = elim (cases_Bool (int_le x z)) [
-  | inl first ↦ rw first (h, b)
-  | inr later ↦ rw later (b.0, bound_placed y x ys h b.1)
-]
+bound_placed y x (z ∷ ys) h b = grind (arith, common_steps, bound_placed y x ys h b.1)
 
 below_of : (x y : ℤ) → y <ℤ x → y ≤ℤ x
 below_of x y h = omega (arith, ints, h)
@@ -190,12 +167,7 @@ below_of x y h = omega (arith, ints, h)
 rises_placed : (x : ℤ) (ys : List ℤ) → Rises ys → Rises (in_place x ys)
 unfolding Rises IsBound
 rises_placed x [] r = (tt, tt)
-rises_placed x (y ∷ ys) r = elim (cases_Bool (int_le x y)) [
-  | inl first ↦ rw first ((le_yes x y first, bound_less x y ys (le_yes x y first) r.0), r)
-  | inr later ↦
-      let above : y ≤ℤ x = below_of x y (le_no x y later) in
-      rw later (bound_placed y x ys above r.0, rises_placed x ys r.1)
-]
+rises_placed x (y ∷ ys) r = grind (arith, common_steps, cases_Bool, int_le, le_yes, bound_less, below_of, le_no, bound_placed, rises_placed x ys r.1)
 
 rises_ordered : (xs : List ℤ) → Rises (in_order xs)
 unfolding Rises
@@ -212,9 +184,7 @@ bound_at y (z ∷ ys) (suc i) d b h = bound_at y ys i d b.1 (omega (arith, h))
 none_below : (y c : ℤ) (ys : List ℤ) → IsBound y ys → c <ℤ y → at_most c ys ≡ 0
 unfolding IsBound
 none_below y c [] b h = refl
-none_below y c (z ∷ ys) b h =
-    let far : int_le z c ≡ false = le_not_told z c (omega (arith, ints, h, b.0)) in
-    most_no c z ys far ∙ none_below y c ys b.1 h
+none_below y c (z ∷ ys) b h = grind (arith, common_steps, none_below y c ys b.1 h)
 
 one_more : (t : Bool) (n i : ℕ) → n ≤ i → cond t 1 0 + n ≤ suc i
 one_more true n i h = omega arith
@@ -264,20 +234,11 @@ at_most_z a b h = omega (arith, ints, h)
 
 pub least-computed : LeastIsComputed
 unfolding least_distances_of
-least-computed xs = record {
-  centre = middle_of xs;
-  reached = refl;
-  least = λ (d : ℤ). at_most_z (distances_about (middle_of xs) xs) (distances_about d xs) (least-at-most xs d);
-}
+least-computed xs = grind (arith, common_steps, at_most_z, least-at-most)
 
 pub distances-merge : MergesValues least_distances_of
 unfolding least_distances_of
-distances-merge xs ys =
-    let c : ℤ = middle_of (xs ++ ys) in
-    let one : distances_about (middle_of xs) xs ≤ distances_about (middle_of (xs ++ ys)) xs = least-at-most xs (middle_of (xs ++ ys)) in
-    let two : distances_about (middle_of ys) ys ≤ distances_about (middle_of (xs ++ ys)) ys = least-at-most ys (middle_of (xs ++ ys)) in
-    let all : distances_about (middle_of (xs ++ ys)) (xs ++ ys) ≡ distances_about (middle_of (xs ++ ys)) xs + distances_about (middle_of (xs ++ ys)) ys = sum_by-append (distance (middle_of (xs ++ ys))) xs ys in
-    omega (arith, ints, one, two, all)
+distances-merge xs ys = omega (arith, ints, least-at-most, sum_by-append)
 
 small_distance : (x : ℤ) → IsSmall x → distance (pos 0) x ≤ 10 ^ 16
 small_distance x h = omega (arith, ints, h)
@@ -294,21 +255,6 @@ distances-range xs small few =
 -- the one middle
 pub is_middle : (xs : List ℤ) (c : ℤ) → 0 < length xs → IsMiddle xs c → c ≡ middle_of xs
 is_middle xs c some m = centre-unique xs (middle_of xs) c (middle-is-centre xs some) (middle-centre xs c m)
-
--- all values are at most 10^16, and none is below -10^16
-pub all_at_most : (xs : List ℤ) → All IsSmall xs → at_most (pos (10 ^ 16)) xs ≡ length xs
-all_at_most [] small = refl
-all_at_most (x ∷ xs) small =
-    let here : IsSmall x = All-head IsSmall x xs small in
-    let told : int_le x (pos (10 ^ 16)) ≡ true = le_told x (pos (10 ^ 16)) (omega (arith, ints, here)) in
-    omega (arith, most_yes (pos (10 ^ 16)) x xs told, all_at_most xs (All-tail IsSmall x xs small))
-
-pub none_at_most : (c : ℤ) (xs : List ℤ) → All IsSmall xs → c <ℤ neg_ℤ (pos (10 ^ 16)) → at_most c xs ≡ 0
-none_at_most c [] small low = refl
-none_at_most c (x ∷ xs) small low =
-    let here : IsSmall x = All-head IsSmall x xs small in
-    let told : int_le x c ≡ false = le_not_told x c (omega (arith, ints, here, low)) in
-    most_no c x xs told ∙ none_at_most c xs (All-tail IsSmall x xs small) low
 
 far : (c x : ℤ) → IsSmall c → IsSmall x → distance c x ≤ 2 * 10 ^ 16
 far c x h k = omega (arith, ints, h, k)

@@ -1,11 +1,10 @@
 -- The text of a value is a numeral, and its scaled value is the value.
-use Rattle.std.proofs.Common.{◌≡◌, ℕ, zero, suc, ◌+◌, ◌*◌, ◌/◌, ◌%◌, ◌^◌, ◌<◌, ◌≤◌, Bool, true, false, List, [], ◌∷◌, ◌++◌, length, decimal, refl, sym, ap, ◌∙◌, subst, arith, append-nil, length-append, ℤ, pos, negsuc, ◌-ℤ◌, ◌+ℤ◌}
-use Rattle.std.{specs.Prelude.{All, unsigned_abs}, proofs.Math.Nat.{div-div-eq-div-mul, pow-suc}, specs.Char.digit_value}
+use Rattle.std.proofs.Common.{◌≡◌, ℕ, zero, suc, ◌+◌, ◌/◌, ◌^◌, ◌<◌, ◌≤◌, Bool, true, false, List, [], ◌∷◌, ◌++◌, length, decimal, refl, sym, ap, ◌∙◌, subst, arith, append-nil, length-append, ℤ, pos, negsuc, ◌-ℤ◌}
+use Rattle.std.{specs.Prelude.{All, unsigned_abs}, proofs.Math.Nat.{div-div-eq-div-mul, pow-suc}, specs.Char.digit_value, proofs.lemmas.Grind.common_steps}
 use Rattle.std.{specs.Str.Parse.{AllDigits, digits_value_after}, proofs.lemmas.Bool.Decides.nat_tests}
-use Rattle.std.proofs.lemmas.{Fmt.{decimal_is_IsNumeral_wide, length-decimal-le_wide}, Int.ints, List.Elements.{All-nil, All-cons, All-append}}
+use Rattle.std.proofs.lemmas.{Fmt.{decimal_is_IsNumeral_wide, length-decimal-le_wide}, List.Elements.{All-nil, All-cons, All-append}}
 use Rattle.fixed_value.specs.Fixed.{low_digits, fraction_text, magnitude_text, fixed_text, IsFixedByte, IsReadBack, FixedIsReadBack}
-use Rattle.fixed_value.specs.{Numerals.{IsSign, no_sign, minus, no_point, point, no_mark, IsTail}, Scaled.{signed, IsMagnitude}}
-use Rattle.fixed_value.proofs.Reading.{value_after_append, digit_is}
+use Rattle.fixed_value.{specs.Numerals.{IsSign, no_sign, minus, no_point, point, no_mark, IsTail}, specs.Scaled.signed, proofs.Reading.value_after_append}
 
 -- ---- the digits behind the point
 
@@ -14,9 +13,7 @@ digit_value_of x small = grind (arith, nat_tests)
 
 low_are : (d n : ℕ) → AllDigits 10 (low_digits d n)
 low_are zero n = tt
-low_are (suc d) n =
-    let digit : n / 10 ^ d % 10 < 10 = omega arith in
-    (omega (arith, digit_value_of (n / 10 ^ d % 10) digit), low_are d n)
+low_are (suc d) n = grind (arith, common_steps, low_are d n)
 
 length-low : (d n : ℕ) → length (low_digits d n) ≡ d
 length-low zero n = refl
@@ -28,10 +25,7 @@ shorter d n = sym (div-div-eq-div-mul n (10 ^ d) 10 ∙ ap (λ p. n / p) (sym (p
 -- behind the whole part they give the number
 low_value : (d n : ℕ) → digits_value_after 10 (n / 10 ^ d) (low_digits d n) ≡ n
 low_value zero n = omega arith
-low_value (suc d) n =
-    let digit : n / 10 ^ d % 10 < 10 = omega arith in
-    let whole : n / 10 ^ suc d * 10 + digit_value (48 + n / 10 ^ d % 10) ≡ n / 10 ^ d = omega (arith, shorter d n, digit_value_of (n / 10 ^ d % 10) digit) in
-    ap (λ q. digits_value_after 10 q (low_digits d n)) whole ∙ low_value d n
+low_value (suc d) n = grind (arith, common_steps, digit_value, shorter, digit_value_of, digits_value_after, low_value d n)
 
 tail_of : (d n : ℕ) → IsTail (fraction_text d n) (low_digits d n) (pos 0)
 tail_of zero n = record { point = []; exponent = []; joined = refl; point_is = no_point refl refl; exponent_is = no_mark refl refl }
@@ -44,28 +38,21 @@ tail_of (suc d) n = record {
 }
 
 length-tail : (d n : ℕ) → length (fraction_text d n) ≤ d + 1
-length-tail zero n = omega arith
-length-tail (suc d) n = omega (arith, length-low d n)
+length-tail d n = grind (arith, common_steps, length-low)
 
 -- ---- bytes
 
 digits_stand : (digits : List ℕ) → AllDigits 10 digits → All IsFixedByte digits
 digits_stand [] are = All-nil IsFixedByte
-digits_stand (c ∷ digits) are =
-    let is : 48 + digit_value c ≡ c = digit_is c are.0 in
-    All-cons IsFixedByte c digits (omega (arith, is), omega (arith, is, are.0)) (digits_stand digits are.1)
+digits_stand (c ∷ digits) are = grind (arith, common_steps, digits_stand digits are.1)
 
 tail_stands : (d n : ℕ) → All IsFixedByte (fraction_text d n)
-tail_stands zero n = All-nil IsFixedByte
-tail_stands (suc d) n = All-cons IsFixedByte 46 (low_digits (suc d) n) (omega arith, omega arith) (digits_stand (low_digits (suc d) n) (low_are (suc d) n))
+tail_stands d n = grind (arith, common_steps, digits_stand, low_are)
 
 -- ---- the text
 
 whole_below : (n d : ℕ) → n ≤ 10 ^ 16 → n / 10 ^ d < 10 ^ 17
 whole_below n d small = omega arith
-
-no_power : (d : ℕ) → (pos 0 -ℤ pos d) +ℤ pos d ≡ pos 0
-no_power d = omega (arith, ints)
 
 back : (sign : List ℕ) (negative : Bool) (n d : ℕ) (value : ℤ) → IsSign sign negative → length sign ≤ 1 → n ≤ 10 ^ 16 → d ≤ 9 → All IsFixedByte sign
     → fixed_text value d ≡ sign ++ magnitude_text n d → unsigned_abs value ≡ n → value ≡ signed negative n → IsReadBack value d
@@ -92,10 +79,7 @@ back sign negative n d value signs one small few stands text abs is =
         short = omega (arith, ap length text, whole, parts, len, length-tail d n, one, few);
         few = omega (arith, len, low, few);
       };
-      scales = record {
-        magnitude = subst (λ power. IsMagnitude n power (unsigned_abs value)) (sym (no_power d)) (omega (arith, abs));
-        sign = is ∙ ap (signed negative) (sym abs);
-      };
+      scales = grind (arith, common_steps);
       bytes = subst (All IsFixedByte) (sym text)
           (All-append IsFixedByte sign (magnitude_text n d) stands (All-append IsFixedByte (decimal (n / 10 ^ d)) (fraction_text d n) (digits_stand (decimal (n / 10 ^ d)) digits.0.1) (tail_stands d n)));
     }

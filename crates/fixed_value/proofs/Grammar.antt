@@ -1,9 +1,10 @@
 -- The grammar of numerals: a text is split in one way.
-use Rattle.std.proofs.Common.{◌≡◌, ◌≢◌, ℕ, zero, suc, ◌+◌, ◌-◌, ◌^◌, ◌<◌, ◌≤◌, Bool, ◌⊎◌, ⊎_elim, List, [], ◌∷◌, ◌++◌, length, get_or, take, drop, refl, sym, ap, ap₂, ◌∙◌, subst, arith, ℤ, pos, ◌-ℤ◌, lit≤}
+use Rattle.std.proofs.lemmas.Grind.{common_steps}
+use Rattle.std.proofs.Common.{◌≡◌, ◌≢◌, ℕ, zero, suc, ◌+◌, ◌-◌, ◌^◌, ◌<◌, ◌≤◌, Bool, ◌⊎◌, List, [], ◌∷◌, ◌++◌, length, get_or, take, drop, refl, sym, ap, ap₂, ◌∙◌, subst, arith, ℤ, pos, ◌-ℤ◌}
 use Rattle.std.{proofs.Math.Seq.take-length, proofs.lemmas.List.{take-append-drop, length-take-le, length-drop}, specs.Char.digit_value}
 use Rattle.std.specs.{Prelude.{unsigned_abs, Option, None, Some, IfSome, IfNone}, Str.Parse.{AllDigits, digits_value, digits_value_after}}
 use Rattle.fixed_value.specs.{declared.numeral.Numeral.Numeral, Scaled.signed}
-use Rattle.fixed_value.specs.Numerals.{AreDigits, IsSign, IsPower, IsExponent, no_mark, mark, IsFraction, no_point, point, IsTail, IsNumeralText}
+use Rattle.fixed_value.specs.Numerals.{AreDigits, IsSign, IsPower, IsExponent, mark, IsFraction, no_point, point, IsTail, IsNumeralText}
 use Rattle.fixed_value.proofs.{Reading.{value_below, value_after_append}, Powers.{abs-signed, ten_grows}}
 
 -- ---- the sign
@@ -12,8 +13,7 @@ behind_first : (byte : ℕ) (rest : List ℕ) → take (length (byte ∷ rest) -
 behind_first byte rest = let less : length (byte ∷ rest) - 1 ≡ length rest = omega arith in rw less (take-length rest)
 
 pub behind_byte : (byte : ℕ) (text : List ℕ) → 1 ≤ length text → get_or text 0 0 ≡ byte → text ≡ byte ∷ take (length text - 1) (drop 1 text)
-behind_byte byte [] some is = absurd (omega arith)
-behind_byte byte (first ∷ rest) some is = ap (λ b. b ∷ rest) is ∙ ap (λ r. byte ∷ r) (sym (behind_first first rest))
+behind_byte byte text some is = grind (arith, common_steps)
 
 -- a byte comes first
 pub splits_first : (byte : ℕ) (text : List ℕ) (negative : Bool) → 1 ≤ length text → get_or text 0 0 ≡ byte → IsSign (byte ∷ []) negative
@@ -27,9 +27,7 @@ abbrev pub EndsDigits : List ℕ → Type 0
 EndsDigits text = 10 ≤ digit_value (get_or text 0 0)
 
 not_both : (digit : ℕ) (digits more rest : List ℕ) → AllDigits 10 (digit ∷ digits) → EndsDigits rest → rest ≡ digit ∷ digits ++ more → ⊥
-not_both digit digits more rest are ends is =
-    let first : 10 ≤ digit_value digit = subst EndsDigits is ends in
-    omega (arith, first, are.0)
+not_both digit digits more rest are ends is = grind (arith, common_steps)
 
 -- a text has one longest run of digits
 pub one_run : (run other rest more : List ℕ) → AllDigits 10 run → AllDigits 10 other → EndsDigits rest → EndsDigits more → run ++ rest ≡ other ++ more
@@ -42,18 +40,12 @@ one_run (digit ∷ run) (digit' ∷ other) rest more are are' ends ends' is =
     (ap₂ (λ d digits. d ∷ digits) (ap (λ text. get_or text 0 0) is) below.0, below.1)
 
 pub first_of_digits : (digits more : List ℕ) → AreDigits digits → digit_value (get_or (digits ++ more) 0 0) < 10
-first_of_digits [] more are = absurd (omega (arith, are.0))
-first_of_digits (digit ∷ digits) more are = are.1.0
+first_of_digits digits more are = grind (arith, common_steps)
 
 -- ---- what ends digits
 
 exponent_first : (text : List ℕ) (power : ℤ) → IsExponent text power → EndsDigits text × (get_or text 0 0 ≢ 46)
-exponent_first text power (no_mark is same) = subst (λ t. EndsDigits t × (get_or t 0 0 ≢ 46)) (sym is) (lit≤ tt, λ e. omega (arith, e))
-exponent_first text power (mark letter rest is letters powers) =
-    subst (λ t. EndsDigits t × (get_or t 0 0 ≢ 46)) (sym is)
-    (⊎_elim
-    (λ capital. subst (λ l. (10 ≤ digit_value l) × (l ≢ 46)) (sym capital) (lit≤ tt, λ e. omega (arith, e)))
-    (λ small. subst (λ l. (10 ≤ digit_value l) × (l ≢ 46)) (sym small) (lit≤ tt, λ e. omega (arith, e))) letters)
+exponent_first text power x2 = grind (arith, common_steps)
 
 pub exponent_ends : (text : List ℕ) (power : ℤ) → IsExponent text power → EndsDigits text
 exponent_ends text power is = (exponent_first text power is).0
@@ -79,12 +71,7 @@ tail_behind_point text behind fraction power first is = by is.point is.exponent 
         (back, ap (drop 1) (sym first ∙ joined ∙ ap (λ f. f ++ back) is), are, powers)
 
 pub tail_ends : (text fraction : List ℕ) (power : ℤ) → IsTail text fraction power → EndsDigits text
-tail_ends text fraction power is = by is.point is.exponent is.joined is.point_is is.exponent_is
-  where
-    by : (front back : List ℕ) → text ≡ front ++ back → IsFraction front fraction → IsExponent back power → EndsDigits text
-    by front back joined (no_point empty same) powers =
-        subst EndsDigits (sym (joined ∙ ap (λ f. f ++ back) empty)) (exponent_ends back power powers)
-    by front back joined (point is are) powers = subst EndsDigits (sym (joined ∙ ap (λ f. f ++ back) is)) (lit≤ tt)
+tail_ends text fraction power is = grind (arith, common_steps)
 
 -- ---- the reader's splits are the grammar's
 
@@ -96,23 +83,10 @@ digit_at (digit ∷ text) (suc n) are within = digit_at text n are.1 (omega arit
 -- the longest run of digits is the whole text exactly where the text is digits
 pub all_digits : (text : List ℕ) (n : ℕ) → n ≤ length text → AllDigits 10 (take n text) → 10 ≤ digit_value (get_or text n 0) → 0 < length text
     → (n ≡ length text → AreDigits text) × (AreDigits text → n ≡ length text)
-all_digits text n within are stops some =
-    (λ is. (some, subst (AllDigits 10) (ap (λ k. take k text) is ∙ take-length text) are), λ digits. at_end n (length text) within (λ short. below text n digits.1 short stops))
-  where
-    at_end : (n len : ℕ) → n ≤ len → (n < len → ⊥) → n ≡ len
-    at_end n len within never = omega (arith, never)
-
-    below : (text : List ℕ) (n : ℕ) → AllDigits 10 text → n < length text → 10 ≤ digit_value (get_or text n 0) → ⊥
-    below text n digits short stops = omega (arith, digit_at text n digits short)
+all_digits text n within are stops some = grind (arith, common_steps, take, take-length, length, digit_value, get_or, digit_at)
 
 ends_at : (text : List ℕ) (n : ℕ) → 10 ≤ digit_value (get_or text n 0) → EndsDigits (drop n text)
-ends_at text n stops = subst (λ b. 10 ≤ digit_value b) (sym (get_or_drop text n)) stops
-  where
-    get_or_drop : (text : List ℕ) (n : ℕ) → get_or (drop n text) 0 0 ≡ get_or text n 0
-    get_or_drop [] zero = refl
-    get_or_drop [] (suc n) = refl
-    get_or_drop (b ∷ text) zero = refl
-    get_or_drop (b ∷ text) (suc n) = get_or_drop text n
+ends_at text n stops = grind (arith, common_steps)
 
 -- a run of digits in front is the longest one
 pub run_is : (text run rest : List ℕ) (n : ℕ) → n ≤ length text → AllDigits 10 (take n text) → 10 ≤ digit_value (get_or text n 0) → text ≡ run ++ rest → AllDigits 10 run → EndsDigits rest
@@ -129,19 +103,14 @@ pub same_some : {A : Type 0} (x y : A) → Some x ≡ Some y → x ≡ y
 same_some {A = A} x y is = let same : ◌≡◌ {A = Option A} (Some x) (Some y) = is in cc
 
 pub if_none : {A P : Type 0} (r : Option A) → P → IfNone r P
-if_none None p = p
-if_none (Some x) p = tt
+if_none r p = grind (arith, common_steps)
 
 if_some_weaker : {A : Type 0} (r : Option A) (P Q : A → Type 0) → ((x : A) → P x → Q x) → IfSome r P → IfSome r Q
-if_some_weaker None P Q weaker holds = tt
-if_some_weaker (Some x) P Q weaker holds = weaker x holds
+if_some_weaker r P Q weaker holds = grind (arith, common_steps)
 
 -- few digits spell a number that fits
 pub short_value : (digits : List ℕ) (number : ℕ) → AreDigits digits → length digits ≤ 38 → number ≡ digits_value_after 10 0 digits → number < 10 ^ 38
-short_value digits number are short is =
-    let below = value_below digits are.1 in
-    let power = ten_grows (length digits) 38 short in
-    omega (arith, below, power, is)
+short_value digits number are short is = grind (arith, common_steps, value_below, ten_grows, length)
 
 pub signed_short : (negative : Bool) (number : ℕ) (power : ℤ) → power ≡ signed negative number → number < 10 ^ 38 → unsigned_abs power < 10 ^ 38
 signed_short negative number power is small = subst (λ n. n < 10 ^ 38) (sym (ap unsigned_abs is ∙ abs-signed negative number)) small
@@ -165,11 +134,7 @@ exponent_by_letter text rest r is letter holds =
     if_some_weaker r (λ power. IsPower rest power) (λ power. IsExponent text power) (λ power powers. mark (get_or text 0 0) rest is letter powers) holds
 
 pub exponent_behind_letter : (text rest : List ℕ) (power : ℤ) → text ≡ get_or text 0 0 ∷ rest → IsExponent text power → IsPower rest power
-exponent_behind_letter text rest power first (no_mark is same) = absurd (no_byte (get_or text 0 0) rest (sym first ∙ is))
-  where
-    no_byte : (byte : ℕ) (rest : List ℕ) → byte ∷ rest ≡ [] → ⊥
-    no_byte byte rest is = cc
-exponent_behind_letter text rest power first (mark letter rest' is letters powers) = subst (λ t. IsPower t power) (ap (drop 1) (sym is ∙ first)) powers
+exponent_behind_letter text rest power first x4 = grind (arith, common_steps)
 
 pub plain_tail : (text : List ℕ) (power : ℤ) → IsExponent text power → IsTail text [] power
 plain_tail text power powers = record { point = []; exponent = text; joined = refl; point_is = no_point refl refl; exponent_is = powers }

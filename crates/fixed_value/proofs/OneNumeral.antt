@@ -1,51 +1,23 @@
 -- A text is one numeral's at most.
-use Rattle.std.proofs.Common.{◌≡◌, ℕ, ◌<◌, Bool, false, cond, ⊎_elim, List, [], ◌∷◌, ◌++◌, length, get_or, drop, refl, sym, ap, ap₂, ◌∙◌, subst, arith, ℤ, ◌-ℤ◌, pos, eqb, ne_eqb}
-use Rattle.std.specs.{Char.digit_value, Str.Parse.{digits_value, starts_with_minus, without_leading_sign, without_leading_plus}}
+use Rattle.std.proofs.Common.{◌≡◌, ℕ, ◌<◌, Bool, ⊎_elim, List, ◌∷◌, ◌++◌, length, get_or, drop, sym, ap₂, ◌∙◌, subst, arith, ℤ, ◌-ℤ◌, pos}
+use Rattle.std.{specs.Char.digit_value, specs.Str.Parse.{digits_value, starts_with_minus, without_leading_sign}, proofs.lemmas.Grind.common_steps}
 use Rattle.std.proofs.lemmas.Bool.{cases_eq}
-use Rattle.fixed_value.specs.{Scaled.signed, Numerals.{AreDigits, IsSign, no_sign, plus, minus, IsPower, IsExponent, no_mark, mark, IsTail, NumeralIsOne}}
+use Rattle.fixed_value.specs.Numerals.{AreDigits, IsSign, IsExponent, IsTail, NumeralIsOne}
 use Rattle.fixed_value.proofs.Grammar.{one_run, first_of_digits, exponent_ends, tail_without_point, tail_behind_point, tail_ends, same_numeral}
 
 -- a sign is split off in one way
 sign_split : (text sign rest : List ℕ) (negative : Bool) → IsSign sign negative → digit_value (get_or rest 0 0) < 10 → text ≡ sign ++ rest
     → (negative ≡ starts_with_minus text) × (rest ≡ without_leading_sign text)
-sign_split text sign rest negative (no_sign empty is) digit joined =
-    let same : text ≡ rest = joined ∙ ap (λ s. s ++ rest) empty in
-    subst (λ t. (negative ≡ starts_with_minus t) × (rest ≡ without_leading_sign t)) (sym same)
-    (is ∙ sym (no_minus rest digit), sym (ap (λ t. cond t (drop 1 rest) (without_leading_plus rest)) (no_minus rest digit) ∙ ap (λ t. drop (cond t 1 0) rest) (no_plus rest digit)))
-  where
-    no_minus : (rest : List ℕ) → digit_value (get_or rest 0 0) < 10 → starts_with_minus rest ≡ false
-    no_minus rest digit = ne_eqb (get_or rest 0 0) 45 (λ e. omega (arith, subst (λ b. digit_value b < 10) e digit))
-
-    no_plus : (rest : List ℕ) → digit_value (get_or rest 0 0) < 10 → eqb (get_or rest 0 0) 43 ≡ false
-    no_plus rest digit = ne_eqb (get_or rest 0 0) 43 (λ e. omega (arith, subst (λ b. digit_value b < 10) e digit))
-sign_split text sign rest negative (plus is_plus is) digit joined =
-    subst (λ t. (negative ≡ starts_with_minus t) × (rest ≡ without_leading_sign t)) (sym (joined ∙ ap (λ s. s ++ rest) is_plus)) (is, refl)
-sign_split text sign rest negative (minus is_minus is) digit joined =
-    subst (λ t. (negative ≡ starts_with_minus t) × (rest ≡ without_leading_sign t)) (sym (joined ∙ ap (λ s. s ++ rest) is_minus)) (is, refl)
+sign_split text sign rest negative x4 digit joined = grind (arith, common_steps)
 
 first_digit : (digits : List ℕ) → AreDigits digits → digit_value (get_or digits 0 0) < 10
-first_digit [] are = absurd (omega (arith, are.0))
-first_digit (digit ∷ digits) are = are.1.0
-
-one_power : (text : List ℕ) (power other : ℤ) → IsPower text power → IsPower text other → power ≡ other
-one_power text power other is is' =
-    let split = sign_split text is.sign is.digits is.negative is.sign_is (first_digit is.digits is.digits_are) is.joined in
-    let split' = sign_split text is'.sign is'.digits is'.negative is'.sign_is (first_digit is'.digits is'.digits_are) is'.joined in
-    is.value ∙ ap₂ (λ negative digits. signed negative (digits_value 10 digits)) (split.0 ∙ sym split'.0) (split.1 ∙ sym split'.1) ∙ sym is'.value
-
-no_letter : (letter : ℕ) (rest : List ℕ) → letter ∷ rest ≡ [] → ⊥
-no_letter letter rest is = cc
+first_digit digits are = grind (arith, common_steps)
 
 one_exponent : (text : List ℕ) (power other : ℤ) → IsExponent text power → IsExponent text other → power ≡ other
-one_exponent text power other (no_mark empty is) (no_mark empty' is') = is ∙ sym is'
-one_exponent text power other (no_mark empty is) (mark letter rest joined letters powers) = absurd (no_letter letter rest (sym joined ∙ empty))
-one_exponent text power other (mark letter rest joined letters powers) (no_mark empty is) = absurd (no_letter letter rest (sym joined ∙ empty))
-one_exponent text power other (mark letter rest joined letters powers) (mark letter' rest' joined' letters' powers') =
-    one_power rest power other powers (subst (λ t. IsPower t other) (ap (drop 1) (sym joined' ∙ joined)) powers')
+one_exponent text power other x3 x4 = grind (arith, common_steps)
 
 behind_first : (text : List ℕ) → get_or text 0 0 ≡ 46 → text ≡ 46 ∷ drop 1 text
-behind_first [] is = absurd (omega (arith, is))
-behind_first (byte ∷ text) is = ap (λ b. b ∷ text) is
+behind_first text is = grind (arith, common_steps)
 
 one_tail : (text fraction fraction' : List ℕ) (power power' : ℤ) → IsTail text fraction power → IsTail text fraction' power' → (fraction ≡ fraction') × (power ≡ power')
 one_tail text fraction fraction' power power' is is' = ⊎_elim with_point without_point (cases_eq (get_or text 0 0) 46)

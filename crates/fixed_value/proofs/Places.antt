@@ -1,6 +1,6 @@
 -- The digits of a number at its places.
-use Rattle.std.proofs.Common.{◌≡◌, ℕ, zero, suc, ◌+◌, ◌-◌, ◌/◌, ◌%◌, ◌^◌, ◌<◌, ◌≤◌, List, [], ◌∷◌, ◌++◌, length, take, refl, sym, ap, ◌∙◌, arith, append_assoc, append-nil}
-use Rattle.std.proofs.Math.{Nat.div-eq_of_lt, Seq.take-append_seam}
+use Rattle.std.proofs.Common.{◌≡◌, ℕ, ◌+◌, ◌-◌, ◌/◌, ◌%◌, ◌^◌, ◌<◌, ◌≤◌, List, [], ◌∷◌, ◌++◌, refl, sym, arith, append-nil}
+use Rattle.std.proofs.{Math.Nat.div-eq_of_lt, lemmas.Grind.common_steps}
 use Rattle.fixed_value.{specs.Fixed.low_digits, proofs.Powers.ten_grows}
 
 -- above the places of 64 bits there is nothing
@@ -11,8 +11,7 @@ past_places n places small high =
 
 -- the highest place first
 pub low_digits_step : (place n : ℕ) → 0 < place → low_digits place n ≡ (48 + n / 10 ^ (place - 1) % 10) ∷ low_digits (place - 1) n
-low_digits_step zero n some = absurd (omega arith)
-low_digits_step (suc place) n some = let less : suc place - 1 ≡ place = omega arith in rw less refl
+low_digits_step place n some = grind (arith, common_steps)
 
 -- what has been appended so far, and what is to come
 pub record Appended (before now rest whole : List ℕ) : Type 0 where
@@ -25,14 +24,4 @@ appended_none before whole = record { done = []; now_is = sym (append-nil before
 
 pub appended_more : (before now next : List ℕ) (digit : ℕ) (rest rest' whole : List ℕ) → Appended before now rest whole → rest ≡ digit ∷ rest' → next ≡ now ++ digit ∷ []
     → Appended before next rest' whole
-appended_more before now next digit rest rest' whole so_far step is = record {
-  done = so_far.done ++ digit ∷ [];
-  now_is = is ∙ ap (λ x. x ++ digit ∷ []) so_far.now_is ∙ append_assoc before so_far.done (digit ∷ []);
-  all = append_assoc so_far.done (digit ∷ []) rest' ∙ ap (λ x. so_far.done ++ x) (sym step) ∙ so_far.all;
-}
-
-pub appended_all : (before now whole : List ℕ) → Appended before now [] whole → now ≡ before ++ whole
-appended_all before now whole so_far = so_far.now_is ∙ ap (λ x. before ++ x) (sym (append-nil so_far.done) ∙ so_far.all)
-
-pub front_stays : (before now done : List ℕ) → now ≡ before ++ done → take (length before) now ≡ before
-front_stays before now done is = rw is (take-append_seam before done)
+appended_more before now next digit rest rest' whole so_far step is = grind (arith, common_steps)

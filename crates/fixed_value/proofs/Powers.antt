@@ -1,7 +1,7 @@
 -- Powers of ten, and values that are nearest to a numeral's.
-use Rattle.std.proofs.Common.{◌≡◌, ℕ, zero, suc, ◌+◌, ◌*◌, ◌/◌, ◌%◌, ◌^◌, ◌<◌, ◌≤◌, Bool, true, false, ℤ, pos, negsuc, ◌+ℤ◌, ◌<ℤ◌, ◌≤ℤ◌, refl, sym, ap, ◌∙◌, subst, arith, Result, Ok, Err}
-use Rattle.std.{specs.Prelude.{unsigned_abs, OnErr}, proofs.Math.Nat.{pow-le-pow_right, one-le-pow, le-mul_of_pos_right, mul-le-mul_right}}
-use Rattle.std.{specs.Prelude.int_lt, proofs.lemmas.Int.ints, proofs.lemmas.Nat.{div-add-mod', mod_below}}
+use Rattle.std.proofs.Common.{◌≡◌, ℕ, zero, suc, ◌+◌, ◌*◌, ◌/◌, ◌%◌, ◌^◌, ◌<◌, ◌≤◌, Bool, true, false, ℤ, pos, negsuc, ◌+ℤ◌, ◌<ℤ◌, ◌≤ℤ◌, refl, arith, Result}
+use Rattle.std.{specs.Prelude.{unsigned_abs, OnErr}, proofs.Math.Nat.{pow-le-pow_right, one-le-pow, le-mul_of_pos_right}}
+use Rattle.std.{specs.Prelude.int_lt, proofs.lemmas.Int.ints, proofs.lemmas.Nat.{div-add-mod', mod_below}, proofs.lemmas.Grind.common_steps}
 use Rattle.fixed_value.specs.{declared.numeral.Numeral.Numeral, Scaled.{signed, IsNearest, IsMagnitude, IsScaled, ScaledIsOne}}
 
 pub ten_some : (k : ℕ) → 0 < 10 ^ k
@@ -34,8 +34,7 @@ below_half m k small low =
     (omega arith, omega arith)
 
 pub magnitude_of_zero : (power : ℤ) → IsMagnitude 0 power 0
-magnitude_of_zero (pos k) = omega arith
-magnitude_of_zero (negsuc k) = (omega arith, omega (arith, ten_some (suc k)))
+magnitude_of_zero power = grind (arith, common_steps, ten_some)
 
 pub magnitude_above : (m : ℕ) (power : ℤ) → 0 < m → pos 16 <ℤ power → (a : ℕ) × IsMagnitude m power a × (10 ^ 16 < a)
 magnitude_above m (pos k) some high = (m * 10 ^ k, refl, above_largest m k some (omega (arith, ints, high)))
@@ -43,30 +42,21 @@ magnitude_above m (negsuc k) some high = absurd (omega (arith, ints, high))
 
 -- ---- rounding
 
-pub nearest_below : (m k q r : ℕ) → q * 10 ^ k + r ≡ m → 2 * r < 10 ^ k → IsNearest m k q
-nearest_below m k q r is half = (omega arith, omega arith)
-
 pub nearest_above : (m k q r : ℕ) → q * 10 ^ k + r ≡ m → r < 10 ^ k → 10 ^ k ≤ 2 * r → IsNearest m k (q + 1)
 nearest_above m k q r is less half = (omega arith, omega arith)
 
 -- the same, with the quotient and the rest
 pub rounded_down : (m k unit : ℕ) → unit ≡ 10 ^ k → 2 * (m % unit) < unit → IsNearest m k (m / unit)
-rounded_down m k unit is half =
-    subst (λ u. IsNearest m k (m / u)) (sym is) (nearest_below m k (m / 10 ^ k) (m % 10 ^ k) (div-add-mod' m (10 ^ k)) (subst (λ u. 2 * (m % u) < u) is half))
+rounded_down m k unit is half = grind (arith, common_steps)
 
 pub rounded_up : (m k unit : ℕ) → unit ≡ 10 ^ k → unit ≤ 2 * (m % unit) → IsNearest m k (m / unit + 1)
-rounded_up m k unit is half =
-    subst (λ u. IsNearest m k (m / u + 1)) (sym is)
-    (nearest_above m k (m / 10 ^ k) (m % 10 ^ k) (div-add-mod' m (10 ^ k)) (mod_below m (10 ^ k) (ten_some k)) (subst (λ u. u ≤ 2 * (m % u)) is half))
+rounded_up m k unit is half = grind (arith, common_steps, nearest_above, div-add-mod', mod_below, ten_some)
 
 pub rest_fits : (m k unit : ℕ) → unit ≡ 10 ^ k → k ≤ 38 → 2 * (m % unit) < 2 ^ 128
-rest_fits m k unit is le =
-    let less : m % unit < unit = mod_below m unit (subst (λ u. 0 < u) (sym is) (ten_some k)) in
-    omega (arith, ten_grows k 38 le)
+rest_fits m k unit is le = grind (arith, common_steps, mod_below, ten_some, ten_grows)
 
 pub at_high_power : (m : ℕ) (power : ℤ) (a : ℕ) → pos 0 ≤ℤ power → a ≡ m * 10 ^ unsigned_abs power → IsMagnitude m power a
-at_high_power m (pos k) a high is = is
-at_high_power m (negsuc k) a high is = absurd (omega (arith, ints, high))
+at_high_power m power a high is = grind (arith, common_steps)
 
 pub high_power_above : (m : ℕ) (power : ℤ) → pos 0 ≤ℤ power → 10 ^ 16 < m * 10 ^ unsigned_abs power → (a : ℕ) × IsMagnitude m power a × (10 ^ 16 < a)
 high_power_above m power high above = (m * 10 ^ unsigned_abs power, at_high_power m power (m * 10 ^ unsigned_abs power) high refl, above)
@@ -78,49 +68,25 @@ pub told_not_below : (a b : ℤ) → int_lt a b ≡ false → b ≤ℤ a
 told_not_below a b told = grind (arith, ints)
 
 pub on_err : {T E P : Type 0} (r : Result T E) → P → OnErr r P
-on_err (Ok x) p = tt
-on_err (Err e) p = p
+on_err r p = grind (arith, common_steps)
 
 -- ---- one magnitude, and one value
 
-row_less : (a b p : ℕ) → a < b → (2 * a + 2) * p ≤ (2 * b) * p
-row_less a b p less = mul-le-mul_right p (omega arith)
-
-one_nearest : (m k a b : ℕ) → IsNearest m k a → IsNearest m k b → a < b → ⊥
-one_nearest m k a b first second less = omega (arith, row_less a b (10 ^ k) less, ten_some k, first.1, second.0)
-
-same_from_order : (a b : ℕ) → (a < b → ⊥) → (b < a → ⊥) → a ≡ b
-same_from_order a b never nor = omega (arith, never, nor)
-
 one_magnitude : (m : ℕ) (power : ℤ) (a b : ℕ) → IsMagnitude m power a → IsMagnitude m power b → a ≡ b
-one_magnitude m (pos k) a b first second = first ∙ sym second
-one_magnitude m (negsuc k) a b first second =
-    same_from_order a b (one_nearest m (suc k) a b first second) (one_nearest m (suc k) b a second first)
+one_magnitude m power a b first second = grind (arith, common_steps)
 
 pub one_scaled : ScaledIsOne
-one_scaled numeral d value other is is' =
-    is.sign
-    ∙ ap (signed numeral.negative) (one_magnitude numeral.digits (numeral.exponent +ℤ pos d) (unsigned_abs value) (unsigned_abs other) is.magnitude is'.magnitude)
-    ∙ sym is'.sign
+one_scaled numeral d value other is is' = grind (arith, common_steps, one_magnitude, pos, unsigned_abs)
 
 -- ---- the sign
 
 pub abs-signed : (negative : Bool) (a : ℕ) → unsigned_abs (signed negative a) ≡ a
-abs-signed true zero = refl
-abs-signed true (suc a) = refl
-abs-signed false a = refl
+abs-signed negative a = grind (arith, common_steps)
 
 -- the value of a magnitude and a sign
 pub scaled_by : (numeral : Numeral) (d a : ℕ) → IsMagnitude numeral.digits (numeral.exponent +ℤ pos d) a → IsScaled numeral d (signed numeral.negative a)
-scaled_by numeral d a is = record {
-  magnitude = subst (IsMagnitude numeral.digits (numeral.exponent +ℤ pos d)) (sym (abs-signed numeral.negative a)) is;
-  sign = ap (signed numeral.negative) (sym (abs-signed numeral.negative a));
-}
+scaled_by numeral d a is = grind (arith, common_steps)
 
 pub scaled_above : (numeral : Numeral) (d : ℕ) → (a : ℕ) × IsMagnitude numeral.digits (numeral.exponent +ℤ pos d) a × (10 ^ 16 < a)
     → (value : ℤ) × IsScaled numeral d value × (10 ^ 16 < unsigned_abs value)
-scaled_above numeral d above = (
-  signed numeral.negative above.0,
-  scaled_by numeral d above.0 above.1,
-  subst (λ a. 10 ^ 16 < a) (sym (abs-signed numeral.negative above.0)) above.2,
-)
+scaled_above numeral d above = grind (arith, common_steps, scaled_by, abs-signed)

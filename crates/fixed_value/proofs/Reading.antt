@@ -1,7 +1,7 @@
 -- The number that digits spell.
 use Rattle.std.proofs.Common.{◌≡◌, ℕ, suc, ◌+◌, ◌-◌, ◌*◌, ◌^◌, ◌<◌, ◌≤◌, List, [], ◌∷◌, ◌++◌, length, get_or, drop, refl, sym, ap, ◌∙◌, subst, arith}
 use Rattle.std.{proofs.Math.Nat.{pow-suc, mul-le-mul_left, mul-le-mul_right}, proofs.lemmas.List.drop_more, proofs.lemmas.Nat.pow-add, specs.Char.digit_value}
-use Rattle.std.{specs.Str.Parse.{AllDigits, digits_value, digits_value_after}, proofs.lemmas.Bool.Decides.nat_tests}
+use Rattle.std.{specs.Str.Parse.{AllDigits, digits_value, digits_value_after}, proofs.lemmas.Bool.Decides.nat_tests, proofs.lemmas.Grind.common_steps}
 use Rattle.fixed_value.proofs.Powers.{ten_some, ten_grows}
 
 pub digit_is : (c : ℕ) → digit_value c < 10 → 48 + digit_value c ≡ c
@@ -27,10 +27,7 @@ longer k = let power : 10 ^ suc k ≡ 10 ^ k * 10 = pow-suc 10 k in omega (arith
 
 -- there is room for it
 pub next_fits : (number digit : ℕ) (digits : List ℕ) (whole : ℕ) → ReadsOn number (digit ∷ digits) whole → (number + 1) * 10 ≤ 10 ^ 38
-next_fits number digit digits whole on =
-    let row : ((number + 1) * 10) * 1 ≤ ((number + 1) * 10) * 10 ^ length digits = mul-le-mul_left ((number + 1) * 10) (ten_some (length digits)) in
-    let fits : (number + 1) * (10 * 10 ^ length digits) ≤ 10 ^ 38 = subst (λ p. (number + 1) * p ≤ 10 ^ 38) (longer (length digits)) on.fits in
-    omega (arith, row, fits)
+next_fits number digit digits whole on = grind (arith, common_steps, length, mul-le-mul_left, ten_some, longer)
 
 pub reads_more : (number digit next : ℕ) (digits : List ℕ) (whole : ℕ) → ReadsOn number (digit ∷ digits) whole → next ≡ 10 * number + (digit - 48) → ReadsOn next digits whole
 reads_more number digit next digits whole on is =

@@ -14,9 +14,6 @@ counted x xs = by (is_under_way x) refl
     by true is = rw is (omega arith)
     by false is = rw is (omega arith)
 
-one_open : (x : Bisection) → is_under_way x ≡ true → open_count (x ∷ []) ≡ 1
-one_open x is = rw is refl
-
 pub one_more : (xs : List Bisection) (x : Bisection) → open_count (xs ++ x ∷ []) ≡ open_count xs + open_count (x ∷ [])
 one_more [] x = omega arith
 one_more (y ∷ xs) x = omega (arith, counted y (xs ++ x ∷ []), counted y xs, one_more xs x)
@@ -35,23 +32,6 @@ few (x ∷ xs) = omega (arith, counted x xs, at_most x, few xs)
 -- none is in an empty list
 in-none : (i : ℕ) (one : Bisection) → slice_get [] i ≡ Some one → ⊥
 in-none i one is = cc
-
--- an open one that another takes the place of
-pub replaced : (xs : List Bisection) (i : ℕ) (one later : Bisection) → slice_get xs i ≡ Some one → is_under_way one ≡ true
-    → open_count (set xs i later) + 1 ≡ open_count xs + open_count (later ∷ [])
-replaced [] i one later there under_way = absurd (in-none i one there)
-replaced (x ∷ xs) zero one later there under_way =
-    let same : x ≡ one = cc in
-    omega (arith, counted later xs, counted x xs, one_open x (ap is_under_way same ∙ under_way))
-replaced (x ∷ xs) (suc i) one later there under_way =
-    omega (arith, counted x (set xs i later), counted x xs, replaced xs i one later there under_way)
-
-pub some_open : (xs : List Bisection) (i : ℕ) (one : Bisection) → slice_get xs i ≡ Some one → is_under_way one ≡ true → 1 ≤ open_count xs
-some_open [] i one there under_way = absurd (in-none i one there)
-some_open (x ∷ xs) zero one there under_way =
-    let same : x ≡ one = cc in
-    omega (arith, counted x xs, one_open x (ap is_under_way same ∙ under_way))
-some_open (x ∷ xs) (suc i) one there under_way = omega (arith, counted x xs, some_open xs i one there under_way)
 
 asking : (o : Outcome) (place : ℕ) → asked_by o ≡ Some place → (is_open o ≡ true) × (answer_to o place ≡ answered.Ok)
 asking (Asks asked) place is =

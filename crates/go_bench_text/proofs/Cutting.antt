@@ -1,6 +1,6 @@
 -- How the characters of a text are cut into fields.
 use Rattle.std.proofs.Common.{◌≡◌, ◌≢◌, ℕ, zero, suc, ◌<◌, Bool, true, false, cond, List, [], ◌∷◌, ◌++◌, length, map, filter, refl, sym, ◌∙◌, ap, subst, arith}
-use Rattle.std.specs.{Char.is_whitespace, List.{slice_split, list_all, All}}
+use Rattle.std.{specs.Char.is_whitespace, specs.List.{slice_split, list_all, All}, proofs.lemmas.Grind.common_steps}
 use Rattle.std.{specs.Str.{chars, encode_utf8_all, all_scalars, IsUtf8, trim_start, skip_leading_whitespace}, proofs.lemmas.Bool.{not-true, and_parts}}
 use Rattle.std.proofs.lemmas.{Str.{chars-encodes, chars-append, encodes-chars, encodes_same, scalars-chars, chars-nil}, List.{append-nil, nil_from_length}}
 use Rattle.std.proofs.lemmas.{List.Splits.{slice_split-cons_yes, slice_split_none, slice_split_at}, Bool.Decides.nat_tests}
@@ -12,8 +12,7 @@ fields-white c cs h = ap (λ (parts : List (List ℕ)). map encode_utf8_all (fil
 
 skipped : (c : ℕ) (cs : List ℕ) (white : Bool) → is_whitespace c ≡ white → fields_of_chars (skip_leading_whitespace cs) ≡ fields_of_chars cs
     → fields_of_chars (cond white (skip_leading_whitespace cs) (c ∷ cs)) ≡ fields_of_chars (c ∷ cs)
-skipped c cs true h rest = rest ∙ sym (fields-white c cs h)
-skipped c cs false h rest = refl
+skipped c cs white h rest = grind (arith, common_steps)
 
 pub fields-skip : (cs : List ℕ) → fields_of_chars (skip_leading_whitespace cs) ≡ fields_of_chars cs
 fields-skip [] = refl
@@ -21,8 +20,7 @@ fields-skip (c ∷ cs) = skipped c cs (is_whitespace c) refl (fields-skip cs)
 
 scalars_skipped : (c : ℕ) (cs : List ℕ) (white : Bool) → all_scalars (c ∷ cs) ≡ true → all_scalars (skip_leading_whitespace cs) ≡ true
     → all_scalars (cond white (skip_leading_whitespace cs) (c ∷ cs)) ≡ true
-scalars_skipped c cs true h rest = rest
-scalars_skipped c cs false h rest = h
+scalars_skipped c cs white h rest = grind (arith, common_steps)
 
 pub scalars-skip : (cs : List ℕ) → all_scalars cs ≡ true → all_scalars (skip_leading_whitespace cs) ≡ true
 scalars-skip [] h = refl
@@ -30,8 +28,7 @@ scalars-skip (c ∷ cs) h = scalars_skipped c cs (is_whitespace c) h (scalars-sk
 
 stopped_skip : (c : ℕ) (cs : List ℕ) (white : Bool) → is_whitespace c ≡ white → (is_stopped (skip_leading_whitespace cs) ≡ true → skip_leading_whitespace cs ≡ [])
     → is_stopped (cond white (skip_leading_whitespace cs) (c ∷ cs)) ≡ true → cond white (skip_leading_whitespace cs) (c ∷ cs) ≡ []
-stopped_skip c cs true h rest stopped = rest stopped
-stopped_skip c cs false h rest stopped = absurd (let no : is_whitespace c ≡ true = stopped in cc)
+stopped_skip c cs white h rest stopped = grind (arith, common_steps)
 
 -- what follows the white space doesn't begin with any
 pub skip_stops : (cs : List ℕ) → is_stopped (skip_leading_whitespace cs) ≡ true → skip_leading_whitespace cs ≡ []
@@ -77,8 +74,7 @@ no_chars : (text : List ℕ) → skip_leading_whitespace (chars text) ≡ [] →
 no_chars text h = encodes-trim text ∙ ap encode_utf8_all h
 
 some_bytes : (xs : List ℕ) → IsUtf8 xs → chars xs ≢ [] → 0 < length xs
-some_bytes [] is h = absurd (h chars-nil)
-some_bytes (x ∷ xs) is h = omega arith
+some_bytes xs is h = grind (arith, common_steps, chars-nil)
 
 -- what a cut of the text behind its white space says of its fields
 pub record IsNext (text field more : List ℕ) : Type 0 where

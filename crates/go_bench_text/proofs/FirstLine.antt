@@ -1,7 +1,7 @@
 -- The first line of a text, by the place of its first line feed.
 use Rattle.std.proofs.Common.{◌≡◌, ℕ, ◌+◌, ◌-◌, ◌<◌, ◌≤◌, List, ◌∷◌, [], ◌++◌, All, length, take, drop, get_or, slice_index, eqb, false, eqb-true, refl, sym, ap, ◌∙◌, arith, eq-eqb, Some, None, Option, Bor, IfSome, IfNone, length-drop, subst}
-use Rattle.std.{specs.List.slice_range, specs.Str.{IsUtf8, IsCharBoundary}, proofs.lemmas.Bool.ne_eqb}
-use Rattle.std.proofs.lemmas.List.{drop_more, take-append-drop, get_or_default, get_or-take, length-take, Splits.{slice_split_at, slice_split_none}}
+use Rattle.std.{specs.List.slice_range, specs.Str.{IsUtf8, IsCharBoundary}, proofs.lemmas.Bool.ne_eqb, proofs.lemmas.Grind.common_steps}
+use Rattle.std.proofs.lemmas.List.{drop_more, get_or_default, get_or-take, length-take, Splits.{slice_split_at, slice_split_none}}
 use Rattle.std.proofs.lemmas.Str.{IsCharBoundary-after_ascii}
 use Rattle.line_text.specs.Lines.{lines_of}
 use Rattle.memchr.specs.Find.{IsFirstByte, Nowhere, Passes, is_byte}
@@ -11,10 +11,7 @@ is_other bytes n k d nowhere low within =
     ne_eqb (get_or bytes k d) 10 (λ is. nowhere k (omega arith) low (eq-eqb (slice_index bytes k) 10 (get_or_default bytes k 0 d within ∙ is)))
 
 no_feed_in : (bytes : List ℕ) (n : ℕ) → Nowhere (Passes (is_byte 10) bytes) 0 n → All (λ b. eqb b 10 ≡ false) (take n bytes)
-no_feed_in bytes n nowhere k d less =
-    let size = length-take n bytes in
-    let low : k < n = omega (arith, size, less) in
-    ap (λ (b : ℕ). eqb b 10) (get_or-take n bytes k d low) ∙ is_other bytes n k d nowhere low (omega (arith, size, less))
+no_feed_in bytes n nowhere k d less = grind (arith, common_steps, length-take, eqb, get_or-take, is_other)
 
 is_feed : (text : List ℕ) (end : ℕ) → IsFirstByte (is_byte 10) text (Some end) → get_or text end 0 ≡ 10
 is_feed text end first = eqb-true (get_or text end 0) 10 first.1
@@ -33,8 +30,7 @@ first_line_ends text bytes line behind end same found front back =
     let first = subst (λ (bs : List ℕ). IsFirstByte (is_byte 10) bs (Some end)) same found in
     let split : drop end text ≡ get_or text end 0 ∷ drop (end + 1) text = drop_more text end 0 first.0.high in
     let feed = is_feed text end first in
-    let whole : take end text ++ 10 ∷ drop (end + 1) text ≡ text =
-    ap (λ bs. take end text ++ bs) (ap (λ b. b ∷ drop (end + 1) text) (sym feed) ∙ sym split) ∙ take-append-drop end text in
+    let whole : take end text ++ 10 ∷ drop (end + 1) text ≡ text = grind (arith, common_steps) in
     let ends : lines_of text ≡ take end text ∷ lines_of (drop (end + 1) text) =
     ap lines_of (sym whole) ∙ slice_split_at (λ b. eqb b 10) (take end text) 10 (drop (end + 1) text) (no_feed_in text end first.0.before) refl in
     let all : end - 0 ≡ end = omega arith in
@@ -43,9 +39,7 @@ first_line_ends text bytes line behind end same found front back =
 
 -- a text with no line feed is one line
 pub one_line : (text bytes : List ℕ) → bytes ≡ text → IsFirstByte (is_byte 10) bytes None → lines_of text ≡ text ∷ []
-one_line text bytes same found =
-    let nowhere = subst (λ (bs : List ℕ). IsFirstByte (is_byte 10) bs None) same found in
-    slice_split_none (λ b. eqb b 10) text (λ k d less. is_other text (length text) k d nowhere less less)
+one_line text bytes same found = grind (arith, common_steps, slice_split_none, eqb, is_other, length)
 
 -- the line is the next of the lines
 pub record IsNextLine (lines : List (List ℕ)) (n : ℕ) (line : List ℕ) : Type 0 where
@@ -60,14 +54,12 @@ next_line lines n line more left =
 
 pub first_is_next : (lines : List (List ℕ)) (n : ℕ) (text line : List ℕ) (behind : Option (Bor (List ℕ))) → drop n lines ≡ lines_of text
     → IfSome behind (λ b. lines_of text ≡ line ∷ lines_of b.now) → IfNone behind (lines_of text ≡ line ∷ []) → IsNextLine lines n line
-first_is_next lines n text line None left more last = (next_line lines n line [] (left ∙ last)).0
-first_is_next lines n text line (Some b) left more last = (next_line lines n line (lines_of b.now) (left ∙ more)).0
+first_is_next lines n text line behind left more last = grind (arith, common_steps)
 
 -- the lines behind it
 pub more_left : (lines : List (List ℕ)) (n : ℕ) (text line : List ℕ) (behind : Option (Bor (List ℕ))) (more : Bor (List ℕ)) → drop n lines ≡ lines_of text → behind ≡ Some more
     → IfSome behind (λ b. lines_of text ≡ line ∷ lines_of b.now) → drop (n + 1) lines ≡ lines_of more.now
-more_left lines n text line behind more left is goes =
-    (next_line lines n line (lines_of more.now) (left ∙ subst (λ (o : Option (Bor (List ℕ))). IfSome o (λ b. lines_of text ≡ line ∷ lines_of b.now)) is goes)).1
+more_left lines n text line behind more left is goes = grind (arith, common_steps, next_line)
 
 -- none is behind the last
 pub none_left : (lines : List (List ℕ)) (n : ℕ) (text line : List ℕ) → drop n lines ≡ lines_of text → lines_of text ≡ line ∷ [] → length lines ≤ n + 1

@@ -1,9 +1,9 @@
 -- What a line adds, and when it is out of range.
-use Rattle.std.proofs.Common.{◌≡◌, ℕ, ◌≤◌, ◌<◌, ◌⊎◌, inl, inr, true, false, List, [], ◌∷◌, ◌++◌, length, refl, sym, ◌∙◌, ap, subst, arith}
-use Rattle.std.{specs.Prelude.codes, proofs.lemmas.List.append-nil}
+use Rattle.std.proofs.{Common.{◌≡◌, ℕ, ◌≤◌, ◌<◌, ◌⊎◌, true, false, List, [], length, refl, sym, ap, subst, arith}, lemmas.Grind.common_steps}
+use Rattle.std.proofs.lemmas.List.{append-nil}
 use Rattle.go_bench_text.specs.{Gathering.{Keeps, Gains, AddsLine}, Lines.{begins, ArePairs, IsHead, IsResult, IsResultLine}, Pairs.{ReadsPairs, samples_of}}
-use Rattle.go_bench_text.specs.Readings.{HasLarge, PairsGive, IsOver, pkg_of, test_of, LineGives.{measured, broken}}
-use Rattle.go_bench_text.{specs.declared.gather.Gathered.Gathered, specs.declared.pairs.Pair.Pair, proofs.OneReading.{same_parts, not_both}}
+use Rattle.go_bench_text.specs.Readings.{HasLarge, PairsGive, IsOver, pkg_of, test_of, LineGives.measured}
+use Rattle.go_bench_text.{specs.declared.gather.Gathered.Gathered, specs.declared.pairs.Pair.Pair, proofs.OneReading.not_both}
 
 pub gains_none : (before : Gathered) → Gains before before []
 gains_none before given keeps = subst (Keeps before) (sym (append-nil given)) keeps
@@ -17,21 +17,14 @@ pub silent_in_range : (before : List (List ℕ)) (line : List ℕ) → begins li
 silent_in_range before line off over = not_both (begins line) over.is.head.first off
 
 pub over_parts : (before : List (List ℕ)) (line name : List ℕ) (pairs : List (List ℕ)) → IsResult line name pairs → IsOver before line → (256 < length (test_of (pkg_of before) name)) ⊎ HasLarge pairs
-over_parts before line name pairs is over =
-    let same = same_parts line over.name name over.pairs pairs over.is is in
-    subst (λ (ps : List (List ℕ)). (256 < length (test_of (pkg_of before) name)) ⊎ HasLarge ps) same.both
-    (subst (λ (n : List ℕ). (256 < length (test_of (pkg_of before) n)) ⊎ HasLarge over.pairs) same.names over.over)
+over_parts before line name pairs is over = grind (arith, common_steps)
 
 pub none_over : (test : List ℕ) (pairs : List (List ℕ)) → length test ≤ 256 → ¬ HasLarge pairs → (256 < length test) ⊎ HasLarge pairs → ⊥
-none_over test pairs short small (inl h) = absurd (omega arith)
-none_over test pairs short small (inr h) = small h
+none_over test pairs short small x4 = grind (arith, common_steps)
 
 -- its fields behind the count are these
 pub is_headed : (line name : List ℕ) (fields : List (List ℕ)) → IsHead line name fields → IsResultLine line → (0 < length fields) × ArePairs fields
-is_headed line name fields head is =
-    let both : (codes "Benchmark" ++ name) ∷ head.count ∷ fields ≡ (codes "Benchmark" ++ is.0) ∷ is.2.head.count ∷ is.1 = sym head.fields ∙ is.2.head.fields in
-    let same : fields ≡ is.1 = cc in
-    (subst (λ (fs : List (List ℕ)). 0 < length fs) (sym same) is.2.some, subst ArePairs (sym same) is.2.paired)
+is_headed line name fields head is = grind (arith, common_steps)
 
 pub adds_measured : (old new : Gathered) (before : List (List ℕ)) (line name pkg : List ℕ) (fields : List (List ℕ)) (pairs : List Pair) → IsHead line name fields → ReadsPairs fields pairs → pkg_of before ≡ pkg
     → length (test_of pkg name) ≤ 256 → Gains old new (samples_of (test_of pkg name) pairs) → AddsLine old new before line 0
@@ -46,9 +39,4 @@ adds_measured old new before line name pkg fields pairs head reads e short gains
     }
 
 pub adds_broken : (old : Gathered) (before : List (List ℕ)) (line : List ℕ) → begins line ≡ true → ¬ IsResultLine line → AddsLine old old before line 1
-adds_broken old before line first is = record {
-  samples = [];
-  gives = broken (first, is) refl refl;
-  gains = gains_none old;
-  in_range = λ over. is (over.name, over.pairs, over.is);
-}
+adds_broken old before line first is = grind (arith, common_steps)

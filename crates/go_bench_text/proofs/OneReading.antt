@@ -1,15 +1,12 @@
 -- A text has one reading.
-use Rattle.std.{proofs.Common.{◌≡◌, ℕ, Bool, true, false, ℤ, List, [], ◌∷◌, ◌++◌, refl, sym, ◌∙◌, ap, subst, arith}, specs.Prelude.codes}
-use Rattle.std.proofs.lemmas.List.{append_cancel_left}
+use Rattle.std.proofs.{Common.{◌≡◌, ℕ, Bool, true, false, List, [], ◌∷◌, ◌++◌, refl, sym, ◌∙◌, ap, arith}, lemmas.Grind.common_steps}
 use Rattle.metric_value.specs.Values.{ValueIsOne}
 use Rattle.sample_model.specs.Samples.{Measurement}
 use Rattle.go_bench_text.specs.{Lines.{begins, IsResult}, Readings.{IsSampleOf, PairsGive, LineGives, LinesGive, pkg_of, test_of}}
 use Rattle.go_bench_text.specs.Readings.LineGives.{measured, broken, silent}
 
 same_sample : (one other : Measurement) → one.test ≡ other.test → one.metric ≡ other.metric → one.value ≡ other.value → one ≡ other
-same_sample one other e f g =
-    let make : List ℕ → List ℕ → ℤ → Measurement = λ t m v. record { test = t; metric = m; value = v } in
-    ap (λ (t : List ℕ). make t one.metric one.value) e ∙ (ap (λ (m : List ℕ). make other.test m one.value) f ∙ ap (λ (v : ℤ). make other.test other.metric v) g)
+same_sample one other e f g = grind (arith, common_steps)
 
 -- a pair has one sample
 one_sample : (test text unit : List ℕ) (sample other : Measurement) → ValueIsOne → IsSampleOf test text unit sample → IsSampleOf test text unit other → sample ≡ other
@@ -33,10 +30,7 @@ pub record SameParts (name other : List ℕ) (pairs others : List (List ℕ)) : 
   pub both : pairs ≡ others
 
 pub same_parts : (line name other : List ℕ) (pairs others : List (List ℕ)) → IsResult line name pairs → IsResult line other others → SameParts name other pairs others
-same_parts line name other pairs others one two =
-    let e : (codes "Benchmark" ++ name) ∷ one.head.count ∷ pairs ≡ (codes "Benchmark" ++ other) ∷ two.head.count ∷ others = sym one.head.fields ∙ two.head.fields in
-    let heads : codes "Benchmark" ++ name ≡ codes "Benchmark" ++ other = cc in
-    record { names = append_cancel_left (codes "Benchmark") name other heads; both = cc }
+same_parts line name other pairs others one two = grind (arith, common_steps)
 
 pub not_both : (b : Bool) → b ≡ true → b ≡ false → ⊥
 not_both b e f = let no : true ≡ false = sym e ∙ f in absurd (cc)
@@ -46,8 +40,7 @@ one_line : (before : List (List ℕ)) (line : List ℕ) (samples others : List M
     → (samples ≡ others) × (ignored ≡ count)
 one_line before line samples others ignored count values (measured name pairs is gives e) (measured other more also given f) =
     let same = same_parts line other name more pairs also is in
-    let there : PairsGive (test_of (pkg_of before) name) pairs others =
-    subst (λ (ps : List (List ℕ)). PairsGive (test_of (pkg_of before) name) ps others) same.both (subst (λ (n : List ℕ). PairsGive (test_of (pkg_of before) n) more others) same.names given) in
+    let there : PairsGive (test_of (pkg_of before) name) pairs others = grind (arith, common_steps) in
     (one_list (test_of (pkg_of before) name) pairs samples others values gives there, e ∙ sym f)
 one_line before line samples others ignored count values (measured name pairs is gives e) (broken not_is f g) = absurd (not_is.1 (name, pairs, is))
 one_line before line samples others ignored count values (measured name pairs is gives e) (silent off f g) = absurd (not_both (begins line) is.head.first off)

@@ -1,5 +1,5 @@
 -- Where a test is cut.
-use Rattle.std.proofs.Common.{◌≡◌, ◌≢◌, ℕ, ◌+◌, List, [], ◌∷◌, ◌++◌, length, take, drop, get_or, sym, ◌∙◌, ap, append_assoc}
+use Rattle.std.proofs.Common.{◌≡◌, ℕ, ◌+◌, List, [], ◌∷◌, ◌++◌, length, take, drop, get_or, sym, ◌∙◌, ap, append_assoc}
 use Rattle.std.proofs.lemmas.List.{take_at, drop_at, get_or_at, length_push}
 use Rattle.go_bench_text.specs.Spellings.{IsPartedAt}
 
@@ -18,6 +18,3 @@ parted_there test pkg name at n cut = record {
       let len : length (pkg ++ 35 ∷ []) ≡ at + 1 = length_push pkg 35 ∙ ap (λ (k : ℕ). k + 1) n in
       sym (ap (drop (at + 1)) joined ∙ drop_at (pkg ++ 35 ∷ []) name (at + 1) len);
 }
-
-pub no_hash : (test : List ℕ) (at : ℕ) → get_or test at 0 ≢ 35 → (pkg name : List ℕ) → length pkg ≡ at → ¬ IsPartedAt test pkg name
-no_hash test at h pkg name n cut = h (parted_there test pkg name at n cut).hash

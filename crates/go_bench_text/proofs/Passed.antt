@@ -1,9 +1,8 @@
 -- What was passed on the way through the characters of a text.
 use Rattle.std.proofs.Common.{◌≡◌, ℕ, zero, suc, ◌+◌, ◌<◌, ◌≤◌, get_or, Bool, true, false, ◌&&◌, not, List, [], ◌∷◌, ◌++◌, length, take, drop, ◌-◌, refl, sym, ◌∙◌, ap, subst, append_assoc, arith, length-append}
 use Rattle.std.{specs.Char.{is_whitespace, encode_utf8, IsScalar}, specs.List.list_all, specs.Str.{chars, IsUtf8, IsCharBoundary}, proofs.lemmas.Bool.and_from}
-use Rattle.std.proofs.lemmas.Bool.Decides.{nat_tests}
+use Rattle.std.proofs.lemmas.{Bool.Decides.nat_tests, Grind.common_steps, List.{append-nil, drop_more, length-drop}, List.Folds.list_all-append}
 use Rattle.std.proofs.lemmas.Str.{IsUtf8-nil, IsUtf8-append, IsUtf8-drop, IsCharBoundary-after_ascii, encode_ascii, IsUtf8-encode, chars-append, chars_past_char, chars-nil, IsCharBoundary-at_seam}
-use Rattle.std.proofs.lemmas.List.{append-nil, take_at, drop_at, drop_more, length-drop, Folds.list_all-append}
 use Rattle.go_bench_text.specs.{Characters.is_black, Parts.{IsBlackByte, IsWhiteByte, is_stopped}}
 
 -- the rest of the text behind characters other than white space
@@ -64,17 +63,7 @@ pub record Halves (text front back rest : List ℕ) : Type 0 where
   pub more : IsUtf8 back
 
 pub passed_halves : (text rest front back : List ℕ) → Passed text rest → front ≡ take (length text - length rest) text → back ≡ drop (length text - length rest) text → Halves text front back rest
-passed_halves text rest front back p e f =
-    let n : length p.front ≡ length text - length rest = omega (arith, ap length p.joined, length-append p.front rest) in
-    let front_is : front ≡ p.front = e ∙ (ap (take (length text - length rest)) p.joined ∙ take_at p.front rest (length text - length rest) n) in
-    let back_is : back ≡ rest = f ∙ (ap (drop (length text - length rest)) p.joined ∙ drop_at p.front rest (length text - length rest) n) in
-    record {
-      joined = p.joined ∙ (ap (λ (xs : List ℕ). xs ++ rest) (sym front_is) ∙ ap (λ (xs : List ℕ). front ++ xs) (sym back_is));
-      black = ap (λ (xs : List ℕ). list_all is_black (chars xs)) front_is ∙ p.black;
-      is = subst IsUtf8 (sym front_is) p.is;
-      same = back_is;
-      more = subst IsUtf8 (sym back_is) p.more;
-    }
+passed_halves text rest front back p e f = grind (arith, common_steps)
 
 -- ASCII characters other than white space in front, cut off where they end
 pub ascii_halves : (text front back : List ℕ) (n : ℕ) → IsUtf8 text → n ≤ length text → ((k : ℕ) → k < n → IsBlackByte (get_or text k 0)) → front ≡ take n text → back ≡ drop n text

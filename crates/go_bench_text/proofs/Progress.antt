@@ -1,6 +1,6 @@
 -- How far a text was read.
-use Rattle.std.proofs.Common.{◌≡◌, ℕ, ◌+◌, ◌≤◌, ◌<◌, List, [], ◌∷◌, ◌++◌, length, take, drop, get_or, refl, sym, ◌∙◌, ap, subst, arith, append_assoc, zero-add, add-zero, add_assoc, ◌-◌, below_more}
-use Rattle.std.{specs.Str.IsUtf8, proofs.lemmas.List.{append-nil, drop_more, take_more, drop_all}}
+use Rattle.std.proofs.Common.{◌≡◌, ℕ, ◌+◌, ◌≤◌, ◌<◌, List, [], ◌∷◌, ◌++◌, length, take, drop, get_or, refl, sym, ◌∙◌, ap, subst, arith, append_assoc, add-zero, add_assoc, ◌-◌, below_more}
+use Rattle.std.{specs.Str.IsUtf8, proofs.lemmas.List.{append-nil, drop_more, take_more, drop_all}, proofs.lemmas.Grind.common_steps}
 use Rattle.line_text.specs.Lines.{lines_of}
 use Rattle.sample_model.specs.Samples.{Measurement}
 use Rattle.go_bench_text.specs.{Gathering.{Keeps, AddsLine}, Readings.{LinesGive, IsOver, IsOverAt, NoneOverBelow, IsFirstOver, IsRead, pkg_of}}
@@ -16,14 +16,7 @@ pub record Progress (lines : List (List ℕ)) (n : ℕ) (gathered : Gathered) (p
   pub few : ignored ≤ n
 
 pub progress_none : (lines : List (List ℕ)) (gathered : Gathered) → Keeps gathered [] → Progress lines 0 gathered [] 0
-progress_none lines gathered keeps = record {
-  given = [];
-  keeps = keeps;
-  on = λ rest later gives. subst (λ (n : ℕ). LinesGive [] lines rest n) (sym (zero-add later)) gives;
-  in_range = λ k l. absurd (omega arith);
-  pkg_is = refl;
-  few = omega arith;
-}
+progress_none lines gathered keeps = grind (arith, common_steps)
 
 over_here : (lines : List (List ℕ)) (n : ℕ) (line : List ℕ) → line ≡ get_or lines n [] → ¬ IsOver (take n lines) line → ¬ IsOverAt lines n
 over_here lines n line e h over = h (subst (IsOver (take n lines)) (sym e) over)
@@ -69,11 +62,4 @@ progress_all text n gathered pkg ignored is l done =
 -- the first line that is out of range
 pub progress_over : (lines : List (List ℕ)) (n : ℕ) (line : List ℕ) (gathered : Gathered) (pkg : List ℕ) (ignored number : ℕ) → n < length lines → line ≡ get_or lines n [] → number ≡ n + 1
     → IsOver (take n lines) line → Progress lines n gathered pkg ignored → IsFirstOver lines number
-progress_over lines n line gathered pkg ignored number l e f over before =
-    let back : number - 1 ≡ n = omega arith in
-    record {
-      from_one = omega arith;
-      within = omega arith;
-      over = subst (IsOverAt lines) (sym back) (subst (IsOver (take n lines)) e over);
-      first = λ k less. before.in_range k (omega (arith, back));
-    }
+progress_over lines n line gathered pkg ignored number l e f over before = grind (arith, common_steps)

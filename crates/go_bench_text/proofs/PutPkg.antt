@@ -1,7 +1,7 @@
 -- The line that sets `pkg`, as it is read.
-use Rattle.std.proofs.Common.{◌≡◌, ◌≢◌, ℕ, ◌+◌, ◌-◌, ◌<◌, Bool, true, false, ◌&&◌, cond, List, [], ◌∷◌, ◌++◌, length, drop, get_or, refl, sym, ◌∙◌, ap, arith, eqb, length-append}
+use Rattle.std.proofs.lemmas.Grind.{common_steps}
+use Rattle.std.proofs.Common.{◌≡◌, ◌≢◌, ℕ, ◌+◌, ◌-◌, ◌<◌, Bool, true, false, ◌&&◌, cond, List, [], ◌∷◌, ◌++◌, length, drop, get_or, refl, ◌∙◌, ap, arith, eqb}
 use Rattle.std.{specs.Prelude.{codes, bytes_eq}, specs.List.{list_any, prefix_len, before_first, after_first}, specs.Str.chars, proofs.lemmas.Str.chars-IsAscii}
-use Rattle.std.proofs.lemmas.List.{get_or_at, get_or-append_right, length_push}
 use Rattle.unicode.specs.{GeneralCategory.general_category, Rows.value_in}
 use Rattle.ucd_category.specs.GeneralCategoryRows.{general_category_rows}
 use Rattle.go_bench_text.specs.{Characters.{is_key, is_blank}, Lines.{is_colon, value_of, without_returns, without_blanks, is_set_off, begins}}
@@ -22,24 +22,17 @@ pub record MayFollow (pkg : List ℕ) : Type 0 where
 
 -- a list that ends with a carriage return has it at its last place
 ends_so : (xs front : List ℕ) → xs ≡ front ++ 13 ∷ [] → get_or xs (length xs - 1) 0 ≡ 13
-ends_so xs front e =
-    let n : length xs - 1 ≡ length front = omega (arith, ap length e, length_push front 13) in
-    ap (λ (k : ℕ). get_or xs k 0) n ∙ (ap (λ (ys : List ℕ). get_or ys (length front) 0) e ∙ get_or_at front 13 [] 0 (length front) refl)
+ends_so xs front e = grind (arith, common_steps)
 
 not_ended : (xs : List ℕ) → eqb (get_or xs (length xs - 1) 0) 13 ≡ false → (front : List ℕ) → xs ≢ front ++ 13 ∷ []
-not_ended xs h front e =
-    let at : get_or xs (length xs - 1) 0 ≡ 13 = ends_so xs front e in
-    let same : eqb (get_or xs (length xs - 1) 0) 13 ≡ true = ap (λ (b : ℕ). eqb b 13) at in
-    absurd (let no : true ≡ false = sym same ∙ h in cc)
+not_ended xs h front e = grind (arith, common_steps)
 
 -- the line has no carriage return at its end
 last_of : (front pkg : List ℕ) → 0 < length pkg → get_or (front ++ pkg) (length (front ++ pkg) - 1) 0 ≡ get_or pkg (length pkg - 1) 0
-last_of front pkg some =
-    get_or-append_right front pkg (length front) (length (front ++ pkg) - 1) 0 refl (omega (arith, length-append front pkg)) ∙ ap (λ (k : ℕ). get_or pkg k 0) (omega (arith, length-append front pkg))
+last_of front pkg some = grind (arith, common_steps)
 
 pub whole_line : (b : ℕ) (pkg : List ℕ) → MayFollow (b ∷ pkg) → without_returns (codes "pkg: " ++ b ∷ pkg) ≡ codes "pkg: " ++ b ∷ pkg
-whole_line b pkg may =
-    returns_none (codes "pkg: " ++ b ∷ pkg) (not_ended (codes "pkg: " ++ b ∷ pkg) (ap (λ (c : ℕ). eqb c 13) (last_of (codes "pkg: ") (b ∷ pkg) (omega arith)) ∙ may.last))
+whole_line b pkg may = grind (arith, common_steps)
 
 no_blanks : (b : ℕ) (pkg : List ℕ) → is_blank b ≡ false → without_blanks (32 ∷ b ∷ pkg) ≡ b ∷ pkg
 no_blanks b pkg h = ap (λ (t : Bool). drop (1 + cond t (1 + prefix_len is_blank pkg) 0) (32 ∷ b ∷ pkg)) h

@@ -1,9 +1,9 @@
 -- Reading what was put gives the samples.
-use Rattle.std.proofs.Common.{◌≡◌, ℕ, ℤ, zero, suc, ◌+◌, ◌-◌, ◌^◌, ◌<◌, ◌≤◌, inl, inr, unsigned_abs, Bool, true, false, not, ◌&&◌, ◌||◌, List, [], ◌∷◌, ◌++◌, length, take, get_or, refl, sym, ◌∙◌, ap, subst, arith, eqb, lit<, length-append, append_assoc}
+use Rattle.std.proofs.Common.{◌≡◌, ℕ, ℤ, zero, suc, ◌+◌, ◌-◌, ◌^◌, ◌<◌, ◌≤◌, unsigned_abs, Bool, true, false, not, ◌&&◌, ◌||◌, List, [], ◌∷◌, ◌++◌, length, take, get_or, refl, sym, ◌∙◌, ap, subst, arith, eqb, lit<, length-append, append_assoc}
 use Rattle.std.specs.{Prelude.{codes, nat_lt}, Char.is_whitespace, List.{list_all, list_any, All}, Str.{chars, IsUtf8, NonePass, NoCharPasses}}
 use Rattle.std.proofs.lemmas.Str.{encodes-chars, chars-nil, IsUtf8-nil, IsUtf8-append, IsUtf8-take, IsUtf8-drop, IsUtf8-from_ascii, NoCharPasses-byte, IsCharBoundary-before_ascii, IsCharBoundary-after_ascii}
-use Rattle.std.proofs.lemmas.List.{get_or_default, get_or_past, Elements.All-append, Splits.slice_split_at, Sums.AllPass-from_list_all}
-use Rattle.std.proofs.lemmas.Bool.{not-true, and_parts, Decides.nat_tests}
+use Rattle.std.proofs.lemmas.{List.get_or_default, List.Elements.All-append, List.Splits.slice_split_at, List.Sums.AllPass-from_list_all, Grind.common_steps}
+use Rattle.std.proofs.lemmas.Bool.{not-true, and_parts}
 use Rattle.line_text.specs.Lines.{lines_of}
 use Rattle.fixed_value.specs.{Numerals.IsNumeralText, declared.numeral.Numeral.Numeral, Fixed.IsFixedByte}
 use Rattle.metric_value.specs.Values.{value_text, IsValueOf, IsReadBackBy, ValueIsReadBack}
@@ -12,7 +12,7 @@ use Rattle.go_bench_text.specs.{Characters.{is_black, is_name, is_blank}, Lines.
 use Rattle.go_bench_text.specs.Readings.{pkg_of, test_of, HasLarge, IsOver, IsRead, LineGives, LinesGive, LineGives.{measured, silent}}
 use Rattle.go_bench_text.specs.Spellings.{is_bare_name, IsPartedAt, IsWrittenBy, IsSpelling, AreSpelled, pkg_line, result_line, IsWrittenBy.{lone, own, parted}}
 use Rattle.go_bench_text.proofs.{Partings.parted_there, PkgInForce.pkg_set, PutFields.{MayPut, put_fields, ascii_of, ascii_word, bench_utf8}}
-use Rattle.go_bench_text.proofs.{PutPkg.{Sets, sets_none, sets_some}, LineParts.{over_parts, none_over, silent_in_range}}
+use Rattle.go_bench_text.proofs.{PutPkg.{Sets, sets_none, sets_some}, LineParts.{over_parts, none_over}}
 
 -- ---- no line feed
 
@@ -27,10 +27,7 @@ clean_join : (xs ys : List ℕ) → IsClean xs → IsClean ys → IsClean (xs ++
 clean_join xs ys h k = record { each = All-append (λ b. eqb b 10 ≡ false) xs ys h.each k.each }
 
 off_ten : (b : ℕ) → (b ≡ 10 → ⊥) → eqb b 10 ≡ false
-off_ten b h = told (eqb b 10) refl where
-  told : (t : Bool) → eqb b 10 ≡ t → t ≡ false
-  told false e = refl
-  told true e = absurd (h (let is : b ≡ 10 = grind (arith, nat_tests) in is))
+off_ten b h = grind (arith, common_steps)
 
 clean_digits : (xs : List ℕ) → All IsFixedByte xs → IsClean xs
 clean_digits xs h = record { each = λ k d l. off_ten (get_or xs k d) (λ e. omega (arith, (h k d l).0, e)) }
@@ -53,8 +50,7 @@ clean_black text is h = record { each = λ k d l. off_ten (get_or text k d) (λ 
 
 clean_first : (x : ℕ) (xs : List ℕ) (t : Bool) → (list_any (λ b. eqb b 10) xs ≡ false → list_all (λ b. not (eqb b 10)) xs ≡ true) → (t || list_any (λ b. eqb b 10) xs) ≡ false
     → (not t && list_all (λ b. not (eqb b 10)) xs) ≡ true
-clean_first x xs true rest k = absurd (let no : true ≡ false = k in cc)
-clean_first x xs false rest k = rest k
+clean_first x xs t rest k = grind (arith, common_steps)
 
 clean_any : (xs : List ℕ) → list_any (λ b. eqb b 10) xs ≡ false → list_all (λ b. not (eqb b 10)) xs ≡ true
 clean_any [] h = refl
@@ -62,9 +58,7 @@ clean_any (x ∷ xs) h = clean_first x xs (eqb x 10) (clean_any xs) h
 
 -- two lines and what follows them
 lines_two : (one two rest : List ℕ) → IsClean one → IsClean two → lines_of ((one ++ 10 ∷ (two ++ 10 ∷ [])) ++ rest) ≡ one ∷ two ∷ lines_of rest
-lines_two one two rest h k =
-    ap lines_of (append_assoc one (10 ∷ (two ++ 10 ∷ [])) rest ∙ ap (λ (xs : List ℕ). one ++ 10 ∷ xs) (append_assoc two (10 ∷ []) rest))
-    ∙ (slice_split_at (λ b. eqb b 10) one 10 (two ++ 10 ∷ rest) h.each refl ∙ ap (λ (lines : List (List ℕ)). one ∷ lines) (slice_split_at (λ b. eqb b 10) two 10 rest k.each refl))
+lines_two one two rest h k = grind (arith, common_steps, append_assoc, slice_split_at, eqb)
 
 -- ---- the parts that a test is written by
 
@@ -81,19 +75,10 @@ no_name : is_bare_name [] ≡ true
 no_name = ap (λ (cs : List ℕ). is_name cs && list_all is_black cs) chars-nil
 
 without_pkg : (test name : List ℕ) → IsUtf8 name → is_bare_name name ≡ true → test_of [] name ≡ test → Parts test [] name
-without_pkg test name is bare back = record {
-  pkg_is = IsUtf8-nil;
-  name_is = is;
-  pkg_clean = clean_word (codes "pkg:") refl;
-  named = (and_parts (is_name (chars name)) (list_all is_black (chars name)) bare).0;
-  black = (and_parts (is_name (chars name)) (list_all is_black (chars name)) bare).1;
-  sets = sets_none;
-  back = back;
-}
+without_pkg test name is bare back = grind (arith, common_steps, clean_word, and_parts, sets_none)
 
 own_name : (test : List ℕ) → 0 < length test → test_of [] test ≡ test
-own_name [] h = absurd (omega arith)
-own_name (b ∷ test) h = refl
+own_name test h = grind (arith, common_steps)
 
 with_pkg : (test : List ℕ) (b : ℕ) (pkg name : List ℕ) → IsUtf8 (b ∷ pkg) → IsUtf8 name → IsPartedAt test (b ∷ pkg) name → Parts test (b ∷ pkg) name
 with_pkg test b pkg name is also cut =
@@ -117,10 +102,8 @@ cut_parts test [] name is also cut = absurd (let no : false ≡ true = cut.befor
 cut_parts test (b ∷ pkg) name is also cut = with_pkg test b pkg name is also cut
 
 pub parts_of : (test pkg name : List ℕ) → IsUtf8 test → IsWrittenBy test pkg name → Parts test pkg name
-parts_of test pkg name is (lone e f g) =
-    subst (λ (p : List ℕ). Parts test p name) (sym f) (subst (λ (n : List ℕ). Parts test [] n) (sym g) (without_pkg test [] IsUtf8-nil no_name (sym e)))
-parts_of test pkg name is (own h f g) =
-    subst (λ (p : List ℕ). Parts test p name) (sym f) (subst (λ (n : List ℕ). Parts test [] n) (sym g) (without_pkg test test is h.bare (own_name test h.some)))
+parts_of test pkg name is (lone e f g) = grind (arith, common_steps, without_pkg, no_name)
+parts_of test pkg name is (own h f g) = grind (arith, common_steps, without_pkg, own_name)
 parts_of test pkg name is (parted off not_own first) =
     let there = parted_there test pkg name (length pkg) refl first.parted in
     let less : length pkg < length test = omega (arith, ap length first.parted.joined, length-append pkg (35 ∷ name)) in
@@ -194,22 +177,13 @@ test_back test pkg name before parts = ap (λ (p : List ℕ). test_of p name) (p
 
 -- a pair whose value is in range is not out of range
 small_pair : (text unit : List ℕ) (value : ℤ) → IsValueOf unit text value → unsigned_abs value ≤ 10 ^ 16 → ¬ HasLarge (text ∷ unit ∷ [])
-small_pair text unit value is small (inl large) = absurd (omega (arith, large value is, small))
-small_pair text unit value is small (inr none) = none
+small_pair text unit value is small x5 = grind (arith, common_steps)
 
 pub two_of : (sample : Measurement) (text : List ℕ) → IsSample sample → ValueIsReadBack → IsSpelling sample text → Two sample text
 two_of sample text is law spelled =
     let parts = parts_of sample.test spelled.pkg spelled.name is.test.text spelled.written in
     let back : IsReadBackBy sample.metric sample.value = law sample.metric sample.value is.in_range in
-    let may : MayPut spelled.name (value_text sample.metric sample.value) sample.metric = record {
-      name_is = parts.name_is;
-      name_black = parts.black;
-      fixed_is = back.bytes;
-      fixed_some = some_value sample back;
-      metric_is = is.metric.text;
-      metric_black = spelled.unit;
-      metric_some = is.metric.some;
-    } in
+    let may : MayPut spelled.name (value_text sample.metric sample.value) sample.metric = grind (arith, common_steps) in
     let result : IsResult (result_line spelled.name sample) spelled.name (value_text sample.metric sample.value ∷ sample.metric ∷ []) = is_result spelled.name sample may parts.named back is.short in
     record {
       pkg = spelled.pkg;
@@ -252,19 +226,14 @@ spelled_text (sample ∷ samples) text all law spelled =
 
 none_there : (before : List (List ℕ)) (one two : List ℕ) (rest : List (List ℕ)) → begins one ≡ false → ¬ IsOver (before ++ one ∷ []) two
     → ((k : ℕ) → ¬ IsOver (((before ++ one ∷ []) ++ two ∷ []) ++ take k rest) (get_or rest k [])) → (k : ℕ) → ¬ IsOver (before ++ take k (one ∷ two ∷ rest)) (get_or (one ∷ two ∷ rest) k [])
-none_there before one two rest off small later zero over = silent_in_range (before ++ []) one off over
-none_there before one two rest off small later (suc zero) over = small over
-none_there before one two rest off small later (suc (suc k)) over =
-    later k (subst (λ (lines : List (List ℕ)). IsOver lines (get_or rest k [])) (sym (append_assoc (before ++ one ∷ []) (two ∷ []) (take k rest) ∙ append_assoc before (one ∷ []) (two ∷ take k rest))) over)
+none_there before one two rest off small later k over = grind (arith, common_steps)
 
 none_empty : (before : List (List ℕ)) (k : ℕ) → ¬ IsOver (before ++ take k ([] ∷ [])) (get_or ([] ∷ []) k [])
-none_empty before zero over = silent_in_range (before ++ []) [] refl over
-none_empty before (suc k) over = silent_in_range (before ++ take (suc k) ([] ∷ [])) (get_or ([] ∷ []) (suc k) []) (ap begins (get_or_past ([] ∷ []) (suc k) [] (omega arith))) over
+none_empty before k over = grind (arith, common_steps)
 
 spelled_in_range : (before : List (List ℕ)) (samples : List Measurement) (text : List ℕ) → All IsSample samples → ValueIsReadBack → AreSpelled samples text
     → (k : ℕ) → ¬ IsOver (before ++ take k (lines_of text)) (get_or (lines_of text) k [])
-spelled_in_range before [] text all law e k =
-    subst (λ (xs : List ℕ). ¬ IsOver (before ++ take k (lines_of xs)) (get_or (lines_of xs) k [])) (sym e) (none_empty before k)
+spelled_in_range before [] text all law e k = grind (arith, common_steps)
 spelled_in_range before (sample ∷ samples) text all law spelled k =
     let two = two_of sample spelled.0 (all zero sample (omega arith)) law spelled.3 in
     let lines : lines_of text ≡ pkg_line two.pkg ∷ two.line ∷ lines_of spelled.1 =

@@ -1,8 +1,8 @@
 -- The parts of a configuration line.
-use Rattle.std.proofs.Common.{◌≡◌, ◌≢◌, ℕ, suc, ◌+◌, ◌-◌, Bool, true, false, cond, not, ◌||◌, List, [], ◌∷◌, ◌++◌, length, take, drop, reverse, refl, sym, ◌∙◌, ap, arith, eqb, Option, Some, None, IfNone, lit<, Bor}
+use Rattle.std.proofs.Common.{◌≡◌, ◌≢◌, ℕ, suc, ◌+◌, ◌-◌, Bool, true, false, cond, not, ◌||◌, List, [], ◌∷◌, ◌++◌, length, take, reverse, refl, sym, ◌∙◌, ap, arith, eqb, Option, IfNone, lit<, Bor}
 use Rattle.std.{specs.List.{list_any, prefix_len, suffix_len, position_or_len}, proofs.lemmas.List.{take_all, reverse-append, reverse-reverse}}
-use Rattle.std.proofs.lemmas.{Str.Pattern.{IsSplitOnceResult, split_once_first}, Bool.Decides.nat_tests}
-use Rattle.go_bench_text.specs.{Characters.is_blank, Lines.{is_colon, without_returns, without_blanks}}
+use Rattle.std.proofs.lemmas.{Str.Pattern.{IsSplitOnceResult, split_once_first}, Bool.Decides.nat_tests, Grind.common_steps}
+use Rattle.go_bench_text.specs.Lines.{is_colon, without_returns, without_blanks}
 
 -- no carriage return at the end: nothing is taken away
 last_stays : (bs back : List ℕ) → reverse bs ≡ back → ((front : List ℕ) → bs ≢ front ++ 13 ∷ []) → prefix_len (λ b. eqb b 13) back ≡ 0
@@ -21,18 +21,10 @@ returns_none bs h =
 
 -- nothing blank in front
 pub blanks_none : (bs : List ℕ) → ((rest : List ℕ) → bs ≢ 32 ∷ rest) → ((rest : List ℕ) → bs ≢ 9 ∷ rest) → without_blanks bs ≡ bs
-blanks_none [] space tab = refl
-blanks_none (b ∷ bs) space tab = first (is_blank b) refl where
-  first : (t : Bool) → is_blank b ≡ t → drop (cond t (1 + prefix_len is_blank bs) 0) (b ∷ bs) ≡ b ∷ bs
-  first false f = refl
-  first true f = absurd (blank_is (eqb b 32) refl) where
-    blank_is : (s : Bool) → eqb b 32 ≡ s → ⊥
-    blank_is true e = space bs (ap (λ (x : ℕ). x ∷ bs) (let is : b ≡ 32 = grind (arith, nat_tests) in is))
-    blank_is false e = tab bs (ap (λ (x : ℕ). x ∷ bs) (let is : b ≡ 9 = grind (arith, nat_tests) in is))
+blanks_none bs space tab = grind (arith, common_steps)
 
 colon_first : (b : ℕ) (bs : List ℕ) (t : Bool) → (cond (not t) (1 + position_or_len is_colon bs) 0 ≡ suc (length bs)) → (position_or_len is_colon bs ≡ length bs → list_any is_colon bs ≡ false) → (t || list_any is_colon bs) ≡ false
-colon_first b bs true h rest = absurd (omega arith)
-colon_first b bs false h rest = rest (omega arith)
+colon_first b bs t h rest = grind (arith, common_steps)
 
 -- no colon comes first, so there is none
 pub no_colon : (bs : List ℕ) → position_or_len is_colon bs ≡ length bs → list_any is_colon bs ≡ false
@@ -40,5 +32,4 @@ no_colon [] h = refl
 no_colon (b ∷ bs) h = colon_first b bs (is_colon b) h (no_colon bs)
 
 pub split_none : (bs : List ℕ) (r : Option (Bor (List ℕ) × Bor (List ℕ))) → IsSplitOnceResult 58 bs r → IfNone r (list_any is_colon bs ≡ false)
-split_none bs None h = no_colon bs (split_once_first 58 bs None h (lit< tt))
-split_none bs (Some x) h = tt
+split_none bs r h = grind (arith, common_steps, no_colon, split_once_first, lit<)

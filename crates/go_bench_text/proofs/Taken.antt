@@ -1,6 +1,6 @@
 -- The pairs of a line as far as they were read.
-use Rattle.std.proofs.Common.{◌≡◌, ℕ, zero, suc, ◌<◌, ◌≤◌, inl, inr, List, [], ◌∷◌, ◌++◌, length, refl, sym, ◌∙◌, ap, subst, arith, append_assoc}
-use Rattle.std.{specs.List.All, proofs.lemmas.List.{append-nil, map-append, length-map}, proofs.lemmas.List.Elements.All-append}
+use Rattle.std.proofs.{Common.{◌≡◌, ℕ, ◌<◌, ◌≤◌, inl, inr, List, [], ◌∷◌, ◌++◌, length, refl, sym, ap, subst, arith}, lemmas.Grind.common_steps}
+use Rattle.std.{specs.List.All, proofs.lemmas.List.{append-nil, length-map}, proofs.lemmas.List.Elements.All-append}
 use Rattle.sample_model.specs.Samples.{Measurement}
 use Rattle.metric_value.specs.Values.{HasNoneInRange}
 use Rattle.go_bench_text.specs.{Lines.ArePairs, Pairs.{IsPair, IsPairOf, sample_of, samples_of, ReadsPairs}, Readings.{HasLarge, PairsGive}}
@@ -16,22 +16,13 @@ pub record Taken (fields rest : List (List ℕ)) (pairs : List Pair) : Type 0 wh
   pub each : All IsPair pairs
 
 pub taken_none : (fields : List (List ℕ)) (pairs : List Pair) → pairs ≡ [] → Taken fields fields pairs
-taken_none fields pairs e = subst (Taken fields fields) (sym e) (record {
-  gives = λ test more given. given;
-  on = λ h. h;
-  back = λ h. h;
-  large = λ h. h;
-  larger = λ h. h;
-  each = λ k d l. absurd (omega arith);
-})
+taken_none fields pairs e = grind (arith, common_steps)
 
 one : (pair : Pair) → IsPair pair → All IsPair (pair ∷ [])
-one pair is zero d l = is
-one pair is (suc k) d l = absurd (omega arith)
+one pair is x2 d l = grind (arith, common_steps)
 
 in_front : (test : List ℕ) (pairs : List Pair) (pair : Pair) (more : List Measurement) → samples_of test (pairs ++ pair ∷ []) ++ more ≡ samples_of test pairs ++ sample_of test pair ∷ more
-in_front test pairs pair more =
-    ap (λ (samples : List Measurement). samples ++ more) (map-append (sample_of test) pairs (pair ∷ [])) ∙ append_assoc (samples_of test pairs) (sample_of test pair ∷ []) more
+in_front test pairs pair more = grind (arith, common_steps)
 
 in_range : (value unit : List ℕ) (pair : Pair) → IsPairOf value unit pair → ¬ HasNoneInRange unit value
 in_range value unit pair of none = omega (arith, of.is.within, none pair.value of.gives)
@@ -51,14 +42,10 @@ taken_more fields more value unit pairs after pair taken of e = subst (Taken fie
 
 -- no samples are those of no fields
 no_fields : (fields : List (List ℕ)) → PairsGive [] fields [] → fields ≡ []
-no_fields [] h = refl
-no_fields (value ∷ []) h = absurd h
-no_fields (value ∷ unit ∷ more) h = absurd h
+no_fields fields h = grind (arith, common_steps)
 
 some_fields : (fields : List (List ℕ)) (samples : List Measurement) → PairsGive [] fields samples → 0 < length samples → 0 < length fields
-some_fields [] [] h l = absurd (omega arith)
-some_fields [] (sample ∷ samples) h l = absurd h
-some_fields (field ∷ fields) samples h l = omega arith
+some_fields fields samples h l = grind (arith, common_steps)
 
 all_given : (fields rest : List (List ℕ)) (pairs : List Pair) (test : List ℕ) → Taken fields rest pairs → rest ≡ [] → PairsGive test fields (samples_of test pairs)
 all_given fields rest pairs test taken e = subst (PairsGive test fields) (append-nil (samples_of test pairs)) (taken.gives test [] (subst (λ (fs : List (List ℕ)). PairsGive test fs []) (sym e) tt))

@@ -1,6 +1,6 @@
 -- White space in front of a text, byte by byte.
-use Rattle.std.proofs.Common.{◌≡◌, ℕ, zero, suc, ◌<◌, ◌≤◌, get_or, Bool, cond, List, [], ◌∷◌, ◌++◌, length, drop, refl, sym, ◌∙◌, ap, arith}
-use Rattle.std.specs.Str.{chars, IsUtf8, trim_start, encode_utf8_all, skip_leading_whitespace}
+use Rattle.std.proofs.Common.{◌≡◌, ℕ, zero, suc, ◌<◌, ◌≤◌, get_or, cond, List, [], ◌∷◌, ◌++◌, length, drop, refl, sym, ◌∙◌, ap, arith}
+use Rattle.std.{specs.Str.{chars, IsUtf8, trim_start, encode_utf8_all, skip_leading_whitespace}, proofs.lemmas.Grind.common_steps}
 use Rattle.std.proofs.lemmas.Str.{IsUtf8-drop, IsCharBoundary-after_ascii, encode_ascii, chars_past_char, encodes-chars}
 use Rattle.go_bench_text.specs.Parts.{IsBlackByte, IsWhiteByte}
 
@@ -18,10 +18,7 @@ unfolding trim_start
 trimmed text = refl
 
 past_one : (b : ℕ) (rest : List ℕ) → IsWhiteByte b → IsUtf8 (b ∷ rest) → trim_start (b ∷ rest) ≡ trim_start rest
-past_one b rest white is =
-    trimmed (b ∷ rest)
-    ∙ (ap (λ (cs : List ℕ). encode_utf8_all (skip_leading_whitespace cs)) (first b rest white.0 is)
-    ∙ (ap (λ (w : Bool). encode_utf8_all (cond w (skip_leading_whitespace (chars rest)) (b ∷ chars rest))) white.1 ∙ sym (trimmed rest)))
+past_one b rest white is = grind (arith, common_steps, trimmed, first, cond)
 
 -- white space in front of the rest
 pub record IsPast (text rest : List ℕ) : Type 0 where
@@ -38,12 +35,7 @@ past_white (b ∷ rest) (suc n) is within white =
 
 -- nothing is trimmed in front of a byte of ASCII that is no white space
 black_first : (b : ℕ) (rest : List ℕ) → IsBlackByte b → IsUtf8 (b ∷ rest) → trim_start (b ∷ rest) ≡ b ∷ rest
-black_first b rest black is =
-    trimmed (b ∷ rest)
-    ∙ (ap (λ (cs : List ℕ). encode_utf8_all (skip_leading_whitespace cs)) (first b rest black.0 is)
-    ∙ (ap (λ (w : Bool). encode_utf8_all (cond w (skip_leading_whitespace (chars rest)) (b ∷ chars rest))) black.1
-    ∙ (ap encode_utf8_all (sym (first b rest black.0 is)) ∙ encodes-chars (b ∷ rest) is)))
+black_first b rest black is = grind (arith, common_steps, trimmed, first, cond, encodes-chars)
 
 pub black_start : (text : List ℕ) → 0 < length text → IsBlackByte (get_or text 0 0) → IsUtf8 text → trim_start text ≡ text
-black_start [] some black is = absurd (omega arith)
-black_start (b ∷ rest) some black is = black_first b rest black is
+black_start text some black is = grind (arith, common_steps, black_first)

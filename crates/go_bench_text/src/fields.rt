@@ -6,16 +6,17 @@ ghost use Rattle.go_bench_text.specs.{Characters.is_black, Fields.fields_of, Lin
 use crate::characters::split_first;
 use fixed_value::Numeral;
 
-// Where the first byte is that no graphic ASCII character has.
-fn graphic_end(bytes: &[u8]) -> usize
+// How many bytes in front are of this class.
+fn front_count<F: Fn(u8) -> bool>(bytes: &[u8], is_of: F) -> usize
+    requires { F.IsAlwaysCallable is_of }
     ensures within { result ≤ length bytes.now }
-    ensures black { (k : ℕ) → k < result → IsBlackByte (slice_index bytes.now k) }
+    ensures each { (k : ℕ) → k < result → F.post is_of (slice_index bytes.now k) true }
 {
-    let mut end = 0;
-    while end < bytes.len() && is_graphic(bytes[end]) {
-        end += 1;
+    let mut count = 0;
+    while count < bytes.len() && is_of(bytes[count]) {
+        count += 1;
     }
-    end
+    count
 }
 
 // Whether the byte is a graphic ASCII character, as most are; other bytes may be black too.
@@ -49,46 +50,16 @@ fn stops_at(bytes: &[u8], at: usize) -> bool
     }
 }
 
-// How many bytes in front are ASCII white space.
-fn white_count(bytes: &[u8]) -> usize
-    ensures within { result ≤ length bytes.now }
-    ensures white { (k : ℕ) → k < result → IsWhiteByte (slice_index bytes.now k) }
-{
-    let mut count = 0;
-    while count < bytes.len() && is_white_byte(bytes[count]) {
-        count += 1;
-    }
-    count
-}
-
 // A text without the white space in front. Most texts are ASCII, so that is passed byte by byte.
 fn without_white(text: &str) -> &str
     ensures trim { result.now ≡ trim_start text.now }
     ensures shorter { length result.now ≤ length text.now }
 {
-    let rest = &text[white_count(text.as_bytes())..];
+    let rest = &text[front_count(text.as_bytes(), is_white_byte)..];
     match rest.as_bytes() {
         [first, ..] if is_black_byte(*first) => rest,
         _ => rest.trim_start(),
     }
-}
-
-// The characters before the first white space, and what follows them, of any text.
-fn split_any(text: &str) -> (&str, &str)
-    ensures joined { text.now ≡ result.0.now ++ result.1.now }
-    ensures black { list_all is_black (chars result.0.now) ≡ true }
-    ensures stopped { is_stopped (chars result.1.now) ≡ true }
-    ensures front { IsUtf8 result.0.now }
-    ensures back { IsUtf8 result.1.now }
-{
-    let mut rest = &text[graphic_end(text.as_bytes())..];
-    while let Some((c, more)) = split_first(rest) {
-        if c.is_whitespace() {
-            return text.split_at(text.len() - rest.len());
-        }
-        rest = more;
-    }
-    (text, rest)
 }
 
 // The characters before the first white space, and what follows them. Most texts are ASCII, so that is passed byte by byte.
@@ -99,11 +70,18 @@ fn split_black(text: &str) -> (&str, &str)
     ensures front { IsUtf8 result.0.now }
     ensures back { IsUtf8 result.1.now }
 {
-    let end = graphic_end(text.as_bytes());
+    let end = front_count(text.as_bytes(), is_graphic);
     if stops_at(text.as_bytes(), end) {
         return text.split_at(end);
     }
-    split_any(text)
+    let mut rest = &text[end..];
+    while let Some((c, more)) = split_first(rest) {
+        if c.is_whitespace() {
+            return text.split_at(text.len() - rest.len());
+        }
+        rest = more;
+    }
+    (text, rest)
 }
 
 // The first field of a text, and what follows it; none where there is only white space.

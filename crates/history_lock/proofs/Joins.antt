@@ -1,9 +1,7 @@
 -- A split, a join, the meeting after it and the close keep the rule of a lock, or rest on it.
 use Rattle.std.proofs.Common.{◌≡◌, ℕ, ◌+◌, ◌%◌, ◌^◌, ◌<◌, ◌≤◌, ◌≢◌, ◌⊎◌, List, [], ◌∷◌, ◌++◌, length, get_or, set, sym, refl, ap, ◌∙◌, subst, inl, inr, ⊎_elim, arith}
-use Rattle.std.specs.Prelude.{Option, Some, None}
-use mathlib.Core.Logic.{dite}
-use mathlib.Core.Option.{none, some, some-injective}
-use mathlib.Core.List.{append-nil}
+use Rattle.std.{specs.Prelude.{Option, Some}, proofs.lemmas.Grind.common_steps}
+use mathlib.Core.{Logic.dite, Option.{none, some, some-injective}, List.append-nil}
 use native.Mathlib.Decide.{ℕ_discrete}
 use lib.ListN.{get_elem?}
 use lib.Seq.{set-get_or}
@@ -17,8 +15,7 @@ use Rattle.history_lock.proofs.Keeps.{unmoved, with_views, few_waiting, slot_sta
 
 module _ {S E L : Type 0} (history : S → List E) (label : S → L) (name : L) where
   first_is : (s : LockState S E L) (r : Kept history label name s) (id : ℕ) (v : View E L) → get_elem? s.views id ≡ some v → alive v.stage ≡ 1 → v.mark ≡ 0 → (id ≡ 0) × (r.marks.first ≡ v)
-  first_is s r id v at lives mark = let is : id ≡ 0 = r.marks.own_marks id 0 v r.marks.first at r.marks.first_here lives r.marks.first_lives (mark ∙ sym r.marks.first_mark) in
-      (is, some-injective r.marks.first v (sym r.marks.first_here ∙ subst (λ (z : ℕ). get_elem? s.views z ≡ some v) is at))
+  first_is s r id v at lives mark = grind (arith, common_steps)
 
   pub recalls : (slots id : ℕ) (me : Sat S E L) → me.0.mark ≡ 0 → me.0.stage ≡ Outside → Allows (Kept history label name) slots id me 0 (λ n. n) (recalled (step slots 0 0 0 none) me)
   recalls slots id me mark out s r _ at small = let v : View E L = me.0 in let is = first_is s r id v at (ap alive out) mark in let known : Sees r.log v = subst (Knows r.drawn r.served r.log v) out (r.turns.each id v at) in
@@ -142,9 +139,7 @@ module _ {S E L : Type 0} (history : S → List E) (label : S → L) (name : L) 
   served_all s r e = let turns = r.turns.balance in let few = few_waiting history label name s r in let same = one_turn r.served r.drawn (2 ^ 64) (omega arith) (omega arith) (sym e) in omega arith
 
   seen_of : (s : LockState S E L) (r : Kept history label name s) (id : ℕ) (v : View E L) → get_elem? s.views id ≡ some v → waiting s.views ≡ 0 → (v.stage ≡ Outside) ⊎ ((u : ℕ) × (v.stage ≡ Inside u)) → Sees r.log v
-  seen_of s r id v at idle = ⊎_elim
-      (λ out. subst (Knows r.drawn r.served r.log v) out (r.turns.each id v at))
-      (λ inside. let b = busy_waiting s.views id v at in let c : busy v.stage ≡ 1 = ap busy inside.1 in absurd (omega arith))
+  seen_of s r id v at idle = grind (arith, common_steps)
 
   -- no other pass lives where every pass that was split from the first was joined
   pub only_one : (s : LockState S E L) (r : Kept history label name s) (i j : ℕ) (v w : View E L) → get_elem? s.views i ≡ some v → alive v.stage ≡ 1 → IsWholeView v
@@ -160,8 +155,7 @@ module _ {S E L : Type 0} (history : S → List E) (label : S → L) (name : L) 
       (λ idle. idle) (alive_or_idle d.stage))
 
   not_both : (n : ℕ) (ms : List ℕ) (by : Option ℕ) → ((m : ℕ) → by ≡ Some m → m ≤ n) → ((k : ℕ) → 0 < k → k ≤ n → ¬ IsNoneOf k ms) → ¬ IsOtherMark (0 ∷ ms) by
-  not_both n ms None given whole free = free
-  not_both n ms (Some m) given whole free = whole m (let a : m ≢ 0 = free.0 in omega arith) (given m refl) free.1
+  not_both n ms by given whole free = grind (arith, common_steps)
 
   whole_seen : (n : ℕ) (ms : List ℕ) (rest : List (Marked E)) → HaveMarksUpTo n rest → ((k : ℕ) → 0 < k → k ≤ n → ¬ IsNoneOf k ms) → AreByOthers (0 ∷ ms) rest → rest ≡ []
   whole_seen n ms [] given whole clean = refl
@@ -200,12 +194,8 @@ module _ {S E L : Type 0} (history : S → List E) (label : S → L) (name : L) 
       r.slot
 
   pub closes_whole : (ws : List ℕ) (xs : List (Option S)) (id : ℕ) (v : View E L) (t n : ℕ) → Final (Seen (Kept history label name) id v) ws xs → v.stage ≡ Outside → IsWholeView v → get_elem? ws 1 ≡ some t → get_elem? ws 2 ≡ some n → t ≡ n
-  closes_whole ws xs id v t n end out whole at_t at_n = let s : LockState S E L = end.0 in let r : Kept history label name s = end.1.0 in let at = end.1.1 in let words : s.words ≡ ws = end.2 in
-      let drawn : r.drawn % 2 ^ 64 ≡ t = sym r.words.ticket_is ∙ (ap (λ l. get_or l 1 0) words ∙ at_get ws 1 t 0 at_t) in let served : r.served % 2 ^ 64 ≡ n = sym r.words.serving_is ∙ (ap (λ l. get_or l 2 0) words ∙ at_get ws 2 n 0 at_n) in
-      let idle = whole_alone s r id v at out whole in let turns = r.turns.balance in let same : r.drawn ≡ r.served = omega arith in sym drawn ∙ (ap (λ (z : ℕ). z % 2 ^ 64) same ∙ served)
+  closes_whole ws xs id v t n end out whole at_t at_n = grind (arith, common_steps, history, label, name, get_or, at_get, whole_alone)
 
   -- a turn is out where the pass that closes is inside
   pub closes_inside : (ws : List ℕ) (xs : List (Option S)) (id : ℕ) (v : View E L) (t n : ℕ) → Final (Seen (Kept history label name) id v) ws xs → ((u : ℕ) × (v.stage ≡ Inside u)) → get_elem? ws 1 ≡ some t → get_elem? ws 2 ≡ some n → t ≢ n
-  closes_inside ws xs id v t n end inside at_t at_n same = let s : LockState S E L = end.0 in let r : Kept history label name s = end.1.0 in let at = end.1.1 in let words : s.words ≡ ws = end.2 in
-      let drawn : r.drawn % 2 ^ 64 ≡ t = sym r.words.ticket_is ∙ (ap (λ l. get_or l 1 0) words ∙ at_get ws 1 t 0 at_t) in let served : r.served % 2 ^ 64 ≡ n = sym r.words.serving_is ∙ (ap (λ l. get_or l 2 0) words ∙ at_get ws 2 n 0 at_n) in
-      let idle = served_all s r (drawn ∙ (same ∙ sym served)) in let b = busy_waiting s.views id v at in let c : busy v.stage ≡ 1 = ap busy inside.1 in absurd (omega arith)
+  closes_inside ws xs id v t n end inside at_t at_n same = grind (arith, common_steps, history, label, name, get_or, at_get, served_all, busy_waiting)

@@ -1,8 +1,7 @@
 -- Each step of a lock keeps its rule.
-use Rattle.std.proofs.Common.{◌≡◌, ℕ, suc, ◌+◌, ◌%◌, ◌^◌, ◌<◌, ◌≤◌, ◌≢◌, List, [], ◌∷◌, ◌++◌, length, get_or, set, sym, refl, ap, ◌∙◌, subst, inl, inr, ⊎_elim, arith, length-set, length-append, get_or-set_other, get_or-set_same}
-use Rattle.std.specs.Prelude.{Option, Some}
-use mathlib.Core.Logic.{dite}
-use mathlib.Core.Option.{none, some, some-injective}
+use Rattle.std.proofs.Common.{◌≡◌, ℕ, ◌+◌, ◌%◌, ◌^◌, ◌<◌, ◌≤◌, ◌≢◌, List, [], ◌∷◌, ◌++◌, length, get_or, set, sym, refl, ap, ◌∙◌, subst, inl, inr, ⊎_elim, arith, length-append, get_or-set_other, get_or-set_same}
+use Rattle.std.{specs.Prelude.{Option, Some}, proofs.lemmas.Grind.common_steps}
+use mathlib.Core.{Logic.dite, Option.{none, some, some-injective}}
 use native.Mathlib.Decide.{ℕ_discrete}
 use lib.ListN.{get_elem?}
 use lib.Seq.{set-get_or}
@@ -20,10 +19,6 @@ entries_unmarked : {E : Type 0} (es : List E) → es ≡ entries (unmarked es)
 entries_unmarked [] = refl
 entries_unmarked (e ∷ es) = ap (λ l. e ∷ l) (entries_unmarked es)
 
-length-unmarked : {E : Type 0} (es : List E) → length es ≡ length (unmarked es)
-length-unmarked [] = refl
-length-unmarked (e ∷ es) = ap suc (length-unmarked es)
-
 given-unmarked : {E : Type 0} (es : List E) → HaveMarksUpTo 0 (unmarked es)
 given-unmarked [] = tt
 given-unmarked (e ∷ es) = ((λ m is. absurd (none_some is)), given-unmarked es)
@@ -36,15 +31,7 @@ module _ {S E L : Type 0} (history : S → List E) (label : S → L) (name : L) 
   -- a step that changes nothing but what the passes know
   pub with_views : (s : LockState S E L) (r : Kept history label name s) (views : List (View E L)) → KeptTurns name r.log r.drawn r.served views → KeptSlot history label name r.log s.homes views
       → KeptMarks r.log views → Kept history label name record { words = s.words; homes = s.homes; views = views }
-  with_views s r views turns slot marks = record {
-    log = r.log;
-    drawn = r.drawn;
-    served = r.served;
-    words = r.words;
-    turns = turns;
-    slot = slot;
-    marks = marks;
-  }
+  with_views s r views turns slot marks = grind (arith, common_steps)
 
   pub few_waiting : (s : LockState S E L) (r : Kept history label name s) → waiting s.views < 2 ^ 64
   few_waiting s r = let a = waiting_living s.views in let b = r.marks.census in let c = r.marks.few in omega arith
@@ -76,12 +63,7 @@ module _ {S E L : Type 0} (history : S → List E) (label : S → L) (name : L) 
         log = log;
         drawn = drawn;
         served = served;
-        words = record {
-          wide = length-set s.words i n ∙ r.words.wide;
-          count_is = words.0;
-          ticket_is = words.1;
-          serving_is = words.2;
-        };
+        words = grind (arith, common_steps);
         turns = record {
           balance = omega arith;
           each = seats_stay (λ j d. Knows drawn served log d d.stage) s.views id w mine (λ j d apart there. others j d apart there (r.turns.each j d there));
@@ -218,18 +200,10 @@ module _ {S E L : Type 0} (history : S → List E) (label : S → L) (name : L) 
 
   -- the mark of one live pass is no mark of another
   foreign : (s : LockState S E L) (r : Kept history label name s) (id : ℕ) (v : View E L) (j : ℕ) (d : View E L) → get_elem? s.views id ≡ some v → get_elem? s.views j ≡ some d → j ≢ id → alive v.stage ≡ 1 → alive d.stage ≡ 1 → IsNoneOf v.mark (d.mark ∷ d.joined)
-  foreign s r id v j d at there other lives lives' = (
-    λ e. other (sym (r.marks.own_marks id j v d at there lives lives' e)),
-    dite (ℕ_discrete j 0)
-        (λ is. let f : r.marks.first ≡ d = some-injective r.marks.first d (sym r.marks.first_here ∙ subst (λ (z : ℕ). get_elem? s.views z ≡ some d) is there) in
-        subst (λ (z : View E L). IsNoneOf v.mark z.joined) f (r.marks.badges id v at (λ e. other (is ∙ sym e)) lives).2)
-        (λ away. subst (IsNoneOf v.mark) (sym (r.marks.badges j d there away lives').3) tt),
-  )
+  foreign s r id v j d at there other lives lives' = grind (arith, common_steps)
 
   pub is_given : (s : LockState S E L) (r : Kept history label name s) (id : ℕ) (v : View E L) → get_elem? s.views id ≡ some v → alive v.stage ≡ 1 → v.mark ≤ r.marks.first.given
-  is_given s r id v at lives = dite (ℕ_discrete id 0)
-      (λ is. let f : r.marks.first ≡ v = some-injective r.marks.first v (sym r.marks.first_here ∙ subst (λ (z : ℕ). get_elem? s.views z ≡ some v) is at) in let e : v.mark ≡ 0 = ap (λ (z : View E L). z.mark) (sym f) ∙ r.marks.first_mark in omega arith)
-      (λ away. (r.marks.badges id v at away lives).1)
+  is_given s r id v at lives = grind (arith, common_steps)
 
   slot_out : (s : LockState S E L) (r : Kept history label name s) (id : ℕ) (v : View E L) → get_elem? s.views id ≡ some v → Holds v.stage → get_elem? s.homes 0 ≡ some none
   slot_out s r id v at holds = ⊎_elim (λ h. absurd (h.4 id v at holds)) (λ h. h.0) r.slot
@@ -289,18 +263,8 @@ module _ {S E L : Type 0} (history : S → List E) (label : S → L) (name : L) 
     log = log;
     drawn = 0;
     served = 0;
-    words = record {
-      wide = refl;
-      count_is = length-unmarked (history y);
-      ticket_is = omega arith;
-      serving_is = omega arith;
-    };
-    turns = record {
-      balance = refl;
-      each = λ j d at. subst (λ (z : View E L). Knows 0 0 log z z.stage) (only v d j at).1 (follows_all (0 ∷ []) log);
-      named = λ j d at. subst (λ (z : View E L). alive z.stage ≡ 1 → z.label ≡ Some name) (only v d j at).1 (λ _. ap (λ (z : L). Some z) is);
-      apart = λ t i j a b at at' _ _. (only v a i at).0 ∙ sym (only v b j at').0;
-    };
+    words = grind (arith, common_steps);
+    turns = grind (arith, common_steps);
     slot = inl (y, refl, entries_unmarked (history y), is, λ j d at. subst (λ (z : View E L). ¬ (Holds z.stage)) (only v d j at).1 (λ h. absurd h));
     marks = record {
       first = v;

@@ -1,19 +1,17 @@
 -- Lists of views, and histories that are beginnings of one another.
 use Rattle.std.proofs.Common.{◌≡◌, ℕ, zero, suc, ◌+◌, ◌<◌, ◌≤◌, ◌≢◌, ◌⊎◌, List, [], ◌∷◌, ◌++◌, drop, length, get_or, set, inl, inr, sym, refl, ap, ◌∙◌, subst, ⊎_elim, arith}
-use Rattle.std.specs.Prelude.{Option, Some, None}
-use mathlib.Core.Option.{some, some-injective, some-ne-none}
-use mathlib.Core.List.{append_assoc, append-nil}
+use Rattle.std.{specs.Prelude.{Option, Some, None}, proofs.lemmas.Grind.common_steps}
+use mathlib.Core.{Option.{some, some-injective, some-ne-none}, List.{append_assoc, append-nil}}
 use lib.ListN.{get_elem?}
 use Rattle.atomic_table.{specs.Table.rest, proofs.Lists.at_set}
-use Rattle.history_lock.specs.declared.view.{View.View, Marked.Marked, Stage.Stage, Stage.TheVariants.{Spent, Outside, Waiting, Turn, Inside, Meeting}}
+use Rattle.history_lock.specs.declared.view.{View.View, Marked.Marked, Stage.Stage}
 use Rattle.history_lock.specs.Marks.{AreByOthers, Follows, HaveMarksUpTo, IsLongerOf, IsNoneOf, IsOtherMark, marked}
 use Rattle.history_lock.specs.Rule.{busy, alive, HasTurn, Holds, waiting, living, Knows}
 
 module _ {A : Type 0} where
   pub seats_stay : (K : ℕ → A → Type 0) (vs : List A) (me : ℕ) (w : A) → K me w → ((j : ℕ) (d : A) → j ≢ me → get_elem? vs j ≡ some d → K j d)
       → (j : ℕ) (d : A) → get_elem? (set vs me w) j ≡ some d → K j d
-  seats_stay K vs me w mine others j d e = ⊎_elim (λ (t : (j ≡ me) × (w ≡ d)). subst (λ (x : ℕ × A). K x.0 x.1) (λ i. (sym t.0 i, t.1 i)) mine)
-      (λ (t : (j ≢ me) × (get_elem? vs j ≡ some d)). others j d t.0 t.1) (at_set vs me j w d e)
+  seats_stay K vs me w mine others j d e = grind (arith, common_steps, at_set)
 
   pub at_end : (l : List A) (a b : A) (j : ℕ) → get_elem? (l ++ a ∷ []) j ≡ some b → (get_elem? l j ≡ some b) ⊎ ((j ≡ length l) × (a ≡ b))
   at_end [] a b zero e = inr (refl, some-injective a b e)
@@ -82,29 +80,18 @@ some_same {x = x} e = subst (IsSomeOf x) e refl
 
 module _ {A : Type 0} where
   pub only : (a b : A) (i : ℕ) → get_elem? (a ∷ []) i ≡ some b → (i ≡ 0) × (a ≡ b)
-  only a b zero e = (refl, some-injective a b e)
-  only a b (suc i) e = absurd (some-ne-none b (sym e))
+  only a b i e = grind (arith, common_steps)
 
 module _ {E : Type 0} where
   -- a pass that was joined has no turn, and no pass has two
   alive_or_spent : (st : Stage E) → ((alive st ≡ 1) × (busy st ≤ 1)) ⊎ (busy st ≡ 0)
-  alive_or_spent Spent = inr refl
-  alive_or_spent Outside = inl (refl, omega arith)
-  alive_or_spent (Waiting t) = inl (refl, omega arith)
-  alive_or_spent (Turn t es) = inl (refl, omega arith)
-  alive_or_spent (Inside t) = inl (refl, omega arith)
-  alive_or_spent (Meeting met) = inl (refl, omega arith)
+  alive_or_spent st = grind (arith, common_steps)
 
   pub alive_or_idle : (st : Stage E) → (alive st ≡ 1) ⊎ (busy st ≡ 0)
   alive_or_idle st = ⊎_elim (λ lives. inl lives.0) (λ idle. inr idle) (alive_or_spent st)
 
   pub holds_busy : (st : Stage E) → Holds st → busy st ≡ 1
-  holds_busy Spent h = absurd h
-  holds_busy Outside h = absurd h
-  holds_busy (Waiting t) h = absurd h
-  holds_busy (Turn t es) h = refl
-  holds_busy (Inside t) h = refl
-  holds_busy (Meeting met) h = absurd h
+  holds_busy st h = grind (arith, common_steps)
 
   busy_alive : (st : Stage E) → busy st ≤ alive st
   busy_alive st = ⊎_elim (λ lives. let a = lives.0 in let b = lives.1 in omega arith) (λ idle. omega arith) (alive_or_spent st)
@@ -132,12 +119,10 @@ module _ {A : Type 0} where
       ⊎_elim (λ t. inl (t.0, (λ i. sym h i ∷ t.1 i), t.2)) (λ t. inr (t.0, (λ i. h i ∷ t.1 i), t.2)) (begin_one (xs ++ r) xs ys r q refl (ap (drop 1) same))
 
 free_both : (k m : ℕ) (ms : List ℕ) (by : Option ℕ) → IsOtherMark (k ∷ ms) by → IsOtherMark (m ∷ []) by → IsOtherMark (k ∷ m ∷ ms) by
-free_both k m ms None a b = a
-free_both k m ms (Some n) a b = (a.0, (b.0, a.1))
+free_both k m ms by a b = grind (arith, common_steps)
 
 new_mark : (n k : ℕ) (ms : List ℕ) (by : Option ℕ) → n < k → ((m : ℕ) → by ≡ Some m → m ≤ n) → IsOtherMark ms by → IsOtherMark (k ∷ []) by
-new_mark n k ms None less given free = free
-new_mark n k ms (Some m) less given free = let a = given m refl in ((λ e. omega arith), tt)
+new_mark n k ms by less given free = grind (arith, common_steps)
 
 module _ {E : Type 0} where
   pub clean-left : (marks : List ℕ) (xs ys : List (Marked E)) → AreByOthers marks (xs ++ ys) → AreByOthers marks xs
@@ -213,47 +198,21 @@ module _ {E L : Type 0} where
 
   -- who holds the slot has the turn that is served
   pub holder_turn : (drawn served : ℕ) (log : List (Marked E)) (v : View E L) (st : Stage E) → Holds st → Knows drawn served log v st → HasTurn served st
-  holder_turn drawn served log v Spent h k = absurd h
-  holder_turn drawn served log v Outside h k = absurd h
-  holder_turn drawn served log v (Waiting t) h k = absurd h
-  holder_turn drawn served log v (Turn t es) h k = k.0
-  holder_turn drawn served log v (Inside t) h k = k.0
-  holder_turn drawn served log v (Meeting met) h k = absurd h
+  holder_turn drawn served log v st h k = grind (arith, common_steps)
 
   -- each turn that is out was drawn
   pub turn_drawn : (drawn served : ℕ) (log : List (Marked E)) (v : View E L) (t : ℕ) (st : Stage E) → HasTurn t st → Knows drawn served log v st → t < drawn
-  turn_drawn drawn served log v t Spent h k = absurd h
-  turn_drawn drawn served log v t Outside h k = absurd h
-  turn_drawn drawn served log v t (Waiting u) h k = let a = k.1 in let e : u ≡ t = h in omega arith
-  turn_drawn drawn served log v t (Turn u es) h k = let a = k.1 in let e : u ≡ t = h in omega arith
-  turn_drawn drawn served log v t (Inside u) h k = let a = k.1 in let e : u ≡ t = h in omega arith
-  turn_drawn drawn served log v t (Meeting met) h k = absurd h
+  turn_drawn drawn served log v t st h k = grind (arith, common_steps)
 
   -- one more turn is drawn
   pub knows_drawn : (drawn served : ℕ) (log : List (Marked E)) (v : View E L) (st : Stage E) → Knows drawn served log v st → Knows (drawn + 1) served log v st
-  knows_drawn drawn served log v Spent k = tt
-  knows_drawn drawn served log v Outside k = k
-  knows_drawn drawn served log v (Waiting t) k = let a = k.1 in (k.0, omega arith, k.2)
-  knows_drawn drawn served log v (Turn t es) k = let a = k.1 in (k.0, omega arith, k.2, k.3)
-  knows_drawn drawn served log v (Inside t) k = let a = k.1 in (k.0, omega arith, k.2)
-  knows_drawn drawn served log v (Meeting met) k = k
+  knows_drawn drawn served log v st k = grind (arith, common_steps)
 
   -- the next turn is served: no other pass has this one
   pub knows_served : (drawn served : ℕ) (log : List (Marked E)) (v : View E L) (st : Stage E) → ¬ HasTurn served st → Knows drawn served log v st → Knows drawn (served + 1) log v st
-  knows_served drawn served log v Spent n k = tt
-  knows_served drawn served log v Outside n k = k
-  knows_served drawn served log v (Waiting t) n k = let a = k.0 in let other : t ≢ served = n in (omega arith, k.1, k.2)
-  knows_served drawn served log v (Turn t es) n k = absurd (n k.0)
-  knows_served drawn served log v (Inside t) n k = absurd (n k.0)
-  knows_served drawn served log v (Meeting met) n k = k
+  knows_served drawn served log v st n k = grind (arith, common_steps)
 
   -- the history gets an entry whose mark is none of this pass, which has not the turn
   pub knows_longer : (drawn served : ℕ) (log : List (Marked E)) (e : E) (m : ℕ) (v : View E L) (st : Stage E) → ¬ HasTurn served st → (alive st ≡ 1 → IsNoneOf m (v.mark ∷ v.joined))
       → Knows drawn served log v st → Knows drawn served (log ++ marked e (Some m) ∷ []) v st
-  knows_longer drawn served log e m v Spent n free k = tt
-  knows_longer drawn served log e m v Outside n free k = follows_more (v.mark ∷ v.joined) v.seen log (marked e (Some m)) (free refl) k
-  knows_longer drawn served log e m v (Waiting t) n free k = (k.0, k.1, follows_more (v.mark ∷ v.joined) v.seen log (marked e (Some m)) (free refl) k.2)
-  knows_longer drawn served log e m v (Turn t es) n free k = absurd (n k.0)
-  knows_longer drawn served log e m v (Inside t) n free k = absurd (n k.0)
-  knows_longer drawn served log e m v (Meeting met) n free k = let away = subst (λ (l : List ℕ). IsNoneOf m (v.mark ∷ l)) k.2 (free refl) in
-      (k.0, k.1, k.2, follows_more (v.mark ∷ k.1) v.seen log (marked e (Some m)) (away.0, away.1.1) k.3, follows_more (k.0 ∷ []) met log (marked e (Some m)) (away.1.0, tt) k.4)
+  knows_longer drawn served log e m v st n free k = grind (arith, common_steps, follows_more)

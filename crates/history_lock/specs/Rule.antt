@@ -18,11 +18,7 @@ busy (Meeting met) = 0
 -- 1 for a pass that wasn't joined, else 0
 abbrev pub alive : {E : Type 0} → Stage E → ℕ
 alive Spent = 0
-alive Outside = 1
-alive (Waiting t) = 1
-alive (Turn t es) = 1
-alive (Inside t) = 1
-alive (Meeting met) = 1
+alive stage = 1
 
 -- it has the turn t
 abbrev pub HasTurn : {E : Type 0} → ℕ → Stage E → Type 0

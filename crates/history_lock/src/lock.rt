@@ -6,8 +6,8 @@ use crate::historied::Historied;
 use crate::law::Law;
 use crate::plays::{CountEntry, JoinIn, Meet, ReadCount, Recall, SplitOff};
 use crate::turns::{SERVING, TICKET};
-use crate::view::View;
-use atomic_table::{Seat, Table};
+use crate::view::{SeatOf, View};
+use atomic_table::Table;
 use std::alloc::Global;
 use std::snapshot::Snapshot;
 use std::sync::Wait;
@@ -36,7 +36,7 @@ pub struct HistoryLock<S: Historied> {
 /// has the mark 0, and the k-th pass that was split from it the mark k.
 #[derive(Drop)]
 pub struct Pass<S: Historied> {
-    seat: Seat<Option<S>, View<S::Entry, S::Label>>,
+    seat: SeatOf<S>,
     /// The count that was read on entering.
     count: u64,
     /// How many passes were split from this one.
@@ -97,7 +97,7 @@ impl<S: Historied> HistoryLock<S> {
     }
 
     // Counts the entry that the state has more than was seen, if there is one.
-    fn count_new(&self, seat: &mut Seat<Option<S>, View<S::Entry, S::Label>>, is_longer: bool)
+    fn count_new(&self, seat: &mut SeatOf<S>, is_longer: bool)
         requires lock { seat.old.table_id ≡ self.now.table.shared.table_id }
         requires carries { Carries S.label seat.old.me }
         requires history { MayAdd is_longer (in_slot S.history seat.old.me.1) seat.old.me.0.seen }

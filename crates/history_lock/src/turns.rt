@@ -22,8 +22,7 @@ ghost use Rattle.std.specs.Prelude.{◌≡◌, ◌<◌, [], IfSome, IfNone};
 use crate::historied::Historied;
 use crate::lock::HistoryLock;
 use crate::plays::{Aside, Draw, DrawIfFree, Look, PassOn};
-use crate::view::View;
-use atomic_table::Seat;
+use crate::view::SeatOf;
 use std::hint;
 use std::sync::Wait;
 
@@ -61,7 +60,7 @@ impl<S: Historied> HistoryLock<S> {
     ghost use Rattle.history_lock.specs.{Rule.at_stage, Marks.entries, Steps.{Carries, Comes, Drew, HasCome, IsOut, Waits}, Steps.in_slot, declared.view.Stage.TheVariants.Outside};
 
     // Draws a turn if the lock is free. No turn is served before it is drawn, so the one drawn has come.
-    fn draw_if_free(&self, seat: &mut Seat<Option<S>, View<S::Entry, S::Label>>) -> Option<u64>
+    fn draw_if_free(&self, seat: &mut SeatOf<S>) -> Option<u64>
         requires lock { seat.old.table_id ≡ self.now.table.shared.table_id }
         requires outside { IsOut seat.old.me }
         ensures lock { (seat.new.table_id ≡ seat.old.table_id) × (seat.new.id ≡ seat.old.id) }
@@ -81,12 +80,7 @@ impl<S: Historied> HistoryLock<S> {
     }
 
     // Waits until the turn is served. It spins some times, and then it sleeps until a pass leaves.
-    fn wait_for<R: Wait>(
-        &self,
-        rt: &R,
-        seat: &mut Seat<Option<S>, View<S::Entry, S::Label>>,
-        turn: u64,
-    )
+    fn wait_for<R: Wait>(&self, rt: &R, seat: &mut SeatOf<S>, turn: u64)
         requires lock { seat.old.table_id ≡ self.now.table.shared.table_id }
         requires waits { Waits turn seat.old.me }
         ensures lock { (seat.new.table_id ≡ seat.old.table_id) × (seat.new.id ≡ seat.old.id) }
@@ -110,12 +104,7 @@ impl<S: Historied> HistoryLock<S> {
     }
 
     // Spins, or sleeps until the lock may be free where it has spun enough or others sleep.
-    fn rest<R: Wait>(
-        &self,
-        rt: &R,
-        seat: &mut Seat<Option<S>, View<S::Entry, S::Label>>,
-        looks: u32,
-    )
+    fn rest<R: Wait>(&self, rt: &R, seat: &mut SeatOf<S>, looks: u32)
         requires lock { seat.old.table_id ≡ self.now.table.shared.table_id }
         ensures lock { (seat.new.table_id ≡ seat.old.table_id) × (seat.new.id ≡ seat.old.id) }
         ensures same { seat.new.me ≡ seat.old.me }
@@ -134,7 +123,7 @@ impl<S: Historied> HistoryLock<S> {
     }
 
     // Draws a turn although the lock is taken, and waits for it.
-    fn queue<R: Wait>(&self, rt: &R, seat: &mut Seat<Option<S>, View<S::Entry, S::Label>>)
+    fn queue<R: Wait>(&self, rt: &R, seat: &mut SeatOf<S>)
         requires lock { seat.old.table_id ≡ self.now.table.shared.table_id }
         requires outside { IsOut seat.old.me }
         ensures lock { (seat.new.table_id ≡ seat.old.table_id) × (seat.new.id ≡ seat.old.id) }
@@ -148,11 +137,7 @@ impl<S: Historied> HistoryLock<S> {
     }
 
     // Waits until a turn of the pass has come.
-    pub(crate) fn take_turn<R: Wait>(
-        &self,
-        rt: &R,
-        seat: &mut Seat<Option<S>, View<S::Entry, S::Label>>,
-    )
+    pub(crate) fn take_turn<R: Wait>(&self, rt: &R, seat: &mut SeatOf<S>)
         requires lock { seat.old.table_id ≡ self.now.table.shared.table_id }
         requires outside { IsOut seat.old.me }
         ensures lock { (seat.new.table_id ≡ seat.old.table_id) × (seat.new.id ≡ seat.old.id) }
@@ -169,7 +154,7 @@ impl<S: Historied> HistoryLock<S> {
     }
 
     // Lets the next turn come. Wakes those that queue, and one that sleeps until the lock is free, if there may be any.
-    pub(crate) fn pass_on(&self, seat: &mut Seat<Option<S>, View<S::Entry, S::Label>>)
+    pub(crate) fn pass_on(&self, seat: &mut SeatOf<S>)
         requires lock { seat.old.table_id ≡ self.now.table.shared.table_id }
         requires carries { Carries S.label seat.old.me }
         requires stands { in_slot S.history seat.old.me.1 ≡ entries seat.old.me.0.seen }

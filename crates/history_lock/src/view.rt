@@ -1,4 +1,6 @@
 //! What a pass knows, for the proofs. No value of these types is made.
+use crate::historied::Historied;
+use atomic_table::Seat;
 use std::collections::LinkedList;
 
 /// An entry, and the mark of the pass that made it: none where it came with the first state.
@@ -34,3 +36,6 @@ pub struct View<E, L> {
     /// None once it was joined.
     pub label: Option<L>,
 }
+
+/// A pass's seat at the table of its lock.
+pub type SeatOf<S> = Seat<Option<S>, View<<S as Historied>::Entry, <S as Historied>::Label>>;

@@ -1,17 +1,15 @@
 -- The positions of a series after a run was accepted: its samples are put into the positions as they stand.
-use Rattle.std.{proofs.Common.{◌≡◌, ◌+◌, List, [], ◌∷◌, ◌++◌, length, refl, sym, ap, ◌∙◌, cond}, specs.Prelude.{None, find, is_none}}
-use Rattle.std.proofs.lemmas.{List.{append-nil, append_assoc}, List.Elements.filter-append, Grind.flat_map-append}
-use Rattle.history_model.specs.declared.{entries.Acceptance.Acceptance, entries.Entry.Entry, run.Run.Run}
+use Rattle.std.{proofs.Common.{◌≡◌, ◌+◌, List, [], ◌∷◌, ◌++◌, length, refl, ap, ◌∙◌, cond, arith}, specs.Prelude.{None, find, is_none}}
+use Rattle.std.proofs.lemmas.{List.{append-nil, append_assoc}, List.Elements.filter-append, Grind.{flat_map-append, common_steps}}
+use Rattle.history_model.specs.{declared.entries.Acceptance.Acceptance, declared.entries.Entry.Entry, declared.run.Run.Run, Laws.with_all}
 use Rattle.history_model.specs.declared.entries.Entry.TheVariants as entry
 use Rattle.history_model.specs.Runs.{Series, acceptance, acceptances, retraction, retractions, retracted, takes_back, live_of}
 use Rattle.history_model.{specs.Positions.{Brought, brought_by, brought, positions, positions_of}, proofs.Chosen.{chosen-push, chosen-skip}}
-use Rattle.history_model.specs.Laws.{with_all}
 use Rattle.segment_model.proofs.Insertions.{positions-push}
 
 pub positions-more : (items xs : List Brought) → positions_of (items ++ xs) ≡ with_all xs (positions_of items)
 positions-more items [] = ap positions_of (append-nil items)
-positions-more items (x ∷ xs) =
-    ap positions_of (sym (append_assoc items (x ∷ []) xs)) ∙ positions-more (items ++ x ∷ []) xs ∙ ap (with_all xs) (positions-push items x)
+positions-more items (x ∷ xs) = grind (arith, common_steps, positions_of, append_assoc, positions-push, positions-more (items ++ x ∷ []) xs)
 
 pub positions-accept : (h : List Entry) (run : Run) (s : Series) → retracted run.run h ≡ None
     → positions (h ++ entry.Accept run ∷ []) s ≡ with_all (brought_by s (record { step = length h + 1; run = run })) (positions h s)

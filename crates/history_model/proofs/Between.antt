@@ -1,4 +1,5 @@
 -- The declared numbers from one to another: they rise, and both ends stand there.
+use Rattle.std.proofs.lemmas.Grind.{common_steps}
 use Rattle.std.proofs.Common.{◌≡◌, ℕ, zero, suc, ◌+◌, ◌-◌, ◌≤◌, ◌<◌, Bool, true, false, cond, List, ◌∷◌, length, get_or, sym, ap, ◌∙◌, arith}
 use Rattle.std.{specs.Prelude.{filter, is_some, IsSome}, specs.List.Sorted.IsStrictlyIncreasing, proofs.lemmas.List.Kept.IsStrictlyIncreasing-filter}
 use Rattle.history_model.specs.{declared.entries.Declaration.Declaration, Commits.{name_in, numbers_from, numbers_between}}
@@ -6,15 +7,10 @@ use Rattle.history_model.specs.{declared.entries.Declaration.Declaration, Commit
 numbers-at : (lo count k d : ℕ) → k < length (numbers_from lo count) → get_or (numbers_from lo count) k d ≡ lo + k
 numbers-at lo zero k d lt = absurd (omega (arith, lt))
 numbers-at lo (suc count) zero d lt = omega arith
-numbers-at lo (suc count) (suc k) d lt =
-    let rest = numbers-at (lo + 1) count k d (omega (arith, lt)) in
-    omega (arith, rest)
+numbers-at lo (suc count) (suc k) d lt = omega (arith, numbers-at (lo + 1) count k d (omega (arith, lt)))
 
 numbers-rise : (lo count : ℕ) → IsStrictlyIncreasing (numbers_from lo count)
-numbers-rise lo count k lt =
-    let one = numbers-at lo count k 0 (omega (arith, lt)) in
-    let next = numbers-at lo count (k + 1) 0 lt in
-    omega (arith, one, next)
+numbers-rise lo count k lt = grind (arith, common_steps, numbers-at)
 
 pub between-rise : (lo hi : ℕ) (commits : List Declaration) → IsStrictlyIncreasing (numbers_between lo hi commits)
 between-rise lo hi commits = IsStrictlyIncreasing-filter (λ n. is_some (name_in n commits)) (numbers_from lo (hi + 1 - lo)) (numbers-rise lo (hi + 1 - lo))
@@ -22,10 +18,7 @@ between-rise lo hi commits = IsStrictlyIncreasing-filter (λ n. is_some (name_in
 -- ---- both ends stand there
 module _ (p : ℕ → Bool) where
   pub last-stays : (lo count : ℕ) → p (lo + count) ≡ true → 1 ≤ length (filter p (numbers_from lo (suc count)))
-  last-stays lo zero here =
-      let same : lo + 0 ≡ lo = omega arith in
-      let kept : p lo ≡ true = ap p (sym same) ∙ here in
-      rw kept (omega arith)
+  last-stays lo zero here = grind (arith, common_steps)
   last-stays lo (suc count) here =
       let same : lo + suc count ≡ lo + 1 + count = omega arith in
       let rest = last-stays (lo + 1) count (ap p (sym same) ∙ here) in

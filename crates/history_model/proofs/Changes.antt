@@ -1,15 +1,14 @@
 -- Each cut of a publication that stands in a legal history is between positions of declared commits, in their order.
 use Rattle.std.proofs.Common.{◌≡◌, ℕ, zero, suc, ◌+◌, ◌-◌, ◌<◌, List, [], ◌∷◌, ◌++◌, length, All, refl, sym, ap, ◌∙◌, subst, arith, inl, inr}
-use Rattle.std.specs.Prelude.{Bool, IsSome, map, filter, find, is_none, drop, slice_index}
-use Rattle.std.proofs.lemmas.List.{append-nil, append_assoc, length-map, map-append, take-append-drop, Elements.{All-filter, All-head, All-tail}}
+use Rattle.std.{specs.Prelude.{Bool, IsSome, map, filter, find, is_none, drop, slice_index}, proofs.lemmas.Grind.common_steps}
+use Rattle.std.proofs.lemmas.List.{append-nil, length-map, map-append, take-append-drop, Elements.{All-filter, All-head, All-tail}}
 use Rattle.segment_model.{proofs.Rising.{IsIn, RisesFrom, rising-rises, rising-only, in-append}, specs.Cuts.RisesBetween, proofs.CutLists.places-rise}
 use Rattle.segment_model.specs.{Limits.commits_of, Segments.Position}
 use Rattle.sample_model.specs.Samples.{Measurement}
 use Rattle.history_model.specs.declared.{entries.Acceptance.Acceptance, entries.Entry.Entry, publication.Publication.Publication}
-use Rattle.history_model.specs.{Allowed.{AllowedAfter, Legal}, Commits.name_of, Penalties.length_of}
+use Rattle.history_model.{specs.Allowed.{AllowedAfter, Legal}, specs.Commits.name_of, specs.Penalties.length_of, proofs.Named.{still-named, runs-named}}
 use Rattle.history_model.specs.{Positions.{Brought, rising, position_at, brought_by, brought, positions}, Publications.{Stands, spoken_of, published}}
 use Rattle.history_model.specs.{Runs.{Series, acceptances, retractions, takes_back, live_runs, is_of}, Followed.IsBetweenDeclared}
-use Rattle.history_model.proofs.Named.{still-named, runs-named}
 
 -- ---- places of lists
 within : (xs : List ℕ) (k : ℕ) → k < length xs → IsIn (slice_index xs k) xs
@@ -26,10 +25,7 @@ rises-next low (x ∷ y ∷ xs) (suc k) rises lt = rises-next (suc x) (y ∷ xs)
 rises-between : (low high : ℕ) (cuts : List ℕ) (k : ℕ) → RisesBetween low high cuts → k < length cuts → (low < slice_index cuts k) × (slice_index cuts k < high)
 rises-between low high [] k rises lt = absurd (omega (arith, lt))
 rises-between low high (c ∷ cs) zero rises lt = (rises.0, rises.1)
-rises-between low high (c ∷ cs) (suc k) rises lt =
-    let rest = rises-between c high cs k rises.2 (omega (arith, lt)) in
-    let first = rises.0 in
-    (omega (arith, first, rest.0), rest.1)
+rises-between low high (c ∷ cs) (suc k) rises lt = grind (arith, common_steps, rises-between c high cs k rises.2 (omega (arith, lt)))
 
 -- ---- the commits of positions are those of runs
 commits-at : (items : List Brought) (ns : List ℕ) → commits_of (map (position_at items) ns) ≡ ns
@@ -63,9 +59,7 @@ legal-front before (e ∷ es) more legal = (legal.0, legal-front (before ++ e �
 
 pub named-more : (n : ℕ) (h more : List Entry) → IsSome (name_of n h) → IsSome (name_of n (h ++ more))
 named-more n h [] some = let P : List Entry → Type 0 = λ v. IsSome (name_of n v) in subst P (sym (append-nil h)) some
-named-more n h (e ∷ more) some =
-    let P : List Entry → Type 0 = λ v. IsSome (name_of n v) in
-    subst P (append_assoc h (e ∷ []) more) (named-more n (h ++ e ∷ []) more (still-named h e n some))
+named-more n h (e ∷ more) some = grind (arith, common_steps, named-more n (h ++ e ∷ []) more (still-named h e n some))
 
 module _ (h : List Entry) (p : Publication) (legal : Legal h) (stands : Stands h p) where
   abbrev version : List Entry

@@ -1,7 +1,7 @@
 -- In a legal history the commits at the ends of each job are declared, in their order.
-use Rattle.std.proofs.Common.{◌≡◌, ℕ, zero, suc, ◌+◌, ◌-◌, ◌<◌, List, [], ◌∷◌, length, refl, ap, ◌∙◌, subst, arith}
+use Rattle.std.proofs.{Common.{◌≡◌, ℕ, zero, suc, ◌+◌, ◌-◌, ◌<◌, List, [], ◌∷◌, length, subst, arith}, lemmas.Grind.common_steps}
 use Rattle.std.{specs.Prelude.{drop, is_some, slice_get, slice_index, take, IsSome, Some, None}, proofs.lemmas.List.take-append-drop}
-use Rattle.std.proofs.lemmas.{List.Elements.filter_passes, List.Kept.AllPairs-from_increasing, Option.same_Some}
+use Rattle.std.proofs.lemmas.List.{Elements.filter_passes, Kept.AllPairs-from_increasing}
 use Rattle.bisect_core.specs.{Bisections.{Bisection, bisection, low_after, high_after}, Laws.EachIsWithinBound, Turns.Turn}
 use Rattle.history_model.specs.{declared.entries.Entry.Entry, Allowed.Legal, Commits.{declarations, name_in, name_of, numbers_from}}
 use Rattle.history_model.{specs.Jobs.{Begun, begins, turns, commits_of, standing_from, jobs, job_in}, proofs.Between.between-rise, proofs.Changes.named-more}
@@ -11,13 +11,8 @@ use Rattle.history_model.proofs.Finished.{within-bound}
 pub begun-at : (h : List Entry) (k i : ℕ) (bs : List Begun) (b : Bisection) → slice_get (standing_from h k bs) i ≡ Some b
     → (g : Begun) × (slice_get bs i ≡ Some g) × (bisection (commits_of h g) (turns (i + k) h) ≡ b)
 begun-at h k i [] b is = absurd (let no : None ≡ Some b = is in cc)
-begun-at h k zero (g ∷ bs) b is =
-    let here : 0 + k ≡ k = omega arith in
-    (g, refl, ap (λ n. bisection (commits_of h g) (turns n h)) here ∙ same_Some (bisection (commits_of h g) (turns k h)) b is)
-begun-at h k (suc i) (g ∷ bs) b is =
-    let there : suc i + k ≡ i + (k + 1) = omega arith in
-    let rest = begun-at h (k + 1) i bs b is in
-    (rest.0, rest.1, ap (λ n. bisection (commits_of h rest.0) (turns n h)) there ∙ rest.2)
+begun-at h k zero (g ∷ bs) b is = grind (arith, common_steps)
+begun-at h k (suc i) (g ∷ bs) b is = grind (arith, common_steps, begun-at h (k + 1) i bs b is)
 
 -- the commits of a job are declared
 pub commit-declared : (h : List Entry) (g : Begun) (k : ℕ) → k < length (commits_of h g) → IsSome (name_of (slice_index (commits_of h g) k) h)

@@ -1,11 +1,10 @@
 -- In a legal history each job is of two commits at least, and what was said of it was asked; so what it found is as it should be.
-use Rattle.std.proofs.Common.{◌≡◌, ◌⊎◌, inl, inr, ℕ, zero, suc, ◌+◌, ◌-◌, ◌/◌, ◌≤◌, ◌==◌, cond, List, [], ◌∷◌, ◌++◌, length, refl, sym, ap, ap₂, ◌∙◌, subst, arith, Option}
+use Rattle.std.proofs.Common.{◌≡◌, ◌⊎◌, inl, inr, ℕ, zero, suc, ◌+◌, ◌-◌, ◌≤◌, ◌==◌, cond, List, [], ◌∷◌, ◌++◌, length, refl, sym, ap, ap₂, ◌∙◌, subst, arith, Option}
 use Rattle.std.{specs.Prelude.{option_to_list, slice_get, Contains, Some, None}, specs.List.AllByRecursion, proofs.lemmas.Bool.{cases_Bool, eqb-true}}
-use Rattle.std.proofs.lemmas.Option.{same_Some}
-use Rattle.bisect_core.specs.declared.outcome.Outcome.{Outcome}
+use Rattle.std.proofs.lemmas.{Option.same_Some, Grind.common_steps}
+use Rattle.bisect_core.specs.{declared.outcome.Outcome.Outcome, Laws.{AreAsked, EachIsWithinBound, EndsWereAnswered, FoundIsFirstBad}}
 use Rattle.bisect_core.specs.declared.outcome.Outcome.TheVariants as outcome
 use Rattle.bisect_core.specs.{Bisections.{bisection, asked_by, outcome_by, outcome_after, low_after, high_after, questions_after}, Bounds.IsWithinBound}
-use Rattle.bisect_core.specs.Laws.{AreAsked, EachIsWithinBound, EndsWereAnswered, FoundIsFirstBad}
 use Rattle.bisect_core.specs.Turns.{Turn, tested, given_up, place_of, good_places, bad_places, ending}
 use Rattle.history_model.specs.{declared.entries.Entry.Entry, Allowed.{Allowed, Legal}, Commits.{declarations, numbers_between}, Followed.AllFinishWell}
 use Rattle.history_model.specs.declared.entries.Entry.TheVariants as entry
@@ -30,12 +29,7 @@ split-push : {A : Type 0} (xs : List A) (x : A) (before : List A) (y : A) (behin
 split-push [] x [] y behind is = inl (refl, cc)
 split-push [] x (b ∷ before) y behind is = absurd (not-empty before y behind (cc))
 split-push (a ∷ xs) x [] y behind is = inr (xs, cc)
-split-push (a ∷ xs) x (b ∷ before) y behind is =
-    let first : a ≡ b = cc in
-    elim (split-push xs x before y behind (cc)) [
-      | inl last ↦ inl (ap₂ (λ c cs. c ∷ cs) first last.0, last.1)
-      | inr more ↦ inr (more.0, ap₂ (λ c cs. c ∷ cs) first more.1)
-    ]
+split-push (a ∷ xs) x (b ∷ before) y behind is = grind (arith, common_steps, split-push xs x before y behind (cc))
 
 past-at : (n : ℕ) (bs : List Begun) (k : ℕ) (b : Begun) → AllByRecursion (IsUpTo n) bs → slice_get bs k ≡ Some b → b.step ≤ n
 past-at n [] k b past is = absurd (let no : None ≡ Some b = is in cc)
@@ -44,16 +38,10 @@ past-at n (c ∷ bs) (suc k) b past is = past-at n bs k b past.1 is
 
 -- ---- turns that were asked
 asked-more : (n : ℕ) (ts : List Turn) (t : Turn) → AreAsked n ts → outcome_after n ts ≡ outcome.Asks (place_of t) → AreAsked n (ts ++ t ∷ [])
-asked-more n ts t all asks before turn behind is = elim (split-push ts t before turn behind is) [
-  | inl last ↦ ap (outcome_after n) (sym last.0) ∙ asks ∙ ap (λ u. outcome.Asks (place_of u)) last.1
-  | inr more ↦ all before turn more.0 more.1
-]
+asked-more n ts t all asks before turn behind is = grind (arith, common_steps, split-push)
 
 pub asks-place : (o : Outcome) (place : ℕ) → asked_by o ≡ Some place → o ≡ outcome.Asks place
-asks-place (outcome.Asks at) place is = ap (λ p. outcome.Asks p) (same_Some at place is)
-asks-place (outcome.Found lo hi) place is = absurd (let no : None ≡ Some place = is in cc)
-asks-place (outcome.Undecided at status) place is = absurd (let no : None ≡ Some place = is in cc)
-asks-place (outcome.Faulted at) place is = absurd (let no : None ≡ Some place = is in cc)
+asks-place o place is = grind (arith, common_steps)
 
 -- where the job of a number stands
 standing-at : (h : List Entry) (k i : ℕ) (bs : List Begun) (b : Begun) → slice_get bs i ≡ Some b
@@ -90,10 +78,7 @@ kept h e allowed none goes all = (legal-push h e all.0 allowed, at)
 
 -- an entry that says nothing of any
 silent : (h : List Entry) (e : Entry) → Allowed h e → begun (length h + 1) e ≡ None → ((n : ℕ) → said n (length h + 1) e ≡ None) → AllAsked h → AllAsked (h ++ e ∷ [])
-silent h e allowed none says all =
-    kept h e allowed none
-    (λ k b is asks. let P : List Turn → Type 0 = λ ts. AreAsked (length (commits_of h b) - 1) ts in subst P (sym (chosen-skip (said (k + 1)) h e (says (k + 1)))) asks)
-    all
+silent h e allowed none says all = grind (arith, common_steps, kept, length, commits_of, chosen-skip, said)
 
 -- an entry that says something of the place that a job asks
 telling : (h : List Entry) (e : Entry) (job : ℕ) (t : Turn) → Allowed h e → begun (length h + 1) e ≡ None
@@ -179,12 +164,7 @@ within-bound bound_law h legal k b is =
 
 -- ---- what was found
 found-ends : (o : Option Turn) (low high lo hi : ℕ) → outcome_by o low high ≡ outcome.Found lo hi → (low ≡ lo) × (high ≡ hi)
-found-ends None low high lo hi is = elim (cases_Bool (high == (low + 1))) [
-  | inl near ↦ let same : outcome.Found low high ≡ outcome.Found lo hi = sym (ap (λ b. cond b (outcome.Found low high) (outcome.Asks (low + (high - low) / 2))) near) ∙ is in (cc, cc)
-  | inr far ↦ let never : outcome.Asks (low + (high - low) / 2) ≡ outcome.Found lo hi = sym (ap (λ b. cond b (outcome.Found low high) (outcome.Asks (low + (high - low) / 2))) far) ∙ is in absurd (cc)
-]
-found-ends (Some (tested place status)) low high lo hi is = absurd (let no : outcome.Undecided place status ≡ outcome.Found lo hi = is in cc)
-found-ends (Some (given_up place)) low high lo hi is = absurd (let no : outcome.Faulted place ≡ outcome.Found lo hi = is in cc)
+found-ends o low high lo hi is = grind (arith, common_steps)
 
 pub finish-well : EachIsWithinBound → EndsWereAnswered → FoundIsFirstBad → (h : List Entry) → Legal h → AllFinishWell h
 finish-well bound_law ends_law found_law h legal k b is lo hi found =

@@ -1,7 +1,7 @@
 -- When a run more stays within the limits of each series.
 use Rattle.std.proofs.Common.{◌≡◌, ℕ, zero, ◌+◌, ◌≤◌, ◌<◌, max, true, false, cond, List, [], ◌∷◌, ◌++◌, length, map, refl, sym, ap, ◌∙◌, inl, inr, arith, suc}
-use Rattle.std.{specs.Prelude.{Some, None, filter, nat_lt}, proofs.lemmas.Bool.{cases_Bool, cases_order, le-ltb, ltb-false, eq-eqb, ne_eqb}}
-use Rattle.std.proofs.lemmas.List.{append-nil, append_assoc, length-append, length-map, Sums.sum_by_push}
+use Rattle.std.{specs.Prelude.{None, filter}, proofs.lemmas.Bool.{cases_Bool, cases_order, le-ltb, eq-eqb, ne_eqb}}
+use Rattle.std.proofs.lemmas.{List.{append-nil, append_assoc, length-append, length-map}, List.Sums.sum_by_push, Grind.common_steps}
 use Rattle.metric_table.specs.{Limits.most, declared.limits.Limit.Limit}
 use Rattle.metric_table.specs.declared.limits.Limit.TheVariants as limit
 use Rattle.segment_model.{specs.Segments.{Observation, Position, values_of}, specs.Edits.{inserted, has_commit}, proofs.Inserted.{values-brought, size-new}}
@@ -9,7 +9,7 @@ use Rattle.history_model.specs.declared.{entries.Acceptance.Acceptance, entries.
 use Rattle.history_model.specs.declared.entries.Entry.TheVariants as entry
 use Rattle.history_model.specs.{Allowed.{KeepsLimits, count_of, greatest_of, first_passed, run_limits}, Commits.declaration}
 use Rattle.history_model.specs.{Laws.{observed, with_all, CountsWith}, Positions.{Brought, brought_by, brought, rising, position_at, positions, positions_of}}
-use Rattle.history_model.specs.{Publications.publication, Runs.{Series, acceptance, acceptances, retracted, live_runs, known_series, is_of, sample_count}}
+use Rattle.history_model.specs.{Publications.publication, Runs.{Series, acceptance, acceptances, retracted, live_runs, known_series, is_of}}
 use Rattle.sample_model.specs.Samples.{Measurement, AreSamples}
 use Rattle.history_model.proofs.{Accepts.{positions-more, positions-accept}, Counts.all-more, Chosen.{chosen-push, chosen-skip}, Standings.jobs-stay}
 use Rattle.history_model.proofs.{Commit.has-inserted, Listed.known-grow, Room.{samples-kept, positions-kept}}
@@ -17,10 +17,7 @@ use Rattle.segment_model.proofs.{Insertions.positions-push, Rising.{RisesFrom, r
 
 greatest-most : (f : Series → ℕ) (ks : List Series) (n : ℕ) → ((k : Series) → f k ≤ n) → greatest_of (map f ks) ≤ n
 greatest-most f [] n all = omega arith
-greatest-most f (k ∷ ks) n all = both (f k) (greatest_of (map f ks)) (all k) (greatest-most f ks n all)
-  where
-    both : (a b : ℕ) → a ≤ n → b ≤ n → max a b ≤ n
-    both a b one other = grind (arith)
+greatest-most f (k ∷ ks) n all = grind (arith, common_steps, greatest-most f ks n all)
 
 -- ---- positions with more values at one commit
 abbrev commits : List Position → List ℕ
@@ -50,8 +47,7 @@ size-there low commit x (p ∷ points) rises has = elim (cases_order commit p.co
   | inl same ↦ rw (le-ltb commit p.commit (omega (arith, same)), eq-eqb p.commit commit (sym same)) refl
   | inr other ↦ elim other [
     | inl below ↦ absurd (
-        let rest : suc p.commit ≤ commit = above-all (suc p.commit) commit points rises.1
-        (sym (ap (λ b. cond b true (has_commit commit points)) (ne_eqb p.commit commit (λ e. omega (arith, e, below)))) ∙ has) in
+        let rest : suc p.commit ≤ commit = grind (arith, common_steps, above-all, cond, has_commit, ne_eqb) in
         omega (arith, rest, below))
     | inr above ↦ rw (le-ltb commit p.commit (omega (arith, above)), ne_eqb p.commit commit (λ e. omega (arith, e, above))) (
         let rest = size-there (suc p.commit) commit x points rises.1 (sym (ap (λ b. cond b true (has_commit commit points)) (ne_eqb p.commit commit (λ e. omega (arith, e, above)))) ∙ has) in
@@ -121,21 +117,13 @@ module _ (h : List Entry) (run : Run) (keeps : KeepsLimits h) (live : retracted 
 
 -- ---- the other counts
 pub counts-with : (h : List Entry) (run : Run) → CountsWith h run
-counts-with h run = record {
-  steps = length-append h (entry.Accept run ∷ []);
-  runs = ap length (chosen-push acceptance h (entry.Accept run)) ∙ length-append (acceptances h) (record { step = length h + 1; run = run } ∷ []);
-  samples = ap sample_count (chosen-push acceptance h (entry.Accept run)) ∙ sum_by_push (λ (b : Acceptance). length b.run.samples) (acceptances h) (record { step = length h + 1; run = run });
-  series = known-grow h run;
-}
+counts-with h run = grind (arith, common_steps, length-append, length, chosen-push, sum_by_push, known-grow)
 
 -- ---- all limits
 module _ (h : List Entry) (run : Run) (keeps : KeepsLimits h) (are : AreSamples run.samples) (passes : first_passed run_limits h (entry.Accept run) ≡ None) where
   sizes : (xs : List Acceptance) (x : Acceptance) (n : ℕ) → greatest_of (map (λ (b : Acceptance). length b.run.samples) xs) ≤ n → length x.run.samples ≤ n
       → greatest_of (map (λ (b : Acceptance). length b.run.samples) (xs ++ x ∷ [])) ≤ n
-  sizes [] x n all one = both (length x.run.samples) one
-    where
-      both : (k : ℕ) → k ≤ n → max k 0 ≤ n
-      both k le = grind (arith)
+  sizes [] x n all one = grind (arith, common_steps)
   sizes (y ∷ xs) x n all one =
       let two = split (length y.run.samples) (greatest_of (map (λ (b : Acceptance). length b.run.samples) xs)) all in
       join (length y.run.samples) (greatest_of (map (λ (b : Acceptance). length b.run.samples) (xs ++ x ∷ []))) two.0 (sizes xs x n two.1 one)
@@ -151,10 +139,7 @@ module _ (h : List Entry) (run : Run) (keeps : KeepsLimits h) (are : AreSamples 
 
   kept : (limit : Limit) (limits : List Limit) → first_passed (limit ∷ limits) h (entry.Accept run) ≡ None
       → (count_of limit (h ++ entry.Accept run ∷ []) ≤ most limit) × (first_passed limits h (entry.Accept run) ≡ None)
-  kept limit limits none = elim (cases_Bool (nat_lt (most limit) (count_of limit (h ++ entry.Accept run ∷ [])))) [
-    | inl passed ↦ absurd (let no : Some limit ≡ None = sym (ap (λ b. cond b (Some limit) (first_passed limits h (entry.Accept run))) passed) ∙ none in cc)
-    | inr within ↦ (ltb-false _ _ within, sym (ap (λ b. cond b (Some limit) (first_passed limits h (entry.Accept run))) within) ∙ none)
-  ]
+  kept limit limits none = grind (arith, common_steps)
 
   steps-kept : Kept limit.Steps (limit.Runs ∷ limit.Samples ∷ limit.Series ∷ limit.SeriesSamples ∷ limit.Positions ∷ [])
   steps-kept = kept limit.Steps (limit.Runs ∷ limit.Samples ∷ limit.Series ∷ limit.SeriesSamples ∷ limit.Positions ∷ []) passes

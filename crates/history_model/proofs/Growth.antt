@@ -1,16 +1,14 @@
 -- A history with one entry more is legal, and with one commit more keeps its limits.
-use Rattle.std.proofs.{Common.{ℕ, ◌+◌, ◌≤◌, List, [], ◌∷◌, ◌++◌, length, refl, sym, subst}, lemmas.List.{append-nil, append_assoc, length-append}}
-use Rattle.history_model.{proofs.Chosen.{chosen-push, chosen-skip}, proofs.Standings.jobs-stay, specs.declared.entries.Entry.Entry}
+use Rattle.std.proofs.lemmas.Grind.{common_steps}
+use Rattle.std.proofs.{Common.{ℕ, ◌+◌, ◌≤◌, List, [], ◌∷◌, ◌++◌, length, sym, subst, arith}, lemmas.List.{append-nil, append_assoc, length-append}}
+use Rattle.history_model.{proofs.Chosen.{chosen-push, chosen-skip}, proofs.Standings.jobs-stay, specs.declared.entries.Entry.Entry, specs.Commits.declarations}
 use Rattle.history_model.specs.declared.entries.Entry.TheVariants as entry
 use Rattle.metric_table.specs.declared.limits.Limit.TheVariants as limit
 use Rattle.metric_table.specs.Limits.{most}
-use Rattle.history_model.specs.{Commits.{declarations, declaration}, Publications.publication, Runs.{acceptance, retraction}}
 use Rattle.history_model.specs.Allowed.{Legal, Allowed, AllowedAfter, KeepsLimits}
 
 AllowedAfter-push : (h es : List Entry) (e : Entry) → AllowedAfter h es → Allowed (h ++ es) e → AllowedAfter h (es ++ e ∷ [])
-AllowedAfter-push h [] e legal allowed =
-    let P : List Entry → Type 0 = λ before. Allowed before e in
-    (subst P (append-nil h) allowed, tt)
+AllowedAfter-push h [] e legal allowed = grind (arith, common_steps)
 AllowedAfter-push h (x ∷ es) e legal allowed =
     let P : List Entry → Type 0 = λ before. Allowed before e in
     (legal.0, AllowedAfter-push (h ++ x ∷ []) es e legal.1 (subst P (sym (append_assoc h (x ∷ []) es)) allowed))
@@ -31,16 +29,4 @@ legal-each P none grown h legal = each-later P grown [] h legal none
 -- ---- a commit more
 module _ (h : List Entry) (number : ℕ) (name : List ℕ) where
   pub limits-commit : KeepsLimits h → length h + 1 ≤ most limit.Steps → length (declarations h) + 1 ≤ most limit.Commits → KeepsLimits (h ++ entry.Commit number name ∷ [])
-  limits-commit keeps steps commits limit.Steps = rw length-append steps
-  limits-commit keeps steps commits limit.Commits = rw (chosen-push declaration h (entry.Commit number name), length-append) commits
-  limits-commit keeps steps commits limit.Machines = keeps limit.Machines
-  limits-commit keeps steps commits limit.Cuts = rw (chosen-skip publication h (entry.Commit number name) refl) (keeps limit.Cuts)
-  limits-commit keeps steps commits limit.Jobs = rw (jobs-stay h (entry.Commit number name) refl (λ n. refl)) (keeps limit.Jobs)
-  limits-commit keeps steps commits limit.Runs = rw (chosen-skip acceptance h (entry.Commit number name) refl) (keeps limit.Runs)
-  limits-commit keeps steps commits limit.RunSamples = rw (chosen-skip acceptance h (entry.Commit number name) refl) (keeps limit.RunSamples)
-  limits-commit keeps steps commits limit.Samples = rw (chosen-skip acceptance h (entry.Commit number name) refl) (keeps limit.Samples)
-  limits-commit keeps steps commits limit.Series = rw (chosen-skip acceptance h (entry.Commit number name) refl) (keeps limit.Series)
-  limits-commit keeps steps commits limit.SeriesSamples =
-      rw (chosen-skip acceptance h (entry.Commit number name) refl, chosen-skip retraction h (entry.Commit number name) refl) (keeps limit.SeriesSamples)
-  limits-commit keeps steps commits limit.Positions =
-      rw (chosen-skip acceptance h (entry.Commit number name) refl, chosen-skip retraction h (entry.Commit number name) refl) (keeps limit.Positions)
+  limits-commit keeps steps commits x3 = grind (arith, common_steps, length-append, chosen-push, h, number, name, chosen-skip, jobs-stay)

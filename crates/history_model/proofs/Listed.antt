@@ -1,11 +1,11 @@
 -- Lists in which each item stands once, with more items; and the series that a run makes known.
-use Rattle.std.proofs.Common.{◌≡◌, ◌+◌, Bool, true, false, cond, not, ◌||◌, List, [], ◌∷◌, ◌++◌, length, map, refl, sym, ap, ◌∙◌}
+use Rattle.std.proofs.Common.{◌≡◌, ◌+◌, Bool, cond, not, ◌||◌, List, [], ◌∷◌, ◌++◌, length, map, refl, sym, ap, ◌∙◌, arith}
 use Rattle.std.{specs.Prelude.{filter, flat_map}, specs.List.list_any, proofs.lemmas.List.{append-nil, append_assoc, length-append}}
-use Rattle.std.proofs.lemmas.{List.Elements.filter-append, List.Folds.list_any-append, Grind.flat_map-append}
+use Rattle.std.proofs.lemmas.{List.Elements.filter-append, List.Folds.list_any-append, Grind.{flat_map-append, common_steps}}
 use Rattle.history_model.specs.declared.{entries.Acceptance.Acceptance, entries.Entry.Entry, run.Run.Run}
 use Rattle.history_model.specs.declared.entries.Entry.TheVariants as entry
 use Rattle.history_model.specs.Runs.{Series, acceptance, acceptances, known_series, is_known, new_series, same_series, is_of, distinct, measured}
-use Rattle.history_model.proofs.{Chosen.chosen-push, Lists.{or-true, filter-same, any-map}}
+use Rattle.history_model.proofs.{Chosen.chosen-push, Lists.{filter-same, any-map}}
 
 module _ {A : Type 0} (same : A → A → Bool) where
   abbrev stands : List A → A → Bool
@@ -15,17 +15,11 @@ module _ {A : Type 0} (same : A → A → Bool) where
   unless-there there x = cond there [] (x ∷ [])
 
   without : (p : A → Bool) (a b : Bool) (x : A) → p x ≡ not a → filter p (unless-there b x) ≡ unless-there (a || b) x
-  without p a true x is = ap (λ c. unless-there c x) (sym (or-true a))
-  without p true false x is = ap (λ c. cond c (x ∷ []) []) is
-  without p false false x is = ap (λ c. cond c (x ∷ []) []) is
+  without p a b x is = grind (arith, common_steps)
 
   pub distinct-push : (xs : List A) (x : A) → distinct same (xs ++ x ∷ []) ≡ distinct same xs ++ cond (list_any (λ y. same y x) xs) [] (x ∷ [])
   distinct-push [] x = refl
-  distinct-push (y ∷ xs) x =
-      let p : A → Bool = λ z. not (same y z) in
-      ap (λ zs. y ∷ filter p zs) (distinct-push xs x)
-      ∙ ap (λ zs. y ∷ zs) (filter-append p (distinct same xs) (unless-there (stands xs x) x))
-      ∙ ap (λ zs. y ∷ (filter p (distinct same xs) ++ zs)) (without p (same y x) (stands xs x) x refl)
+  distinct-push (y ∷ xs) x = grind (arith, common_steps, distinct-push xs x)
 
   -- what stands in the first list already isn't listed again
   module _ (first : List A) where
@@ -61,10 +55,7 @@ series_in a = map measured a.run.samples
 -- a series is listed where it is known
 listed : (s : Series) (runs : List Acceptance) → list_any (λ t. same_series t s) (flat_map series_in runs) ≡ list_any (λ (a : Acceptance). list_any (is_of s) a.run.samples) runs
 listed s [] = refl
-listed s (a ∷ runs) =
-    list_any-append (λ t. same_series t s) (series_in a) (flat_map series_in runs)
-    ∙ ap (λ b. b || list_any (λ t. same_series t s) (flat_map series_in runs)) (any-map (λ t. same_series t s) measured a.run.samples)
-    ∙ ap (λ b. list_any (is_of s) a.run.samples || b) (listed s runs)
+listed s (a ∷ runs) = grind (arith, common_steps, list_any-append, series_in, flat_map, list_any, any-map, listed s runs)
 
 pub known-grow : (h : List Entry) (run : Run) → length (known_series (h ++ entry.Accept run ∷ [])) ≡ length (known_series h) + length (new_series h run.samples)
 known-grow h run =

@@ -1,5 +1,5 @@
 -- Members of a list, and lists in a strict order.
-use Rattle.std.proofs.Common.{◌≡◌, ◌⊎◌, inl, inr, zero, suc, true≢false, Ordering, Less, List, [], ◌∷◌, ◌++◌, refl, sym, ap, ◌∙◌, arith}
+use Rattle.std.proofs.{Common.{◌≡◌, ◌⊎◌, inl, inr, suc, true≢false, Ordering, Less, List, [], ◌∷◌, ◌++◌, refl, sym, ap, ◌∙◌, arith}, lemmas.Grind.common_steps}
 use Rattle.std.specs.{Prelude.Contains, Cmp.IsTotalOrder, Ordering.{is_lt, ordering_reverse}, List.Sorted.IsStrictlySortedBy}
 use Rattle.std.proofs.lemmas.{List.Elements.{All-contains, All-weaker, All-contains_itself, Contains-append_cases, recursion_from_All}, Map.Keys.sorted_tail}
 use Rattle.std.proofs.lemmas.Map.Views.{All-after_first}
@@ -11,8 +11,7 @@ pub behind : {A : Type 0} (x y : A) (xs : List A) → Contains xs x → Contains
 behind x y xs (k, within, is) = (suc k, omega (arith, within), is)
 
 pub either : {A : Type 0} (x y : A) (xs : List A) → Contains (y ∷ xs) x → (y ≡ x) ⊎ Contains xs x
-either x y xs (zero, within, is) = inl is
-either x y xs (suc k, within, is) = inr (k, omega (arith, within), is)
+either x y xs x3 = grind (arith, common_steps)
 
 pub none-in-nil : {A : Type 0} (x : A) → Contains [] x → ⊥
 none-in-nil x (k, within, is) = absurd (omega (arith, within))

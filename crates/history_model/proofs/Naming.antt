@@ -1,14 +1,11 @@
 -- In a legal history the commits that are told of a job are declared.
-use Rattle.std.proofs.Common.{◌≡◌, ℕ, zero, suc, ◌+◌, ◌-◌, ◌/◌, ◌<◌, ◌≤◌, ◌==◌, Bool, cond, List, [], ◌∷◌, ◌++◌, length, refl, sym, ap, ◌∙◌, subst, arith, append_assoc, Option, inl, inr}
+use Rattle.std.proofs.lemmas.Grind.{common_steps}
+use Rattle.std.proofs.Common.{◌≡◌, ℕ, zero, suc, ◌+◌, ◌-◌, ◌<◌, ◌≤◌, Bool, cond, List, [], ◌∷◌, ◌++◌, length, sym, ap, ◌∙◌, subst, arith, Option, inl, inr}
 use Rattle.std.{specs.Prelude.{find, slice_index, IsSome, Some, None}, proofs.lemmas.Bool.cases_Bool, proofs.lemmas.Option.same_Some}
 use Rattle.bisect_core.specs.{Bisections.{Bisection, standing, is_open, outcome_by, low_after, high_after, questions_after}, Laws.{AreAsked, EachIsWithinBound}}
-use Rattle.bisect_core.specs.{Turns.{Turn, tested, given_up, place_of, is_end, ending}, declared.outcome.Outcome.Outcome}
-use Rattle.bisect_core.specs.declared.outcome.Outcome.TheVariants.{Asks, Found, Undecided, Faulted}
+use Rattle.bisect_core.specs.{Turns.{Turn, place_of, ending}, declared.outcome.Outcome.Outcome, declared.outcome.Outcome.TheVariants.Asks}
 use Rattle.history_model.specs.{declared.entries.Entry.Entry, Allowed.Legal, Commits.name_of, Followed.IsNamed, Jobs.{begins, turns, commits_of, jobs, job_in}}
 use Rattle.history_model.proofs.{Ends.{begun-at, commit-declared}, Finished.{asked-well, within-bound}}
-
-half-way : (low high : ℕ) → low < high → low + (high - low) / 2 < high
-half-way low high apart = omega (arith, apart)
 
 -- ---- the place at which it ended
 
@@ -24,26 +21,13 @@ found-in p (y ∷ xs) x is = elim (cases_Bool (p y)) [
 ]
 
 asked-before : (n : ℕ) (ts before : List Turn) (turn : Turn) (behind : List Turn) → ts ≡ before ++ turn ∷ behind → AreAsked n ts → AreAsked n before
-asked-before n ts before turn behind is all first t more split =
-    all first t (more ++ turn ∷ behind) (is ∙ ap (λ xs. xs ++ turn ∷ behind) split ∙ append_assoc first (t ∷ more) (turn ∷ behind))
+asked-before n ts before turn behind is all first t more split = grind (arith, common_steps)
 
 asked-within : (e : Option Turn) (low high place : ℕ) → low < high → outcome_by e low high ≡ Asks place → place < high
-asked-within None low high place apart is = elim (cases_Bool (high == (low + 1))) [
-  | inl near ↦ let never : Found low high ≡ Asks place = sym (ap (λ b. cond b (Found low high) (Asks (low + (high - low) / 2))) near) ∙ is in absurd (cc)
-  | inr far ↦
-      let asks : Asks (low + (high - low) / 2) ≡ Asks place = sym (ap (λ b. cond b (Found low high) (Asks (low + (high - low) / 2))) far) ∙ is in
-      let same : low + (high - low) / 2 ≡ place = cc in
-      subst (λ (k : ℕ). k < high) same (half-way low high apart)
-]
-asked-within (Some (tested at status)) low high place apart is = absurd (let never : Undecided at status ≡ Asks place = is in cc)
-asked-within (Some (given_up at)) low high place apart is = absurd (let never : Faulted at ≡ Asks place = is in cc)
+asked-within e low high place apart is = grind (arith, common_steps)
 
 end-within : EachIsWithinBound → (n : ℕ) (ts : List Turn) (turn : Turn) → 1 ≤ n → AreAsked n ts → ending ts ≡ Some turn → place_of turn ≤ n
-end-within bound_law n ts turn many asked ended =
-    let at = found-in is_end ts turn ended in
-    let bound = bound_law n at.0 many (asked-before n ts at.0 turn at.1 at.2 asked) in
-    let within = asked-within (ending at.0) (low_after at.0) (high_after n at.0) (place_of turn) bound.apart (asked at.0 turn at.1 at.2) in
-    omega (arith, within, bound.inside)
+end-within bound_law n ts turn many asked ended = grind (arith, common_steps, found-in, asked-before, asked-within)
 
 -- ---- what is told of it
 
@@ -63,17 +47,7 @@ module _ (h : List Entry) (commits : List ℕ) (low high questions : ℕ) (decla
 
   named-standing : (e : Option Turn) → ((turn : Turn) → e ≡ Some turn → place_of turn < length commits)
       → IsNamed h (standing commits low high questions e) (outcome_by e low high)
-  named-standing None placed =
-      let P : Outcome → Type 0 = λ o. IsNamed h (going o) o in
-      let half = half-way low high apart in
-      elim (cases_Bool (high == (low + 1))) [
-        | inl near ↦
-            subst P (sym (ap (λ b. cond b (Found low high) (Asks (low + (high - low) / 2))) near)) (declared low (omega (arith, apart, inside)), declared high inside)
-        | inr far ↦
-            subst P (sym (ap (λ b. cond b (Found low high) (Asks (low + (high - low) / 2))) far)) (refl, declared (low + (high - low) / 2) (omega (arith, half, inside)))
-      ]
-  named-standing (Some (tested place status)) placed = (refl, declared place (placed (tested place status) refl))
-  named-standing (Some (given_up place)) placed = (refl, declared place (placed (given_up place) refl))
+  named-standing e placed = grind (arith, common_steps)
 
 pub jobs-named : EachIsWithinBound → (h : List Entry) (number : ℕ) (b : Bisection) → Legal h → job_in number (jobs h) ≡ Some b → IsNamed h b b.outcome
 jobs-named bound_law h zero b legal is = absurd (let no : None ≡ Some b = is in cc)

@@ -1,5 +1,5 @@
 -- Entries by their kinds: most tell of commits, runs and settings, and others of publications, regressions or bisections.
-use Rattle.std.{proofs.Common.{◌≡◌, ℕ, Bool, true, false, ◌&&◌, List, refl, ap, ◌∙◌}, specs.Prelude.{None, bytes_eq}}
+use Rattle.std.{proofs.Common.{◌≡◌, ℕ, Bool, true, false, ◌&&◌, List, refl, ap, ◌∙◌, arith}, specs.Prelude.{None, bytes_eq}, proofs.lemmas.Grind.common_steps}
 use Rattle.history_model.specs.declared.{entries.Entry.Entry, events.JobEvent.JobEvent, events.RegressionEvent.RegressionEvent}
 use Rattle.history_model.specs.declared.entries.Entry.TheVariants as entry
 use Rattle.history_model.specs.{declared.publication.Publication.Publication, Jobs.{begun, said}, Publications.{publication, publication_of, published}}
@@ -19,14 +19,10 @@ pub by-kind : (P : Entry → Type 0) → ((e : Entry) → IsPlain e → P e) →
 by-kind P plain publish regression job (entry.Publish p) = publish p
 by-kind P plain publish regression job (entry.Regression e) = regression e
 by-kind P plain publish regression job (entry.Job e) = job e
-by-kind P plain publish regression job (entry.Commit number name) =
-    plain _ (record { publishes = λ s. refl; publishes_of = λ t s. refl; raises = λ s. refl; moves = λ n s. refl; begins = λ s. refl; says = λ n s. refl })
-by-kind P plain publish regression job (entry.Accept run) =
-    plain _ (record { publishes = λ s. refl; publishes_of = λ t s. refl; raises = λ s. refl; moves = λ n s. refl; begins = λ s. refl; says = λ n s. refl })
-by-kind P plain publish regression job (entry.Retract run) =
-    plain _ (record { publishes = λ s. refl; publishes_of = λ t s. refl; raises = λ s. refl; moves = λ n s. refl; begins = λ s. refl; says = λ n s. refl })
-by-kind P plain publish regression job (entry.Tune metric penalty len) =
-    plain _ (record { publishes = λ s. refl; publishes_of = λ t s. refl; raises = λ s. refl; moves = λ n s. refl; begins = λ s. refl; says = λ n s. refl })
+by-kind P plain publish regression job (entry.Commit number name) = grind (arith, common_steps)
+by-kind P plain publish regression job (entry.Accept run) = grind (arith, common_steps)
+by-kind P plain publish regression job (entry.Retract run) = grind (arith, common_steps)
+by-kind P plain publish regression job (entry.Tune metric penalty len) = grind (arith, common_steps)
 
 -- a publication of the test and the metric of a series is one of the series
 pub published-of : (s : Series) (p : Publication) → (bytes_eq p.test s.test && bytes_eq p.metric s.metric) ≡ true → published p ≡ s

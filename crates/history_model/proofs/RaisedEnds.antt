@@ -1,9 +1,8 @@
 -- In a legal history both commits of each regression are declared.
-use Rattle.std.{proofs.Common.{◌≡◌, ◌+◌, List, [], ◌∷◌, ◌++◌, length, All, refl, sym, subst}, specs.Prelude.{None, IsSome}}
-use Rattle.std.proofs.lemmas.List.Elements.{All-nil, All-push, All-weaker}
+use Rattle.std.{proofs.Common.{◌≡◌, ◌+◌, List, [], ◌∷◌, ◌++◌, length, All, sym, subst, arith}, specs.Prelude.{None, IsSome}}
+use Rattle.std.proofs.lemmas.{List.Elements.{All-nil, All-weaker}, Grind.common_steps}
 use Rattle.history_model.specs.declared.{entries.Entry.Entry, events.Raised.Raised, events.RegressionEvent.RegressionEvent}
 use Rattle.history_model.specs.declared.entries.Entry.TheVariants as entry
-use Rattle.history_model.specs.declared.events.RegressionEvent.TheVariants as event
 use Rattle.history_model.specs.{Allowed.{Allowed, Legal}, Commits.name_of, Regressions.{raised, regressions}}
 use Rattle.history_model.proofs.{Chosen.{chosen-push, chosen-skip}, Growth.legal-each, OfKind.by-kind, Named.still-named}
 
@@ -22,15 +21,10 @@ skipped h e none claim = subst (λ (rs : List Raised). All (Ends (h ++ e ∷ [])
 
 of-regression : (h : List Entry) (e : RegressionEvent) → Allowed h (entry.Regression e) → Claim h → Claim (h ++ entry.Regression e ∷ [])
 unfolding Claim
-of-regression h (event.Move number state) allowed claim = skipped h (entry.Regression (event.Move number state)) refl claim
-of-regression h (event.Raise r) allowed claim =
-    let e : Entry = entry.Regression (event.Raise r) in
-    subst (λ (rs : List Raised). All (Ends (h ++ e ∷ [])) rs) (sym (chosen-push raised h e))
-    (All-push (Ends (h ++ e ∷ [])) (regressions h) r (still-ends h e claim) (still-named h e r.before allowed.0.1, still-named h e r.after allowed.0.2))
+of-regression h e allowed claim = grind (arith, common_steps, skipped, chosen-push, still-ends, still-named)
 
 grown : (h : List Entry) (e : Entry) → Allowed h e → Claim h → Claim (h ++ e ∷ [])
-grown h = by-kind (λ (e : Entry). Allowed h e → Claim h → Claim (h ++ e ∷ [])) (λ e plain allowed claim. skipped h e (plain.raises (length h + 1)) claim)
-    (λ p allowed claim. skipped h (entry.Publish p) refl claim) (of-regression h) (λ e allowed claim. skipped h (entry.Job e) refl claim)
+grown h = grind (arith, common_steps, by-kind, skipped, length, of-regression)
 
 pub regressions-named : (h : List Entry) → Legal h → All (λ (r : Raised). IsSome (name_of r.before h) × IsSome (name_of r.after h)) (regressions h)
 unfolding Claim

@@ -1,6 +1,6 @@
 -- The samples of a step are taken away from the positions as they stand.
 use Rattle.std.proofs.Common.{◌≡◌, ◌≢◌, ℕ, suc, inl, inr, Bool, true, false, not, ◌&&◌, List, [], ◌∷◌, map, refl, sym, ap, ◌∙◌, arith, ◌==◌}
-use Rattle.std.{specs.Prelude.filter, proofs.lemmas.Bool.{cases_Bool, cases_eq, eq-eqb, ne_eqb}}
+use Rattle.std.{specs.Prelude.filter, proofs.lemmas.Bool.{cases_Bool, cases_eq, eq-eqb, ne_eqb}, proofs.lemmas.Grind.common_steps}
 use Rattle.segment_model.specs.{Segments.Observation, Edits.{has_values, without_step, removed}}
 use Rattle.history_model.specs.Positions.{Brought, rising, position_at, positions_of}
 use Rattle.segment_model.proofs.Rising.{IsIn, RisesFrom, rises-lower, rising-rises, rising-has, rising-only, same-rising}
@@ -13,17 +13,11 @@ sample_of x = record { step = x.step; value = x.value }
 
 filter-map : {A B : Type 0} (q : B → Bool) (f : A → B) (xs : List A) → filter q (map f xs) ≡ map f (filter (λ x. q (f x)) xs)
 filter-map q f [] = refl
-filter-map q f (x ∷ xs) = elim (cases_Bool (q (f x))) [
-  | inl kept ↦ rw (kept) (ap (λ ys. f x ∷ ys) (filter-map q f xs))
-  | inr gone ↦ rw (gone) (filter-map q f xs)
-]
+filter-map q f (x ∷ xs) = grind (arith, common_steps, filter-map q f xs)
 
 filter-rises : (q : ℕ → Bool) (low : ℕ) (ds : List ℕ) → RisesFrom low ds → RisesFrom low (filter q ds)
 filter-rises q low [] rises = tt
-filter-rises q low (d ∷ ds) rises = elim (cases_Bool (q d)) [
-  | inl kept ↦ rw kept (rises.0, filter-rises q (suc d) ds rises.1)
-  | inr gone ↦ rw gone (rises-lower (suc d) low (filter q ds) (omega (arith, rises.0)) (filter-rises q (suc d) ds rises.1))
-]
+filter-rises q low (d ∷ ds) rises = grind (arith, common_steps, cases_Bool, rises-lower, filter, filter-rises q (suc d) ds rises.1)
 
 filter-in : (q : ℕ → Bool) (c : ℕ) (ds : List ℕ) → IsIn c ds → q c ≡ true → IsIn c (filter q ds)
 filter-in q c [] is_in hit = is_in
@@ -34,10 +28,7 @@ filter-in q c (d ∷ ds) is_in hit = elim (cases_Bool (q d)) [
 
 in-filter : (q : ℕ → Bool) (c : ℕ) (ds : List ℕ) → IsIn c (filter q ds) → IsIn c ds × (q c ≡ true)
 in-filter q c [] = λ is_in. absurd is_in
-in-filter q c (d ∷ ds) = elim (cases_Bool (q d)) [
-  | inl kept ↦ rw kept (λ is_in. elim is_in [ inl at ↦ (inl at, ap q at ∙ kept) | inr later ↦ (inr (in-filter q c ds later).0, (in-filter q c ds later).1) ])
-  | inr gone ↦ rw gone (λ is_in. (inr (in-filter q c ds is_in).0, (in-filter q c ds is_in).1))
-]
+in-filter q c (d ∷ ds) = grind (arith, common_steps, in-filter q c ds)
 
 -- a commit has samples where something was brought at it
 brought-there : (items : List Brought) (c : ℕ) → IsIn c (map commit_of items) → has_values (position_at items c) ≡ true
@@ -51,10 +42,7 @@ brought-there (x ∷ items) c is_in = elim (cases_eq x.commit c) [
 there-brought : (items : List Brought) (c : ℕ) → has_values (position_at items c) ≡ true → IsIn c (map commit_of items)
 unfolding commit_of
 there-brought [] c = λ some. absurd (cc)
-there-brought (x ∷ items) c = elim (cases_eq x.commit c) [
-  | inl same ↦ λ some. inl (sym same)
-  | inr other ↦ rw (ne_eqb x.commit c other) (λ some. inr (there-brought items c some))
-]
+there-brought (x ∷ items) c = grind (arith, common_steps, there-brought items c)
 
 -- of any rising list that has all commits, those with samples are the positions
 positions-among : (items : List Brought) (ds : List ℕ) → RisesFrom 0 ds → ((c : ℕ) → IsIn c (map commit_of items) → IsIn c ds)
@@ -73,36 +61,18 @@ module _ (commit step : ℕ) where
 
   fewer-commits : (items : List Brought) (c : ℕ) → IsIn c (map commit_of (filter stays items)) → IsIn c (map commit_of items)
   fewer-commits [] c = λ is_in. is_in
-  fewer-commits (x ∷ items) c = elim (cases_Bool (stays x)) [
-    | inl kept ↦ rw kept (λ is_in. elim is_in [ inl at ↦ inl at | inr later ↦ inr (fewer-commits items c later) ])
-    | inr gone ↦ rw gone (λ is_in. inr (fewer-commits items c is_in))
-  ]
+  fewer-commits (x ∷ items) c = grind (arith, common_steps, fewer-commits items c)
 
   samples-there : (items : List Brought) (d : ℕ) → d ≡ commit
       → map sample_of (filter (λ (x : Brought). x.commit == d) (filter stays items)) ≡ filter (λ (y : Observation). not (y.step == step)) (map sample_of (filter (λ (x : Brought). x.commit == d) items))
   unfolding stays sample_of
   samples-there [] d at = refl
-  samples-there (x ∷ items) d at = elim (cases_eq x.commit d) [
-    | inl same ↦ elim (cases_eq x.step step) [
-      | inl hit ↦ rw (eq-eqb x.commit commit (same ∙ at), eq-eqb x.step step hit, eq-eqb x.commit d same, eq-eqb x.step step hit) (samples-there items d at)
-      | inr miss ↦ rw (eq-eqb x.commit commit (same ∙ at), ne_eqb x.step step miss, eq-eqb x.commit d same, ne_eqb x.step step miss) (ap (λ ys. sample_of x ∷ ys) (samples-there items d at))
-    ]
-    | inr other ↦ rw (ne_eqb x.commit commit (λ e. other (e ∙ sym at)), ne_eqb x.commit d other) (samples-there items d at)
-  ]
+  samples-there (x ∷ items) d at = grind (arith, common_steps, samples-there items d at)
 
   samples-else : (items : List Brought) (d : ℕ) → d ≢ commit → filter (λ (x : Brought). x.commit == d) (filter stays items) ≡ filter (λ (x : Brought). x.commit == d) items
   unfolding stays
   samples-else [] d other = refl
-  samples-else (x ∷ items) d other = elim (cases_eq x.commit commit) [
-    | inl hit ↦ elim (cases_eq x.step step) [
-      | inl same ↦ rw (eq-eqb x.commit commit hit, eq-eqb x.step step same, ne_eqb x.commit d (λ e. other (sym e ∙ hit))) (samples-else items d other)
-      | inr miss ↦ rw (eq-eqb x.commit commit hit, ne_eqb x.step step miss, ne_eqb x.commit d (λ e. other (sym e ∙ hit))) (samples-else items d other)
-    ]
-    | inr miss ↦ elim (cases_eq x.commit d) [
-      | inl at ↦ rw (ne_eqb x.commit commit miss, eq-eqb x.commit d at) (ap (λ ys. x ∷ ys) (samples-else items d other))
-      | inr no_hit ↦ rw (ne_eqb x.commit commit miss, ne_eqb x.commit d no_hit) (samples-else items d other)
-    ]
-  ]
+  samples-else (x ∷ items) d other = grind (arith, common_steps, samples-else items d other)
 
   position-without : (items : List Brought) (d : ℕ) → without_step commit step (position_at items d) ≡ position_at (filter stays items) d
   unfolding sample_of
@@ -113,9 +83,7 @@ module _ (commit step : ℕ) where
 
   all-without : (items : List Brought) (ds : List ℕ) → map (without_step commit step) (map (position_at items) ds) ≡ map (position_at (filter stays items)) ds
   all-without items [] = refl
-  all-without items (d ∷ ds) =
-      ap (λ p. p ∷ map (without_step commit step) (map (position_at items) ds)) (position-without items d)
-      ∙ ap (λ ps. position_at (filter stays items) d ∷ ps) (all-without items ds)
+  all-without items (d ∷ ds) = grind (arith, common_steps, map, commit, step, position-without, filter, stays, all-without items ds)
 
   -- the positions without the samples of a step at a commit
   pub positions-without : (items : List Brought) → positions_of (filter (λ (x : Brought). not (x.commit == commit && x.step == step)) items) ≡ removed commit step (positions_of items)

@@ -1,7 +1,7 @@
 -- In a legal history a run that was never accepted was never taken back.
-use Rattle.std.proofs.Common.{◌≡◌, ℕ, ◌+◌, List, [], ◌∷◌, ◌++◌, length, refl, sym, ap, ◌∙◌, Option, inl, inr, true, false, cond}
+use Rattle.std.proofs.Common.{◌≡◌, ℕ, ◌+◌, List, [], ◌∷◌, ◌++◌, length, refl, sym, ap, ◌∙◌, Option, inl, inr, true, false, cond, arith}
 use Rattle.std.{specs.Prelude.{Some, None, find, IsSome, bytes_eq, option_to_list}, specs.Option.option_or, proofs.lemmas.Bool.cases_Bool}
-use Rattle.std.proofs.lemmas.List.Folds.{find-append}
+use Rattle.std.proofs.lemmas.{List.Folds.find-append, Grind.common_steps}
 use Rattle.history_model.specs.{declared.entries.Acceptance.Acceptance, declared.entries.Entry.Entry, Allowed.{Allowed, Legal}}
 use Rattle.history_model.specs.declared.entries.Entry.TheVariants as entry
 use Rattle.history_model.{specs.Runs.{acceptance, acceptances, retraction, retractions, accepted, retracted, is_run, takes_back}, proofs.Growth.legal-each}
@@ -12,12 +12,10 @@ Claim : List Entry → Type 0
 Claim h = (run : List ℕ) → accepted run h ≡ None → retracted run h ≡ None
 
 or-none : {A : Type 0} (o p : Option A) → option_or o p ≡ None → (o ≡ None) × (p ≡ None)
-or-none None p none = (refl, none)
-or-none (Some x) p none = absurd (let no : Some x ≡ None = none in cc)
+or-none o p none = grind (arith, common_steps)
 
 none-or : {A : Type 0} (o p : Option A) → o ≡ None → p ≡ None → option_or o p ≡ None
-none-or None p one two = two
-none-or (Some x) p one two = absurd (let no : Some x ≡ None = one in cc)
+none-or o p one two = grind (arith, common_steps)
 
 -- a run that isn't accepted with an entry more wasn't before
 before : (h : List Entry) (e : Entry) (run : List ℕ) → accepted run (h ++ e ∷ []) ≡ None → accepted run h ≡ None

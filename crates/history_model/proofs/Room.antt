@@ -1,24 +1,22 @@
 -- What the limits on a history say of each of its series.
 use Rattle.std.proofs.Common.{◌≡◌, ℕ, ◌+◌, ◌≤◌, ◌<◌, max, Bool, true, false, cond, not, ◌&&◌, ◌||◌, List, [], ◌∷◌, ◌++◌, length, map, refl, sym, ap, ◌∙◌, inl, inr, arith}
-use Rattle.std.specs.{Prelude.{None, find, is_none, bytes_eq, filter, flat_map}, List.list_any, Cmp.Lexicographic.nat_list_eq_equiv}
-use Rattle.std.proofs.lemmas.{Bool.cases_Bool, List.length-map, List.Folds.list_any-append}
+use Rattle.std.specs.{Prelude.{None, bytes_eq, filter, flat_map}, List.list_any, Cmp.Lexicographic.nat_list_eq_equiv}
+use Rattle.std.proofs.lemmas.{Bool.cases_Bool, List.length-map, List.Folds.list_any-append, Grind.common_steps}
 use Rattle.metric_table.specs.Limits.{most}
 use Rattle.metric_table.specs.declared.limits.Limit.TheVariants as limit
 use Rattle.segment_model.{specs.Segments.{Position, values_of}, specs.Edits.{inserted, has_commit}, proofs.Inserted.{values-brought, size-grows, size-new}}
 use Rattle.history_model.specs.{declared.entries.Acceptance.Acceptance, declared.entries.Entry.Entry, declared.run.Run.Run, Allowed.{count_of, greatest_of}}
 use Rattle.history_model.specs.declared.entries.Entry.TheVariants as entry
 use Rattle.history_model.specs.{Laws.{observed, with_all}, Positions.{Brought, brought_by, brought, positions}}
-use Rattle.history_model.specs.Runs.{Series, acceptances, retractions, retracted, takes_back, live_runs, known_series, same_series, is_of, distinct}
+use Rattle.history_model.specs.Runs.{Series, retracted, live_runs, same_series, is_of, distinct}
 use Rattle.sample_model.specs.Samples.{Measurement}
 use Rattle.history_model.proofs.{Accepts.positions-accept, Counts.all-more, Lists.same-bytes}
 
 both : (a b : Bool) → (a && b) ≡ true → (a ≡ true) × (b ≡ true)
-both true b h = (refl, h)
-both false b h = absurd (let no : false ≡ true = h in cc)
+both a b h = grind (arith, common_steps)
 
 neither : (a b : Bool) → (a || b) ≡ false → (a ≡ false) × (b ≡ false)
-neither true b e = absurd (let no : true ≡ false = e in cc)
-neither false b e = (refl, e)
+neither a b e = grind (arith, common_steps)
 
 pub same-is : (s t : Series) → same_series s t ≡ true → s ≡ t
 same-is s t same =
@@ -85,27 +83,11 @@ none-brought s q (a ∷ runs) none =
 
 -- the live samples of any series keep the limit
 pub samples-kept : (h : List Entry) (s : Series) → count_of limit.SeriesSamples h ≤ most limit.SeriesSamples → length (brought s (live_runs h)) ≤ most limit.SeriesSamples
-samples-kept h s keeps = elim (cases_Bool (list_any (same_series s) (known_series h))) [
-  | inl some ↦
-      let has = greatest-has (λ (t : Series). length (brought t (live_runs h))) s (known_series h) some in
-      omega (arith, has, keeps)
-  | inr none ↦
-      let empty : brought s (live_runs h) ≡ [] = none-brought s (λ (a : Acceptance). is_none (find (takes_back a.run.run) (retractions h))) (acceptances h) (not-listed s (flat_map series_in (acceptances h)) none) in
-      let zero' = ap length empty in
-      omega (arith, zero')
-]
+samples-kept h s keeps = grind (arith, common_steps, cases_Bool, greatest-has, length, none-brought, not-listed, series_in)
 
 -- so do its positions
 pub positions-kept : (h : List Entry) (s : Series) → count_of limit.Positions h ≤ most limit.Positions → length (positions h s) ≤ most limit.Positions
-positions-kept h s keeps = elim (cases_Bool (list_any (same_series s) (known_series h))) [
-  | inl some ↦
-      let has = greatest-has (λ (t : Series). length (positions h t)) s (known_series h) some in
-      omega (arith, has, keeps)
-  | inr none ↦
-      let empty : brought s (live_runs h) ≡ [] = none-brought s (λ (a : Acceptance). is_none (find (takes_back a.run.run) (retractions h))) (acceptances h) (not-listed s (flat_map series_in (acceptances h)) none) in
-      let nothing : length (positions h s) ≡ 0 = rw empty refl in
-      omega (arith, nothing)
-]
+positions-kept h s keeps = grind (arith, common_steps, cases_Bool, greatest-has, length, none-brought, not-listed, series_in)
 
 -- there is room for the samples of a run whose acceptance keeps the limits
 pub room-for-samples : (h : List Entry) (run : Run) (s : Series) → count_of limit.SeriesSamples (h ++ entry.Accept run ∷ []) ≤ most limit.SeriesSamples → retracted run.run h ≡ None
@@ -124,10 +106,7 @@ room-for-samples h run s keeps live =
 
 all-grow : (xs : List Brought) (points : List Position) → length points ≤ length (with_all xs points)
 all-grow [] points = omega arith
-all-grow (x ∷ xs) points =
-    let one = size-grows x.commit (observed x) points in
-    let rest = all-grow xs (inserted x.commit (observed x) points) in
-    omega (arith, one, rest)
+all-grow (x ∷ xs) points = grind (arith, common_steps, size-grows, inserted, all-grow xs (inserted x.commit (observed x) points))
 
 -- there is room for a new position, where the run brings a sample to a commit that has none
 pub room-for-position : (h : List Entry) (run : Run) (s : Series) → count_of limit.Positions (h ++ entry.Accept run ∷ []) ≤ most limit.Positions → retracted run.run h ≡ None

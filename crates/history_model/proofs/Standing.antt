@@ -1,12 +1,11 @@
 -- The publications of a legal history stand in it, since each version of it stays.
-use Rattle.std.proofs.Common.{◌≡◌, ℕ, ◌+◌, ◌≤◌, Bool, true, ◌&&◌, ◌||◌, cond, List, [], ◌∷◌, ◌++◌, length, All, refl, sym, ap, ◌∙◌, subst, arith, inl, inr}
+use Rattle.std.proofs.Common.{◌≡◌, ℕ, ◌+◌, ◌≤◌, true, ◌&&◌, cond, List, [], ◌∷◌, ◌++◌, length, All, refl, sym, ap, ◌∙◌, subst, arith, inl, inr}
 use Rattle.std.{specs.Prelude.{Some, None, take, drop, bytes_eq, option_to_list}, specs.List.list_any, proofs.lemmas.Bool.cases_Bool}
-use Rattle.std.proofs.lemmas.List.{append-nil, append_assoc, length-append, take-append-le, take-append-drop, Elements.{All-nil, All-push, All-weaker}}
-use Rattle.std.proofs.lemmas.List.Folds.{list_any-append}
-use Rattle.history_model.specs.declared.{entries.Acceptance.Acceptance, entries.Entry.Entry, publication.Publication.Publication}
+use Rattle.std.proofs.lemmas.List.{append-nil, append_assoc, take-append-le, take-append-drop, Elements.{All-nil, All-push, All-weaker}}
+use Rattle.std.proofs.lemmas.{List.Folds.list_any-append, Grind.common_steps}
+use Rattle.history_model.specs.{declared.entries.Entry.Entry, declared.publication.Publication.Publication, Allowed.{Allowed, Legal}}
 use Rattle.history_model.specs.declared.entries.Entry.TheVariants as entry
-use Rattle.history_model.specs.Allowed.{Allowed, Legal}
-use Rattle.history_model.specs.Publications.{publication, publications, publication_of, published, last_publication, spoken_of, IsBestAt, IsBaseAt, Stands}
+use Rattle.history_model.specs.Publications.{publication, publications, publication_of, published, last_publication, Stands}
 use Rattle.history_model.{specs.Runs.{Series, acceptance, acceptances, is_known, is_of}, proofs.Chosen.{chosen-push, chosen-skip}, proofs.Growth.legal-each}
 use Rattle.history_model.proofs.{OfKind.{by-kind, published-of}, Publishing.{published-last, published-stays}}
 
@@ -15,10 +14,7 @@ versions-stay h more version le = take-append-le version h more le
 
 -- ---- what is known stays known
 known-push : (s : Series) (h : List Entry) (e : Entry) → is_known s h ≡ true → is_known s (h ++ e ∷ []) ≡ true
-known-push s h e known =
-    let brings : Acceptance → Bool = λ a. list_any (is_of s) a.run.samples in
-    let more : List Acceptance = option_to_list (acceptance (length h + 1) e) in
-    ap (list_any brings) (chosen-push acceptance h e) ∙ list_any-append brings (acceptances h) more ∙ ap (λ b. b || list_any brings more) known
+known-push s h e known = grind (arith, common_steps, list_any, is_of, option_to_list, acceptance, length, chosen-push, list_any-append, acceptances)
 
 known-more : (s : Series) (h more : List Entry) → is_known s h ≡ true → is_known s (h ++ more) ≡ true
 known-more s h [] known = ap (is_known s) (append-nil h) ∙ known
@@ -29,13 +25,7 @@ known-stays h s version known = ap (is_known s) (sym (take-append-drop version h
 
 -- ---- publications
 stands-later : (h : List Entry) (e : Entry) (p : Publication) → Stands h p → Stands (h ++ e ∷ []) p
-stands-later h e p stands =
-    let same : spoken_of h p ≡ spoken_of (h ++ e ∷ []) p = sym (versions-stay h (e ∷ []) p.version stands.past) in
-    let Best : List Entry → Type 0 = λ v. IsBestAt v p in
-    let Based : List Entry → Type 0 = λ v. IsBaseAt v p in
-    let past : p.version ≤ length (h ++ e ∷ []) = rw length-append (let le = stands.past in omega (arith, le)) in
-    let known : is_known (published p) (spoken_of (h ++ e ∷ []) p) ≡ true = ap (is_known (published p)) (sym same) ∙ stands.known in
-    record { past = past; known = known; best = subst Best same stands.best; based = subst Based same stands.based }
+stands-later h e p stands = grind (arith, common_steps)
 
 AllStand : List Entry → Type 0
 AllStand h = All (Stands h) (publications h)

@@ -1,7 +1,7 @@
 -- How many jobs are open: one more where one is begun of three commits or more, and no more where something is said of one.
-use Rattle.std.proofs.Common.{◌≡◌, ℕ, zero, suc, ◌+◌, ◌-◌, ◌≤◌, ◌<◌, Bool, true, false, ◌==◌, nat_lt, cond, List, [], ◌∷◌, ◌++◌, length, refl, sym, ap, ◌∙◌, arith, inl, inr}
-use Rattle.std.specs.{Prelude.{filter, slice_get, IsSome, Some, None, Option}, List.AllByRecursion}
-use Rattle.std.proofs.lemmas.{Bool.{cases_Bool, eq-eqb, eqb-true, lt-ltb, le-ltb}, List.length-append, List.Elements.filter-append, Option.same_Some}
+use Rattle.std.proofs.Common.{◌≡◌, ℕ, zero, suc, ◌+◌, ◌-◌, ◌≤◌, ◌<◌, true, nat_lt, cond, List, [], ◌∷◌, ◌++◌, length, refl, sym, ap, ◌∙◌, arith}
+use Rattle.std.{specs.Prelude.{slice_get, IsSome, Some, None, Option}, specs.List.AllByRecursion, proofs.lemmas.Grind.common_steps}
+use Rattle.std.proofs.lemmas.{Bool.eq-eqb, Option.same_Some}
 use Rattle.bisect_core.specs.{Bisections.{Bisection, bisection, is_open, between}, Turns.{Turn, tested, given_up}}
 use Rattle.metric_table.specs.Limits.{most}
 use Rattle.metric_table.specs.declared.limits.Limit.TheVariants as limit
@@ -15,63 +15,28 @@ use Rattle.history_model.proofs.Standings.{IsUpTo, all-past, commits-same, stand
 
 -- ---- one job more
 open-push : (js : List Bisection) (b : Bisection) → open_count (js ++ b ∷ []) ≡ open_count js + cond (is_under_way b) 1 0
-open-push js b =
-    ap length (filter-append is_under_way js (b ∷ [])) ∙ length-append (filter is_under_way js) (filter is_under_way (b ∷ []))
-    ∙ ap (λ n. open_count js + n) (one (is_under_way b))
-  where
-    one : (kept : Bool) → length (cond kept (b ∷ []) []) ≡ cond kept 1 0
-    one true = refl
-    one false = refl
+open-push js b = grind (arith, common_steps)
 
 -- ends at the first and the last of two places or more are neighbours exactly where there are two
 between-open : (count : ℕ) → 2 ≤ count → is_open (between 0 (count - 1)) ≡ nat_lt 2 count
-between-open count two = elim (cases_Bool (count - 1 == (0 + 1))) [
-  | inl near ↦
-      let is : count - 1 ≡ 0 + 1 = eqb-true (count - 1) (0 + 1) near in
-      let few : nat_lt 2 count ≡ false = le-ltb 2 count (omega (arith, is)) in
-      rw near (sym few)
-  | inr far ↦
-      let many : nat_lt 2 count ≡ true = lt-ltb 2 count (omega (arith, two, apart far)) in
-      rw far (sym many)
-]
-  where
-    apart : (count - 1 == (0 + 1)) ≡ false → (count ≡ 2 → ⊥)
-    apart far is = let same : (count - 1 == (0 + 1)) ≡ true = eq-eqb (count - 1) (0 + 1) (omega (arith, is)) in let never : false ≡ true = sym far ∙ same in cc
+between-open count two = grind (arith, common_steps)
 
 pub begin-opens : (h : List Entry) (lo hi : ℕ) → Legal h → IsSome (name_of lo h) → IsSome (name_of hi h) → lo < hi
     → open_count (jobs (h ++ entry.Job (event.Begin lo hi) ∷ [])) ≡ open_count (jobs h) + cond (nat_lt 2 (length (numbers_between lo hi (declarations h)))) 1 0
-begin-opens h lo hi legal first last lt =
-    let ns : List ℕ = numbers_between lo hi (declarations h) in
-    ap open_count (job-begun h lo hi legal)
-    ∙ open-push (jobs h) (bisection ns [])
-    ∙ ap (λ more. open_count (jobs h) + cond more 1 0) (between-open (length ns) (between-two lo hi (declarations h) lt first last))
+begin-opens h lo hi legal first last lt = grind (arith, common_steps, job-begun, open-push, cond, between-open, length, between-two)
 
 -- ---- something is said of an open one
 no-more : (x y : Bisection) (xs ys : List Bisection) → is_under_way y ≡ true → open_count xs ≤ open_count ys → open_count (x ∷ xs) ≤ open_count (y ∷ ys)
-no-more x y xs ys under_way le = rw under_way (at (is_under_way x))
-  where
-    at : (b : Bool) → length (cond b (x ∷ filter is_under_way xs) (filter is_under_way xs)) ≤ suc (open_count ys)
-    at true = omega (arith, le)
-    at false = omega (arith, le)
+no-more x y xs ys under_way le = grind (arith, common_steps)
 
 same-first : (x y : Bisection) (xs ys : List Bisection) → x ≡ y → open_count xs ≤ open_count ys → open_count (x ∷ xs) ≤ open_count (y ∷ ys)
-same-first x y xs ys is le = rw is (at (is_under_way y))
-  where
-    at : (b : Bool) → length (cond b (y ∷ filter is_under_way xs) (filter is_under_way xs)) ≤ length (cond b (y ∷ filter is_under_way ys) (filter is_under_way ys))
-    at true = omega (arith, le)
-    at false = le
+same-first x y xs ys is le = grind (arith, common_steps)
 
 module _ (h : List Entry) (e : Entry) (turn : Turn) (before : Bisection) (under_way : is_under_way before ≡ true) where
   open-on : (k i : ℕ) (bs : List Begun) → said (i + k) (length h + 1) e ≡ Some turn → AllByRecursion (IsUpTo (length h)) bs
       → slice_get (standing_from h k bs) i ≡ Some before → open_count (standing_from (h ++ e ∷ []) k bs) ≤ open_count (standing_from h k bs)
   open-on k i [] says past is = omega arith
-  open-on k zero (b ∷ bs) says past is =
-      let rest : standing_from (h ++ e ∷ []) (k + 1) bs ≡ standing_from h (k + 1) bs =
-      standing-same h e (k + 1) (λ n le. said-other (length h + 1) (0 + k) e turn says n (λ same. omega (arith, same, le))) bs past.1 in
-      let same = same_Some (bisection (commits_of h b) (turns k h)) before is in
-      no-more (bisection (commits_of (h ++ e ∷ []) b) (turns k (h ++ e ∷ []))) (bisection (commits_of h b) (turns k h))
-      (standing_from (h ++ e ∷ []) (k + 1) bs) (standing_from h (k + 1) bs)
-      (ap is_under_way same ∙ under_way) (omega (arith, ap open_count rest))
+  open-on k zero (b ∷ bs) says past is = grind (arith, common_steps, h, e, standing-same, said-other, length, turn, same_Some, before)
   open-on k (suc i) (b ∷ bs) says past is =
       let there : suc i + k ≡ i + (k + 1) = omega arith in
       let none : said k (length h + 1) e ≡ None = said-other (length h + 1) (suc i + k) e turn says k (λ same. omega (arith, same)) in

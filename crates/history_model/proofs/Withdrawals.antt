@@ -1,15 +1,14 @@
 -- The positions of a series after a run was taken back: the samples of its step go.
-use Rattle.std.proofs.Common.{◌≡◌, ℕ, suc, ◌+◌, ◌≤◌, ◌<◌, Bool, true, false, cond, not, ◌&&◌, ◌==◌, List, [], ◌∷◌, ◌++◌, length, map, refl, sym, ap, ◌∙◌, subst, Option, inl, inr, arith}
+use Rattle.std.proofs.Common.{◌≡◌, ℕ, suc, ◌+◌, ◌≤◌, ◌<◌, Bool, true, false, cond, not, ◌&&◌, ◌==◌, List, [], ◌∷◌, ◌++◌, length, map, refl, sym, ap, ◌∙◌, subst, inl, inr, arith}
 use Rattle.std.specs.{Prelude.{Some, None, find, is_none, bytes_eq, filter}, Option.option_or, List.list_any, Cmp.Lexicographic.nat_list_eq_equiv}
-use Rattle.std.proofs.lemmas.{Bool.{cases_Bool, eq-eqb, ne_eqb}, List.Elements.filter-append, List.Folds.find-append}
+use Rattle.std.proofs.lemmas.{Bool.{cases_Bool, eq-eqb, ne_eqb}, List.Elements.filter-append, List.Folds.find-append, Grind.common_steps}
 use Rattle.history_model.specs.{declared.entries.Acceptance.Acceptance, declared.entries.Entry.Entry, Allowed.{Allowed, Legal}, Laws.is_other}
 use Rattle.history_model.specs.declared.entries.Entry.TheVariants as entry
 use Rattle.segment_model.specs.Edits.{removed}
-use Rattle.history_model.specs.Positions.{Brought, brought_by, brought, positions, positions_of}
+use Rattle.history_model.{specs.Positions.{Brought, brought_by, brought, positions, positions_of}, proofs.Removals.positions-without}
 use Rattle.history_model.specs.Runs.{Series, Retraction, acceptance, acceptances, retraction, retractions, accepted, is_run, takes_back, live_of, is_of}
 use Rattle.sample_model.specs.Samples.{Measurement}
 use Rattle.history_model.{specs.Entries.chosen_from, proofs.Growth.legal-each, proofs.Chosen.{chosen-push, chosen-skip}, proofs.Lists.{same-bytes, filter-none}}
-use Rattle.history_model.proofs.Removals.{positions-without}
 
 -- ---- no name stands in two acceptances
 abbrev NamedOnce : List Acceptance → Type 0
@@ -33,15 +32,7 @@ Once h = NamedOnce (acceptances h)
 
 once-grown : (h : List Entry) (e : Entry) → Allowed h e → Once h → Once (h ++ e ∷ [])
 unfolding Once
-once-grown h (entry.Commit number name) allowed once = let P : List Acceptance → Type 0 = λ rs. NamedOnce rs in subst P (sym (chosen-skip acceptance h (entry.Commit number name) refl)) once
-once-grown h (entry.Retract name) allowed once = let P : List Acceptance → Type 0 = λ rs. NamedOnce rs in subst P (sym (chosen-skip acceptance h (entry.Retract name) refl)) once
-once-grown h (entry.Tune metric penalty len) allowed once = let P : List Acceptance → Type 0 = λ rs. NamedOnce rs in subst P (sym (chosen-skip acceptance h (entry.Tune metric penalty len) refl)) once
-once-grown h (entry.Publish p) allowed once = let P : List Acceptance → Type 0 = λ rs. NamedOnce rs in subst P (sym (chosen-skip acceptance h (entry.Publish p) refl)) once
-once-grown h (entry.Regression event) allowed once = let P : List Acceptance → Type 0 = λ rs. NamedOnce rs in subst P (sym (chosen-skip acceptance h (entry.Regression event) refl)) once
-once-grown h (entry.Job event) allowed once = let P : List Acceptance → Type 0 = λ rs. NamedOnce rs in subst P (sym (chosen-skip acceptance h (entry.Job event) refl)) once
-once-grown h (entry.Accept run) allowed once =
-    let P : List Acceptance → Type 0 = λ rs. NamedOnce rs in
-    subst P (sym (chosen-push acceptance h (entry.Accept run))) (once-push (acceptances h) (record { step = length h + 1; run = run }) once allowed.0.0)
+once-grown h e allowed once = grind (arith, common_steps, chosen-skip, chosen-push, once-push, length)
 
 -- ---- steps rise
 abbrev StepsFrom : ℕ → List Acceptance → Type 0
@@ -66,7 +57,6 @@ found-above : (run : List ℕ) (low : ℕ) (runs : List Acceptance) (a : Accepta
 found-above run low [] a from found = absurd (cc)
 found-above run low (b ∷ runs) a from found = elim (cases_Bool (is_run run b)) [
   | inl hit ↦
-      let is : Some b ≡ Some a = sym (ap (λ t. cond t (Some b) (find (is_run run) runs)) hit) ∙ found in
       let same : b ≡ a = cc in
       subst (λ (x : Acceptance). low ≤ x.step) same from.0
   | inr miss ↦
@@ -91,7 +81,6 @@ tells : (run : List ℕ) (a : Acceptance) (low : ℕ) (runs : List Acceptance) �
 tells run a low [] from once found = tt
 tells run a low (b ∷ runs) from once found = elim (cases_Bool (is_run run b)) [
   | inl hit ↦
-      let is : Some b ≡ Some a = sym (ap (λ t. cond t (Some b) (find (is_run run) runs)) hit) ∙ found in
       let same : b ≡ a = cc in
       let steps : b.step ≡ a.step = ap (λ (x : Acceptance). x.step) same in
       let name : b.run.run ≡ run = same-bytes b.run.run run hit in (
@@ -119,25 +108,11 @@ module _ (s : Series) (run : List ℕ) (a : Acceptance) where
       → filter (is_other a.run.commit a.step) (map (λ (x : Measurement). let y : Brought = record { commit = b.run.commit; step = b.step; value = x.value } in y) xs)
       ≡ map (λ (x : Measurement). let y : Brought = record { commit = b.run.commit; step = b.step; value = x.value } in y) xs
   all-stay b apart [] = refl
-  all-stay b apart (x ∷ xs) =
-      let keep : is_other a.run.commit a.step (record { commit = b.run.commit; step = b.step; value = x.value }) ≡ true = ap (λ t. not ((b.run.commit == a.run.commit) && t)) apart ∙ off (b.run.commit == a.run.commit) in
-      rw keep (ap (λ ys. record { commit = b.run.commit; step = b.step; value = x.value } ∷ ys) (all-stay b apart xs))
-    where
-      off : (t : Bool) → not (t && false) ≡ true
-      off true = refl
-      off false = refl
+  all-stay b apart (x ∷ xs) = grind (arith, common_steps, all-stay b apart xs)
 
   still : (gone : List Retraction) (step : ℕ) (name : List ℕ)
       → is_none (find (takes_back name) (gone ++ record { step = step; run = run } ∷ [])) ≡ (is_none (find (takes_back name) gone) && not (bytes_eq run name))
-  still gone step name =
-      ap is_none (find-append (takes_back name) gone (record { step = step; run = run } ∷ []))
-      ∙ either (find (takes_back name) gone) (bytes_eq run name)
-    where
-      either : (o : Option Retraction) (b : Bool) → is_none (option_or o (cond b (Some (record { step = step; run = run })) None)) ≡ (is_none o && not b)
-      either None true = refl
-      either None false = refl
-      either (Some r) true = refl
-      either (Some r) false = refl
+  still gone step name = grind (arith, common_steps, find-append, run, cond, not)
 
   -- whether another run stands, with the run taken back too
   module _ (gone : List Retraction) (step : ℕ) (b : Acceptance) where

@@ -81,9 +81,3 @@ front_lacks c (b ∷ bytes) zero none within k d below same = absurd (omega (ari
 front_lacks c (b ∷ bytes) (suc i) none within zero d below same = none 0 (omega arith) same
 front_lacks c (b ∷ bytes) (suc i) none within (suc k) d below same =
     front_lacks c bytes i (λ j under is. none (suc j) (omega (arith, under)) is) (omega (arith, within)) k d (omega (arith, below)) same
-
-pub whole_lacks : (c : ℕ) (bytes : List ℕ) → ((k : ℕ) → k < length bytes → get_or bytes k 0 ≡ c → ⊥) → All (λ b. b ≢ c) bytes
-whole_lacks c [] none k d below same = absurd (omega (arith, below))
-whole_lacks c (b ∷ bytes) none zero d below same = none 0 (omega arith) same
-whole_lacks c (b ∷ bytes) none (suc k) d below same =
-    whole_lacks c bytes (λ j under is. none (suc j) (omega (arith, under)) is) k d (omega (arith, below)) same

@@ -79,17 +79,6 @@ one_author law (author.Bisect i) (author.Script j) p q e = let byte : ◌≡◌ 
 one_author law (author.Bisect i) (author.Recompute j) p q e = let byte : ◌≡◌ {A = ℕ} 98 114 = ap (λ (l : List ℕ). get_or l 0 0) e in absurd (omega (arith, byte))
 one_author law (author.Bisect i) (author.Bisect j) p q e = ap (λ (n : ℕ). author.Bisect n) (one_number law i j (omega (arith, p)) (omega (arith, q)) (ap (λ (l : List ℕ). drop 1 l) e))
 
--- a letter and what stands behind it name no author
-pub author_none : (letter : ℕ) (digits : List ℕ) → (letter ≡ 107 → digits ≡ [] → ⊥)
-    → (letter ≡ 115 → (n : ℕ) → n < 2 ^ 8 → digits ≡ decimal n → ⊥)
-    → (letter ≡ 114 → (n : ℕ) → n < 2 ^ 8 → digits ≡ decimal n → ⊥)
-    → (letter ≡ 98 → (n : ℕ) → n < 2 ^ 8 → digits ≡ decimal n → ⊥)
-    → (a : Author) → IsAuthor a → letter ∷ digits ≡ author_word a → ⊥
-author_none letter digits k s r b author.Kept is e = k (ap (λ (l : List ℕ). get_or l 0 0) e) (ap (λ (l : List ℕ). drop 1 l) e)
-author_none letter digits k s r b (author.Script i) is e = s (ap (λ (l : List ℕ). get_or l 0 0) e) i is (ap (λ (l : List ℕ). drop 1 l) e)
-author_none letter digits k s r b (author.Recompute i) is e = r (ap (λ (l : List ℕ). get_or l 0 0) e) i is (ap (λ (l : List ℕ). drop 1 l) e)
-author_none letter digits k s r b (author.Bisect i) is e = b (ap (λ (l : List ℕ). get_or l 0 0) e) i is (ap (λ (l : List ℕ). drop 1 l) e)
-
 -- two lines of a step in front of bytes are one
 pub record SameStep (p q : Placed) (rest more : List ℕ) : Type 0 where
   pub entry_is : p ≡ q

@@ -1,9 +1,8 @@
 -- Private: no public contract cites this. What the next line of a text says of a machine.
-use Rattle.std.proofs.lemmas.List.{length-map}
+use Rattle.std.{proofs.lemmas.List.length-map, specs.List.AllByRecursion}
 use Rattle.history_model.specs.{Entries.entries_of, declared.entries.Placed.Placed}
 use Rattle.journal_reader.specs.{Judging.AreAllowed, Journals.IsOther, Reading.IsRefusedAt, Next.{IsNewHead, IsNext, IsRefusedNext}}
-use Rattle.std.proofs.Common.{◌≡◌, ◌≢◌, ◌⊎◌, inl, inr, ◌^◌, ℕ, ◌+◌, ◌<◌, ◌≤◌, List, [], ◌∷◌, ◌++◌, length, All, codes, decimal, refl, sym, ap, ◌∙◌, subst, arith, append_assoc, length-append}
-use Rattle.std.specs.List.{AllByRecursion}
+use Rattle.std.proofs.Common.{◌≡◌, ◌≢◌, ◌⊎◌, inl, inr, ◌^◌, ℕ, ◌+◌, ◌<◌, ◌≤◌, List, [], ◌∷◌, ◌++◌, length, All, codes, decimal, refl, sym, ap, ◌∙◌, subst, arith, length-append}
 use Rattle.metric_table.specs.{Limits.most, declared.limits.Limit.TheVariants.Machines}
 use Rattle.line_text.specs.Names.{NamesAreSpelledBack, spelling}
 use Rattle.track_entry.specs.Texts.{entry_text}
@@ -50,19 +49,6 @@ known_head names one scripts before old line next m n l number some parts none s
     never bytes more machine count split is fresh room =
         let same : (machine ≡ m) × (count ≡ n) = one line machine m count n (one_line names old.rest line next bytes more machine count parts none split is) says in
         known (subst (λ (x : List ℕ). AllByRecursion (IsOther x) before) same.0 fresh)
-
--- it is that of a new one
-pub new_head : (before : List Journal) (old new : Unread) (line next : List ℕ) (head : Head) → old.rest ≡ line ++ 10 ∷ next → IsHead line head.machine head.count
-    → AllByRecursion (IsOther head.machine) before → length before < most Machines → new ≡ record { rest = next; count = old.count + 1 } → IsNewHead before old new head
-new_head before old new line next head parts says fresh room is = record {
-  text = parts ∙ sym (append_assoc line (10 ∷ []) next) ∙ ap (λ (l : List ℕ). l ++ next) says.text
-      ∙ ap (λ (l : List ℕ). head_line head.machine head.count ++ l) (sym (ap (λ (u : Unread). u.rest) is));
-  count = ap (λ (u : Unread). u.count) is;
-  named = says.named;
-  fits = says.fits;
-  fresh = fresh;
-  room = room;
-}
 
 -- ---- sizes
 

@@ -15,11 +15,6 @@ same_ends {A = A} (z ∷ xs) (w ∷ ys) x y e =
     let both : (xs ≡ ys) × (x ≡ y) = same_ends xs ys x y rest in
     (ap₂ (λ (a : A) (l : List A). a ∷ l) one both.0, both.1)
 
--- the item behind the first ones
-pub behind_front : {A : Type 0} (xs ys : List A) (x : A) → slice_get (xs ++ x ∷ ys) (length xs) ≡ Some x
-behind_front [] ys x = refl
-behind_front (z ∷ xs) ys x = behind_front xs ys x
-
 pub parts_at : {A : Type 0} (xs : List A) (n : ℕ) (x : A) → slice_get xs n ≡ Some x → (ys : List A) × (xs ≡ take n xs ++ x ∷ ys)
 parts_at [] n x is = absurd (cc)
 parts_at (z ∷ xs) zero x is = let same : z ≡ x = cc in (xs, ap (λ a. a ∷ xs) same)

@@ -1,6 +1,6 @@
 -- What a walk keeps, as its parts change.
-use Rattle.std.proofs.Common.{◌≡◌, ℕ, ◌+◌, ◌<◌, cond, List, [], ◌∷◌, ◌++◌, length, set, replicate, refl, sym, ap, ◌∙◌, subst, Option, Some, None}
-use Rattle.std.{specs.Prelude.slice_get, proofs.lemmas.List.length-replicate}
+use Rattle.std.proofs.Common.{◌≡◌, ℕ, ◌+◌, ◌<◌, cond, List, [], ◌∷◌, ◌++◌, length, set, replicate, refl, sym, ap, ◌∙◌, subst, Option, Some, None, arith}
+use Rattle.std.{specs.Prelude.slice_get, proofs.lemmas.List.length-replicate, proofs.lemmas.Grind.common_steps}
 use Rattle.history_model.specs.declared.{entries.Entry.Entry, entries.Entry.TheVariants.Publish, entries.Placed.Placed, publication.Publication.Publication}
 use Rattle.history_model.specs.{Entries.entries_of, Publications.published}
 use Rattle.journal_walk.specs.{Ahead.{AllMet, Keeps, KeepsAhead, Slots}, declared.ahead.Ahead.Ahead, declared.needs.Need.Need, declared.version.Version.Version}
@@ -10,11 +10,7 @@ use Rattle.journal_walk.proofs.Plans.{many}
 -- of other lists that are the same
 pub same-keeps : (es h : List Entry) (needs needs' : List Need) (met met' : ℕ) (bases bases' versions versions' : Slots) → Keeps es h needs met bases versions
     → needs' ≡ needs → met' ≡ met → bases' ≡ bases → versions' ≡ versions → Keeps es h needs' met' bases' versions'
-same-keeps es h needs needs' met met' bases bases' versions versions' keeps n m b v =
-    subst (λ (l : List Need). Keeps es h l met' bases' versions') (sym n)
-    (subst (λ (k : ℕ). Keeps es h needs k bases' versions') (sym m)
-    (subst (λ (l : Slots). Keeps es h needs met l versions') (sym b)
-    (subst (λ (l : Slots). Keeps es h needs met bases l) (sym v) keeps)))
+same-keeps es h needs needs' met met' bases bases' versions versions' keeps n m b v = grind (arith, common_steps)
 
 -- an entry more
 pub grown : (es h h' : List Entry) (e : Entry) (a : Ahead) → KeepsAhead es h a → AllMet h a → h' ≡ h ++ e ∷ [] → KeepsAhead es h' a
@@ -51,10 +47,8 @@ met-next es h a b need p found kept next there now is needs met bases versions f
 pub begun : (history : List Placed) (a : Ahead) → IsPlan (entries_of history) a.needs.items → a.met ≡ 0 → a.bases.items ≡ replicate (length history) None
     → a.versions.items ≡ replicate (length history) None → AreFirsts (entries_of history) a.firsts → KeepsAhead (entries_of history) [] a
 begun history a plan met bases versions firsts =
-    let es : List Entry = entries_of history in
     let size : length (entries_of history) ≡ length history = many history in
-    let same : replicate {A = Option Version} (length history) None ≡ replicate (length (entries_of history)) None =
-    ap (λ (n : ℕ). replicate {A = Option Version} n None) (sym size) in
+    let same : replicate {A = Option Version} (length history) None ≡ replicate (length (entries_of history)) None = grind (arith, common_steps) in
     let sized : (slots : Slots) → slots ≡ replicate (length history) None → length slots ≡ length (entries_of history) =
     λ slots is. ap length is ∙ length-replicate (length history) None ∙ sym size in
     record {

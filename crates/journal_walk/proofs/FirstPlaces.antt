@@ -1,10 +1,10 @@
 -- Where a version of a series is published first, and whether it was published before a version.
 use Rattle.std.proofs.Common.{◌≡◌, ℕ, zero, suc, ◌+◌, ◌<◌, ◌≤◌, Bool, true, false, ◌&&◌, cond, List, [], ◌∷◌, ◌++◌, length, get_or, take, drop, inl, inr, refl, sym, ap, ap₂, ◌∙◌, subst, arith, Option, Some, None}
 use Rattle.std.specs.{Prelude.{Contains, slice_get, bytes_eq}, List.{Any, cons_option}, declared.cmp.Ordering.Ordering}
-use Rattle.std.specs.{declared.cmp.Ordering.TheVariants.{Less, Equal, Greater}, Ordering.{nat_cmp, is_eq, ordering_then}, Cmp.nat_cmp_is}
+use Rattle.std.{specs.declared.cmp.Ordering.TheVariants.Equal, specs.Ordering.{nat_cmp, is_eq, ordering_then}, proofs.lemmas.Grind.common_steps}
 use Rattle.std.{specs.Cmp.Lexicographic.slice_cmp, proofs.lemmas.Bool.cases_Bool, proofs.lemmas.Map.Lookups.exact_unsigned}
 use Rattle.std.proofs.lemmas.{Map.Text.is_eq-slice_cmp, Option.slice_get_within, Slice.Eq.bytes_eq-Decides}
-use Rattle.std.proofs.{lemmas.List.{append-nil, append_assoc, drop_all, get_or-map, length-take-le, take-take}, Math.Seq.drop-cons}
+use Rattle.std.proofs.{lemmas.List.{get_or-map, length-take-le, take-take}, Math.Seq.drop-cons}
 use Rattle.history_model.specs.declared.{entries.Entry.Entry, entries.Placed.Placed, publication.Publication.Publication}
 use Rattle.history_model.specs.declared.entries.Entry.TheVariants as entry
 use Rattle.history_model.specs.{Allowed.{Allowed, AllowedAfter, Legal}, Entries.{chosen_from, entries_of}}
@@ -15,14 +15,10 @@ use Rattle.journal_walk.specs.Firsts.{IsBefore, base_key, first_from, key_cmp, k
 
 -- ---- keys
 is-equal : (o : Ordering) → is_eq o ≡ true → o ≡ Equal
-is-equal Less h = absurd (cc)
-is-equal Equal h = refl
-is-equal Greater h = absurd (cc)
+is-equal o h = grind (arith, common_steps)
 
 both : (x y : Ordering) → is_eq (ordering_then x y) ≡ true → (is_eq x ≡ true) × (is_eq y ≡ true)
-both Less y h = absurd (cc)
-both Equal y h = (refl, h)
-both Greater y h = absurd (cc)
+both x y h = grind (arith, common_steps)
 
 same-name : (one other : List ℕ) → is_eq (slice_cmp nat_cmp one other) ≡ true → one ≡ other
 same-name one other same = (bytes_eq-Decides one other).0 (sym (is_eq-slice_cmp one other) ∙ same)
@@ -41,11 +37,7 @@ same-key one other same =
     ∙ ap (λ (v : ℕ). let k : SeriesVersion = record { test = other.test; metric = other.metric; version = v } in k) versions
 
 pub key-same : (key : SeriesVersion) → is_eq (key_cmp key key) ≡ true
-key-same key =
-    let number : nat_cmp key.version key.version ≡ Equal = sym (nat_cmp_is key.version key.version Equal refl) in
-    ap is_eq
-    (ap (λ (o : Ordering). ordering_then o (ordering_then (slice_cmp nat_cmp key.metric key.metric) (nat_cmp key.version key.version))) (name-equal key.test)
-    ∙ ap (λ (o : Ordering). ordering_then o (nat_cmp key.version key.version)) (name-equal key.metric) ∙ number)
+key-same key = grind (arith, common_steps, slice_cmp, name-equal)
 
 -- ---- the first place
 pub record FirstAt (place : ℕ) (key : SeriesVersion) (es : List Entry) (k : ℕ) : Type 0 where
@@ -59,7 +51,6 @@ pub first-is : (place : ℕ) (key : SeriesVersion) (es : List Entry) (k : ℕ) �
 first-is place key [] k is = absurd (cc)
 first-is place key (e ∷ es) k is = elim (cases_Bool (publishes key e)) [
   | inl hit ↦
-      let first : Some place ≡ Some k = sym (ap (λ (b : Bool). cond b (Some place) (first_from (place + 1) key es)) hit) ∙ is in
       let same : place ≡ k = cc in
       record { offset = 0; at = omega (arith, same); entry = e; there = refl; hit = hit }
   | inr miss ↦
@@ -75,17 +66,8 @@ pub record UpTo (o : Option ℕ) (k : ℕ) : Type 0 where
 pub first-below : (place : ℕ) (key : SeriesVersion) (es : List Entry) (j : ℕ) (e : Entry) → slice_get es j ≡ Some e → publishes key e ≡ true
     → UpTo (first_from place key es) (place + j)
 first-below place key [] j e there hit = absurd (cc)
-first-below place key (x ∷ es) zero e there hit =
-    let same : x ≡ e = cc in
-    let now : publishes key x ≡ true = ap (publishes key) same ∙ hit in
-    record { place = place; is = ap (λ (b : Bool). cond b (Some place) (first_from (place + 1) key es)) now; le = omega arith }
-first-below place key (x ∷ es) (suc j) e there hit = elim (cases_Bool (publishes key x)) [
-  | inl now ↦ record { place = place; is = ap (λ (b : Bool). cond b (Some place) (first_from (place + 1) key es)) now; le = omega arith }
-  | inr miss ↦
-      let rest = first-below (place + 1) key es j e there hit in
-      let le = rest.le in
-      record { place = rest.place; is = ap (λ (b : Bool). cond b (Some place) (first_from (place + 1) key es)) miss ∙ rest.is; le = omega (arith, le) }
-]
+first-below place key (x ∷ es) zero e there hit = grind (arith, common_steps)
+first-below place key (x ∷ es) (suc j) e there hit = grind (arith, common_steps, first-below (place + 1) key es j e there hit)
 
 -- from one place before
 pub one-before : (history : List Placed) (k : ℕ) (x : Placed) (key : SeriesVersion) → k < length history → x ≡ get_or history k x
@@ -97,11 +79,6 @@ one-before history k x key lt is =
     ap (first_from k key) (drop-cons (entries_of history) k x.entry (omega (arith, lt, size)))
     ∙ ap (λ (e : Entry). cond (publishes key e) (Some k) (first_from (k + 1) key (drop (suc k) (entries_of history)))) at
     ∙ ap (λ (n : ℕ). cond (publishes key x.entry) (Some k) (first_from (k + 1) key (drop n (entries_of history)))) step
-
-pub none-behind : (history : List Placed) (k : ℕ) (key : SeriesVersion) → k ≡ length history → first_from k key (drop k (entries_of history)) ≡ None
-none-behind history k key is =
-    let size : length (entries_of history) ≡ length history = many history in
-    ap (first_from k key) (drop_all k (entries_of history) (omega (arith, is, size)))
 
 -- ---- entries at places
 pub take-get : {A : Type 0} (n : ℕ) (xs : List A) (k : ℕ) → k < n → slice_get (take n xs) k ≡ slice_get xs k
@@ -133,10 +110,7 @@ is-series q s hit =
     split false b both = absurd (cc)
 
 series-is : (q : Publication) (s : Series) → published q ≡ s → (bytes_eq q.test s.test && bytes_eq q.metric s.metric) ≡ true
-series-is q s same =
-    ap₂ (λ (a b : Bool). a && b)
-    ((bytes_eq-Decides q.test s.test).1 (ap (λ (x : Series). x.test) same))
-    ((bytes_eq-Decides q.metric s.metric).1 (ap (λ (x : Series). x.metric) same))
+series-is q s same = grind (arith, common_steps, ap₂, bytes_eq-Decides)
 
 later-at : (e : Entry) (h : List Entry) (s : Series) (q : Publication) → PublishedAt h s q → PublishedAt (e ∷ h) s q
 later-at e h s q at = record { place = suc at.place; there = at.there; series = at.series }
@@ -170,11 +144,7 @@ cons-behind (Some p) xs q has = behind q p xs has
 pub in-chosen : (s : Series) (step : ℕ) (h : List Entry) (place : ℕ) (q : Publication) → slice_get h place ≡ Some (entry.Publish q) → published q ≡ s
     → Contains (chosen_from step (publication_of s) h) q
 in-chosen s step [] place q there series = absurd (cc)
-in-chosen s step (e ∷ h) zero q there series =
-    let same : entry.Publish q ≡ e = (let back : e ≡ entry.Publish q = cc in sym back) in
-    let one : publication_of s step (entry.Publish q) ≡ Some q = ap (λ (b : Bool). cond b (Some q) None) (series-is q s series) in
-    let rest : List Publication = chosen_from (step + 1) (publication_of s) h in
-    subst (λ (o : Option Publication). Contains (cons_option o rest) q) (sym one ∙ ap (publication_of s step) same) (here q rest)
+in-chosen s step (e ∷ h) zero q there series = grind (arith, common_steps, publication_of, cond, series-is, here)
 in-chosen s step (e ∷ h) (suc place) q there series =
     cons-behind (publication_of s step e) (chosen_from (step + 1) (publication_of s) h) q (in-chosen s (step + 1) h place q there series)
 
@@ -183,13 +153,7 @@ abbrev pub IsNamed : List Entry → Publication → Type 0
 IsNamed version p = Any (λ (q : Publication). q.version ≡ p.base) (publications_of (published p) version)
 
 publish-of : (key : SeriesVersion) (e : Entry) → publishes key e ≡ true → (q : Publication) × (e ≡ entry.Publish q) × (key_of q ≡ key)
-publish-of key (entry.Publish q) hit = (q, refl, same-key (key_of q) key hit)
-publish-of key (entry.Commit number name) hit = absurd (cc)
-publish-of key (entry.Accept run) hit = absurd (cc)
-publish-of key (entry.Retract run) hit = absurd (cc)
-publish-of key (entry.Tune metric penalty len) hit = absurd (cc)
-publish-of key (entry.Regression event) hit = absurd (cc)
-publish-of key (entry.Job event) hit = absurd (cc)
+publish-of key e hit = grind (arith, common_steps, same-key)
 
 pub named-before : (es : List Entry) (p : Publication) → IsBefore p.version (first_from 0 (base_key p) es) → IsNamed (take p.version es) p
 named-before es p before = at (first_from 0 (base_key p) es) refl before
@@ -210,8 +174,7 @@ before-named es p (k, q, within, is, version) =
     let at : PublishedAt (take p.version es) (published p) q = chosen-in (published p) 1 (take p.version es) q (k, within, is) in
     let inside : at.place < p.version = below p.version es at.place (slice_get_within (take p.version es) at.place (entry.Publish q) at.there) in
     let there : slice_get es at.place ≡ Some (entry.Publish q) = sym (take-get p.version es at.place inside) ∙ at.there in
-    let key : key_of q ≡ base_key p =
-    ap₂ (λ (s : Series) (v : ℕ). let k : SeriesVersion = record { test = s.test; metric = s.metric; version = v } in k) at.series version in
+    let key : key_of q ≡ base_key p = grind (arith, common_steps) in
     let hit : publishes (base_key p) (entry.Publish q) ≡ true = ap (λ (k : SeriesVersion). is_eq (key_cmp k (base_key p))) key ∙ key-same (base_key p) in
     let first : UpTo (first_from 0 (base_key p) es) (0 + at.place) = first-below 0 (base_key p) es at.place (entry.Publish q) there hit in
     let lt : first.place < p.version = (let le = first.le in omega (arith, le, inside)) in
@@ -221,11 +184,8 @@ before-named es p (k, q, within, is, version) =
 -- each entry is allowed behind those before it
 pub allowed-at : (before es : List Entry) → AllowedAfter before es → (j : ℕ) (e : Entry) → slice_get es j ≡ Some e → Allowed (before ++ take j es) e
 allowed-at before [] legal j e there = absurd (cc)
-allowed-at before (x ∷ es) legal zero e there =
-    let same : x ≡ e = cc in
-    subst (λ (h : List Entry). Allowed h e) (sym (append-nil before)) (subst (λ (y : Entry). Allowed before y) same legal.0)
-allowed-at before (x ∷ es) legal (suc j) e there =
-    subst (λ (h : List Entry). Allowed h e) (append_assoc before (x ∷ []) (take j es)) (allowed-at (before ++ x ∷ []) es legal.1 j e there)
+allowed-at before (x ∷ es) legal zero e there = grind (arith, common_steps)
+allowed-at before (x ∷ es) legal (suc j) e there = grind (arith, common_steps, allowed-at (before ++ x ∷ []) es legal.1 j e there)
 
 -- so a publication stands behind those before it
 pub stands-at : (h : List Entry) → Legal h → (j : ℕ) (q : Publication) → slice_get h j ≡ Some (entry.Publish q) → Stands (take j h) q

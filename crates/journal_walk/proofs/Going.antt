@@ -1,6 +1,6 @@
 -- A walk that goes on with its next entry, or is stuck.
-use Rattle.std.proofs.Common.{◌≡◌, ℕ, Bool, true, false, List, [], ◌∷◌, ◌++◌, length, inl, inr, refl, sym, ap, ◌∙◌, subst, Option, Some, None, IfSome, IfNone}
-use Rattle.std.{specs.Prelude.{cond, is_some, slice_get}, specs.Slice.IsItemAt, proofs.lemmas.Bool.{cases_Bool, false≢true}}
+use Rattle.std.proofs.Common.{◌≡◌, ℕ, Bool, true, false, List, length, inl, inr, refl, sym, ap, ◌∙◌, subst, Option, Some, None, IfSome, IfNone, arith}
+use Rattle.std.{specs.Prelude.{cond, is_some, slice_get}, specs.Slice.IsItemAt, proofs.lemmas.Bool.{cases_Bool, false≢true}, proofs.lemmas.Grind.common_steps}
 use denote.Ref.{Bor}
 use Rattle.std.proofs.lemmas.Option.{slice_get-get_or}
 use Rattle.history_model.specs.declared.entries.{Author.TheVariants.Kept, Entry.Entry, Entry.TheVariants.Publish, Placed.Placed}
@@ -8,9 +8,8 @@ use Rattle.history_model.{specs.declared.publication.Publication.Publication, sp
 use Rattle.request_model.specs.declared.replies.Reply.{Reply}
 use Rattle.track_model.specs.{Outcomes.Outcome, Tracks.{IsStep, Track, with_added, with_entry}}
 use Rattle.track_step.specs.Replays.{IsReplayed}
-use Rattle.journal_lines.specs.Authors.{IsPublication}
 use Rattle.journal_walk.specs.{Ahead.{AllMet, IsReady, KeepsAhead}, Steps.Publishes}
-use Rattle.journal_walk.specs.{Walks.{GoesOn, IsAlong, IsPublishedNext, IsStuck, PublishesNothing, Walked, coming}, declared.ahead.Ahead.Ahead}
+use Rattle.journal_walk.specs.{Walks.{GoesOn, IsAlong, IsPublishedNext, IsStuck, PublishesNothing, Walked}, declared.ahead.Ahead.Ahead}
 use Rattle.journal_walk.proofs.{Adding.{grown, stays}, Along.{along-entries, coming-entry}}
 
 abbrev pub walk : List Placed → Track → Walked
@@ -26,54 +25,24 @@ pub record Met (history : List Placed) (now : Track) (a : Ahead) (self : Walked)
   pub met : AllMet (entries_of now.history) a
   pub is : walk history now ≡ self
 
-pub met-now : (history : List Placed) (before now : Track) (a : Ahead) (self : Walked) → KeepsAhead (entries_of history) (entries_of before.history) a
-    → AllMet (entries_of before.history) a → now ≡ before → walk history before ≡ self → Met history now a self
-met-now history before now a self kept met same view = subst (λ (t : Track). Met history t a self) (sym same) (record { kept = kept; met = met; is = view })
-
--- a publication comes next that isn't added
-pub stuck-published : (w : Walked) (p : Placed) → coming w ≡ Some p → IsPublication p.entry → PublishesNothing w → IsStuck w
-stuck-published w p next publishes (inl none) = inl none
-stuck-published w p next publishes (inr (x, at, inl other)) =
-    let same : p ≡ x = let both : Some p ≡ Some x = sym next ∙ at in cc in
-    absurd (other (subst (λ (y : Placed). IsPublication y.entry) same publishes))
-stuck-published w p next publishes (inr (x, at, inr never)) = inr (x, at, never)
-
 -- all that was needed is there for a publication that comes next
 pub ready : (history : List Placed) (track : Track) (a : Ahead) (self : Walked) (x : Placed) (p : Publication) → Met history track a self → IsAlong self
     → slice_get history (length track.history) ≡ Some x → x.entry ≡ Publish p → IsReady (entries_of history) (entries_of track.history) a p
-ready history track a self x p met along at told = record {
-  kept = met.kept;
-  all_met = met.met;
-  along = along-entries (walk history track) (subst IsAlong (sym met.is) along);
-  next = coming-entry (walk history track) x at ∙ ap (λ (e : Entry). Some e) told;
-}
+ready history track a self x p met along at told = grind (arith, common_steps, along-entries, walk, coming-entry)
 
 -- what a reply that is there keeps
 pub if-there : (P : Reply → Type 0) (o : Option Reply) → IfSome o P → is_some o ≡ true → (reply : Reply) × P reply
-if-there P None holds some = absurd (false≢true some)
-if-there P (Some reply) holds some = (reply, holds)
-
-pub if-not : (P : Type 0) (o : Option Reply) → IfNone o P → is_some o ≡ false → P
-if-not P None holds none = holds
-if-not P (Some reply) holds none = absurd (false≢true (sym none))
+if-there P o holds some = grind (arith, common_steps)
 
 pub if-more : (P Q : Reply → Type 0) (o : Option Reply) → IfSome o P → ((reply : Reply) → P reply → Q reply) → IfSome o Q
-if-more P Q None holds more = tt
-if-more P Q (Some reply) holds more = more reply holds
+if-more P Q o holds more = grind (arith, common_steps)
 
 pub none-more : (P Q : Type 0) (o : Option Reply) → IfNone o P → (P → Q) → IfNone o Q
-none-more P Q None holds more = more holds
-none-more P Q (Some reply) holds more = tt
+none-more P Q o holds more = grind (arith, common_steps)
 
 module _ (history : List Placed) (old new : Track) (x : Placed) (at : slice_get history (length old.history) ≡ Some x) where
   goes-published : (p : Publication) → x.entry ≡ Publish p → (reply : Reply) → Publishes old p new reply → GoesOn (walk history old) (walk history new)
-  goes-published p told reply is = record {
-    same = refl;
-    machine = is.machine;
-    entry = x;
-    next = at;
-    grown = is.grown ∙ ap (λ (e : Entry). entries_of old.history ++ e ∷ []) (sym told);
-  }
+  goes-published p told reply is = grind (arith, common_steps)
 
   pub published-next : (p : Publication) → x.entry ≡ Publish p → (reply : Reply) → Publishes old p new reply → IsPublishedNext (walk history old) (walk history new) reply
   unfolding goes-published
@@ -94,15 +63,7 @@ module _ (history : List Placed) (old new : Track) (x : Placed) (at : slice_get 
   nothing-published p told never = inr (x, at, inr (refused p told never))
 
   pub goes-replayed : (added : Bool) → IsReplayed old x.entry added new → added ≡ true → GoesOn (walk history old) (walk history new)
-  goes-replayed added is hit =
-      let now : new ≡ with_entry Kept old x.entry = is.track ∙ ap (λ (b : Bool). cond b (with_entry Kept old x.entry) old) hit in
-      record {
-        same = refl;
-        machine = ap (λ (t : Track). t.machine) now;
-        entry = x;
-        next = at;
-        grown = ap (λ (t : Track). entries_of t.history) now ∙ entries-push old.history (record { author = Kept; entry = x.entry });
-      }
+  goes-replayed added is hit = grind (arith, common_steps)
 
   pub stuck-replayed : (added : Bool) → IsReplayed old x.entry added new → added ≡ false → IsStuck (walk history old)
   stuck-replayed added is miss = inr (x, at, λ allowed. false≢true (sym miss ∙ is.allowed.1 allowed))

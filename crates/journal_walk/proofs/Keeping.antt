@@ -1,4 +1,5 @@
 -- What a walk keeps for publications that are to come: at its beginning, as needs are met, and as entries are added.
+use Rattle.std.proofs.lemmas.Grind.{common_steps}
 use Rattle.std.proofs.Common.{◌≡◌, ◌≢◌, ℕ, zero, suc, ◌+◌, ◌<◌, ◌≤◌, Bool, true, false, cond, List, [], ◌∷◌, ◌++◌, length, take, set, replicate, inl, inr, refl, sym, ap, ◌∙◌, subst, arith, Option, Some, None}
 use Rattle.std.{specs.Prelude.{slice_get, ◌⊎◌}, proofs.lemmas.List.{length-append, length-set, take-append-le, take_all}, proofs.lemmas.Option.slice_get_within}
 use Rattle.history_model.specs.declared.{entries.Entry.Entry, entries.Entry.TheVariants.Publish, publication.Publication.Publication}
@@ -24,41 +25,20 @@ none-at zero k x there = cc
 none-at (suc n) zero x there = let no : None ≡ Some x = (let two : Some None ≡ Some (Some x) = there in cc) in cc
 none-at (suc n) (suc k) x there = none-at n k x there
 
-pub replicate-more : {A : Type 0} (n : ℕ) (x : A) → replicate (n + 1) x ≡ replicate n x ++ x ∷ []
-replicate-more {A} zero x = refl
-replicate-more {A} (suc n) x = let step : suc n + 1 ≡ suc (n + 1) = omega arith in rw step (ap (λ (l : List A). x ∷ l) (replicate-more n x))
-
 same-or-not : (k i : ℕ) → (k ≡ i) ⊎ (k ≢ i)
 same-or-not zero zero = inl refl
 same-or-not zero (suc i) = inr (λ same. absurd (omega (arith, same)))
 same-or-not (suc k) zero = inr (λ same. absurd (omega (arith, same)))
-same-or-not (suc k) (suc i) = elim (same-or-not k i) [
-  | inl same ↦ inl (ap suc same)
-  | inr other ↦ inr (λ same. other (let less : k ≡ i = omega (arith, same) in less))
-]
+same-or-not (suc k) (suc i) = grind (arith, common_steps, same-or-not k i)
 
 -- ---- at the beginning
 pub begins : (es : List Entry) (needs : List Need) → IsPlan es needs → (bases versions : Slots) → bases ≡ replicate (length es) None → versions ≡ replicate (length es) None
     → length bases ≡ length es → length versions ≡ length es → Keeps es [] needs 0 bases versions
-begins es needs plan bases versions base version many-bases many-versions = record {
-  plan = plan;
-  as_many_bases = many-bases;
-  as_many_versions = many-versions;
-  bases_are = λ place p x there is. absurd (none-at (length es) place x (ap (λ (l : Slots). slice_get l place) (sym base) ∙ is));
-  versions_are = λ place p x there is. absurd (none-at (length es) place x (ap (λ (l : Slots). slice_get l place) (sym version) ∙ is));
-  few = omega arith;
-  past = λ i need there lt. absurd (omega (arith, lt));
-  are_met = λ i need there lt. absurd (omega (arith, lt));
-  to_come = λ i need there le. omega arith;
-}
+begins es needs plan bases versions base version many-bases many-versions = grind (arith, common_steps, none-at, length, slice_get)
 
 -- ---- an entry more
 then-later : (es h : List Entry) (e : Entry) (is_base : Bool) (slots : Slots) → AreThen es h is_base slots → AreThen es (h ++ e ∷ []) is_base slots
-then-later es h e is_base slots are place p x there is =
-    let was = are place p x there is in
-    let le = was.0 in
-    let same : take (time_of is_base p) h ≡ take (time_of is_base p) (h ++ e ∷ []) = sym (take-append-le (time_of is_base p) h (e ∷ []) le) in
-    (rw length-append (omega (arith, le)), subst (λ (v : List Entry). IsOf v (published p) x) same was.1)
+then-later es h e is_base slots are place p x there is = grind (arith, common_steps)
 
 met-later : (es h : List Entry) (e : Entry) (need : Need) (slots : Slots) → need.at ≤ length h → IsMet es h need slots → IsMet es (h ++ e ∷ []) need slots
 met-later es h e need slots le met p there behind known =
@@ -89,7 +69,6 @@ then-less es h is_base slots place are k p x there is = elim (same-or-not k plac
       let lt : k < length (set slots place None) = slice_get_within (set slots place None) k (Some x) is in
       let size : length (set slots place None) ≡ length slots = length-set slots place None in
       let none : slice_get (set slots place None) place ≡ Some None = get-set slots place None (omega (arith, lt, size, same)) in
-      let two : Some None ≡ Some (Some x) = sym none ∙ ap (slice_get (set slots place None)) (sym same) ∙ is in
       absurd (let no : None ≡ Some x = cc in cc)
   | inr other ↦ are k p x there (sym (get-set-other slots place None k other) ∙ is)
 ]
@@ -143,7 +122,6 @@ module _ (es h : List Entry) (need : Need) (p : Publication) (there : slice_get 
         let lt : k < length (set slots need.place found) = slice_get_within (set slots need.place found) k (Some x) is in
         let size : length (set slots need.place found) ≡ length slots = length-set slots need.place found in
         let put : slice_get (set slots need.place found) need.place ≡ Some found = get-set slots need.place found (omega (arith, lt, size, same)) in
-        let two : Some found ≡ Some (Some x) = sym put ∙ ap (slice_get (set slots need.place found)) (sym same) ∙ is in
         let one : found ≡ Some x = cc in
         let q-is : q ≡ p = same-publication q (ap (slice_get es) (sym same) ∙ at) in
         let time-is : time_of is_base q ≡ length h = ap (time_of is_base) q-is ∙ time in
@@ -158,8 +136,7 @@ module _ (es h : List Entry) (need : Need) (p : Publication) (there : slice_get 
   met-put : (other : Need) (slots : Slots) → other.place ≡ need.place → other.at ≡ length h → need.place < length slots → IsMet es h other (set slots need.place found)
   met-put other slots place at lt q q-there behind known =
       let q-is : q ≡ p = same-publication q (ap (slice_get es) (sym place) ∙ q-there) in
-      let known-now : is_known (published p) h ≡ true =
-      sym (ap (λ (r : Publication). is_known (published r) h) q-is) ∙ ap (is_known (published q)) (sym (ap (λ (n : ℕ). take n h) at ∙ whole)) ∙ known in
+      let known-now : is_known (published p) h ≡ true = grind (arith, common_steps) in
       let x = known-found found is-now known-now in
       (x.0, ap (slice_get (set slots need.place found)) place ∙ get-set slots need.place found lt ∙ ap Some x.1)
 
@@ -174,7 +151,6 @@ module _ (es h : List Entry) (needs : List Need) (met : ℕ) (bases versions : S
   time : time_of need.is_base p ≡ length h
   time =
       let is : IsNeedOf es need = need-of es needs keeps.plan met need next in
-      let two : Some (Publish is.publication) ≡ Some (Publish p) = sym is.there ∙ there in
       let same : is.publication ≡ p = cc in
       sym (is.time ∙ ap (time_of need.is_base) same) ∙ now
 
@@ -182,16 +158,12 @@ module _ (es h : List Entry) (needs : List Need) (met : ℕ) (bases versions : S
   same-time : (i : ℕ) (other : Need) → slice_get needs i ≡ Some other → other.place ≡ need.place → other.is_base ≡ need.is_base → other.at ≡ length h
   same-time i other at place kind =
       let is : IsNeedOf es other = need-of es needs keeps.plan i other at in
-      let two : Some (Publish is.publication) ≡ Some (Publish p) = sym is.there ∙ ap (slice_get es) place ∙ there in
       let same : is.publication ≡ p = cc in
       is.time ∙ ap (time_of other.is_base) same ∙ ap (λ (b : Bool). time_of b p) kind ∙ time
 
   -- it was met before, or it is this one
   which : (i : ℕ) (other : Need) → slice_get needs i ≡ Some other → i < met + 1 → (i < met) ⊎ (other ≡ need)
-  which i other at lt = elim (same-or-not i met) [
-    | inl same ↦ inr (let two : Some other ≡ Some need = sym at ∙ ap (slice_get needs) same ∙ next in cc)
-    | inr apart ↦ inl (omega (arith, lt, apart))
-  ]
+  which i other at lt = grind (arith, common_steps)
 
   -- of the same kind
   met-alike : (i : ℕ) (other : Need) (slots : Slots) → slice_get needs i ≡ Some other → i < met + 1 → other.is_base ≡ need.is_base → need.place < length slots
@@ -228,10 +200,7 @@ module _ (es h : List Entry) (needs : List Need) (met : ℕ) (bases versions : S
   later-ones i other at le = keeps.to_come i other at (omega (arith, le))
 
   so-far : (i : ℕ) (other : Need) → slice_get needs i ≡ Some other → i < met + 1 → other.at ≤ length h
-  so-far i other at lt = elim (which i other at lt) [
-    | inl before ↦ keeps.past i other at before
-    | inr it ↦ (let is : other.at ≡ need.at = ap (λ (n : Need). n.at) it in omega (arith, is, now))
-  ]
+  so-far i other at lt = grind (arith, common_steps)
 
   -- slots that meet one need more keep
   kept-with : (bases' versions' : Slots) → length bases' ≡ length es → length versions' ≡ length es → AreThen es h true bases' → AreThen es h false versions'

@@ -1,8 +1,8 @@
 -- What is needed for the publications of a history, and where each need stands in the plan.
-use Rattle.std.proofs.Common.{◌≡◌, ℕ, zero, suc, ◌+◌, ◌<◌, ◌≤◌, Bool, true, false, List, [], ◌∷◌, ◌++◌, length, get_or, take, inl, inr, refl, sym, ap, ◌∙◌, subst, arith, append_assoc, append-nil, Some}
-use Rattle.std.{specs.Prelude.{Contains, option_map, slice_get}, proofs.lemmas.List.{get_or-map, length-map, length-take-le, take_all, take_more}}
+use Rattle.std.proofs.Common.{◌≡◌, ℕ, zero, suc, ◌+◌, ◌<◌, ◌≤◌, Bool, true, false, List, [], ◌∷◌, ◌++◌, length, get_or, take, inl, inr, refl, sym, ap, ◌∙◌, subst, arith, Some}
+use Rattle.std.{specs.Prelude.{Contains, option_map, slice_get}, proofs.lemmas.List.{get_or-map, length-map, length-take-le, take_more}}
 use Rattle.std.proofs.lemmas.List.{Elements.{Contains-append_left, Contains-append_right}, Sorted.{Contains-permutation, IsPermutation-sym}}
-use Rattle.std.proofs.lemmas.Option.{slice_get-get_or, slice_get-map, slice_get_read, slice_get_within, get_or_from_slice_get}
+use Rattle.std.proofs.lemmas.{Option.{slice_get-get_or, slice_get-map, slice_get_read, slice_get_within, get_or_from_slice_get}, Grind.common_steps}
 use Rattle.history_model.specs.{declared.entries.Entry.Entry, declared.entries.Placed.Placed, declared.publication.Publication.Publication, Entries.entries_of}
 use Rattle.history_model.specs.declared.entries.Entry.TheVariants as entry
 use Rattle.history_model.proofs.Members.{here, behind, either, none-in-nil}
@@ -14,19 +14,13 @@ many history = length-map history (λ (p : Placed). p.entry)
 
 -- one entry more
 pub needs-push : (place : ℕ) (es : List Entry) (e : Entry) → needs_from place (es ++ e ∷ []) ≡ needs_from place es ++ needs_of (place + length es) e
-needs-push place [] e =
-    let same : place + 0 ≡ place = omega arith in
-    append-nil (needs_of place e) ∙ ap (λ (n : ℕ). needs_of n e) (sym same)
-needs-push place (x ∷ es) e =
-    let same : place + 1 + length es ≡ place + suc (length es) = omega arith in
-    ap (λ (l : List Need). needs_of place x ++ l) (needs-push (place + 1) es e ∙ ap (λ (k : ℕ). needs_from (place + 1) es ++ needs_of k e) same)
-    ∙ sym (append_assoc (needs_of place x) (needs_from (place + 1) es) (needs_of (place + suc (length es)) e))
+needs-push place [] e = grind (arith, common_steps)
+needs-push place (x ∷ es) e = grind (arith, common_steps, needs-push (place + 1) es e)
 
 -- the first entries of a history, one more
 pub needs-more : (history : List Placed) (i : ℕ) (x : Placed) → i < length history → x ≡ get_or history i x
     → needs_from 0 (take (i + 1) (entries_of history)) ≡ needs_from 0 (take i (entries_of history)) ++ needs_of i x.entry
 needs-more history i x lt is =
-    let es : List Entry = entries_of history in
     let size : length (entries_of history) ≡ length history = many history in
     let at : get_or (entries_of history) i x.entry ≡ x.entry = get_or-map (λ (p : Placed). p.entry) history i x x.entry lt ∙ ap (λ (p : Placed). p.entry) (sym is) in
     let short : length (take i (entries_of history)) ≡ i = length-take-le i (entries_of history) (omega (arith, lt, size)) in
@@ -36,21 +30,13 @@ needs-more history i x lt is =
     ∙ ap (λ (e : Entry). needs_from 0 (take i (entries_of history)) ++ needs_of (0 + length (take i (entries_of history))) e) at
     ∙ ap (λ (n : ℕ). needs_from 0 (take i (entries_of history)) ++ needs_of n x.entry) place
 
-pub needs-all : (history : List Placed) (i : ℕ) → length history ≤ i → needs_from 0 (take i (entries_of history)) ≡ needs_from 0 (entries_of history)
-needs-all history i le =
-    let size : length (entries_of history) ≡ length history = many history in
-    ap (needs_from 0) (take_all i (entries_of history) (omega (arith, le, size)))
-
 -- the entry at a place
 pub entry-there : (history : List Placed) (place : ℕ) (x : Placed) → slice_get history place ≡ Some x → slice_get (entries_of history) place ≡ Some x.entry
-entry-there history place x there =
-    slice_get-map (λ (p : Placed). p.entry) history place ∙ ap (option_map (λ (p : Placed). p.entry)) there
+entry-there history place x there = grind (arith, common_steps, slice_get-map, option_map)
 
 pub entry-at : (history : List Placed) (place : ℕ) (x : Placed) (e : Entry) → place < length history → x ≡ get_or history place x
     → slice_get (entries_of history) place ≡ Some e → x.entry ≡ e
-entry-at history place x e lt is there =
-    let two : Some x.entry ≡ Some e = sym (entry-there history place x (slice_get_read history (length history) place x refl lt is)) ∙ there in
-    cc
+entry-at history place x e lt is there = grind (arith, common_steps, entry-there, slice_get_read, length)
 
 -- ---- all that is needed is there
 needed : (place : ℕ) (p : Publication) (is_base : Bool) → Contains (needs_of place (entry.Publish p)) (need_of place is_base p)

@@ -1,5 +1,6 @@
 -- What is known of a publication that comes next.
-use Rattle.std.proofs.Common.{◌≡◌, ◌⊎◌, ℕ, zero, suc, ◌<◌, ◌≤◌, Bool, true, false, List, length, get_or, take, inl, inr, refl, sym, ap, ◌∙◌, subst, arith, Option, Some, None}
+use Rattle.std.proofs.lemmas.Grind.{common_steps}
+use Rattle.std.proofs.Common.{◌≡◌, ◌⊎◌, ℕ, zero, suc, ◌<◌, ◌≤◌, Bool, true, false, List, length, get_or, take, inl, inr, sym, ap, ◌∙◌, arith, Option, Some, None}
 use Rattle.std.{specs.Prelude.slice_get, proofs.lemmas.List.take-take, proofs.lemmas.Option.{slice_get_read, slice_get_within}}
 use Rattle.history_model.specs.declared.{entries.Entry.Entry, entries.Entry.TheVariants.Publish, publication.Publication.Publication}
 use Rattle.history_model.specs.{Allowed.Legal, Penalties.setting_of, Positions.positions, Publications.{IsBaseAt, Stands, published}, Runs.is_known}
@@ -15,22 +16,15 @@ less-or-not (suc a) (suc b) = elim (less-or-not a b) [ inl lt ↦ inl (omega (ar
 
 -- what is read at a place of the slots
 pub slot-at : (slots : Slots) (n k : ℕ) (x : Option Version) → n ≡ k → k < length slots → x ≡ get_or slots n x → slice_get slots k ≡ Some x
-slot-at slots n k x same within is =
-    ap (slice_get slots) (sym same) ∙ slice_get_read slots (length slots) n x refl (omega (arith, same, within)) is
+slot-at slots n k x same within is = grind (arith, common_steps, slice_get, slice_get_read, length)
 
 module _ (es h : List Entry) (a : Ahead) (p : Publication) (ready : IsReady es h a p) where
   -- its place is one of the slots
   pub of-bases : length h < length a.bases.items
-  of-bases =
-      let inside = slice_get_within es (length h) (Publish p) ready.next in
-      let as_many = ready.kept.keeps.as_many_bases in
-      omega (arith, inside, as_many)
+  of-bases = omega (arith, slice_get_within es (length h) (Publish p) ready.next, ready.kept.keeps.as_many_bases)
 
   pub of-versions : length h < length a.versions.items
-  of-versions =
-      let inside = slice_get_within es (length h) (Publish p) ready.next in
-      let as_many = ready.kept.keeps.as_many_versions in
-      omega (arith, inside, as_many)
+  of-versions = omega (arith, slice_get_within es (length h) (Publish p) ready.next, ready.kept.keeps.as_many_versions)
 
   -- what was known at a version that came was found
   found-then : (is_base : Bool) → time_of is_base p ≤ length h → is_known (published p) (take (time_of is_base p) h) ≡ true
@@ -47,10 +41,7 @@ module _ (es h : List Entry) (a : Ahead) (p : Publication) (ready : IsReady es h
 
   none-found : (is_base : Bool) → time_of is_base p ≤ length h → slice_get (slots_of is_base a.bases.items a.versions.items) (length h) ≡ Some None
       → is_known (published p) (take (time_of is_base p) h) ≡ true → ⊥
-  none-found is_base le none known =
-      let x = found-then is_base le known in
-      let two : Some None ≡ Some (Some x.0) = sym none ∙ x.1 in
-      let no : None ≡ Some x.0 = cc in cc
+  none-found is_base le none known = grind (arith, common_steps, found-then)
 
   -- nothing at its version
   pub no-version : slice_get a.versions.items (length h) ≡ Some None → ¬ Stands h p
@@ -67,15 +58,10 @@ module _ (es h : List Entry) (a : Ahead) (p : Publication) (ready : IsReady es h
   -- ---- the base
   -- named among them or not
   pub named : p.version ≤ length h → IsBefore p.version (place_of (base_key p) a.firsts) → IsNamed (take p.version h) p
-  named le before =
-      subst (λ (v : List Entry). IsNamed v p) (sym (same-version le))
-      (named-before es p (subst (λ (o : Option ℕ). IsBefore p.version o) (ready.kept.firsts (base_key p)) before))
+  named le before = grind (arith, common_steps, p, same-version, named-before, es, p.version, ready.kept.firsts)
 
   pub not-named : p.version ≤ length h → ¬ IsBefore p.version (place_of (base_key p) a.firsts) → 0 < p.base → ¬ IsBaseAt (take p.version h) p
-  not-named le none some (inl bare) = absurd (omega (arith, bare, some))
-  not-named le none some (inr (any, same)) =
-      none (subst (λ (o : Option ℕ). IsBefore p.version o) (sym (ready.kept.firsts (base_key p)))
-      (before-named es p (subst (λ (v : List Entry). IsNamed v p) (same-version le) any)))
+  not-named le none some x3 = grind (arith, common_steps, p.version, ready.kept.firsts, p, before-named, es, same-version)
 
   -- nothing at its base
   pub no-base : Legal h → p.version ≤ length h → slice_get a.bases.items (length h) ≡ Some None → 0 < p.base → ¬ IsBaseAt (take p.version h) p
@@ -92,12 +78,7 @@ module _ (es h : List Entry) (a : Ahead) (p : Publication) (ready : IsReady es h
   -- another setting there
   pub another : Legal h → p.version ≤ length h → (then base : Version) → IsOf (take p.version h) (published p) then
       → slice_get a.bases.items (length h) ≡ Some (Some base) → ¬ (base.setting ≡ then.setting) → 0 < p.base → ¬ IsBaseAt (take p.version h) p
-  another legal le then base of there differ some (inl bare) = absurd (omega (arith, bare, some))
-  another legal le then base of there differ some (inr (any, same)) =
-      let stands : BaseStands h p = base-stands h p legal le any in
-      let lt = stands.before in
-      let front : take p.base (take p.version h) ≡ take p.base h = take-take p.base p.version h (omega (arith, lt)) in
-      differ ((at-base base there).1.setting ∙ ap (setting_of p.metric) (sym front) ∙ same ∙ sym of.setting)
+  another legal le then base x4 there differ some x8 = grind (arith, common_steps, h, p, base-stands, take, p.base, p.version, take-take, at-base)
 
   -- the same one
   pub has-base : Legal h → p.version ≤ length h → (then base : Version) → IsOf (take p.version h) (published p) then

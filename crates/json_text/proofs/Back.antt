@@ -1,12 +1,12 @@
 -- Where the machine goes on, the grammar does.
-use Rattle.std.proofs.Common.{◌≡◌, ℕ, ◌==◌, true, false, List, [], ◌∷◌, ◌++◌, inl, inr, IsTrue, Option, Some, None, option_map, refl, sym, subst, ◌∙◌, ap, append_assoc, append-nil}
+use Rattle.std.proofs.lemmas.Grind.{common_steps}
+use Rattle.std.proofs.Common.{◌≡◌, ℕ, ◌==◌, true, false, List, [], ◌∷◌, ◌++◌, inl, inr, IsTrue, Option, Some, None, option_map, refl, sym, subst, ◌∙◌, ap, append_assoc, append-nil, arith}
 use Rattle.json_text.specs.{declared.state.Digits.Digits, declared.state.Digits.TheVariants.AfterMinus, Classes.is_blank}
 use Rattle.json_text.specs.Tree.{Tree, null, boolean, number, text, list, object, Items, no_items, item, Members, no_members, member}
-use Rattle.json_text.specs.Grammar.{IsNumber, IsValue, IsItems, IsMembers, IsMember}
-use Rattle.json_text.specs.Machine.{Frame, in_list, in_member, Mode, value, first_item, first_key, next_key, colon, letters, digits, State, begin, begin_key, first_digit, digits_after, may_end, after_value, close, step, next_digit, with_frames}
+use Rattle.json_text.{specs.Grammar.{IsNumber, IsValue, IsItems, IsMembers, IsMember}, proofs.Choices.{chosen, equal}}
+use Rattle.json_text.specs.Machine.{Frame, in_list, in_member, value, first_item, first_key, next_key, colon, letters, digits, State, begin, begin_key, first_digit, digits_after, may_end, after_value, close, step, next_digit}
 use Rattle.json_text.{specs.Parts.{then_item, then_member}, proofs.Completion.{Closes, EndsNumber, Completes, Leads}}
 use Rattle.json_text.proofs.{Numbers.{LeadsOn, digits_back, ends_here}, Forth.{and_no_items, then_and_items, and_no_members, then_and_members}}
-use Rattle.json_text.proofs.Choices.{chosen, equal}
 
 joined : {b c : ℕ} {rest other : List ℕ} → b ≡ c → rest ≡ other → b ∷ rest ≡ c ∷ other
 joined e f = cc
@@ -211,10 +211,7 @@ close_member_back b tree members key frames rest whole l = elim (chosen (λ (o :
 ]
 
 pub ended_back : (b : ℕ) (tree : Tree) (frames : List Frame) (rest : List ℕ) (whole : Tree) → Leads (after_value b tree frames) rest whole → Closes frames tree (b ∷ rest) whole
-ended_back b tree [] rest whole l = elim (chosen (λ (o : Option State). Leads o rest whole) (is_blank b) _ _ l) [
-  | inl (blank, (blanks, same)) ↦ ((blank, blanks), same)
-  | inr (blank, none) ↦ absurd none
-]
+ended_back b tree [] rest whole l = grind (arith, common_steps)
 ended_back b tree (in_list items ∷ frames) rest whole l = ended_list_back b tree items frames rest whole l
 ended_back b tree (in_member members key ∷ frames) rest whole l = elim (chosen (λ (o : Option State). Leads o rest whole) (is_blank b) _ _ l) [
   | inl (blank, (after, inside, more, others, e, blanks, all, k)) ↦ (b ∷ after, inside, more, others, ap (λ bytes. b ∷ bytes) e, (blank, blanks), all, k)
@@ -223,15 +220,7 @@ ended_back b tree (in_member members key ∷ frames) rest whole l = elim (chosen
 
 pub letters_back : (left : List ℕ) (b : ℕ) (tree : Tree) (frames : List Frame) (rest : List ℕ) (whole : Tree) → Leads (step b (letters left tree) frames) rest whole
     → Completes (letters left tree) frames (b ∷ rest) whole
-letters_back [] b tree frames rest whole l = absurd l
-letters_back (letter ∷ []) b tree frames rest whole l = elim (chosen (λ (mode : Option Mode). Leads (option_map (with_frames frames) mode) rest whole) (b == letter) _ _ l) [
-  | inl (is, k) ↦ (rest, joined (equal b letter is) refl, k)
-  | inr (is, none) ↦ absurd none
-]
-letters_back (letter ∷ next ∷ left) b tree frames rest whole l = elim (chosen (λ (mode : Option Mode). Leads (option_map (with_frames frames) mode) rest whole) (b == letter) _ _ l) [
-  | inl (is, (more, e, k)) ↦ (more, joined (equal b letter is) e, k)
-  | inr (is, none) ↦ absurd none
-]
+letters_back left b tree frames rest whole l = grind (arith, common_steps)
 
 digits_behind : (b : ℕ) (place : Digits) (spelling : List ℕ) (frames : List Frame) (rest : List ℕ) (whole : Tree) (next : Option Digits)
     → ((tail : List ℕ) → LeadsOn next tail → EndsNumber place (b ∷ tail)) → Leads (next_digit b place spelling frames next) rest whole → Completes (digits place spelling) frames (b ∷ rest) whole

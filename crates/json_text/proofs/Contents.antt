@@ -1,15 +1,13 @@
 -- What stands between quotes, in its state: the machine goes on exactly where the grammar does.
-use Rattle.std.proofs.Common.{◌≡◌, ℕ, suc, ◌+◌, ◌*◌, ◌==◌, arith, List, [], ◌∷◌, ◌++◌, ◌⊎◌, inl, inr, IsTrue, Option, Some, None, option_map, refl, sym, subst, ◌∙◌, ap, append_assoc, append-nil, nat_le}
-use Rattle.std.specs.Char.{digit_value, encode_utf8}
-use Rattle.json_text.specs.declared.state.Within.{Within}
+use Rattle.std.proofs.Common.{◌≡◌, ℕ, suc, ◌+◌, ◌*◌, arith, List, [], ◌∷◌, ◌++◌, ◌⊎◌, inl, inr, Option, Some, option_map, refl, sym, subst, ◌∙◌, ap, append-nil, nat_le}
+use Rattle.std.{specs.Char.digit_value, proofs.lemmas.Grind.common_steps}
+use Rattle.json_text.specs.{declared.state.Within.Within, declared.state.Move.Move, Classes.is_hex, Tree.Tree}
 use Rattle.json_text.specs.declared.state.Within.TheVariants.{Plain, AfterBackslash, AfterU, AfterHex, AfterTwoHex, AfterThreeHex, AfterHigh, AfterHighBackslash, AfterHighU, AfterHighHex, AfterHighTwoHex, AfterHighThreeHex}
-use Rattle.json_text.specs.{declared.state.Move.Move, Classes.{is_plain, short_escape, is_hex, is_high_surrogate}, Tree.Tree}
 use Rattle.json_text.specs.declared.state.Move.TheVariants as moving
-use Rattle.json_text.specs.Grammar.{IsCharacter, Spells, nothing, further}
-use Rattle.json_text.specs.Machine.{Frame, Role, as_value, as_key, content, step, moves, moved, escape_moves, with_frames, move_by, with_hex, after_unit, begins_low, IsPlace}
-use Rattle.json_text.proofs.Completion.{EndsText, FirstUnit, LowUnit, Follows, Completes, Leads}
+use Rattle.json_text.{specs.Grammar.{IsCharacter, Spells, nothing, further}, proofs.Completion.{EndsText, FirstUnit, LowUnit, Follows, Completes, Leads}}
+use Rattle.json_text.specs.Machine.{Frame, Role, as_value, as_key, content, step, moves, moved, escape_moves, with_frames, move_by, with_hex, IsPlace}
 use Rattle.json_text.proofs.Escapes.{LeadsText, plain_forth, hex_none_forth, hex_one_forth, hex_two_forth, hex_three_forth, high_forth, high_backslash_forth, high_u_forth, high_hex_forth, high_two_forth, high_three_forth}
-use Rattle.json_text.proofs.{Units.{backslash_forth, text_back}, Choices.{along, head_same, tail_same, chosen, equal}}
+use Rattle.json_text.proofs.{Units.{backslash_forth, text_back}, Choices.{along, chosen, equal}}
 
 -- where the grammar goes on, the machine does
 pub text_forth : (place : Within) (b : ℕ) (inside spelled : List ℕ) → EndsText place (b ∷ inside) spelled → LeadsText (moves b place) inside spelled
@@ -28,12 +26,7 @@ text_forth (AfterHighThreeHex high three) b inside spelled h = high_three_forth 
 
 -- a character has a byte
 character_some : (one rest more : List ℕ) → IsCharacter one rest → [] ≡ one ++ more → ⊥
-character_some [] rest more (inl (x, is, same, h)) e = cc is
-character_some [] rest more (inr (inl (letter, meant, is, same, h))) e = cc is
-character_some [] rest more (inr (inr (inl (unit, (p, q, r, s, is, hp, hq, hr, hs, u), whole, same)))) e = cc is
-character_some [] rest more (inr (inr (inr (front, back, high, low, is, (p, q, r, s, is', hp, hq, hr, hs, u), second, hh, hl, same)))) e =
-    let some : [] ≡ 92 ∷ 117 ∷ p ∷ q ∷ r ∷ s ∷ back = is ∙ ap (λ bytes. bytes ++ back) is' in cc some
-character_some (x ∷ one) rest more character e = cc e
+character_some one rest more x3 e = grind (arith, common_steps)
 
 spells_nothing : (bytes spelled : List ℕ) → Spells bytes spelled → bytes ≡ [] → spelled ≡ []
 spells_nothing bytes spelled nothing e = refl
@@ -41,17 +34,7 @@ spells_nothing bytes spelled (further {one = one} {rest = rest} {more = more} {a
 
 -- a backslash alone is no character
 backslash_alone : (spelled : List ℕ) → Spells (92 ∷ []) spelled → ⊥
-backslash_alone spelled (further {one = one} {rest = rest} {more = more} {after = after} character spells e f) = elim character [
-  | inl (x, is, same, h) ↦
-      let first : 92 ≡ x = head_same (e ∙ ap (λ front. front ++ more) is) in
-      let plain : IsTrue (is_plain 92) = subst (λ n. IsTrue (is_plain n)) (sym first) h in
-      absurd (cc plain)
-  | inr (inl (letter, meant, is, same, h)) ↦ let left : [] ≡ letter ∷ more = tail_same (e ∙ ap (λ front. front ++ more) is) in absurd (cc left)
-  | inr (inr (inl (unit, (p, q, r, s, is, hp, hq, hr, hs, u), whole, same))) ↦
-      let left : [] ≡ 117 ∷ p ∷ q ∷ r ∷ s ∷ more = tail_same (e ∙ ap (λ front. front ++ more) is) in absurd (cc left)
-  | inr (inr (inr (front, back, high, low, is, (p, q, r, s, is', hp, hq, hr, hs, u), second, hh, hl, same))) ↦
-      let left : [] ≡ 117 ∷ p ∷ q ∷ r ∷ s ∷ (back ++ more) = tail_same (e ∙ ap (λ bytes. bytes ++ more) (is ∙ ap (λ bytes. bytes ++ back) is')) in absurd (cc left)
-]
+backslash_alone spelled (further {one = one} {rest = rest} {more = more} {after = after} character spells e f) = grind (arith, common_steps)
 
 first_some : (count before : ℕ) (spelled : List ℕ) → FirstUnit (suc count) before [] spelled → ⊥
 first_some count before spelled ([], more, unit, e, size, digits, behind) = absurd (omega (arith, size))
@@ -79,31 +62,15 @@ ends_plain (AfterHighThreeHex high three) spelled h = absurd (low_some 0 three h
 -- what a move makes of the text that is open, and what it was made of
 moved_forth : (move : Move) (role : Role) (bytes inside more spelled : List ℕ) (frames : List Frame) (whole : Tree) → LeadsText move inside spelled → Follows role frames (bytes ++ spelled) more whole
     → Leads (option_map (with_frames frames) (moved role bytes move)) (inside ++ 34 ∷ more) whole
-moved_forth (moving.Goes place) role bytes inside more spelled frames whole h k = (inside, more, spelled, refl, h, k)
-moved_forth (moving.Adds b) role bytes inside more spelled frames whole (left, f, spells) k =
-    (inside, more, left, refl, spells, subst (λ all. Follows role frames all more whole) (ap (λ xs. bytes ++ xs) f ∙ sym (append_assoc bytes (b ∷ []) left)) k)
-moved_forth (moving.Spells code) role bytes inside more spelled frames whole (left, f, spells) k =
-    (inside, more, left, refl, spells, subst (λ all. Follows role frames all more whole) (ap (λ xs. bytes ++ xs) f ∙ sym (append_assoc bytes (encode_utf8 code) left)) k)
-moved_forth moving.Ends role bytes inside more spelled frames whole h k = absurd h
-moved_forth moving.Refused role bytes inside more spelled frames whole h k = absurd h
-
--- the closing quote
-quote_forth : (role : Role) (bytes more : List ℕ) (frames : List Frame) (whole : Tree) → Follows role frames bytes more whole → Leads (step 34 (content role Plain bytes) frames) more whole
-quote_forth as_value bytes more frames whole k = k
-quote_forth (as_key listed) bytes more frames whole k = k
+moved_forth move role bytes inside more spelled frames whole h k = grind (arith, common_steps)
 
 text_ends : (role : Role) (place : Within) (b : ℕ) (bytes rest more spelled : List ℕ) (frames : List Frame) (whole : Tree) → b ∷ rest ≡ 34 ∷ more → place ≡ Plain → spelled ≡ []
     → Follows role frames (bytes ++ spelled) more whole → Leads (step b (content role place bytes) frames) rest whole
-text_ends role place b bytes rest more spelled frames whole e is none k =
-    along (λ c left. Leads (step c (content role place bytes) frames) left whole) e
-    (subst (λ (here : Within). Leads (step 34 (content role here bytes) frames) more whole) (sym is)
-    (quote_forth role bytes more frames whole (subst (λ all. Follows role frames all more whole) (ap (λ xs. bytes ++ xs) none ∙ append-nil bytes) k)))
+text_ends role place b bytes rest more spelled frames whole e is none k = grind (arith, common_steps)
 
 pub content_forth : (role : Role) (place : Within) (b : ℕ) (bytes rest : List ℕ) (frames : List Frame) (whole : Tree) → Completes (content role place bytes) frames (b ∷ rest) whole
     → Leads (step b (content role place bytes) frames) rest whole
-content_forth role place b bytes rest frames whole ([], more, spelled, e, ends, k) =
-    let (plain, none) = ends_plain place spelled ends in
-    text_ends role place b bytes rest more spelled frames whole e plain none k
+content_forth role place b bytes rest frames whole ([], more, spelled, e, ends, k) = grind (arith, common_steps, ends_plain, text_ends)
 content_forth role place b bytes rest frames whole (x ∷ inside, more, spelled, e, ends, k) =
     along (λ c left. Leads (step c (content role place bytes) frames) left whole) e
     (moved_forth (moves x place) role bytes inside more spelled frames whole (text_forth place x inside spelled ends) k)
@@ -114,58 +81,20 @@ Moving move role bytes frames rest whole = (inside more spelled : List ℕ) × (
 
 moved_back : (move : Move) (role : Role) (bytes rest : List ℕ) (frames : List Frame) (whole : Tree) → Leads (option_map (with_frames frames) (moved role bytes move)) rest whole
     → (move ≡ moving.Ends) ⊎ Moving move role bytes frames rest whole
-moved_back (moving.Goes place) role bytes rest frames whole (inside, more, spelled, e, h, k) = inr (inside, more, spelled, e, h, k)
-moved_back (moving.Adds b) role bytes rest frames whole (inside, more, left, e, spells, k) =
-    inr (inside, more, b ∷ left, e, (left, refl, spells), subst (λ all. Follows role frames all more whole) (append_assoc bytes (b ∷ []) left) k)
-moved_back (moving.Spells code) role bytes rest frames whole (inside, more, left, e, spells, k) =
-    inr (inside, more, encode_utf8 code ++ left, e, (left, refl, spells), subst (λ all. Follows role frames all more whole) (append_assoc bytes (encode_utf8 code) left) k)
-moved_back moving.Ends role bytes rest frames whole l = inl refl
-moved_back moving.Refused role bytes rest frames whole l = absurd l
+moved_back move role bytes rest frames whole x6 = grind (arith, common_steps)
 
 -- only a quote ends a text
 ends_escape : (meant : Option ℕ) → escape_moves meant ≡ moving.Ends → ⊥
-ends_escape None e = cc e
-ends_escape (Some b) e = cc e
-
-ends_unit : (unit : ℕ) → after_unit unit ≡ moving.Ends → ⊥
-ends_unit unit e = elim (chosen (λ (move : Move). move ≡ moving.Ends) (is_high_surrogate unit) _ _ e) [ inl (h, other) ↦ cc other | inr (h, other) ↦ cc other ]
+ends_escape meant e = grind (arith, common_steps)
 
 ends_hex : (n : ℕ) (place : Within) → with_hex n place ≡ moving.Ends → ⊥
-ends_hex n Plain e = cc e
-ends_hex n AfterBackslash e = cc e
-ends_hex n AfterU e = cc e
-ends_hex n (AfterHex one) e = elim (chosen (λ (move : Move). move ≡ moving.Ends) (begins_low n) _ _ e) [ inl (h, other) ↦ cc other | inr (h, other) ↦ cc other ]
-ends_hex n (AfterTwoHex two) e = cc e
-ends_hex n (AfterThreeHex three) e = ends_unit n e
-ends_hex n (AfterHigh high) e = cc e
-ends_hex n (AfterHighBackslash high) e = cc e
-ends_hex n (AfterHighU high) e = elim (chosen (λ (move : Move). move ≡ moving.Ends) (n == 13) _ _ e) [ inl (h, other) ↦ cc other | inr (h, other) ↦ cc other ]
-ends_hex n (AfterHighHex high) e = elim (chosen (λ (move : Move). move ≡ moving.Ends) (begins_low n) _ _ e) [ inl (h, other) ↦ cc other | inr (h, other) ↦ cc other ]
-ends_hex n (AfterHighTwoHex high two) e = cc e
-ends_hex n (AfterHighThreeHex high three) e = cc e
+ends_hex n place e = grind (arith, common_steps)
 
 ends_digit : (b before : ℕ) (place : Within) → move_by b place (Some before) ≡ moving.Ends → ⊥
 ends_digit b before place e = elim (chosen (λ (move : Move). move ≡ moving.Ends) (is_hex b) _ _ e) [ inl (h, on) ↦ ends_hex (before * 16 + digit_value b) place on | inr (h, other) ↦ cc other ]
 
 ends_here : (place : Within) (b : ℕ) → moves b place ≡ moving.Ends → (place ≡ Plain) × (b ≡ 34)
-ends_here Plain b e = elim (chosen (λ (move : Move). move ≡ moving.Ends) (b == 34) _ _ e) [
-  | inl (is, same) ↦ (refl, equal b 34 is)
-  | inr (is, on) ↦ elim (chosen (λ (move : Move). move ≡ moving.Ends) (b == 92) _ _ on) [
-    | inl (slash, other) ↦ absurd (cc other)
-    | inr (slash, on') ↦ elim (chosen (λ (move : Move). move ≡ moving.Ends) (nat_le 32 b) _ _ on') [ inl (h, other) ↦ absurd (cc other) | inr (h, other) ↦ absurd (cc other) ]
-  ]
-]
-ends_here AfterBackslash b e = elim (chosen (λ (move : Move). move ≡ moving.Ends) (b == 117) _ _ e) [ inl (is, other) ↦ absurd (cc other) | inr (is, escape) ↦ absurd (ends_escape (short_escape b) escape) ]
-ends_here AfterU b e = absurd (ends_digit b 0 AfterU e)
-ends_here (AfterHex one) b e = absurd (ends_digit b one (AfterHex one) e)
-ends_here (AfterTwoHex two) b e = absurd (ends_digit b two (AfterTwoHex two) e)
-ends_here (AfterThreeHex three) b e = absurd (ends_digit b three (AfterThreeHex three) e)
-ends_here (AfterHigh high) b e = elim (chosen (λ (move : Move). move ≡ moving.Ends) (b == 92) _ _ e) [ inl (is, other) ↦ absurd (cc other) | inr (is, other) ↦ absurd (cc other) ]
-ends_here (AfterHighBackslash high) b e = elim (chosen (λ (move : Move). move ≡ moving.Ends) (b == 117) _ _ e) [ inl (is, other) ↦ absurd (cc other) | inr (is, other) ↦ absurd (cc other) ]
-ends_here (AfterHighU high) b e = absurd (ends_digit b 0 (AfterHighU high) e)
-ends_here (AfterHighHex high) b e = absurd (ends_digit b 13 (AfterHighHex high) e)
-ends_here (AfterHighTwoHex high two) b e = absurd (ends_digit b two (AfterHighTwoHex high two) e)
-ends_here (AfterHighThreeHex high three) b e = absurd (ends_digit b three (AfterHighThreeHex high three) e)
+ends_here place b e = grind (arith, common_steps, chosen, equal, nat_le, ends_escape, ends_digit)
 
 quote_back : (role : Role) (bytes rest : List ℕ) (frames : List Frame) (whole : Tree) → Leads (step 34 (content role Plain bytes) frames) rest whole → Completes (content role Plain bytes) frames (34 ∷ rest) whole
 quote_back as_value bytes rest frames whole k = ([], rest, [], refl, nothing, subst (λ all. Follows as_value frames all rest whole) (sym (append-nil bytes)) k)
@@ -173,11 +102,7 @@ quote_back (as_key listed) bytes rest frames whole k = ([], rest, [], refl, noth
 
 text_ended_back : (role : Role) (place : Within) (b : ℕ) (bytes rest : List ℕ) (frames : List Frame) (whole : Tree) → place ≡ Plain → b ≡ 34 → Leads (step b (content role place bytes) frames) rest whole
     → Completes (content role place bytes) frames (b ∷ rest) whole
-text_ended_back role place b bytes rest frames whole plain is l =
-    subst (λ (here : Within). Completes (content role here bytes) frames (b ∷ rest) whole) (sym plain)
-    (subst (λ c. Completes (content role Plain bytes) frames (c ∷ rest) whole) (sym is)
-    (quote_back role bytes rest frames whole (subst (λ c. Leads (step c (content role Plain bytes) frames) rest whole) is
-    (subst (λ (here : Within). Leads (step b (content role here bytes) frames) rest whole) plain l))))
+text_ended_back role place b bytes rest frames whole plain is l = grind (arith, common_steps, quote_back)
 
 pub content_back : (role : Role) (place : Within) (b : ℕ) (bytes rest : List ℕ) (frames : List Frame) (whole : Tree) → IsPlace place → Leads (step b (content role place bytes) frames) rest whole
     → Completes (content role place bytes) frames (b ∷ rest) whole

@@ -1,15 +1,12 @@
 -- What ends a text from a sound state on, with no level more; and a text that goes on from a state is as deep as the state at least.
 use Rattle.std.proofs.Common.{◌≡◌, ℕ, suc, ◌+◌, ◌*◌, ◌<◌, ◌≤◌, false, max, List, [], ◌∷◌, ◌++◌, ◌⊎◌, inl, inr, length, IsTrue, refl, arith, sym, subst, append-nil, zero}
-use Rattle.std.{proofs.lemmas.Bool.Decides.nat_tests, specs.Char.encode_utf8}
-use Rattle.json_text.specs.declared.state.Digits.{Digits}
+use Rattle.std.{proofs.lemmas.Bool.Decides.nat_tests, specs.Char.encode_utf8, proofs.lemmas.Grind.common_steps}
+use Rattle.json_text.specs.{declared.state.Digits.Digits, declared.state.Within.Within, Classes.{is_surrogate, is_high_surrogate, is_low_surrogate, pair_of}}
 use Rattle.json_text.specs.declared.state.Digits.TheVariants.{AfterMinus, AfterZero, InWhole, AfterPoint, InFraction, AfterMark, AfterSign, InExponent}
-use Rattle.json_text.specs.declared.state.Within.{Within}
 use Rattle.json_text.specs.declared.state.Within.TheVariants.{Plain, AfterBackslash, AfterU, AfterHex, AfterTwoHex, AfterThreeHex, AfterHigh, AfterHighBackslash, AfterHighU, AfterHighHex, AfterHighTwoHex, AfterHighThreeHex}
-use Rattle.json_text.specs.Classes.{is_surrogate, is_high_surrogate, is_low_surrogate, pair_of}
 use Rattle.json_text.specs.Tree.{Tree, null, number, text, list, object, Items, no_items, item, Members, no_members, member, nesting, items_nesting, members_nesting}
-use Rattle.json_text.specs.Grammar.{nothing, further}
+use Rattle.json_text.specs.{Grammar.{nothing, further}, Parts.{then_item, then_member}, Depth.{around, inner_depth, depth}}
 use Rattle.json_text.specs.Machine.{Frame, in_list, in_member, Role, as_value, as_key, Mode, value, first_item, first_key, next_key, colon, letters, digits, content, ended, IsPlace}
-use Rattle.json_text.specs.{Parts.{then_item, then_member}, Depth.{around, inner_depth, depth}}
 use Rattle.json_text.proofs.Completion.{and_items, and_members, Closes, EndsNumber, Hex, LowUnit, FirstUnit, EndsText, Follows, Completes}
 use Rattle.json_text.proofs.{Forth.{and_no_items, and_no_members}, Steps.{IsSoundMode, around_grows, then_item_nesting, then_member_nesting}}
 
@@ -103,10 +100,7 @@ three_range three h = elim h [ inl less ↦ inl (omega (arith, less)) | inr more
 
 -- three ranges of code units: the high surrogates, the low ones and the others
 unit_ranges : (n : ℕ) → (n < 0xdc00) ⊎ (0xe000 ≤ n) → ((n < 0xd800) ⊎ (0xe000 ≤ n)) ⊎ ((0xd800 ≤ n) × (n < 0xdc00))
-unit_ranges n h = elim h [
-  | inl less ↦ elim (below_or n 0xd800) [ inl low ↦ inl (inl low) | inr high ↦ inr (high, less) ]
-  | inr more ↦ inl (inr more)
-]
+unit_ranges n h = grind (arith, common_steps)
 
 unit_ending : (count before : ℕ) (hex : List ℕ) (unit : ℕ) → length hex ≡ count → Hex before hex unit → (unit < 0xdc00) ⊎ (0xe000 ≤ unit) → (inside spelled : List ℕ) × FirstUnit count before inside spelled
 unit_ending count before hex unit size is range = elim (unit_ranges unit range) [
@@ -211,10 +205,7 @@ closes_deep (in_member members key ∷ frames) tree rest whole (after, inside, m
     omega (arith, inner, grows)
 
 less_deep : (frames : List Frame) (n : ℕ) (tree : Tree) (rest : List ℕ) (whole : Tree) → n ≤ nesting tree → Closes frames tree rest whole → around frames n ≤ nesting whole
-less_deep frames n tree rest whole h k =
-    let deep = closes_deep frames tree rest whole k in
-    let grows = around_grows frames n (nesting tree) h in
-    omega (arith, deep, grows)
+less_deep frames n tree rest whole h k = grind (arith, common_steps, closes_deep, around_grows)
 
 member_deep : (frames : List Frame) (members : Members) (key : List ℕ) (tree : Tree) (others : Members) (rest : List ℕ) (whole : Tree) → Closes frames (object (and_members (then_member members (key, tree)) others)) rest whole
     → around frames (1 + members_nesting members) ≤ nesting whole

@@ -1,9 +1,9 @@
 -- Where the grammar may end, the machine may, and the other way round.
-use Rattle.std.proofs.Common.{◌≡◌, ℕ, true, false, List, [], ◌∷◌, ◌++◌, inl, inr, Some, Option, ap, refl, sym, subst, ◌∙◌, append-nil}
+use Rattle.std.proofs.{Common.{◌≡◌, ℕ, true, false, List, [], ◌∷◌, ◌++◌, Some, ap, refl, sym, subst, ◌∙◌, append-nil, arith}, lemmas.Grind.common_steps}
 use Rattle.json_text.specs.{declared.state.Digits.Digits, Tree.{Tree, null, boolean, number, text, list, object}}
 use Rattle.json_text.specs.{Bytes.{null_letters, true_letters, false_letters}, Grammar.IsValue}
 use Rattle.json_text.specs.Machine.{Frame, in_list, in_member, Mode, value, first_item, first_key, next_key, colon, letters, digits, content, ended, finish, may_end}
-use Rattle.json_text.proofs.{Completion.{Closes, EndsNumber, Completes}, Numbers.{digits_end, ends_here}, Choices.{when, chosen}}
+use Rattle.json_text.proofs.{Completion.{Closes, EndsNumber, Completes}, Numbers.ends_here}
 
 -- a bracket is missing
 something : (after inside : List ℕ) (b : ℕ) (more : List ℕ) → [] ≡ after ++ (inside ++ b ∷ more) → ⊥
@@ -15,9 +15,7 @@ one_thing : (inside : List ℕ) (b : ℕ) (more : List ℕ) → [] ≡ inside ++
 one_thing inside b more e = something [] inside b more e
 
 ended_ends : (frames : List Frame) (tree whole : Tree) → Closes frames tree [] whole → finish (ended tree) frames ≡ Some whole
-ended_ends [] tree whole (blank, same) = ap Some same
-ended_ends (in_list items ∷ frames) tree whole (after, inside, more, others, e, blank, all, k) = absurd (something after inside 93 more e)
-ended_ends (in_member so_far key ∷ frames) tree whole (after, inside, more, others, e, blank, all, k) = absurd (something after inside 125 more e)
+ended_ends frames tree whole x3 = grind (arith, common_steps, something)
 
 -- a value that begins no byte
 no_value : (tree : Tree) (before inside more : List ℕ) → [] ≡ before ++ (inside ++ more) → (inside ≡ [] → ⊥) → ⊥
@@ -40,8 +38,7 @@ value_some (object members) inside (between, is, all) e = let none : [] ≡ 123 
 
 digits_ends : (place : Digits) (spelling tail more : List ℕ) (frames : List Frame) (whole : Tree) → [] ≡ tail ++ more → EndsNumber place tail → Closes frames (number (spelling ++ tail)) more whole
     → finish (digits place spelling) frames ≡ Some whole
-digits_ends place spelling [] [] [] whole e ends (blank, same) =
-    when (λ (o : Option Tree). o ≡ Some whole) (may_end place) _ _ (digits_end place ends) (ap (λ bytes. Some (number bytes)) (sym (append-nil spelling)) ∙ ap Some same)
+digits_ends place spelling [] [] [] whole e ends (blank, same) = grind (arith, common_steps)
 digits_ends place spelling [] [] (in_list items ∷ frames) whole e ends (after, inside, more, others, e', blank, all, k) = absurd (something after inside 93 more e')
 digits_ends place spelling [] [] (in_member so_far key ∷ frames) whole e ends (after, inside, more, others, e', blank, all, k) = absurd (something after inside 125 more e')
 digits_ends place spelling [] (x ∷ more) frames whole e ends k = absurd (cc e)
@@ -69,10 +66,7 @@ finished P number_ends value_ends first_key frames whole e = absurd (cc e)
 finished P number_ends value_ends (next_key listed) frames whole e = absurd (cc e)
 finished P number_ends value_ends (colon listed key) frames whole e = absurd (cc e)
 finished P number_ends value_ends (letters left tree) frames whole e = absurd (cc e)
-finished P number_ends value_ends (digits place spelling) [] whole e = elim (chosen (λ (o : Option Tree). o ≡ Some whole) (may_end place) _ _ e) [
-  | inl (may, same) ↦ let is : number spelling ≡ whole = cc same in subst (P (digits place spelling) []) is (number_ends place spelling may)
-  | inr (may, none) ↦ absurd (cc none)
-]
+finished P number_ends value_ends (digits place spelling) [] whole e = grind (arith, common_steps)
 finished P number_ends value_ends (digits place spelling) (frame ∷ frames) whole e = absurd (cc e)
 finished P number_ends value_ends (content role place bytes) frames whole e = absurd (cc e)
 finished P number_ends value_ends (ended tree) [] whole e = let is : tree ≡ whole = cc e in subst (P (ended tree) []) is (value_ends tree)

@@ -1,11 +1,10 @@
 -- Texts byte by byte: where the machine goes on, the grammar does.
 use Rattle.std.proofs.Common.{◌≡◌, ℕ, suc, ◌+◌, ◌*◌, ◌<◌, ◌≤◌, ◌==◌, false, List, [], ◌∷◌, ◌++◌, ◌⊎◌, inl, inr, IsTrue, nat_lt, refl, arith, sym, subst, ◌∙◌, ap, eq-eqb}
-use Rattle.std.{proofs.lemmas.Bool.Decides.nat_tests, specs.Char.{digit_value, encode_utf8}}
+use Rattle.std.{proofs.lemmas.Bool.Decides.nat_tests, specs.Char.{digit_value, encode_utf8}, proofs.lemmas.Grind.common_steps}
 use Rattle.json_text.specs.declared.state.Within.TheVariants.{Plain, AfterU, AfterHex, AfterTwoHex, AfterThreeHex, AfterHigh, AfterHighBackslash, AfterHighU, AfterHighHex, AfterHighTwoHex, AfterHighThreeHex}
-use Rattle.json_text.specs.{declared.state.Move.Move, Classes.{is_plain, is_hex, is_low_surrogate, is_high_surrogate, is_surrogate, pair_of}}
+use Rattle.json_text.specs.{declared.state.Move.Move, Classes.{is_plain, is_hex, pair_of}, Grammar.{Spells, further}, Machine.{moves, begins_low, after_unit}}
 use Rattle.json_text.specs.declared.state.Move.TheVariants as moving
-use Rattle.json_text.specs.{Grammar.{Spells, further}, Machine.{moves, begins_low, after_unit}}
-use Rattle.json_text.proofs.{Completion.{EndsText, FirstUnit, LowUnit, BehindUnit}, Choices.{head_same, when, unless, along}}
+use Rattle.json_text.proofs.{Completion.{EndsText, FirstUnit, LowUnit, BehindUnit}, Choices.{when, unless, along}}
 
 -- the text goes on as the move says
 abbrev pub LeadsText : Move → List ℕ → List ℕ → Type 0
@@ -24,13 +23,11 @@ low_back count before high b inside spelled h (hex, more, after, low, e, size, d
 
 pub first_forth : (count before b : ℕ) (inside spelled : List ℕ) → FirstUnit (suc count) before (b ∷ inside) spelled → IsTrue (is_hex b) × FirstUnit count (before * 16 + digit_value b) inside spelled
 first_forth count before b inside spelled ([], more, unit, e, size, digits, behind) = absurd (omega (arith, size))
-first_forth count before b inside spelled (h ∷ hex, more, unit, e, size, digits, behind) =
-    along (λ c rest. IsTrue (is_hex c) × FirstUnit count (before * 16 + digit_value c) rest spelled) e (digits.0, (hex, more, unit, refl, omega (arith, size), digits.1, behind))
+first_forth count before b inside spelled (h ∷ hex, more, unit, e, size, digits, behind) = grind (arith, common_steps)
 
 pub low_forth : (count before high b : ℕ) (inside spelled : List ℕ) → LowUnit (suc count) before high (b ∷ inside) spelled → IsTrue (is_hex b) × LowUnit count (before * 16 + digit_value b) high inside spelled
 low_forth count before high b inside spelled ([], more, after, low, e, size, digits, is, spells, f) = absurd (omega (arith, size))
-low_forth count before high b inside spelled (h ∷ hex, more, after, low, e, size, digits, is, spells, f) =
-    along (λ c rest. IsTrue (is_hex c) × LowUnit count (before * 16 + digit_value c) high rest spelled) e (digits.0, (hex, more, after, low, refl, omega (arith, size), digits.1, is, spells, f))
+low_forth count before high b inside spelled (h ∷ hex, more, after, low, e, size, digits, is, spells, f) = grind (arith, common_steps)
 
 -- within the escape of a low surrogate, where the grammar goes on the machine does
 pub high_forth : (high b : ℕ) (inside spelled : List ℕ) → EndsText (AfterHigh high) (b ∷ inside) spelled → LeadsText (moves b (AfterHigh high)) inside spelled
@@ -55,9 +52,7 @@ hex_none_forth b inside spelled h =
     when (λ move. LeadsText move inside spelled) (is_hex b) _ _ is unit
 
 low_three : (high three b : ℕ) (inside spelled : List ℕ) → LowUnit 0 (three * 16 + digit_value b) high inside spelled → LeadsText (moving.Spells (pair_of high (three * 16 + digit_value b))) inside spelled
-low_three high three b inside spelled ([], more, after, low, e, size, digits, is, spells, f) =
-    (after, f ∙ ap (λ n. encode_utf8 (pair_of high n) ++ after) (sym digits), subst (λ bytes. Spells bytes after) (sym e) spells)
-low_three high three b inside spelled (x ∷ hex, more, after, low, e, size, digits, is, spells, f) = absurd (omega (arith, size))
+low_three high three b inside spelled x5 = grind (arith, common_steps)
 
 pub high_three_forth : (high three b : ℕ) (inside spelled : List ℕ) → EndsText (AfterHighThreeHex high three) (b ∷ inside) spelled → LeadsText (moves b (AfterHighThreeHex high three)) inside spelled
 high_three_forth high three b inside spelled h =
@@ -70,22 +65,12 @@ below n m h = grind (arith, nat_tests)
 pub hex_range : (b : ℕ) → IsTrue (is_hex b) → digit_value b < 16
 hex_range b h = below (digit_value b) 16 h
 
-low_range : (unit : ℕ) → IsTrue (is_low_surrogate unit) → (0xdc00 ≤ unit) × (unit < 0xe000)
-low_range unit h = grind (arith, nat_tests)
-
-high_range : (unit : ℕ) → IsTrue (is_high_surrogate unit) → (0xd800 ≤ unit) × (unit < 0xdc00)
-high_range unit h = grind (arith, nat_tests)
-
-whole_range : (unit : ℕ) → is_surrogate unit ≡ false → (unit < 0xd800) ⊎ (0xe000 ≤ unit)
-whole_range unit h = grind (arith, nat_tests)
-
 -- the first hex digit of a low surrogate is d, and the first two are dc to df
 low_first : (n high : ℕ) (inside spelled : List ℕ) → LowUnit 3 n high inside spelled → n ≡ 13
 low_first n high inside spelled ([], more, after, low, e, size, digits, is, spells, f) = absurd (omega (arith, size))
 low_first n high inside spelled (x ∷ [], more, after, low, e, size, digits, is, spells, f) = absurd (omega (arith, size))
 low_first n high inside spelled (x ∷ y ∷ [], more, after, low, e, size, digits, is, spells, f) = absurd (omega (arith, size))
-low_first n high inside spelled (x ∷ y ∷ z ∷ [], more, after, low, e, size, (hx, (hy, (hz, same))), is, spells, f) =
-    omega (arith, hex_range x hx, hex_range y hy, hex_range z hz, same, low_range low is)
+low_first n high inside spelled (x ∷ y ∷ z ∷ [], more, after, low, e, size, (hx, (hy, (hz, same))), is, spells, f) = grind (arith, common_steps)
 low_first n high inside spelled (x ∷ y ∷ z ∷ w ∷ hex, more, after, low, e, size, digits, is, spells, f) = absurd (omega (arith, size))
 
 begins_range : (n : ℕ) → (0xdc ≤ n) × (n < 0xe0) → IsTrue (begins_low n)
@@ -97,24 +82,13 @@ begins_other n h = grind (arith, nat_tests)
 low_second : (n high : ℕ) (inside spelled : List ℕ) → LowUnit 2 n high inside spelled → (0xdc ≤ n) × (n < 0xe0)
 low_second n high inside spelled ([], more, after, low, e, size, digits, is, spells, f) = absurd (omega (arith, size))
 low_second n high inside spelled (x ∷ [], more, after, low, e, size, digits, is, spells, f) = absurd (omega (arith, size))
-low_second n high inside spelled (x ∷ y ∷ [], more, after, low, e, size, (hx, (hy, same)), is, spells, f) =
-    (omega (arith, hex_range x hx, hex_range y hy, same, low_range low is), omega (arith, hex_range x hx, hex_range y hy, same, low_range low is))
+low_second n high inside spelled (x ∷ y ∷ [], more, after, low, e, size, (hx, (hy, same)), is, spells, f) = grind (arith, common_steps)
 low_second n high inside spelled (x ∷ y ∷ z ∷ hex, more, after, low, e, size, digits, is, spells, f) = absurd (omega (arith, size))
-
--- no first code unit is a low surrogate
-unit_range : (unit : ℕ) (inside spelled : List ℕ) → BehindUnit unit inside spelled → (unit < 0xdc00) ⊎ (0xe000 ≤ unit)
-unit_range unit inside spelled h = elim h [
-  | inl whole ↦ elim (whole_range unit whole.0) [ inl low ↦ inl (omega (arith, low)) | inr large ↦ inr large ]
-  | inr pair ↦ inl (omega (arith, high_range unit pair.0))
-]
 
 first_second : (n : ℕ) (inside spelled : List ℕ) → FirstUnit 2 n inside spelled → (n < 0xdc) ⊎ (0xe0 ≤ n)
 first_second n inside spelled ([], more, unit, e, size, digits, behind) = absurd (omega (arith, size))
 first_second n inside spelled (x ∷ [], more, unit, e, size, digits, behind) = absurd (omega (arith, size))
-first_second n inside spelled (x ∷ y ∷ [], more, unit, e, size, (hx, (hy, same)), behind) = elim (unit_range unit more spelled behind) [
-  | inl low ↦ inl (omega (arith, hex_range x hx, hex_range y hy, same, low))
-  | inr large ↦ inr (omega (arith, hex_range x hx, hex_range y hy, same, large))
-]
+first_second n inside spelled (x ∷ y ∷ [], more, unit, e, size, (hx, (hy, same)), behind) = grind (arith, common_steps)
 first_second n inside spelled (x ∷ y ∷ z ∷ hex, more, unit, e, size, digits, behind) = absurd (omega (arith, size))
 
 pub hex_one_forth : (one b : ℕ) (inside spelled : List ℕ) → EndsText (AfterHex one) (b ∷ inside) spelled → LeadsText (moves b (AfterHex one)) inside spelled
@@ -139,19 +113,12 @@ high_u_forth high b inside spelled h =
     when (λ move. LeadsText move inside spelled) (is_hex b) _ _ is
     (when (λ move. LeadsText move inside spelled) (n == 13) _ _ (eq-eqb n 13 same) (subst (λ m. LowUnit 3 m high inside spelled) same low))
 
-is_high_or_not : (unit : ℕ) → is_surrogate unit ≡ false → is_high_surrogate unit ≡ false
-is_high_or_not unit h = grind (arith, nat_tests)
-
 -- a whole code unit, and what the machine makes of it
 unit_done : (unit : ℕ) (inside spelled : List ℕ) → BehindUnit unit inside spelled → LeadsText (after_unit unit) inside spelled
-unit_done unit inside spelled h = elim h [
-  | inl (whole, (after, spells, f)) ↦ unless (λ move. LeadsText move inside spelled) (is_high_surrogate unit) _ _ (is_high_or_not unit whole) (after, f, spells)
-  | inr (high, (tail, e, low)) ↦ when (λ move. LeadsText move inside spelled) (is_high_surrogate unit) _ _ high (tail, e, low)
-]
+unit_done unit inside spelled h = grind (arith, common_steps)
 
 unit_whole : (n : ℕ) (inside spelled : List ℕ) → FirstUnit 0 n inside spelled → BehindUnit n inside spelled
-unit_whole n inside spelled ([], more, unit, e, size, same, behind) = subst (λ bytes. BehindUnit n bytes spelled) (sym e) (subst (λ m. BehindUnit m more spelled) (sym same) behind)
-unit_whole n inside spelled (x ∷ hex, more, unit, e, size, digits, behind) = absurd (omega (arith, size))
+unit_whole n inside spelled x3 = grind (arith, common_steps)
 
 pub hex_three_forth : (three b : ℕ) (inside spelled : List ℕ) → EndsText (AfterThreeHex three) (b ∷ inside) spelled → LeadsText (moves b (AfterThreeHex three)) inside spelled
 hex_three_forth three b inside spelled h =
@@ -163,9 +130,7 @@ plain_moves : (b : ℕ) → IsTrue (is_plain b) → moves b Plain ≡ moving.Add
 plain_moves b h = grind (arith, nat_tests)
 
 escape_begins : (b : ℕ) (inside spelled rest : List ℕ) → b ∷ inside ≡ 92 ∷ rest → Spells (b ∷ inside) spelled → LeadsText (moves b Plain) inside spelled
-escape_begins b inside spelled rest e spells =
-    let first : b ≡ 92 = head_same e in
-    subst (λ c. LeadsText (moves c Plain) inside spelled) (sym first) (subst (λ c. Spells (c ∷ inside) spelled) first spells)
+escape_begins b inside spelled rest e spells = grind (arith, common_steps)
 
 plain_adds : (b : ℕ) (inside left spelled : List ℕ) → IsTrue (is_plain b) → spelled ≡ b ∷ left → Spells inside left → LeadsText (moves b Plain) inside spelled
 plain_adds b inside left spelled h e spells = subst (λ move. LeadsText move inside spelled) (sym (plain_moves b h)) (left, e, spells)

@@ -1,6 +1,6 @@
 -- The outcome in terms of the machine is the one in terms of the grammar, and one answer alone is due.
 use Rattle.std.proofs.Common.{◌≡◌, ℕ, zero, suc, ◌+◌, ◌<◌, ◌≤◌, List, [], ◌∷◌, ◌++◌, ◌⊎◌, inl, inr, length, take, drop, Some, None, Result, Ok, Err, IfOk, IfErr, MatchResult, refl, arith, sym, subst, ◌∙◌, ap, append_assoc}
-use Rattle.std.{proofs.Math.Seq.take-length, proofs.lemmas.List.take-append-drop, specs.Str.IsUtf8}
+use Rattle.std.{proofs.Math.Seq.take-length, proofs.lemmas.List.take-append-drop, specs.Str.IsUtf8, proofs.lemmas.Grind.common_steps}
 use Rattle.json_text.specs.{Tree.Tree, Grammar.IsText, Places.{most_levels, Begins, BeginsWithin, Reads, IsNotText, IsNotJson, IsTooDeep}, View.tree_of}
 use Rattle.json_text.specs.{Machine.{State, run, start, levels}, Reached.{ended_tree, Reaches}, Outcome.{StopsAt, DeepAt, Outcome}, Answers.{IsFault, IsDue}}
 use Rattle.json_text.specs.declared.{tree.Json.Json, reading.JsonFault.JsonFault, reading.JsonFault.TheVariants.{NotText, NotJson, TooDeep, NoMemory}}
@@ -34,15 +34,11 @@ reads_begins : (k : ℕ) (bytes : List ℕ) (tree : Tree) → Reads bytes tree �
 reads_begins k bytes tree reads = (drop k bytes, tree, subst (λ all. IsText all tree) (sym (take-append-drop k bytes)) reads.text, reads.within)
 
 reaches_within : (bytes : List ℕ) (state : State) → Reaches bytes state → BeginsWithin bytes
-reaches_within bytes state reach =
-    let (more, tree, text, less) = reached_begins bytes state reach.0 in
-    (more, tree, text, omega (arith, less, reach.1))
+reaches_within bytes state reach = grind (arith, common_steps, reached_begins)
 
 -- a tree that was read to its end
 found : (bytes : List ℕ) (state : State) (tree : Tree) → IsUtf8 bytes → Reaches bytes state → ended_tree state ≡ Some tree → Reads bytes tree
-found bytes state tree utf8 reach done =
-    let deep = finish_deep state.0 state.1 tree done in
-    record { utf8 = utf8; text = ends_text bytes state tree reach.0 done; within = omega (arith, deep, reach.1) }
+found bytes state tree utf8 reach done = grind (arith, common_steps, finish_deep, ends_text)
 
 -- no text ends unfinished
 unfinished : (bytes : List ℕ) (state : State) (tree : Tree) → run bytes start ≡ Some state → ended_tree state ≡ None → IsText bytes tree → ⊥
@@ -73,26 +69,14 @@ stops_json bytes k utf8 (state, reach, inr (all, none)) =
 
 -- what begins at a state that is too deep is too deep
 too_deep : (bytes : List ℕ) (after : State) → run bytes start ≡ Some after → most_levels < levels after → BeginsWithin bytes → ⊥
-too_deep bytes after e deep (more, tree, text, less) =
-    let least = begins_deep bytes more tree after text e in
-    let open_levels = levels_deep after in
-    omega (arith, deep, less, least, open_levels)
+too_deep bytes after e deep (more, tree, text, less) = omega (arith, deep, less, begins_deep bytes more tree after text e, levels_deep after)
 
 deep_at : (bytes : List ℕ) (k : ℕ) → IsUtf8 bytes → DeepAt bytes k → IsTooDeep bytes k
-deep_at bytes k utf8 (before, after, short, reach, e, deep) =
-    let (rest, whole, text, less) = reached_begins (take (k + 1) bytes) after e in
-    record {
-      utf8 = utf8;
-      short = short;
-      front = reaches_within (take k bytes) before reach;
-      begins = (rest, whole, text);
-      deeper = λ begins. too_deep (take (k + 1) bytes) after e deep begins;
-    }
+deep_at bytes k utf8 (before, after, short, reach, e, deep) = grind (arith, common_steps, reached_begins, take, reaches_within, too_deep)
 
 -- A tree is the one of the bytes, and a fault stands at its place.
 pub outcome_found : (bytes : List ℕ) (result : Result Json JsonFault) → IsUtf8 bytes → Outcome result bytes → IfOk result (λ json. Reads bytes (tree_of json))
-outcome_found bytes (Ok json) utf8 (state, reach, done) = found bytes state (tree_of json) utf8 reach done
-outcome_found bytes (Err fault) utf8 outcome = tt
+outcome_found bytes result utf8 x3 = grind (arith, common_steps, found)
 
 pub outcome_fault : (bytes : List ℕ) (result : Result Json JsonFault) → IsUtf8 bytes → Outcome result bytes → IfErr result (λ fault. IsFault bytes fault)
 outcome_fault bytes (Ok json) utf8 outcome = tt

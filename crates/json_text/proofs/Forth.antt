@@ -1,14 +1,12 @@
 -- Where the grammar goes on, the machine does.
-use Rattle.std.proofs.Common.{◌≡◌, ℕ, ◌<◌, ◌≤◌, ◌==◌, Bool, true, false, cond, List, [], ◌∷◌, ◌++◌, ◌⊎◌, inl, inr, IsTrue, ◌||◌, Option, Some, None, option_map, refl, arith, sym, subst, ◌∙◌, ap, append_assoc, append-nil}
-use Rattle.std.proofs.lemmas.Bool.Decides.{nat_tests}
-use Rattle.json_text.specs.declared.state.Digits.{Digits}
-use Rattle.json_text.specs.declared.state.Digits.TheVariants.{AfterMinus, AfterZero, InWhole, AfterPoint, InFraction, AfterMark, AfterSign, InExponent}
+use Rattle.std.proofs.Common.{◌≡◌, ℕ, ◌==◌, Bool, true, false, cond, List, [], ◌∷◌, ◌++◌, IsTrue, ◌||◌, Option, None, refl, arith, sym, subst, ◌∙◌, ap, append_assoc, append-nil}
+use Rattle.std.proofs.lemmas.{Bool.Decides.nat_tests, Grind.common_steps}
+use Rattle.json_text.{specs.declared.state.Digits.Digits, proofs.Numbers.{LeadsOn, digits_forth, digits_end}}
 use Rattle.json_text.specs.{Classes.is_blank, Tree.{Tree, null, boolean, number, text, list, object, Items, no_items, item, Members, no_members, member}}
-use Rattle.json_text.specs.Grammar.{IsBlank, IsWhole, IsNumber, Spells, Spaced, IsMember, IsValue, IsItems, MoreItems, IsMembers, MoreMembers}
-use Rattle.json_text.specs.Machine.{Frame, in_list, in_member, Mode, value, first_item, first_key, next_key, colon, letters, digits, State, begin, first_digit, digits_after, may_end, after_value, step, next_digit, with_frames}
+use Rattle.json_text.specs.Grammar.{IsBlank, IsNumber, Spells, Spaced, IsMember, IsValue, IsItems, MoreItems, IsMembers, MoreMembers}
+use Rattle.json_text.specs.Machine.{Frame, in_list, in_member, value, first_item, first_key, next_key, colon, letters, digits, State, begin, digits_after, may_end, after_value, step, next_digit}
 use Rattle.json_text.{specs.Parts.{then_item, then_member}, proofs.Completion.{and_items, and_members, Closes, EndsNumber, Leads}}
-use Rattle.json_text.proofs.Numbers.{LeadsOn, digits_forth, digits_end, first_whole}
-use Rattle.json_text.proofs.Choices.{when, unless, head_same, along, blank_cases, leading_range, not_equal, equal_self}
+use Rattle.json_text.proofs.Choices.{when, unless, head_same, along, not_equal}
 
 -- items behind items
 pub and_no_items : (items : Items) → and_items items no_items ≡ items
@@ -26,21 +24,14 @@ regroup a b c d e = simp append_assoc
 -- where a blank byte leaves the state
 skipped : {w b : ℕ} {left rest : List ℕ} (whole : Tree) (same other : Option State) (after : ℕ → Option State) → b ∷ rest ≡ w ∷ left → after w ≡ cond (is_blank w) same other
     → IsTrue (is_blank w) → Leads same left whole → Leads (after b) rest whole
-skipped {w} {left = left} whole same other after e is blank leads =
-    along (λ c more. Leads (after c) more whole) e (rw is (when (λ (o : Option State). Leads o left whole) (is_blank w) same other blank leads))
+skipped {w} {left = left} whole same other after e is blank leads = grind (arith, common_steps)
 
 -- white space begins no value
 pub blank_begins_none : (b : ℕ) (frames : List Frame) → IsTrue (is_blank b) → begin b frames ≡ None
-blank_begins_none b frames h = elim (blank_cases b h) [
-  | inl is ↦ subst (λ c. begin c frames ≡ None) (sym is) refl
-  | inr (inl is) ↦ subst (λ c. begin c frames ≡ None) (sym is) refl
-  | inr (inr (inl is)) ↦ subst (λ c. begin c frames ≡ None) (sym is) refl
-  | inr (inr (inr is)) ↦ subst (λ c. begin c frames ≡ None) (sym is) refl
-]
+blank_begins_none b frames h = grind (arith, common_steps)
 
 pub not_true : (t : Bool) → (IsTrue t → ⊥) → t ≡ false
-not_true true h = absurd (h refl)
-not_true false h = refl
+not_true t h = grind (arith, common_steps)
 
 -- where a value begins, white space and the bracket that closes a list are out of the question
 pub begins_no_blank : (b : ℕ) (frames : List Frame) (rest : List ℕ) (whole : Tree) → Leads (begin b frames) rest whole → is_blank b ≡ false
@@ -49,58 +40,12 @@ begins_no_blank b frames rest whole l = not_true (is_blank b) (λ h. subst (λ (
 pub begins_no_close : (b : ℕ) (frames : List Frame) (rest : List ℕ) (whole : Tree) → Leads (begin b frames) rest whole → (b == 93) ≡ false
 begins_no_close b frames rest whole l = not_equal b 93 (λ is. subst (λ c. Leads (begin c frames) rest whole) is l)
 
--- a number's first byte
-abbrev pub BeginsNumber : ℕ → Type 0
-BeginsNumber b = (b ≡ 45) ⊎ ((48 ≤ b) × (b < 58))
-
-begin_number : (b : ℕ) (frames : List Frame) (rest : List ℕ) (whole : Tree) → BeginsNumber b
-    → Leads (option_map (λ (place : Digits). (digits place (b ∷ []), frames)) (first_digit b)) rest whole → Leads (begin b frames) rest whole
-begin_number b frames rest whole h l =
-    let P : Option State → Type 0 = λ o. Leads o rest whole in
-    unless P (b == 91) _ _ (not_equal b 91 (λ is. elim h [ inl e ↦ omega arith | inr e ↦ omega arith ]))
-    (unless P (b == 123) _ _ (not_equal b 123 (λ is. elim h [ inl e ↦ omega arith | inr e ↦ omega arith ]))
-    (unless P (b == 34) _ _ (not_equal b 34 (λ is. elim h [ inl e ↦ omega arith | inr e ↦ omega arith ]))
-    (unless P (b == 110) _ _ (not_equal b 110 (λ is. elim h [ inl e ↦ omega arith | inr e ↦ omega arith ]))
-    (unless P (b == 116) _ _ (not_equal b 116 (λ is. elim h [ inl e ↦ omega arith | inr e ↦ omega arith ]))
-    (unless P (b == 102) _ _ (not_equal b 102 (λ is. elim h [ inl e ↦ omega arith | inr e ↦ omega arith ])) l)))))
-
-first_place : (b : ℕ) (frames : List Frame) (tail more : List ℕ) (whole : Tree) (place : Option Digits) → LeadsOn place tail → Closes frames (number (b ∷ tail)) more whole
-    → Leads (option_map (λ (place : Digits). (digits place (b ∷ []), frames)) place) (tail ++ more) whole
-first_place b frames tail more whole None l k = absurd l
-first_place b frames tail more whole (Some place) l k = (tail, more, refl, l, k)
-
--- the first byte of a number without a sign
-first_of_whole : (b : ℕ) (tail whole fraction exponent : List ℕ) → b ∷ tail ≡ whole ++ (fraction ++ exponent) → IsWhole whole → (48 ≤ b) × (b < 58)
-first_of_whole b tail [] fraction exponent e w = absurd w
-first_of_whole b tail (d ∷ whole) fraction exponent e w =
-    let same : b ≡ d = head_same e in
-    elim w [ inl (is, none) ↦ (omega arith, omega arith) | inr (is, each) ↦ (omega (arith, leading_range d is), omega (arith, leading_range d is)) ]
-
-pub number_begins : (b : ℕ) (tail : List ℕ) → IsNumber (b ∷ tail) → BeginsNumber b
-number_begins b tail (sign, whole, fraction, exponent, e, m, w, f, x) = elim m [
-  | inl is ↦ inr (first_of_whole b tail whole fraction exponent (e ∙ ap (λ front. front ++ whole ++ fraction ++ exponent) is ∙ append_assoc whole fraction exponent) w)
-  | inr is ↦ inl (head_same (e ∙ ap (λ front. front ++ whole ++ fraction ++ exponent) is))
-]
-
-number_place : (b : ℕ) (tail : List ℕ) → IsNumber (b ∷ tail) → LeadsOn (first_digit b) tail
-number_place b tail (sign, whole, fraction, exponent, e, m, w, f, x) = elim m [
-  | inl is ↦
-      let plain : b ∷ tail ≡ whole ++ (fraction ++ exponent) = e ∙ ap (λ front. front ++ whole ++ fraction ++ exponent) is ∙ append_assoc whole fraction exponent in
-      unless (λ next. LeadsOn next tail) (b == 45) _ _ (not_equal b 45 (λ same. omega (arith, first_of_whole b tail whole fraction exponent plain w)))
-      (first_whole b tail whole fraction exponent plain w f x)
-  | inr is ↦
-      let joined : b ∷ tail ≡ 45 ∷ (whole ++ fraction ++ exponent) = e ∙ ap (λ front. front ++ whole ++ fraction ++ exponent) is in
-      along (λ c rest. LeadsOn (first_digit c) rest) joined (whole, fraction, exponent, append_assoc whole fraction exponent, w, f, x)
-]
-
 number_forth : (spelling more : List ℕ) (b : ℕ) (rest : List ℕ) (frames : List Frame) (whole : Tree) → b ∷ rest ≡ spelling ++ more → IsNumber spelling
     → Closes frames (number spelling) more whole → Leads (begin b frames) rest whole
 number_forth [] more b rest frames whole e ([], [], fraction, exponent, same, m, w, f, x) k = absurd w
 number_forth [] more b rest frames whole e ([], d ∷ ds, fraction, exponent, same, m, w, f, x) k = absurd (cc same)
 number_forth [] more b rest frames whole e (s ∷ sign, whole_part, fraction, exponent, same, m, w, f, x) k = absurd (cc same)
-number_forth (d ∷ tail) more b rest frames whole e is k =
-    along (λ c left. Leads (begin c frames) left whole) e
-    (begin_number d frames (tail ++ more) whole (number_begins d tail is) (first_place d frames tail more whole (first_digit d) (number_place d tail is) k))
+number_forth (d ∷ tail) more b rest frames whole e is k = grind (arith, common_steps)
 
 -- where a value begins, the machine reads its first byte
 pub value_forth : (tree : Tree) (inside more : List ℕ) (b : ℕ) (rest : List ℕ) (frames : List Frame) (whole : Tree) → b ∷ rest ≡ inside ++ more → IsValue inside tree
@@ -109,12 +54,9 @@ value_forth null inside more b rest frames whole e v k = along (λ c left. Leads
 value_forth (boolean true) inside more b rest frames whole e v k = along (λ c left. Leads (begin c frames) left whole) (e ∙ ap (λ bytes. bytes ++ more) v) (more, refl, k)
 value_forth (boolean false) inside more b rest frames whole e v k = along (λ c left. Leads (begin c frames) left whole) (e ∙ ap (λ bytes. bytes ++ more) v) (more, refl, k)
 value_forth (number spelling) inside more b rest frames whole e v k = number_forth spelling more b rest frames whole (e ∙ ap (λ bytes. bytes ++ more) v.0) v.1 k
-value_forth (text spelled) inside more b rest frames whole e (between, is, s) k =
-    along (λ c left. Leads (begin c frames) left whole) (e ∙ ap (λ bytes. bytes ++ more) is) (between, more, spelled, append_assoc between (34 ∷ []) more, s, k)
-value_forth (list items) inside more b rest frames whole e (between, is, all) k =
-    along (λ c left. Leads (begin c frames) left whole) (e ∙ ap (λ bytes. bytes ++ more) is) (between, more, items, append_assoc between (93 ∷ []) more, all, k)
-value_forth (object members) inside more b rest frames whole e (between, is, all) k =
-    along (λ c left. Leads (begin c frames) left whole) (e ∙ ap (λ bytes. bytes ++ more) is) (between, more, members, append_assoc between (125 ∷ []) more, all, k)
+value_forth (text spelled) inside more b rest frames whole e (between, is, s) k = grind (arith, common_steps)
+value_forth (list items) inside more b rest frames whole e (between, is, all) k = grind (arith, common_steps)
+value_forth (object members) inside more b rest frames whole e (between, is, all) k = grind (arith, common_steps)
 
 -- a value that may have white space before it
 pub spaced_forth : (before inside more : List ℕ) (tree : Tree) (b : ℕ) (rest : List ℕ) (frames : List Frame) (whole : Tree) → b ∷ rest ≡ before ++ (inside ++ more)
@@ -122,8 +64,7 @@ pub spaced_forth : (before inside more : List ℕ) (tree : Tree) (b : ℕ) (rest
 spaced_forth [] inside more tree b rest frames whole e blank v k =
     let begins = value_forth tree inside more b rest frames whole e v k in
     unless (λ (o : Option State). Leads o rest whole) (is_blank b) _ _ (begins_no_blank b frames rest whole begins) begins
-spaced_forth (w ∷ before) inside more tree b rest frames whole e blank v k =
-    skipped whole _ _ (λ c. step c value frames) e refl blank.0 (before, inside, more, tree, refl, blank.1, v, k)
+spaced_forth (w ∷ before) inside more tree b rest frames whole e blank v k = grind (arith, common_steps)
 
 -- a first item that may have white space before it, and the items behind it
 pub first_item_forth : (before inside after further more : List ℕ) (tree : Tree) (others : Items) (b : ℕ) (rest : List ℕ) (frames : List Frame) (whole : Tree)
@@ -139,8 +80,7 @@ first_item_forth (w ∷ before) inside after further more tree others b rest fra
 pub items_forth : (items : Items) (inside more : List ℕ) (b : ℕ) (rest : List ℕ) (frames : List Frame) (whole : Tree) → b ∷ rest ≡ inside ++ 93 ∷ more → IsItems inside items
     → Closes frames (list items) more whole → Leads (step b first_item frames) rest whole
 items_forth no_items [] more b rest frames whole e all k = along (λ c left. Leads (step c first_item frames) left whole) e k
-items_forth no_items (w ∷ inside) more b rest frames whole e all k =
-    skipped whole _ _ (λ c. step c first_item frames) e refl all.0 (inside, more, no_items, refl, all.1, k)
+items_forth no_items (w ∷ inside) more b rest frames whole e all k = grind (arith, common_steps)
 items_forth (item tree others) inside more b rest frames whole e (one, further, is, (before, within, after, is', blank, v, blank'), all) k =
     first_item_forth before within after further more tree others b rest frames whole
     (e ∙ ap (λ bytes. bytes ++ 93 ∷ more) (is ∙ ap (λ bytes. bytes ++ further) is') ∙ regroup before within after further (93 ∷ more)) blank v blank' all k
@@ -149,11 +89,8 @@ items_forth (item tree others) inside more b rest frames whole e (one, further, 
 pub in_list_forth : (after inside more : List ℕ) (others items : Items) (tree : Tree) (b : ℕ) (rest : List ℕ) (frames : List Frame) (whole : Tree)
     → b ∷ rest ≡ after ++ (inside ++ 93 ∷ more) → IsBlank after → MoreItems inside others → Closes frames (list (and_items (then_item items tree) others)) more whole
     → Leads (after_value b tree (in_list items ∷ frames)) rest whole
-in_list_forth (w ∷ after) inside more others items tree b rest frames whole e blank all k =
-    skipped whole _ _ (λ c. after_value c tree (in_list items ∷ frames)) e refl blank.0 (after, inside, more, others, refl, blank.1, all, k)
-in_list_forth [] inside more no_items items tree b rest frames whole e blank all k =
-    along (λ c left. Leads (after_value c tree (in_list items ∷ frames)) left whole) (e ∙ ap (λ bytes. bytes ++ 93 ∷ more) all)
-    (subst (λ all. Closes frames (list all) more whole) (and_no_items (then_item items tree)) k)
+in_list_forth (w ∷ after) inside more others items tree b rest frames whole e blank all k = grind (arith, common_steps)
+in_list_forth [] inside more no_items items tree b rest frames whole e blank all k = grind (arith, common_steps, along, and_no_items, then_item)
 in_list_forth [] inside more (item next others) items tree b rest frames whole e blank (one, further, is, (before, within, after, is', blank', v, blank''), all) k =
     along (λ c left. Leads (after_value c tree (in_list items ∷ frames)) left whole)
     (e ∙ ap (λ bytes. bytes ++ 93 ∷ more) (is ∙ ap (λ bytes. 44 ∷ (bytes ++ further)) is')) (
@@ -186,9 +123,7 @@ pub next_key_forth : (before within after val others more key : List ℕ) (tree 
     → b ∷ rest ≡ before ++ (34 ∷ (within ++ 34 ∷ (after ++ 58 ∷ (val ++ (others ++ 125 ∷ more))))) → IsBlank before → Spells within key → IsBlank after
     → Spaced (λ bytes. IsValue bytes tree) val → MoreMembers others further → Closes frames (object (and_members (then_member so_far (key, tree)) further)) more whole
     → Leads (step b (next_key so_far) frames) rest whole
-next_key_forth [] within after val others more key tree further so_far b rest frames whole e blank spells blank' v all k =
-    along (λ c left. Leads (step c (next_key so_far) frames) left whole) e
-    (within, after ++ 58 ∷ (val ++ (others ++ 125 ∷ more)), key, refl, spells, (after, val, others, more, tree, further, refl, blank', v, all, k))
+next_key_forth [] within after val others more key tree further so_far b rest frames whole e blank spells blank' v all k = grind (arith, common_steps)
 next_key_forth (w ∷ before) within after val others more key tree further so_far b rest frames whole e blank spells blank' v all k =
     along (λ c left. Leads (step c (next_key so_far) frames) left whole) e
     (when (λ (o : Option State). Leads o (before ++ (34 ∷ (within ++ 34 ∷ (after ++ 58 ∷ (val ++ (others ++ 125 ∷ more)))))) whole) (is_blank w) _ _ blank.0 (
@@ -209,9 +144,7 @@ pub first_key_forth : (before within after val others more key : List ℕ) (tree
     → b ∷ rest ≡ before ++ (34 ∷ (within ++ 34 ∷ (after ++ 58 ∷ (val ++ (others ++ 125 ∷ more))))) → IsBlank before → Spells within key → IsBlank after
     → Spaced (λ bytes. IsValue bytes tree) val → MoreMembers others further → Closes frames (object (member key tree further)) more whole
     → Leads (step b first_key frames) rest whole
-first_key_forth [] within after val others more key tree further b rest frames whole e blank spells blank' v all k =
-    along (λ c left. Leads (step c first_key frames) left whole) e
-    (within, after ++ 58 ∷ (val ++ (others ++ 125 ∷ more)), key, refl, spells, (after, val, others, more, tree, further, refl, blank', v, all, k))
+first_key_forth [] within after val others more key tree further b rest frames whole e blank spells blank' v all k = grind (arith, common_steps)
 first_key_forth (w ∷ before) within after val others more key tree further b rest frames whole e blank spells blank' v all k =
     along (λ c left. Leads (step c first_key frames) left whole) e
     (when (λ (o : Option State). Leads o (before ++ (34 ∷ (within ++ 34 ∷ (after ++ 58 ∷ (val ++ (others ++ 125 ∷ more)))))) whole) (is_blank w) _ _ blank.0 (
@@ -232,8 +165,7 @@ first_key_forth (w ∷ before) within after val others more key tree further b r
 -- a member's bytes, with each part in sight
 member_parts : (one name before quoted within after val rest : List ℕ) → one ≡ name ++ 58 ∷ val → name ≡ before ++ (quoted ++ after) → quoted ≡ 34 ∷ (within ++ 34 ∷ [])
     → one ++ rest ≡ before ++ (34 ∷ (within ++ 34 ∷ (after ++ 58 ∷ (val ++ rest))))
-member_parts one name before quoted within after val rest e f g =
-    ap (λ bytes. bytes ++ rest) (e ∙ ap (λ bytes. bytes ++ 58 ∷ val) (f ∙ ap (λ bytes. before ++ (bytes ++ after)) g)) ∙ regroup_member before within after val rest
+member_parts one name before quoted within after val rest e f g = grind (arith, common_steps)
 
 pub next_member_forth : (one others more key : List ℕ) (tree : Tree) (further so_far : Members) (b : ℕ) (rest : List ℕ) (frames : List Frame) (whole : Tree)
     → b ∷ rest ≡ one ++ (others ++ 125 ∷ more) → IsMember (λ bytes. IsValue bytes tree) key one → MoreMembers others further
@@ -244,8 +176,7 @@ next_member_forth one others more key tree further so_far b rest frames whole e 
 pub members_forth : (members : Members) (inside more : List ℕ) (b : ℕ) (rest : List ℕ) (frames : List Frame) (whole : Tree) → b ∷ rest ≡ inside ++ 125 ∷ more → IsMembers inside members
     → Closes frames (object members) more whole → Leads (step b first_key frames) rest whole
 members_forth no_members [] more b rest frames whole e all k = along (λ c left. Leads (step c first_key frames) left whole) e k
-members_forth no_members (w ∷ inside) more b rest frames whole e all k =
-    skipped whole _ _ (λ c. step c first_key frames) e refl all.0 (inside, more, no_members, refl, all.1, k)
+members_forth no_members (w ∷ inside) more b rest frames whole e all k = grind (arith, common_steps)
 members_forth (member key tree further) inside more b rest frames whole e (one, others, is, (name, val, is1, (before, quoted, after, is2, blank, (within, is3, spells), blank'), v), all) k =
     first_key_forth before within after val others more key tree further b rest frames whole
     (e ∙ ap (λ bytes. bytes ++ 125 ∷ more) is ∙ append_assoc one others (125 ∷ more) ∙ member_parts one name before quoted within after val (others ++ 125 ∷ more) is1 is2 is3)
@@ -255,8 +186,7 @@ members_forth (member key tree further) inside more b rest frames whole e (one, 
 pub colon_forth : (after inside others more key : List ℕ) (tree : Tree) (further members : Members) (b : ℕ) (rest : List ℕ) (frames : List Frame) (whole : Tree)
     → b ∷ rest ≡ after ++ 58 ∷ (inside ++ (others ++ 125 ∷ more)) → IsBlank after → Spaced (λ bytes. IsValue bytes tree) inside → MoreMembers others further
     → Closes frames (object (and_members (then_member members (key, tree)) further)) more whole → Leads (step b (colon members key) frames) rest whole
-colon_forth (w ∷ after) inside others more key tree further members b rest frames whole e blank v all k =
-    skipped whole _ _ (λ c. step c (colon members key) frames) e refl blank.0 (after, inside, others, more, tree, further, refl, blank.1, v, all, k)
+colon_forth (w ∷ after) inside others more key tree further members b rest frames whole e blank v all k = grind (arith, common_steps)
 colon_forth [] inside others more key tree further members b rest frames whole e blank (before, within, after, is, blank', v, blank'') all k =
     along (λ c left. Leads (step c (colon members key) frames) left whole) e (
       before,
@@ -273,8 +203,7 @@ colon_forth [] inside others more key tree further members b rest frames whole e
 pub in_member_forth : (after inside more key : List ℕ) (others members : Members) (tree : Tree) (b : ℕ) (rest : List ℕ) (frames : List Frame) (whole : Tree)
     → b ∷ rest ≡ after ++ (inside ++ 125 ∷ more) → IsBlank after → MoreMembers inside others → Closes frames (object (and_members (then_member members (key, tree)) others)) more whole
     → Leads (after_value b tree (in_member members key ∷ frames)) rest whole
-in_member_forth (w ∷ after) inside more key others members tree b rest frames whole e blank all k =
-    skipped whole _ _ (λ c. after_value c tree (in_member members key ∷ frames)) e refl blank.0 (after, inside, more, others, refl, blank.1, all, k)
+in_member_forth (w ∷ after) inside more key others members tree b rest frames whole e blank all k = grind (arith, common_steps)
 in_member_forth [] inside more key no_members members tree b rest frames whole e blank all k =
     along (λ c left. Leads (after_value c tree (in_member members key ∷ frames)) left whole) (e ∙ ap (λ bytes. bytes ++ 125 ∷ more) all)
     (subst (λ all. Closes frames (object all) more whole) (and_no_members (then_member members (key, tree))) k)
@@ -284,19 +213,12 @@ in_member_forth [] inside more key (member other next others) members tree b res
 
 -- behind a value
 pub ended_forth : (frames : List Frame) (tree : Tree) (b : ℕ) (rest : List ℕ) (whole : Tree) → Closes frames tree (b ∷ rest) whole → Leads (after_value b tree frames) rest whole
-ended_forth [] tree b rest whole (blank, same) = when (λ (o : Option State). Leads o rest whole) (is_blank b) _ _ blank.0 (blank.1, same)
-ended_forth (in_list items ∷ frames) tree b rest whole (after, inside, more, others, e, blank, all, k) = in_list_forth after inside more others items tree b rest frames whole e blank all k
-ended_forth (in_member members key ∷ frames) tree b rest whole (after, inside, more, others, e, blank, all, k) = in_member_forth after inside more key others members tree b rest frames whole e blank all k
+ended_forth frames tree b rest whole x5 = grind (arith, common_steps, when, in_list_forth, in_member_forth)
 
 -- within a word
 pub letters_forth : (left : List ℕ) (letter : ℕ) (more : List ℕ) (tree : Tree) (b : ℕ) (rest : List ℕ) (frames : List Frame) (whole : Tree)
     → b ∷ rest ≡ letter ∷ (left ++ more) → Closes frames tree more whole → Leads (step b (letters (letter ∷ left) tree) frames) rest whole
-letters_forth [] letter more tree b rest frames whole e k =
-    along (λ c tail. Leads (step c (letters (letter ∷ []) tree) frames) tail whole) e
-    (when (λ (mode : Option Mode). Leads (option_map (with_frames frames) mode) more whole) (letter == letter) _ _ (equal_self letter) k)
-letters_forth (next ∷ left) letter more tree b rest frames whole e k =
-    along (λ c tail. Leads (step c (letters (letter ∷ next ∷ left) tree) frames) tail whole) e
-    (when (λ (mode : Option Mode). Leads (option_map (with_frames frames) mode) (next ∷ (left ++ more)) whole) (letter == letter) _ _ (equal_self letter) (more, refl, k))
+letters_forth left letter more tree b rest frames whole e k = grind (arith, common_steps)
 
 -- what may stand behind a value
 abbrev pub is_delimiter : ℕ → Bool
@@ -304,14 +226,7 @@ is_delimiter b = is_blank b || (b == 44) || (b == 93) || (b == 125)
 
 -- no number goes on with it
 delimiter_stops : (place : Digits) (b : ℕ) → IsTrue (is_delimiter b) → digits_after b place ≡ None
-delimiter_stops AfterMinus b h = grind (arith, nat_tests)
-delimiter_stops AfterZero b h = grind (arith, nat_tests)
-delimiter_stops InWhole b h = grind (arith, nat_tests)
-delimiter_stops AfterPoint b h = grind (arith, nat_tests)
-delimiter_stops InFraction b h = grind (arith, nat_tests)
-delimiter_stops AfterMark b h = grind (arith, nat_tests)
-delimiter_stops AfterSign b h = grind (arith, nat_tests)
-delimiter_stops InExponent b h = grind (arith, nat_tests)
+delimiter_stops place b h = grind (arith, common_steps)
 
 blank_delimits : (b : ℕ) → IsTrue (is_blank b) → IsTrue (is_delimiter b)
 blank_delimits b h = grind (arith, nat_tests)
@@ -331,9 +246,7 @@ closes_delimits (in_member so_far key ∷ frames) tree b rest whole ([], inside,
 
 next_place : (b : ℕ) (place : Digits) (spelling tail more : List ℕ) (frames : List Frame) (whole : Tree) (next : Option Digits) → LeadsOn next tail
     → Closes frames (number (spelling ++ b ∷ tail)) more whole → Leads (next_digit b place spelling frames next) (tail ++ more) whole
-next_place b place spelling tail more frames whole None l k = absurd l
-next_place b place spelling tail more frames whole (Some next) l k =
-    (tail, more, refl, l, subst (λ bytes. Closes frames (number bytes) more whole) (sym (append_assoc spelling (b ∷ []) tail)) k)
+next_place b place spelling tail more frames whole next l k = grind (arith, common_steps)
 
 -- within a number or behind it
 pub digits_on : (place : Digits) (spelling tail more : List ℕ) (b : ℕ) (rest : List ℕ) (frames : List Frame) (whole : Tree) → b ∷ rest ≡ tail ++ more → EndsNumber place tail
@@ -342,6 +255,4 @@ digits_on place spelling [] more b rest frames whole e ends k =
     let behind = subst (λ left. Closes frames (number spelling) left whole) (sym e) (subst (λ bytes. Closes frames (number bytes) more whole) (append-nil spelling) k) in
     subst (λ next. Leads (next_digit b place spelling frames next) rest whole) (sym (delimiter_stops place b (closes_delimits frames (number spelling) b rest whole behind)))
     (when (λ (o : Option State). Leads o rest whole) (may_end place) _ _ (digits_end place ends) (ended_forth frames (number spelling) b rest whole behind))
-digits_on place spelling (t ∷ tail) more b rest frames whole e ends k =
-    along (λ c left. Leads (step c (digits place spelling) frames) left whole) e
-    (next_place t place spelling tail more frames whole (digits_after t place) (digits_forth place t tail ends) k)
+digits_on place spelling (t ∷ tail) more b rest frames whole e ends k = grind (arith, common_steps, along, next_place, digits_forth)

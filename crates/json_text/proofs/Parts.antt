@@ -1,7 +1,7 @@
 -- The items and members of a tree, as their vectors hold them.
-use Rattle.std.proofs.Common.{◌≡◌, ℕ, zero, suc, ◌+◌, ◌<◌, ◌≤◌, List, [], ◌∷◌, ◌++◌, length, get_or, take, map, add-one, Option, Some, None, MatchOption, IfSome, Bor, arith, refl, sym, ap, ◌∙◌}
+use Rattle.std.proofs.Common.{◌≡◌, ℕ, zero, suc, ◌+◌, ◌<◌, ◌≤◌, List, [], ◌∷◌, ◌++◌, length, get_or, take, map, Option, Some, None, MatchOption, IfSome, Bor, arith, sym, ap, ◌∙◌}
 use Rattle.json_text.specs.{View.{items_of, members_of, tree_of, entry_of}, Parts.{item_count, item_at, member_count, member_at, then_item, then_member}}
-use Rattle.std.{proofs.Math.Seq.take-suc, proofs.lemmas.List.take_all, specs.List.HoldsAt}
+use Rattle.std.{proofs.lemmas.List.take_all, specs.List.HoldsAt, proofs.lemmas.Grind.common_steps}
 use Rattle.json_text.proofs.Views.{items_of-end, members_of-end, map-end}
 
 -- how a list of a tree is counted, looked up and added to, as the items of its vector
@@ -14,15 +14,10 @@ pub record IsListed {A T L : Type 0} (view : A → T) (listed : List A → L) (c
   pub at_end : (xs : List A) (x : A) → listed (xs ++ x ∷ []) ≡ and_last (listed xs) (view x)
 
 pub items_listed : IsListed tree_of (λ items. items_of (map tree_of items)) item_count item_at then_item
-items_listed =
-    record { no_count = refl; one_more = λ x xs. refl; past = λ place. refl; at_first = λ x xs. refl; at_next = λ x xs place. refl; at_end = λ xs x. ap items_of (map-end tree_of xs x) ∙ items_of-end (map tree_of xs) (tree_of x) }
+items_listed = grind (arith, common_steps, map-end, items_of-end, map)
 
 pub members_listed : IsListed entry_of (λ members. members_of (map entry_of members)) member_count member_at then_member
-members_listed =
-    record { no_count = refl; one_more = λ x xs. refl; past = λ place. refl; at_first = λ x xs. refl; at_next = λ x xs place. refl; at_end = λ xs x. ap members_of (map-end entry_of xs x) ∙ members_of-end (map entry_of xs) (entry_of x) }
-
-taken_one : {A : Type 0} (xs : List A) (n : ℕ) (x : A) → n < length xs → x ≡ get_or xs n x → take (n + 1) xs ≡ take n xs ++ x ∷ []
-taken_one xs n x inside here = rw add-one (take-suc xs n x inside ∙ ap (λ y. take n xs ++ y ∷ []) (sym here))
+members_listed = grind (arith, common_steps, map-end, members_of-end, map)
 
 module _ {A T L : Type 0} {view : A → T} {listed : List A → L} {count : L → ℕ} {at : L → ℕ → Option T} {and_last : L → T → L} (is : IsListed view listed count at and_last) where
   pub counted : (xs : List A) → count (listed xs) ≡ length xs
@@ -41,9 +36,7 @@ module _ {A T L : Type 0} {view : A → T} {listed : List A → L} {count : L �
 
   pub got : (made : L) (xs : List A) (place : ℕ) (result : Option (Bor A)) → made ≡ listed xs → MatchOption result (length xs ≤ place) (λ item. (place < length xs) × HoldsAt (λ held. item.now ≡ held) xs place)
       → IfSome result (λ item. item.now ≡ get_or xs place item.now) → MatchOption result (at made place ≡ None) (λ item. at made place ≡ Some (view item.now))
-  got made xs place None same past here = ap (λ held. at held place) same ∙ missing xs place past
-  got made xs place (Some item) same inside here =
-      ap (λ held. at held place) same ∙ found xs place item.now inside.0 ∙ ap (λ (x : A). Some (view x)) (sym here)
+  got made xs place result same past here = grind (arith, common_steps, missing, found, view)
 
   -- one more at the end
   pub added : (before xs : List A) (x : A) (old new : L) → old ≡ listed before → new ≡ listed xs → xs ≡ before ++ x ∷ [] → new ≡ and_last old (view x)
@@ -52,9 +45,7 @@ module _ {A T L : Type 0} {view : A → T} {listed : List A → L} {count : L �
   -- copies, one by one
   pub copied_one : (xs : List A) (n : ℕ) (one copy : A) (made new : L) → made ≡ listed (take n xs) → n < length xs → one ≡ get_or xs n one → view copy ≡ view one
       → new ≡ and_last made (view copy) → new ≡ listed (take (n + 1) xs)
-  copied_one xs n one copy made new so_far inside here same pushed =
-      pushed ∙ ap (λ held. and_last held (view copy)) so_far ∙ ap (and_last (listed (take n xs))) same ∙ sym (is.at_end (take n xs) one)
-      ∙ ap listed (sym (taken_one xs n one inside here))
+  copied_one xs n one copy made new so_far inside here same pushed = grind (arith, common_steps)
 
   pub copied : (xs : List A) (n : ℕ) (made whole : L) → whole ≡ listed xs → made ≡ listed (take n xs) → length xs ≤ n → made ≡ whole
   copied xs n made whole same so_far all = so_far ∙ ap listed (take_all n xs all) ∙ sym same

@@ -1,31 +1,24 @@
 -- Tokens: what their loops keep, and what stands behind them.
 use Rattle.std.proofs.Common.{◌≡◌, ℕ, zero, suc, ◌+◌, ◌-◌, ◌<◌, ◌≤◌, ◌==◌, ◌⊎◌, false, List, [], ◌∷◌, ◌++◌, inl, inr, length, get_or, take, drop, slice_range, IsTrue, Option, Some, None, option_map, Result, Ok, Err, IfOk, IfErr, refl, arith, ap, sym, subst, ◌∙◌, append_assoc, append-nil, add-one}
 use Rattle.std.{specs.Result.IsErrAnd, specs.Str.{IsUtf8, IsCharBoundary}, proofs.lemmas.Str.IsCharBoundary-after_ascii, proofs.lemmas.Bool.Decides.nat_tests}
-use Rattle.std.{specs.Char.encode_utf8, proofs.Math.Seq.drop-cons, proofs.lemmas.List.drop_all}
-use Rattle.json_text.specs.{Classes.{is_blank, is_plain, is_leading_digit}, Tree.{Tree, number, no_items, Members, no_members}}
+use Rattle.std.{specs.Char.encode_utf8, proofs.Math.Seq.drop-cons, proofs.lemmas.List.drop_all, proofs.lemmas.Grind.common_steps}
+use Rattle.json_text.specs.{Classes.{is_blank, is_plain}, Tree.{Tree, number, no_items, Members, no_members}, Depth.{inner_depth, around}, Places.most_levels}
 use Rattle.json_text.specs.Tree as trees
-use Rattle.json_text.specs.Machine.{Frame, in_list, Role, as_value, as_key, Mode, value, first_item, first_key, next_key, colon, letters, digits, content, ended, State, step, start, own_level, begin, begin_key, close, first_digit, digits_after, next_digit, may_end, after_value, moves, moved, text_ended, with_frames}
-use Rattle.json_text.specs.{Depth.{inner_depth, around}, Places.most_levels}
+use Rattle.json_text.specs.Machine.{Frame, in_list, Role, as_value, as_key, Mode, value, first_item, first_key, next_key, colon, letters, digits, content, ended, State, step, start, own_level, begin, close, first_digit, digits_after, next_digit, may_end, after_value, moves, moved, text_ended, with_frames}
 use Rattle.json_text.specs.Reached.{ended_tree, Reaches, Alike, Stands, Carries, word_mode, ReadsWord, StopsWord, ReadsDigits, StopsDigits, ReadsContent, ReadsText, StopsText}
-use Rattle.json_text.specs.Outcome.{StopsAt, DeepAt, Fault, fault_at}
+use Rattle.json_text.specs.{Outcome.{StopsAt, DeepAt, Fault, fault_at}, declared.state.Awaits.TheVariants.Ended, declared.state.Open.Open, View.tree_of}
 use Rattle.json_text.specs.States.{frames_of, mode_of, StepGives, Arrives, SpellsNumber, ReadsNumber, StopsNumber, ReadsQuoted, StopsQuoted}
 use Rattle.json_text.specs.declared.state.{Digits.Digits, Within.Within, Within.TheVariants.Plain, Move.Move, Stop.Stop, Awaits.Awaits}
 use Rattle.json_text.specs.declared.state.Move.TheVariants as moving
 use Rattle.json_text.specs.declared.state.Stop.TheVariants as stops
-use Rattle.json_text.specs.{declared.state.Awaits.TheVariants.{Value, FirstItem, FirstKey, NextKey, Colon, Ended}, declared.state.Open.Open, View.tree_of}
 use Rattle.json_text.{specs.declared.tree.Json.Json, proofs.Variants.{tree_of-number, tree_of-text}, proofs.Stack.length_frames}
 use Rattle.json_text.specs.declared.tree.Json as json
-use Rattle.json_text.proofs.Runs.{below_or, carry_on, takes, refuses, opens_deep, reached_stands, stands_alike, carried, stops_here, range_grows, range_begins, range_none}
-use Rattle.json_text.proofs.Choices.{when, unless, chosen, equal, equal_self, not_equal, leading_range}
+use Rattle.json_text.proofs.Runs.{below_or, carry_on, takes, refuses, opens_deep, reached_stands, stands_alike, carried, stops_here, range_grows, range_begins}
+use Rattle.json_text.proofs.Choices.{unless, not_equal}
 
 -- White space leads from a state to itself.
 blank_stays : (awaits : Awaits) (frames : List Frame) (b : ℕ) → IsTrue (is_blank b) → step b (mode_of awaits) frames ≡ Some (mode_of awaits, frames)
-blank_stays Value frames b h = when (λ (o : Option State). o ≡ Some (value, frames)) (is_blank b) _ _ h refl
-blank_stays FirstItem frames b h = when (λ (o : Option State). o ≡ Some (first_item, frames)) (is_blank b) _ _ h refl
-blank_stays FirstKey frames b h = when (λ (o : Option State). o ≡ Some (first_key, frames)) (is_blank b) _ _ h refl
-blank_stays (NextKey members) frames b h = when (λ (o : Option State). o ≡ Some (mode_of (NextKey members), frames)) (is_blank b) _ _ h refl
-blank_stays (Colon members key) frames b h = when (λ (o : Option State). o ≡ Some (mode_of (Colon members key), frames)) (is_blank b) _ _ h refl
-blank_stays (Ended held) frames b h = when (λ (o : Option State). o ≡ Some (mode_of (Ended held), frames)) (is_blank b) _ _ h refl
+blank_stays awaits frames b h = grind (arith, common_steps)
 
 blanks_stay : (bytes : List ℕ) (i n : ℕ) (awaits : Awaits) (stack : List Open) → Stands bytes i (mode_of awaits, frames_of stack) → i + n ≤ length bytes → ((k : ℕ) → i ≤ k → k < i + n → IsTrue (is_blank (get_or bytes k 0)))
     → own_level (mode_of awaits) + length stack ≤ most_levels → Stands bytes (i + n) (mode_of awaits, frames_of stack)
@@ -48,12 +41,10 @@ blank_passed bytes i j awaits stack stands low high blank room =
 
 -- A word, letter by letter.
 pub letter_read : (b : ℕ) (left : List ℕ) (tree : Tree) (frames : List Frame) → step b (letters (b ∷ left) tree) frames ≡ Some (word_mode left tree, frames)
-letter_read b [] tree frames = when (λ (mode : Option Mode). option_map (with_frames frames) mode ≡ Some (ended tree, frames)) (b == b) _ _ (equal_self b) refl
-letter_read b (next ∷ left) tree frames = when (λ (mode : Option Mode). option_map (with_frames frames) mode ≡ Some (letters (next ∷ left) tree, frames)) (b == b) _ _ (equal_self b) refl
+letter_read b left tree frames = grind (arith, common_steps)
 
 pub letter_refused : (b letter : ℕ) (left : List ℕ) (tree : Tree) (frames : List Frame) → (b ≡ letter → ⊥) → step b (letters (letter ∷ left) tree) frames ≡ None
-letter_refused b letter [] tree frames h = unless (λ (mode : Option Mode). option_map (with_frames frames) mode ≡ None) (b == letter) _ _ (not_equal b letter h) refl
-letter_refused b letter (next ∷ left) tree frames h = unless (λ (mode : Option Mode). option_map (with_frames frames) mode ≡ None) (b == letter) _ _ (not_equal b letter h) refl
+letter_refused b letter left tree frames h = grind (arith, common_steps)
 
 -- A text, byte by byte.
 pub content_moves : (bytes : List ℕ) (i k : ℕ) (first last next : Within) (added : List ℕ) → ReadsContent bytes i k first last added → k < length bytes → moves (get_or bytes k 0) last ≡ moving.Goes next
@@ -90,9 +81,7 @@ plain_moves : (b : ℕ) → IsTrue (is_plain b) → moves b Plain ≡ moving.Add
 plain_moves b h = grind (arith, nat_tests)
 
 plains_read : (bytes : List ℕ) (i n : ℕ) → i + n ≤ length bytes → ((k : ℕ) → i ≤ k → k < i + n → IsTrue (is_plain (get_or bytes k 0))) → ReadsContent bytes i (i + n) Plain Plain (slice_range bytes i (i + n))
-plains_read bytes i zero short plain =
-    let same : i ≡ i + 0 = omega arith in
-    subst (λ n. ReadsContent bytes i n Plain Plain (slice_range bytes i n)) same (subst (ReadsContent bytes i i Plain Plain) (sym (range_none bytes i)) (content_begins bytes i Plain))
+plains_read bytes i zero short plain = grind (arith, common_steps)
 plains_read bytes i (suc n) short plain =
     let next : i + n + 1 ≡ i + suc n = omega arith in
     let before = plains_read bytes i n (omega (arith, short)) (λ k low high. plain k low (omega (arith, high))) in
@@ -150,10 +139,7 @@ digit_read bytes i k first last next low reads short e = λ spelling frames.
 
 -- what holds up to a place and there
 pub all_more : (P : ℕ → Type 0) (i n : ℕ) → ((k : ℕ) → i ≤ k → k < n → P k) → P n → (k : ℕ) → i ≤ k → k < n + 1 → P k
-all_more P i n before here k low high = elim (below_or k n (omega (arith, high))) [
-  | inl less ↦ before k low less
-  | inr same ↦ subst P (sym same) here
-]
+all_more P i n before here k low high = grind (arith, common_steps)
 
 -- A word's letter that is read, one that is not, and the end.
 pub word_next : (bytes : List ℕ) (i k : ℕ) (left : List ℕ) (n : ℕ) → ((tree : Tree) (frames : List Frame) → Carries bytes i k (word_mode left tree, frames) (word_mode (drop n left) tree, frames)) → n < length left → k < length bytes
@@ -197,8 +183,7 @@ end_stops text bytes i k held same reads all = (Plain, held, reads, λ short. le
 
 -- an error that is handed on
 pub handed_on : {A E : Type 0} (P : E → Type 0) (result : Result A E) (given : E) → IsErrAnd result (λ err. err ≡ given) → P given → IfErr result P
-handed_on P (Ok given_value) given h p = tt
-handed_on P (Err err) given h p = subst P (sym h) p
+handed_on P result given h p = grind (arith, common_steps)
 
 -- behind an ASCII byte a text may be cut
 pub cut_behind : (text : List ℕ) (i j : ℕ) → IsUtf8 text → i + 1 ≡ j → i < length text → get_or text i 0 < 128 → IsCharBoundary text j
@@ -271,35 +256,16 @@ word_fails bytes i j b letter left tree stack stands short is e room most (misse
 
 -- a number
 first_range : (b : ℕ) (first : Digits) → first_digit b ≡ Some first → (b ≡ 45) ⊎ ((48 ≤ b) × (b < 58))
-first_range b first e = elim (chosen (λ (o : Option Digits). o ≡ Some first) (b == 45) _ _ e) [
-  | inl (is, same) ↦ inl (equal b 45 is)
-  | inr (is, more) ↦ elim (chosen (λ (o : Option Digits). o ≡ Some first) (b == 48) _ _ more) [
-    | inl (zero_is, same) ↦ let here : b ≡ 48 = equal b 48 zero_is in inr (omega (arith, here), omega (arith, here))
-    | inr (zero_is, other) ↦ elim (chosen (λ (o : Option Digits). o ≡ Some first) (is_leading_digit b) _ _ other) [
-      | inl (digit, same) ↦ let range = leading_range b digit in inr (omega (arith, range.0), omega (arith, range.1))
-      | inr (digit, none) ↦ absurd (cc none)
-    ]
-  ]
-]
+first_range b first e = grind (arith, common_steps)
 
 pub number_other : (b : ℕ) (frames : List Frame) → (b ≡ 91 → ⊥) → (b ≡ 123 → ⊥) → (b ≡ 34 → ⊥) → (b ≡ 110 → ⊥) → (b ≡ 116 → ⊥) → (b ≡ 102 → ⊥) → begin b frames ≡ option_map (λ (place : Digits). (digits place (b ∷ []), frames)) (first_digit b)
-number_other b frames h1 h2 h3 h4 h5 h6 =
-    let P : Option State → Type 0 = λ o. o ≡ option_map (λ (place : Digits). (digits place (b ∷ []), frames)) (first_digit b) in
-    unless P (b == 91) _ _ (not_equal b 91 h1)
-    (unless P (b == 123) _ _ (not_equal b 123 h2)
-    (unless P (b == 34) _ _ (not_equal b 34 h3)
-    (unless P (b == 110) _ _ (not_equal b 110 h4)
-    (unless P (b == 116) _ _ (not_equal b 116 h5)
-    (unless P (b == 102) _ _ (not_equal b 102 h6) refl)))))
+number_other b frames h1 h2 h3 h4 h5 h6 = grind (arith, common_steps)
 
 black_begins : (b : ℕ) (frames : List Frame) → is_blank b ≡ false → step b value frames ≡ begin b frames
 black_begins b frames h = unless (λ (o : Option State). o ≡ begin b frames) (is_blank b) _ _ h refl
 
 apart : (b n : ℕ) → (58 ≤ n) ⊎ (n < 45) → (b ≡ 45) ⊎ ((48 ≤ b) × (b < 58)) → b ≡ n → ⊥
-apart b n far range same = elim far [
-  | inl more ↦ elim range [ inl is ↦ omega (arith, more, is, same) | inr digit ↦ omega (arith, more, digit.0, digit.1, same) ]
-  | inr less ↦ elim range [ inl is ↦ omega (arith, less, is, same) | inr digit ↦ omega (arith, less, digit.0, digit.1, same) ]
-]
+apart b n far range same = grind (arith, common_steps)
 
 number_opens : (bytes : List ℕ) (i : ℕ) (first : Digits) (stack : List Open) → Stands bytes i (value, frames_of stack) → i < length bytes → is_blank (get_or bytes i 0) ≡ false → first_digit (get_or bytes i 0) ≡ Some first → length stack ≤ most_levels
     → Reaches (take (i + 1) bytes) (digits first (get_or bytes i 0 ∷ []), frames_of stack)
@@ -314,20 +280,11 @@ number_opens bytes i first stack stands short black e room =
     ∙ ap (option_map (λ (place : Digits). (digits place (b ∷ []), frames))) e)
     (omega (arith, room))
 
-number_finish : (last : Digits) (spelling : List ℕ) (frames : List Frame) → IsTrue (may_end last) → ended_tree (digits last spelling, frames) ≡ ended_tree (ended (number spelling), frames)
-number_finish last spelling [] may = when (λ (o : Option Tree). o ≡ Some (number spelling)) (may_end last) _ _ may refl
-number_finish last spelling (frame ∷ frames) may = refl
-
 number_unfinished : (last : Digits) (spelling : List ℕ) (frames : List Frame) → may_end last ≡ false → ended_tree (digits last spelling, frames) ≡ None
-number_unfinished last spelling [] may = unless (λ (o : Option Tree). o ≡ None) (may_end last) _ _ may refl
-number_unfinished last spelling (frame ∷ frames) may = refl
+number_unfinished last spelling frames may = grind (arith, common_steps)
 
 number_ended : (bytes : List ℕ) (j : ℕ) (last : Digits) (spelling : List ℕ) (frames : List Frame) → StopsDigits bytes j last → IsTrue (may_end last) → Alike bytes j (digits last spelling, frames) (ended (number spelling), frames)
-number_ended bytes j last spelling frames stops may = record {
-  next = λ short. ap (next_digit (get_or bytes j 0) last spelling frames) (stops short)
-      ∙ when (λ (o : Option State). o ≡ after_value (get_or bytes j 0) (number spelling) frames) (may_end last) _ _ may refl;
-  finish = λ all. number_finish last spelling frames may;
-}
+number_ended bytes j last spelling frames stops may = grind (arith, common_steps)
 
 pub number_arrives : (bytes : List ℕ) (i j : ℕ) (spelling : List ℕ) (stack : List Open) → Stands bytes i (value, frames_of stack) → i < length bytes → is_blank (get_or bytes i 0) ≡ false → length stack ≤ most_levels → ReadsNumber bytes i j spelling
     → Stands bytes j (ended (tree_of (json.Number spelling)), frames_of stack)
@@ -360,9 +317,7 @@ pub bracket_turn : (bytes : List ℕ) (i j b : ℕ) (next : Awaits) (stack : Lis
 bracket_turn bytes i j b next stack (Ok opened) stands short is bracket e own (same, room, there) full =
     subst (λ (to : Awaits). (i < j) × Stands bytes j (mode_of to, frames_of stack) × (own_level (mode_of to) + length stack ≤ most_levels)) (sym same)
     (omega (arith, there), subst (λ n. Stands bytes n (mode_of next, frames_of stack)) (sym there) (opens_stand bytes i b (mode_of next) stack stands short is e (omega (arith, own, room))), omega (arith, own, room))
-bracket_turn bytes i j b next stack (Err stop) stands short is bracket e own opened (same, full, here) =
-    subst (λ (cause : Stop). Fault (fault_at cause j) bytes) (sym same)
-    (subst (λ n. DeepAt bytes n) (sym here) (full_deep bytes i stack stands short (elim bracket [ inl list ↦ inl (is ∙ list) | inr object ↦ inr (is ∙ object) ]) full))
+bracket_turn bytes i j b next stack (Err stop) stands short is bracket e own opened (same, full, here) = grind (arith, common_steps, full_deep)
 
 pub word_turn : (bytes text : List ℕ) (i j b letter : ℕ) (left : List ℕ) (held : Json) (tree : Tree) (stack : List Open) (result : Result Awaits Stop) → tree_of held ≡ tree → bytes ≡ text → Stands text i (value, frames_of stack) → i < length text
     → get_or text i 0 ≡ b → step b value (frames_of stack) ≡ Some (letters (letter ∷ left) tree, frames_of stack) → length stack ≤ most_levels → (i < j) × (j ≤ length bytes)
@@ -380,34 +335,18 @@ word_turn bytes whole i j b letter left held tree stack (Err stop) seen same sta
 
 pub quoted_fails : (stop : Stop) (bytes : List ℕ) (i j : ℕ) (stack : List Open) → Stands bytes i (value, frames_of stack) → i < length bytes → get_or bytes i 0 ≡ 34 → length stack ≤ most_levels → j ≤ length bytes → StopsQuoted stop bytes i j
     → Fault (fault_at stop j) bytes
-quoted_fails stops.Refused bytes i j stack stands short is room most (inl (here, other)) = absurd (other is)
-quoted_fails stops.Refused bytes i j stack stands short is room most (inr (quote, content_stops)) = text_fails stops.Refused bytes i j stack stands short is room most content_stops
-quoted_fails stops.TooDeep bytes i j stack stands short is room most h = absurd h
-quoted_fails stops.NoMemory bytes i j stack stands short is room most h = tt
+quoted_fails stop bytes i j stack stands short is room most x10 = grind (arith, common_steps, text_fails)
 
 -- an error that is handed on is a fault where it stopped
 pub fault_handed : (result : Result Awaits Stop) (stop : Stop) (bytes : List ℕ) (i j : ℕ) (stack : List Open) → IsErrAnd result (λ err. err ≡ stop) → Fault (fault_at stop j) bytes → Arrives result bytes i j stack
-fault_handed (Ok next) stop bytes i j stack h p = absurd h
-fault_handed (Err err) stop bytes i j stack h p = subst (λ (cause : Stop). Fault (fault_at cause j) bytes) (sym h) p
+fault_handed result stop bytes i j stack h p = grind (arith, common_steps)
 
 -- Behind an opening bracket an item comes as a value in the list, and a key as any key.
 pub item_alike : (bytes : List ℕ) (i : ℕ) (frames : List Frame) → is_blank (get_or bytes i 0) ≡ false → (get_or bytes i 0 ≡ 93 → ⊥) → Alike bytes i (first_item, frames) (value, in_list no_items ∷ frames)
-item_alike bytes i frames black other =
-    let b = get_or bytes i 0 in
-    let P : Option State → Type 0 = λ o. o ≡ begin b (in_list no_items ∷ frames) in
-    record {
-      next = λ short. unless P (is_blank b) _ _ black (unless P (b == 93) _ _ (not_equal b 93 other) refl) ∙ sym (black_begins b (in_list no_items ∷ frames) black);
-      finish = λ all. refl;
-    }
+item_alike bytes i frames black other = grind (arith, common_steps)
 
 pub key_alike : (bytes : List ℕ) (i : ℕ) (frames : List Frame) → is_blank (get_or bytes i 0) ≡ false → (get_or bytes i 0 ≡ 125 → ⊥) → Alike bytes i (first_key, frames) (next_key no_members, frames)
-key_alike bytes i frames black other =
-    let b = get_or bytes i 0 in
-    let P : Option State → Type 0 = λ o. o ≡ begin_key b no_members frames in
-    record {
-      next = λ short. unless P (is_blank b) _ _ black (unless P (b == 125) _ _ (not_equal b 125 other) refl) ∙ sym (unless P (is_blank b) _ _ black refl);
-      finish = λ all. refl;
-    }
+key_alike bytes i frames black other = grind (arith, common_steps)
 
 -- a key
 key_opens : (bytes : List ℕ) (i : ℕ) (listed : Members) (stack : List Open) → Stands bytes i (next_key listed, frames_of stack) → i < length bytes → get_or bytes i 0 ≡ 34 → length stack < most_levels
@@ -442,9 +381,7 @@ given_goes bytes i held next stack stands short (e, room) =
     (omega arith, reached_stands bytes (i + 1) (mode_of next, frames_of stack) (takes bytes i held (mode_of next, frames_of stack) stands short e (omega (arith, room, size))), room)
 
 pub given_stops : (bytes : List ℕ) (i : ℕ) (held : State) (stop : Stop) (stack : List Open) → Stands bytes i held → i < length bytes → StepGives (Err stop) stack (step (get_or bytes i 0) held.0 held.1) → Fault (fault_at stop i) bytes
-given_stops bytes i held stops.Refused stack stands short e = refuses bytes i held stands short e
-given_stops bytes i held stops.TooDeep stack stands short (state, e, deep) = opens_deep bytes i held state stands short e deep
-given_stops bytes i held stops.NoMemory stack stands short e = tt
+given_stops bytes i held stop stack stands short e = grind (arith, common_steps, refuses, opens_deep)
 
 -- behind a value, where no white space comes
 pub black_closes : (b : ℕ) (tree : Tree) (frames : List Frame) → is_blank b ≡ false → after_value b tree frames ≡ close b tree frames
@@ -467,9 +404,7 @@ object_ends bytes i stack stands short is room =
 pub closed_arrives : (text seen : List ℕ) (i closing : ℕ) (stack : List Open) (none made : Tree) → seen ≡ text → get_or seen i 0 ≡ closing → made ≡ none
     → length stack < most_levels → (get_or text i 0 ≡ closing → Stands text (i + 1) (ended none, frames_of stack))
     → (i < i + 1) × Stands text (i + 1) (ended made, frames_of stack) × (0 + length stack ≤ most_levels)
-closed_arrives text seen i closing stack none made is here same room stands =
-    let ends = stands (subst (λ (xs : List ℕ). get_or xs i 0 ≡ closing) is here) in
-    (omega arith, subst (λ (held : Tree). Stands text (i + 1) (ended held, frames_of stack)) (sym same) ends, omega (arith, room))
+closed_arrives text seen i closing stack none made is here same room stands = grind (arith, common_steps)
 
 -- the same of white space in bytes that are a text
 pub blank_passed_in : (bytes text : List ℕ) (i j : ℕ) (awaits : Awaits) (stack : List Open) → bytes ≡ text → Stands text i (mode_of awaits, frames_of stack) → i ≤ j → j ≤ length bytes → ((k : ℕ) → i ≤ k → k < j → IsTrue (is_blank (get_or bytes k 0)))

@@ -1,13 +1,11 @@
 -- Runs of the machine, a byte at a time.
 use Rattle.std.proofs.Common.{◌≡◌, ℕ, zero, suc, ◌⊎◌, ◌+◌, ◌-◌, ◌<◌, ◌≤◌, List, [], ◌∷◌, ◌++◌, inl, inr, length, get_or, take, drop, slice_range, Option, Some, None, option_and_then, refl, arith, ap, subst, ◌∙◌, add-one}
-use Rattle.std.proofs.{Math.Seq.{take-suc, drop-cons}, lemmas.List.{get_or-drop, length-drop}}
-use Rattle.json_text.specs.{Machine.{Mode, Frame, State, step, run, start, levels}, Places.most_levels, Depth.depth}
+use Rattle.std.proofs.{Math.Seq.{take-suc, drop-cons}, lemmas.List.{get_or-drop, length-drop}, lemmas.Grind.common_steps}
+use Rattle.json_text.{specs.Machine.{Mode, Frame, State, step, run, start, levels}, specs.Places.most_levels, specs.Depth.depth, proofs.Texts.reached_sound}
 use Rattle.json_text.{specs.Reached.{ended_tree, Reaches, Alike, Stands, Carries}, specs.Outcome.{StopsAt, DeepAt}, proofs.Steps.{Keeps, step_keeps}}
-use Rattle.json_text.proofs.Texts.{reached_sound}
 
 stepped : (after : Option State) → option_and_then (run []) after ≡ after
-stepped None = refl
-stepped (Some after) = refl
+stepped after = grind (arith, common_steps)
 
 run_end : (bytes : List ℕ) (b : ℕ) (state : State) → run (bytes ++ b ∷ []) state ≡ option_and_then (λ (after : State). step b after.0 after.1) (run bytes state)
 run_end [] b state = stepped (step b state.0 state.1)
@@ -17,9 +15,7 @@ run_end (x ∷ bytes) b state =
 
 -- the bytes so far and one more
 run_further : (bytes : List ℕ) (k : ℕ) (before : State) → k < length bytes → run (take k bytes) start ≡ Some before → run (take (k + 1) bytes) start ≡ step (get_or bytes k 0) before.0 before.1
-run_further bytes k before short e =
-    let longer : take (k + 1) bytes ≡ take k bytes ++ get_or bytes k 0 ∷ [] = rw add-one (take-suc bytes k 0 short) in
-    ap (λ xs. run xs start) longer ∙ run_end (take k bytes) (get_or bytes k 0) start ∙ ap (option_and_then (λ (after : State). step (get_or bytes k 0) after.0 after.1)) e
+run_further bytes k before short e = grind (arith, common_steps, take, get_or, add-one, take-suc, run_end, option_and_then)
 
 -- what was carried here is carried a byte further
 pub carry_on : (bytes : List ℕ) (i k : ℕ) (before : State) (mode : Mode) (frames : List Frame) (next : State) → Carries bytes i k before (mode, frames) → k < length bytes
@@ -34,9 +30,7 @@ stays_within bytes b before next reach e room =
 
 -- From where the machine stands it takes a byte more, to a state within the limit or beyond it, or takes none.
 pub takes : (bytes : List ℕ) (k : ℕ) (held next : State) → Stands bytes k held → k < length bytes → step (get_or bytes k 0) held.0 held.1 ≡ Some next → levels next ≤ most_levels → Reaches (take (k + 1) bytes) next
-takes bytes k held next (state, reach, alike) short e room =
-    let same : step (get_or bytes k 0) state.0 state.1 ≡ Some next = alike.next short ∙ e in
-    (run_further bytes k state short reach.0 ∙ same, stays_within (take k bytes) (get_or bytes k 0) state next reach same room)
+takes bytes k held next (state, reach, alike) short e room = grind (arith, common_steps, get_or, run_further, stays_within, take)
 
 pub refuses : (bytes : List ℕ) (k : ℕ) (held : State) → Stands bytes k held → k < length bytes → step (get_or bytes k 0) held.0 held.1 ≡ None → StopsAt bytes k
 refuses bytes k held (state, reach, alike) short e = (state, reach, inl (short, run_further bytes k state short reach.0 ∙ (alike.next short ∙ e)))
@@ -53,8 +47,7 @@ reached_stands bytes k state reach = (state, reach, alike_self bytes k state)
 
 -- what goes on as one state that stands here goes on as another
 pub stands_alike : (bytes : List ℕ) (k : ℕ) (held other : State) → Stands bytes k held → Alike bytes k held other → Stands bytes k other
-stands_alike bytes k held other (state, reach, alike) further =
-    (state, reach, record { next = λ h. alike.next h ∙ further.next h; finish = λ h. alike.finish h ∙ further.finish h })
+stands_alike bytes k held other (state, reach, alike) further = grind (arith, common_steps)
 
 -- what is carried from a state that is reached is reached, if it is no deeper
 pub carried : (bytes : List ℕ) (i j : ℕ) (before after : State) → Reaches (take i bytes) before → Carries bytes i j before after → depth after ≤ depth before → Reaches (take j bytes) after
@@ -68,10 +61,7 @@ below_or (suc n) (suc m) h = elim (below_or n m (omega arith)) [ inl less ↦ in
 
 -- where no byte goes on from a state that is reached, reading stops
 pub stops_here : (bytes : List ℕ) (k : ℕ) (state : State) → Reaches (take k bytes) state → k ≤ length bytes → (k < length bytes → step (get_or bytes k 0) state.0 state.1 ≡ None) → ended_tree state ≡ None → StopsAt bytes k
-stops_here bytes k state reach most stops none = elim (below_or k (length bytes) most) [
-  | inl short ↦ (state, reach, inl (short, run_further bytes k state short reach.0 ∙ stops short))
-  | inr all ↦ (state, reach, inr (all, none))
-]
+stops_here bytes k state reach most stops none = grind (arith, common_steps, below_or, length, run_further)
 
 -- a range grows by a byte
 pub range_grows : (bytes : List ℕ) (i k : ℕ) → i ≤ k → k < length bytes → slice_range bytes i (k + 1) ≡ slice_range bytes i k ++ get_or bytes k 0 ∷ []
@@ -89,6 +79,3 @@ range_begins bytes k j h most =
     let size : j - k ≡ suc (j - (k + 1)) = omega (arith, h) in
     let next : suc k ≡ k + 1 = omega arith in
     ap (λ n. take n (drop k bytes)) size ∙ ap (take (suc (j - (k + 1)))) (drop-cons bytes k 0 short) ∙ ap (λ n. get_or bytes k 0 ∷ take (j - (k + 1)) (drop n bytes)) next
-
-pub range_none : (bytes : List ℕ) (k : ℕ) → slice_range bytes k k ≡ []
-range_none bytes k = let none : k - k ≡ 0 = omega arith in ap (λ n. take n (drop k bytes)) none

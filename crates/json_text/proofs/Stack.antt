@@ -1,15 +1,11 @@
 -- A stack as frames.
-use Rattle.std.proofs.Common.{◌≡◌, ◌+◌, ◌<◌, List, [], ◌∷◌, ◌++◌, length, None, refl, arith, ap, ◌∙◌}
-use Rattle.json_text.specs.declared.state.Open.{Open}
-use Rattle.json_text.specs.Machine.{Frame, Mode, value, first_item, first_key, next_key, colon, letters, digits, content, ended, finish}
-use Rattle.json_text.specs.States.{frame_of, frames_onto, frames_of}
+use Rattle.std.proofs.{Common.{◌≡◌, ◌+◌, ◌<◌, List, [], ◌∷◌, ◌++◌, length, None, refl, arith, ap, ◌∙◌}, lemmas.Grind.common_steps}
+use Rattle.json_text.specs.{declared.state.Open.Open, Machine.{Frame, Mode, finish}, States.{frame_of, frames_onto, frames_of}}
 
 -- as many frames as the stack has entries
 pub length_frames_onto : (stack : List Open) (frames : List Frame) → length (frames_onto stack frames) ≡ length stack + length frames
 length_frames_onto [] frames = omega arith
-length_frames_onto (outer ∷ inner) frames =
-    let deeper = length_frames_onto inner (frame_of outer ∷ frames) in
-    omega (arith, deeper)
+length_frames_onto (outer ∷ inner) frames = omega (arith, length_frames_onto inner (frame_of outer ∷ frames))
 
 pub length_frames : (stack : List Open) → length (frames_of stack) ≡ length stack
 length_frames stack = omega (arith, length_frames_onto stack [])
@@ -28,13 +24,4 @@ frames_pop old new last e = ap frames_of e ∙ frames_end new last
 
 -- nothing ends where something is open
 pub finish_open : (mode : Mode) (frames : List Frame) → 0 < length frames → None ≡ finish mode frames
-finish_open mode [] h = absurd (omega arith)
-finish_open value (frame ∷ frames) h = refl
-finish_open first_item (frame ∷ frames) h = refl
-finish_open first_key (frame ∷ frames) h = refl
-finish_open (next_key so_far) (frame ∷ frames) h = refl
-finish_open (colon so_far key) (frame ∷ frames) h = refl
-finish_open (letters left tree) (frame ∷ frames) h = refl
-finish_open (digits place spelling) (frame ∷ frames) h = refl
-finish_open (content role place bytes) (frame ∷ frames) h = refl
-finish_open (ended tree) (frame ∷ frames) h = refl
+finish_open mode frames h = grind (arith, common_steps)

@@ -1,12 +1,11 @@
 -- One byte: where the grammar goes on the machine does, and from a sound state the other way round. A sound state stays sound, and it grows deeper only by a level that it opens.
-use Rattle.std.proofs.Common.{◌≡◌, ℕ, suc, ◌+◌, ◌*◌, ◌<◌, ◌≤◌, ◌==◌, Bool, true, false, cond, max, List, [], ◌∷◌, ◌++◌, ◌⊎◌, inl, inr, length, IsTrue, nat_le, Option, Some, None, option_map, refl, arith, subst, zero}
-use Rattle.std.{proofs.lemmas.Bool.Decides.nat_tests, specs.Char.digit_value}
-use Rattle.json_text.specs.declared.state.{Digits.Digits, Within.Within}
+use Rattle.std.proofs.Common.{◌≡◌, ℕ, suc, ◌+◌, ◌*◌, ◌<◌, ◌≤◌, ◌==◌, Bool, false, cond, max, List, [], ◌∷◌, ◌⊎◌, inl, inr, length, IsTrue, nat_le, Option, Some, None, option_map, refl, arith, zero}
+use Rattle.std.{specs.Char.digit_value, proofs.lemmas.Grind.common_steps}
+use Rattle.json_text.specs.{declared.state.Digits.Digits, declared.state.Within.Within, declared.state.Move.Move, Classes.{is_blank, is_hex, short_escape}}
 use Rattle.json_text.specs.declared.state.Within.TheVariants.{Plain, AfterBackslash, AfterU, AfterHex, AfterTwoHex, AfterThreeHex, AfterHigh, AfterHighBackslash, AfterHighU, AfterHighHex, AfterHighTwoHex, AfterHighThreeHex}
-use Rattle.json_text.specs.{declared.state.Move.Move, Classes.{is_blank, is_hex, is_high_surrogate, short_escape}}
 use Rattle.json_text.specs.declared.state.Move.TheVariants as moving
-use Rattle.json_text.specs.Tree.{Tree, number, list, object, Items, no_items, item, Members, no_members, member, nesting, items_nesting, members_nesting}
-use Rattle.json_text.specs.Machine.{Frame, in_list, in_member, Role, as_value, as_key, Mode, value, first_item, first_key, next_key, colon, letters, digits, content, ended, State, begin, begin_key, first_digit, close, after_value, next_letter, next_digit, digits_after, may_end, moved, moves, move_by, with_hex, so_far, after_unit, begins_low, escape_moves, with_frames, step, IsPlace, levels}
+use Rattle.json_text.specs.Tree.{Tree, object, Items, no_items, item, Members, no_members, member, nesting, items_nesting, members_nesting}
+use Rattle.json_text.specs.Machine.{Frame, in_list, in_member, Role, as_value, as_key, Mode, value, first_item, first_key, next_key, colon, letters, digits, content, ended, State, begin, begin_key, close, after_value, next_letter, next_digit, digits_after, moved, moves, move_by, with_hex, so_far, escape_moves, with_frames, step, IsPlace, levels}
 use Rattle.json_text.{specs.Parts.{then_item, then_member}, specs.Depth.{around, inner_depth, depth}, proofs.Completion.{Completes, Leads}}
 use Rattle.json_text.proofs.Forth.{spaced_forth, items_forth, members_forth, next_member_forth, colon_forth, letters_forth, digits_on, ended_forth}
 use Rattle.json_text.proofs.Back.{value_back, first_item_back, first_key_back, next_key_back, colon_back, letters_back, digits_on_back, ended_back}
@@ -52,8 +51,7 @@ back (ended tree) frames b rest whole sound l = ended_back b tree frames rest wh
 
 -- both ways of a choice
 both : {A : Type 0} (P : A → Type 0) (test : Bool) (x y : A) → (IsTrue test → P x) → (test ≡ false → P y) → P (cond test x y)
-both P true x y p q = p refl
-both P false x y p q = q refl
+both P test x y p q = grind (arith, common_steps)
 
 -- a move leads to a place in range
 abbrev pub MovesSoundly : Move → Type 0
@@ -63,45 +61,11 @@ MovesSoundly (moving.Spells code) = Unit {0}
 MovesSoundly moving.Ends = Unit {0}
 MovesSoundly moving.Refused = Unit {0}
 
-range_high : (unit : ℕ) → IsTrue (is_high_surrogate unit) → (0xd800 ≤ unit) × (unit < 0xdc00)
-range_high unit h = grind (arith, nat_tests)
-
-range_low : (n : ℕ) → IsTrue (begins_low n) → (0xdc ≤ n) × (n < 0xe0)
-range_low n h = grind (arith, nat_tests)
-
-range_other : (n : ℕ) → n < 256 → begins_low n ≡ false → (n < 0xdc) ⊎ ((0xe0 ≤ n) × (n < 256))
-range_other n small h = grind (arith, nat_tests)
-
-three_place : (two digit : ℕ) → digit < 16 → (two < 0xdc) ⊎ ((0xe0 ≤ two) × (two < 256)) → (two * 16 + digit < 0xdc0) ⊎ ((0xe00 ≤ two * 16 + digit) × (two * 16 + digit < 4096))
-three_place two digit small h = elim h [ inl low ↦ inl (omega (arith, low, small)) | inr large ↦ inr (omega (arith, large.0, small), omega (arith, large.1, small)) ]
-
 escape_sound : (meant : Option ℕ) → MovesSoundly (escape_moves meant)
-escape_sound None = tt
-escape_sound (Some b) = tt
-
-unit_sound : (unit : ℕ) → MovesSoundly (after_unit unit)
-unit_sound unit = both MovesSoundly (is_high_surrogate unit) _ _ (λ h. range_high unit h) (λ h. tt)
+escape_sound meant = grind (arith, common_steps)
 
 hex_sound : (place : Within) (before digit : ℕ) → digit < 16 → so_far place ≡ Some before → IsPlace place → MovesSoundly (with_hex (before * 16 + digit) place)
-hex_sound Plain before digit small e sound = tt
-hex_sound AfterBackslash before digit small e sound = tt
-hex_sound AfterU before digit small e sound = let none : 0 ≡ before = cc e in omega (arith, none, small)
-hex_sound (AfterHex one) before digit small e sound =
-    let same : one ≡ before = cc e in
-    both MovesSoundly (begins_low (before * 16 + digit)) _ _ (λ h. tt) (λ h. range_other (before * 16 + digit) (omega (arith, sound, same, small)) h)
-hex_sound (AfterTwoHex two) before digit small e sound =
-    let same : two ≡ before = cc e in
-    subst (λ n. (n * 16 + digit < 0xdc0) ⊎ ((0xe00 ≤ n * 16 + digit) × (n * 16 + digit < 4096))) same (three_place two digit small sound)
-hex_sound (AfterThreeHex three) before digit small e sound = unit_sound (before * 16 + digit)
-hex_sound (AfterHigh high) before digit small e sound = tt
-hex_sound (AfterHighBackslash high) before digit small e sound = tt
-hex_sound (AfterHighU high) before digit small e sound = both MovesSoundly (before * 16 + digit == 13) _ _ (λ h. sound) (λ h. tt)
-hex_sound (AfterHighHex high) before digit small e sound =
-    both MovesSoundly (begins_low (before * 16 + digit)) _ _ (λ h. (sound, (range_low (before * 16 + digit) h).0, (range_low (before * 16 + digit) h).1)) (λ h. tt)
-hex_sound (AfterHighTwoHex high two) before digit small e sound =
-    let same : two ≡ before = cc e in
-    (sound.0, omega (arith, sound.1, same, small), omega (arith, sound.2, same, small))
-hex_sound (AfterHighThreeHex high three) before digit small e sound = tt
+hex_sound place before digit small e sound = grind (arith, common_steps)
 
 digit_sound : (b before : ℕ) (place : Within) → so_far place ≡ Some before → IsPlace place → MovesSoundly (move_by b place (Some before))
 digit_sound b before place e sound = both MovesSoundly (is_hex b) _ _ (λ h. hex_sound place before (digit_value b) (hex_range b h) e sound) (λ h. tt)
@@ -132,10 +96,7 @@ around_least (in_list items ∷ frames) n = let outer = around_least frames (1 +
 around_least (in_member members key ∷ frames) n = let outer = around_least frames (1 + max (members_nesting members) n) in omega (arith, outer)
 
 around_either : (frames : List Frame) (k m n : ℕ) → (k ≤ m) ⊎ (k ≤ n) → around frames k ≤ max (around frames m) (around frames n)
-around_either frames k m n h = elim h [
-  | inl less ↦ let grows = around_grows frames k m less in omega (arith, grows)
-  | inr less ↦ let grows = around_grows frames k n less in omega (arith, grows)
-]
+around_either frames k m n h = grind (arith, common_steps, around_grows)
 
 either_way : (m n : ℕ) → (m ≤ n) ⊎ (n ≤ m)
 either_way zero n = inl (omega arith)
@@ -147,18 +108,8 @@ larger i n = elim (either_way n i) [ inl h ↦ inl (omega (arith, h)) | inr h �
 
 pub around_splits : (frames : List Frame) (n : ℕ) → around frames n ≤ max (around frames 0) (length frames + n)
 around_splits [] n = omega arith
-around_splits (in_list items ∷ frames) n =
-    let i = items_nesting items in
-    let inner = around_splits frames (1 + n) in
-    let either = around_either frames (1 + max i n) (1 + max i 0) (1 + n) (larger i n) in
-    let less = around_grows frames 0 (1 + max i 0) (omega arith) in
-    omega (arith, inner, either, less)
-around_splits (in_member members key ∷ frames) n =
-    let i = members_nesting members in
-    let inner = around_splits frames (1 + n) in
-    let either = around_either frames (1 + max i n) (1 + max i 0) (1 + n) (larger i n) in
-    let less = around_grows frames 0 (1 + max i 0) (omega arith) in
-    omega (arith, inner, either, less)
+around_splits (in_list items ∷ frames) n = grind (arith, common_steps, around_either, max, larger, around_grows, around_splits frames (1 + n))
+around_splits (in_member members key ∷ frames) n = grind (arith, common_steps, around_either, max, larger, around_grows, around_splits frames (1 + n))
 
 -- one more item, and one more member
 pub then_item_nesting : (items : Items) (tree : Tree) → items_nesting (then_item items tree) ≡ max (items_nesting items) (nesting tree)
@@ -179,31 +130,17 @@ same_depth : (before : ℕ) (mode : Mode) (frames : List Frame) → IsSoundMode 
 same_depth before mode frames sound h = (sound, omega (arith, h))
 
 number_keeps : (b : ℕ) (frames : List Frame) (place : Option Digits) → Keeps (around frames 0) (option_map (λ (place : Digits). (digits place (b ∷ []), frames)) place)
-number_keeps b frames None = tt
-number_keeps b frames (Some place) = (tt, omega arith)
+number_keeps b frames place = grind (arith, common_steps)
 
 begin_keeps : (b : ℕ) (frames : List Frame) → Keeps (around frames 0) (begin b frames)
-begin_keeps b frames =
-    let P : Option State → Type 0 = λ o. Keeps (around frames 0) o in
-    let deeper = around_splits frames 1 in
-    both P (b == 91) _ _ (λ h. (tt, omega (arith, deeper)))
-    (λ h. both P (b == 123) _ _ (λ h. (tt, omega (arith, deeper)))
-    (λ h. both P (b == 34) _ _ (λ h. (tt, omega arith))
-    (λ h. both P (b == 110) _ _ (λ h. (tt, omega arith))
-    (λ h. both P (b == 116) _ _ (λ h. (tt, omega arith))
-    (λ h. both P (b == 102) _ _ (λ h. (tt, omega arith))
-    (λ h. number_keeps b frames (first_digit b)))))))
+begin_keeps b frames = grind (arith, common_steps, around, around_splits, both, number_keeps)
 
 begin_key_keeps : (b : ℕ) (members : Members) (frames : List Frame) → Keeps (around frames (1 + members_nesting members)) (begin_key b members frames)
 begin_key_keeps b members frames = both (λ o. Keeps (around frames (1 + members_nesting members)) o) (b == 34) _ _ (λ h. (tt, omega arith)) (λ h. tt)
 
 close_keeps : (b : ℕ) (tree : Tree) (frames : List Frame) → Keeps (around frames (nesting tree)) (close b tree frames)
 close_keeps b tree [] = tt
-close_keeps b tree (in_list items ∷ frames) =
-    let P : Option State → Type 0 = λ o. Keeps (around frames (1 + max (items_nesting items) (nesting tree))) o in
-    let all = then_item_nesting items tree in
-    both P (b == 44) _ _ (λ h. same_depth _ value (in_list (then_item items tree) ∷ frames) tt (around_grows frames (1 + max (items_nesting (then_item items tree)) 0) (1 + max (items_nesting items) (nesting tree)) (omega (arith, all))))
-    (λ h. both P (b == 93) _ _ (λ h. same_depth _ (ended (list (then_item items tree))) frames tt (around_grows frames (1 + items_nesting (then_item items tree)) (1 + max (items_nesting items) (nesting tree)) (omega (arith, all)))) (λ h. tt))
+close_keeps b tree (in_list items ∷ frames) = grind (arith, common_steps, around, max, then_item_nesting, both, same_depth, then_item, around_grows)
 close_keeps b tree (in_member members key ∷ frames) =
     let P : Option State → Type 0 = λ o. Keeps (around frames (1 + max (members_nesting members) (nesting tree))) o in
     let all = then_member_nesting members key tree in
@@ -214,15 +151,10 @@ after_keeps : (b : ℕ) (tree : Tree) (frames : List Frame) → Keeps (around fr
 after_keeps b tree frames = both (λ o. Keeps (around frames (nesting tree)) o) (is_blank b) _ _ (λ h. same_depth _ (ended tree) frames tt (omega arith)) (λ h. close_keeps b tree frames)
 
 letter_keeps : (b : ℕ) (left : List ℕ) (tree : Tree) (frames : List Frame) → Keeps (around frames (nesting tree)) (option_map (with_frames frames) (next_letter b left tree))
-letter_keeps b [] tree frames = tt
-letter_keeps b (letter ∷ []) tree frames =
-    both (λ (mode : Option Mode). Keeps (around frames (nesting tree)) (option_map (with_frames frames) mode)) (b == letter) _ _ (λ h. same_depth _ (ended tree) frames tt (omega arith)) (λ h. tt)
-letter_keeps b (letter ∷ next ∷ left) tree frames =
-    both (λ (mode : Option Mode). Keeps (around frames (nesting tree)) (option_map (with_frames frames) mode)) (b == letter) _ _ (λ h. same_depth _ (letters (next ∷ left) tree) frames tt (omega arith)) (λ h. tt)
+letter_keeps b left tree frames = grind (arith, common_steps)
 
 digit_keeps : (b : ℕ) (place : Digits) (spelling : List ℕ) (frames : List Frame) (next : Option Digits) → Keeps (around frames 0) (next_digit b place spelling frames next)
-digit_keeps b place spelling frames (Some next) = same_depth _ (digits next (spelling ++ b ∷ [])) frames tt (omega arith)
-digit_keeps b place spelling frames None = both (λ o. Keeps (around frames 0) o) (may_end place) _ _ (λ h. after_keeps b (number spelling) frames) (λ h. tt)
+digit_keeps b place spelling frames next = grind (arith, common_steps, same_depth, both, around, after_keeps)
 
 move_keeps : (role : Role) (place : Within) (bytes : List ℕ) (frames : List Frame) (move : Move) → MovesSoundly move
     → Keeps (around frames (inner_depth (content role place bytes))) (option_map (with_frames frames) (moved role bytes move))
@@ -239,17 +171,10 @@ move_keeps (as_key listed) place bytes frames moving.Refused sound = tt
 
 pub step_keeps : (mode : Mode) (b : ℕ) (frames : List Frame) → IsSoundMode mode → Keeps (depth (mode, frames)) (step b mode frames)
 step_keeps value b frames sound = both (λ o. Keeps (around frames 0) o) (is_blank b) _ _ (λ h. (tt, omega arith)) (λ h. begin_keeps b frames)
-step_keeps first_item b frames sound =
-    let P : Option State → Type 0 = λ o. Keeps (around frames 1) o in
-    both P (is_blank b) _ _ (λ h. (tt, omega arith)) (λ h. both P (b == 93) _ _ (λ h. (tt, omega arith)) (λ h. begin_keeps b (in_list no_items ∷ frames)))
-step_keeps first_key b frames sound =
-    let P : Option State → Type 0 = λ o. Keeps (around frames 1) o in
-    both P (is_blank b) _ _ (λ h. (tt, omega arith)) (λ h. both P (b == 125) _ _ (λ h. (tt, omega arith)) (λ h. begin_key_keeps b no_members frames))
+step_keeps first_item b frames sound = grind (arith, common_steps, around, both, begin_keeps)
+step_keeps first_key b frames sound = grind (arith, common_steps)
 step_keeps (next_key so_far) b frames sound = both (λ o. Keeps (around frames (1 + members_nesting so_far)) o) (is_blank b) _ _ (λ h. (tt, omega arith)) (λ h. begin_key_keeps b so_far frames)
-step_keeps (colon listed key) b frames sound =
-    let P : Option State → Type 0 = λ o. Keeps (around frames (1 + members_nesting listed)) o in
-    both P (is_blank b) _ _ (λ h. (tt, omega arith))
-    (λ h. both P (b == 58) _ _ (λ h. same_depth _ value (in_member listed key ∷ frames) tt (around_grows frames (1 + max (members_nesting listed) 0) (1 + members_nesting listed) (omega arith))) (λ h. tt))
+step_keeps (colon listed key) b frames sound = grind (arith, common_steps)
 step_keeps (letters left tree) b frames sound = letter_keeps b left tree frames
 step_keeps (digits place spelling) b frames sound = digit_keeps b place spelling frames (digits_after b place)
 step_keeps (content role place bytes) b frames sound = move_keeps role place bytes frames (moves b place) (move_sound place b sound)

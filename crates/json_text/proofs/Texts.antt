@@ -1,10 +1,10 @@
 -- Whole texts, from what one byte does: the machine reads exactly what texts begin with, and ends exactly where they do.
+use Rattle.std.proofs.lemmas.Grind.{common_steps}
 use Rattle.std.proofs.Common.{◌≡◌, ℕ, ◌≤◌, List, [], ◌∷◌, ◌++◌, Option, Some, None, option_and_then, refl, arith, sym, subst, ◌∙◌, ap, append-nil}
-use Rattle.json_text.specs.{Tree.{Tree, number, nesting}, Grammar.IsText, Places.Begins}
+use Rattle.json_text.{specs.Tree.{Tree, nesting}, specs.Grammar.IsText, specs.Places.Begins, proofs.Ends.{grammar_ends, machine_ends}}
 use Rattle.json_text.specs.Machine.{Mode, Frame, State, value, first_item, first_key, next_key, colon, letters, digits, content, ended, step, run, start, finish, own_level, levels, as_value, as_key}
 use Rattle.json_text.{specs.Depth.{inner_depth, depth}, specs.Reached.ended_tree, proofs.Completion.{Completes, Leads}}
 use Rattle.json_text.proofs.{Steps.{IsSoundMode, Keeps, forth, back, step_keeps, around_least}, Endings.{ending, completes_deep}}
-use Rattle.json_text.proofs.Ends.{grammar_ends, machine_ends, finished}
 
 -- a text is what completes the first state
 text_completes : (bytes : List ℕ) (tree : Tree) → IsText bytes tree → Completes value [] bytes tree
@@ -16,8 +16,7 @@ completes_text bytes tree (before, inside, after, other, e, blank, v, (blank', s
 -- many bytes
 run_next : (bytes more : List ℕ) (whole : Tree) (next : Option State) → ((state : State) → Completes state.0 state.1 (bytes ++ more) whole → Leads (run bytes state) more whole)
     → Leads next (bytes ++ more) whole → Leads (option_and_then (run bytes) next) more whole
-run_next bytes more whole None on l = l
-run_next bytes more whole (Some state) on l = on state l
+run_next bytes more whole next on l = grind (arith, common_steps)
 
 run_forth : (bytes more : List ℕ) (whole : Tree) (state : State) → Completes state.0 state.1 (bytes ++ more) whole → Leads (run bytes state) more whole
 run_forth [] more whole state h = h
@@ -25,8 +24,7 @@ run_forth (b ∷ bytes) more whole state h = run_next bytes more whole (step b s
 
 run_before : (bytes more : List ℕ) (whole : Tree) (before : ℕ) (next : Option State) → ((state : State) → IsSoundMode state.0 → Leads (run bytes state) more whole → Completes state.0 state.1 (bytes ++ more) whole)
     → Keeps before next → Leads (option_and_then (run bytes) next) more whole → Leads next (bytes ++ more) whole
-run_before bytes more whole before None on keeps l = l
-run_before bytes more whole before (Some state) on keeps l = on state keeps.0 l
+run_before bytes more whole before next on keeps l = grind (arith, common_steps)
 
 run_back : (bytes more : List ℕ) (whole : Tree) (state : State) → IsSoundMode state.0 → Leads (run bytes state) more whole → Completes state.0 state.1 (bytes ++ more) whole
 run_back [] more whole state sound l = l
@@ -40,8 +38,7 @@ RunsSoundly None = Unit {0}
 RunsSoundly (Some state) = IsSoundMode state.0
 
 run_sound_next : (bytes : List ℕ) (before : ℕ) (next : Option State) → ((state : State) → IsSoundMode state.0 → RunsSoundly (run bytes state)) → Keeps before next → RunsSoundly (option_and_then (run bytes) next)
-run_sound_next bytes before None on keeps = tt
-run_sound_next bytes before (Some state) on keeps = on state keeps.0
+run_sound_next bytes before next on keeps = grind (arith, common_steps)
 
 run_sound : (bytes : List ℕ) (state : State) → IsSoundMode state.0 → RunsSoundly (run bytes state)
 run_sound [] state sound = sound
@@ -71,8 +68,7 @@ reached_begins bytes state e =
 
 -- a text is read to its end, where its tree is at hand
 text_read : (next : Option State) (tree : Tree) → Leads next [] tree → (state : State) × (next ≡ Some state) × (ended_tree state ≡ Some tree)
-text_read None tree l = absurd l
-text_read (Some state) tree l = (state, refl, grammar_ends state.0 state.1 tree l)
+text_read next tree l = grind (arith, common_steps, grammar_ends)
 
 pub text_ends : (bytes : List ℕ) (tree : Tree) → IsText bytes tree → (state : State) × (run bytes start ≡ Some state) × (ended_tree state ≡ Some tree)
 text_ends bytes tree text = text_read (run bytes start) tree (goes_on bytes [] tree (subst (λ all. IsText all tree) (sym (append-nil bytes)) text))
@@ -86,8 +82,7 @@ ends_text bytes state tree e done =
 
 -- where a text ends in a state, the state has no level more than its tree
 pub finish_deep : (mode : Mode) (frames : List Frame) (tree : Tree) → finish mode frames ≡ Some tree → nesting tree ≤ depth (mode, frames)
-finish_deep = finished (λ mode frames tree. nesting tree ≤ depth (mode, frames)) (λ place spelling may. let least : nesting (number spelling) ≤ 0 = omega arith in least)
-    (λ tree. let least : nesting tree ≤ nesting tree = omega arith in least)
+finish_deep = grind (arith, common_steps)
 
 -- A text has one tree.
 pub one_tree : (bytes : List ℕ) (one other : Tree) → IsText bytes one → IsText bytes other → one ≡ other

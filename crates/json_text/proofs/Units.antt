@@ -1,23 +1,20 @@
 -- Texts byte by byte, at the place after a backslash; and where the machine goes on, the grammar does.
-use Rattle.std.proofs.Common.{◌≡◌, ℕ, append_assoc, ◌+◌, ◌*◌, ◌<◌, ◌≤◌, ◌==◌, Bool, true, false, not, List, [], ◌∷◌, ◌++◌, ◌⊎◌, inl, inr, length, IsTrue, nat_le, Option, Some, None, refl, arith, sym, subst, ◌∙◌, ap}
-use Rattle.std.{proofs.lemmas.Bool.Decides.nat_tests, specs.Char.{digit_value, encode_utf8}}
-use Rattle.json_text.specs.declared.state.Within.{Within}
+use Rattle.std.proofs.Common.{◌≡◌, ℕ, append_assoc, ◌+◌, ◌*◌, ◌<◌, ◌≤◌, ◌==◌, Bool, false, not, List, [], ◌∷◌, ◌++◌, ◌⊎◌, inl, inr, length, IsTrue, nat_le, Option, Some, None, refl, arith, sym, subst, ◌∙◌, ap}
+use Rattle.std.{proofs.lemmas.Bool.Decides.nat_tests, specs.Char.{digit_value, encode_utf8}, proofs.lemmas.Grind.common_steps}
+use Rattle.json_text.specs.{declared.state.Within.Within, Grammar.{Spells, further, IsUnit}, Machine.{moves, after_unit, escape_moves, IsPlace}}
 use Rattle.json_text.specs.declared.state.Within.TheVariants.{Plain, AfterBackslash, AfterU, AfterHex, AfterTwoHex, AfterThreeHex, AfterHigh, AfterHighBackslash, AfterHighU, AfterHighHex, AfterHighTwoHex, AfterHighThreeHex}
-use Rattle.json_text.specs.Classes.{is_plain, short_escape, is_hex, unit_of, is_low_surrogate, is_high_surrogate, is_surrogate, pair_of}
-use Rattle.json_text.specs.{Grammar.{Spells, further, IsUnit}, Machine.{moves, begins_low, after_unit, escape_moves, IsPlace}}
-use Rattle.json_text.proofs.{Completion.{EndsText, FirstUnit, LowUnit, Hex}, Escapes.{LeadsText, first_back, low_back, hex_range}}
-use Rattle.json_text.proofs.Choices.{unless, along, head_same, tail_same, not_equal, chosen, equal}
+use Rattle.json_text.specs.Classes.{is_plain, short_escape, is_hex, unit_of, is_low_surrogate, is_surrogate, pair_of}
+use Rattle.json_text.proofs.{Completion.{EndsText, FirstUnit, Hex}, Escapes.{LeadsText, first_back, low_back, hex_range}}
+use Rattle.json_text.proofs.Choices.{along, head_same, tail_same, chosen, equal}
 
 joined : {b c : ℕ} {rest other : List ℕ} → b ≡ c → rest ≡ other → b ∷ rest ≡ c ∷ other
 joined e f = cc
 
 not_true : (t : Bool) → IsTrue (not t) → t ≡ false
-not_true true h = absurd (cc h)
-not_true false h = refl
+not_true t h = grind (arith, common_steps)
 
 true_not : (t : Bool) → t ≡ false → IsTrue (not t)
-true_not true h = absurd (cc h)
-true_not false h = refl
+true_not t h = grind (arith, common_steps)
 
 -- the four digits of a code unit, as the grammar and as the machine count them
 unit_hex : (a b c d unit : ℕ) → unit ≡ unit_of a b c d → (((0 * 16 + digit_value a) * 16 + digit_value b) * 16 + digit_value c) * 16 + digit_value d ≡ unit
@@ -26,15 +23,10 @@ unit_hex a b c d unit e = omega (arith, e)
 hex_unit : (a b c d unit : ℕ) → (((0 * 16 + digit_value a) * 16 + digit_value b) * 16 + digit_value c) * 16 + digit_value d ≡ unit → unit ≡ unit_of a b c d
 hex_unit a b c d unit e = omega (arith, e)
 
-no_escape_letter : (letter meant : ℕ) → short_escape letter ≡ Some meant → letter ≡ 117 → ⊥
-no_escape_letter letter meant e is = let none : None ≡ Some meant = subst (λ n. short_escape n ≡ Some meant) is e in cc none
-
 -- a backslash and a letter go on
 short_forth : (letter meant : ℕ) (more after spelled : List ℕ) → short_escape letter ≡ Some meant → spelled ≡ meant ∷ after → Spells more after
     → LeadsText (moves letter AfterBackslash) more spelled
-short_forth letter meant more after spelled h f spells =
-    unless (λ move. LeadsText move more spelled) (letter == 117) _ _ (not_equal letter 117 (no_escape_letter letter meant h))
-    (subst (λ o. LeadsText (escape_moves o) more spelled) (sym h) (after, f, spells))
+short_forth letter meant more after spelled h f spells = grind (arith, common_steps)
 
 -- behind a backslash, where the grammar goes on the machine does
 pub backslash_forth : (b : ℕ) (inside spelled : List ℕ) → EndsText AfterBackslash (b ∷ inside) spelled → LeadsText (moves b AfterBackslash) inside spelled
@@ -88,10 +80,7 @@ escape_back b inside spelled (Some m) e (left, f, spells) =
     further {one = 92 ∷ b ∷ []} {rest = m ∷ []} {more = inside} {after = left} (inr (inl (b, m, refl, refl, e))) spells refl f
 
 backslash_back : (b : ℕ) (inside spelled : List ℕ) → LeadsText (moves b AfterBackslash) inside spelled → EndsText AfterBackslash (b ∷ inside) spelled
-backslash_back b inside spelled l = elim (chosen (λ move. LeadsText move inside spelled) (b == 117) _ _ l) [
-  | inl (is, first) ↦ subst (λ c. Spells (92 ∷ c ∷ inside) spelled) (sym (equal b 117 is)) (unit_back inside spelled first)
-  | inr (is, escape) ↦ escape_back b inside spelled (short_escape b) refl escape
-]
+backslash_back b inside spelled l = grind (arith, common_steps, chosen, equal, unit_back, escape_back)
 
 plain_test : (b : ℕ) → IsTrue (nat_le 32 b) → (b == 34) ≡ false → (b == 92) ≡ false → IsTrue (is_plain b)
 plain_test b h g k = grind (arith, nat_tests)
@@ -108,18 +97,11 @@ plain_back b inside spelled l = elim (chosen (λ move. LeadsText move inside spe
   ]
 ]
 
--- a code unit is whole: it is no low surrogate
-not_low : (n : ℕ) → (n < 0xdc00) ⊎ (0xe000 ≤ n) → is_high_surrogate n ≡ false → is_surrogate n ≡ false
-not_low n range h = grind (arith, nat_tests)
-
 low_test : (n : ℕ) → 0xdc00 ≤ n → n < 0xe000 → IsTrue (is_low_surrogate n)
 low_test n h g = grind (arith, nat_tests)
 
 unit_ended : (n : ℕ) (inside spelled : List ℕ) → (n < 0xdc00) ⊎ (0xe000 ≤ n) → LeadsText (after_unit n) inside spelled → FirstUnit 0 n inside spelled
-unit_ended n inside spelled range l = elim (chosen (λ move. LeadsText move inside spelled) (is_high_surrogate n) _ _ l) [
-  | inl (high, pair) ↦ ([], inside, n, refl, refl, refl, inr (high, pair))
-  | inr (high, (left, f, spells)) ↦ ([], inside, n, refl, refl, refl, inl (not_low n range high, (left, spells, f)))
-]
+unit_ended n inside spelled range l = grind (arith, common_steps)
 
 three_range : (three b : ℕ) → IsPlace (AfterThreeHex three) → digit_value b < 16 → (three * 16 + digit_value b < 0xdc00) ⊎ (0xe000 ≤ three * 16 + digit_value b)
 three_range three b place h = elim place [ inl low ↦ inl (omega (arith, low, h)) | inr large ↦ inr (omega (arith, large.0, h)) ]
@@ -128,39 +110,18 @@ three_range three b place h = elim place [ inl low ↦ inl (omega (arith, low, h
 pub text_back : (place : Within) (b : ℕ) (inside spelled : List ℕ) → IsPlace place → LeadsText (moves b place) inside spelled → EndsText place (b ∷ inside) spelled
 text_back Plain b inside spelled sound l = plain_back b inside spelled l
 text_back AfterBackslash b inside spelled sound l = backslash_back b inside spelled l
-text_back AfterU b inside spelled sound l =
-    elim (chosen (λ move. LeadsText move inside spelled) (is_hex b) _ _ l) [ inl (h, on) ↦ first_back 3 0 b inside spelled h on | inr (h, none) ↦ absurd none ]
-text_back (AfterHex one) b inside spelled sound l = elim (chosen (λ move. LeadsText move inside spelled) (is_hex b) _ _ l) [
-  | inl (h, on) ↦ elim (chosen (λ move. LeadsText move inside spelled) (begins_low (one * 16 + digit_value b)) _ _ on) [ inl (low, none) ↦ absurd none | inr (low, onward) ↦ first_back 2 one b inside spelled h onward ]
-  | inr (h, none) ↦ absurd none
-]
-text_back (AfterTwoHex two) b inside spelled sound l =
-    elim (chosen (λ move. LeadsText move inside spelled) (is_hex b) _ _ l) [ inl (h, on) ↦ first_back 1 two b inside spelled h on | inr (h, none) ↦ absurd none ]
+text_back AfterU b inside spelled sound l = grind (arith, common_steps, chosen, first_back)
+text_back (AfterHex one) b inside spelled sound l = grind (arith, common_steps, chosen, digit_value, first_back)
+text_back (AfterTwoHex two) b inside spelled sound l = grind (arith, common_steps, chosen, first_back)
 text_back (AfterThreeHex three) b inside spelled sound l = elim (chosen (λ move. LeadsText move inside spelled) (is_hex b) _ _ l) [
   | inl (h, on) ↦ first_back 0 three b inside spelled h (unit_ended (three * 16 + digit_value b) inside spelled (three_range three b sound (hex_range b h)) on)
   | inr (h, none) ↦ absurd none
 ]
-text_back (AfterHigh high) b inside spelled sound l = elim (chosen (λ move. LeadsText move inside spelled) (b == 92) _ _ l) [
-  | inl (is, (tail, e, low)) ↦ (tail, joined (equal b 92 is) e, low)
-  | inr (is, none) ↦ absurd none
-]
-text_back (AfterHighBackslash high) b inside spelled sound l = elim (chosen (λ move. LeadsText move inside spelled) (b == 117) _ _ l) [
-  | inl (is, low) ↦ (inside, joined (equal b 117 is) refl, low)
-  | inr (is, none) ↦ absurd none
-]
-text_back (AfterHighU high) b inside spelled sound l = elim (chosen (λ move. LeadsText move inside spelled) (is_hex b) _ _ l) [
-  | inl (h, on) ↦ elim (chosen (λ move. LeadsText move inside spelled) (0 * 16 + digit_value b == 13) _ _ on) [
-    | inl (is, low) ↦ low_back 3 0 high b inside spelled h (subst (λ n. LowUnit 3 n high inside spelled) (sym (equal (0 * 16 + digit_value b) 13 is)) low)
-    | inr (is, none) ↦ absurd none
-  ]
-  | inr (h, none) ↦ absurd none
-]
-text_back (AfterHighHex high) b inside spelled sound l = elim (chosen (λ move. LeadsText move inside spelled) (is_hex b) _ _ l) [
-  | inl (h, on) ↦ elim (chosen (λ move. LeadsText move inside spelled) (begins_low (13 * 16 + digit_value b)) _ _ on) [ inl (low, onward) ↦ low_back 2 13 high b inside spelled h onward | inr (low, none) ↦ absurd none ]
-  | inr (h, none) ↦ absurd none
-]
-text_back (AfterHighTwoHex high two) b inside spelled sound l =
-    elim (chosen (λ move. LeadsText move inside spelled) (is_hex b) _ _ l) [ inl (h, on) ↦ low_back 1 two high b inside spelled h on | inr (h, none) ↦ absurd none ]
+text_back (AfterHigh high) b inside spelled sound l = grind (arith, common_steps)
+text_back (AfterHighBackslash high) b inside spelled sound l = grind (arith, common_steps)
+text_back (AfterHighU high) b inside spelled sound l = grind (arith, common_steps, chosen, digit_value, low_back, equal)
+text_back (AfterHighHex high) b inside spelled sound l = grind (arith, common_steps, chosen, digit_value, low_back)
+text_back (AfterHighTwoHex high two) b inside spelled sound l = grind (arith, common_steps, chosen, low_back)
 text_back (AfterHighThreeHex high three) b inside spelled sound l = elim (chosen (λ move. LeadsText move inside spelled) (is_hex b) _ _ l) [
   | inl (h, (left, f, spells)) ↦
       let n = three * 16 + digit_value b in

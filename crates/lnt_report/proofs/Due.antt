@@ -1,4 +1,5 @@
 -- One answer at most is due.
+use Rattle.std.proofs.lemmas.Grind.{common_steps}
 use Rattle.std.proofs.Common.{◌≡◌, ℕ, ◌≤◌, ◌⊎◌, inl, inr, List, [], ◌∷◌, ◌++◌, Option, Some, None, Result, Ok, Err, length, refl, sym, ap, ◌∙◌, subst, arith}
 use Rattle.json_text.specs.{Tree.Tree, Places.Reads, Answers.{IsDue as IsTextDue, IsFault as IsTextFault}, declared.reading.JsonFault.JsonFault}
 use Rattle.json_text.specs.declared.reading.JsonFault.TheVariants as json
@@ -6,7 +7,7 @@ use Rattle.metric_table.specs.{Limits.most, declared.limits.Limit.Limit, declare
 use Rattle.sample_model.specs.Samples.{Measurement}
 use Rattle.lnt_report.specs.{Rules.{Break, break, first_break}, Numbers.{Reading, readings, AreMeasured, none, one, IsMeasured, IsOut}, Runs.{Report, IsRun}}
 use Rattle.metric_value.specs.Values.{HasNoneInRange, ValueIsOne}
-use Rattle.lnt_report.specs.{Gathering.measurement, Checks.IsOfText, Outcomes.{IsOver, IsDue, IsDueOf}, declared.fault.ReportFault.ReportFault}
+use Rattle.lnt_report.specs.{Checks.IsOfText, Outcomes.{IsOver, IsDue, IsDueOf}, declared.fault.ReportFault.ReportFault}
 use Rattle.lnt_report.specs.declared.fault.ReportFault.TheVariants.{NotText, NotJson, TooDeep, NotReport, OutOfRange, Full, NoMemory}
 
 -- a number that is a sample has a value in range
@@ -27,25 +28,18 @@ same_out : (front : List Reading) (out : Reading) (back : List Reading) (other_f
     → front ++ (out ∷ back) ≡ other_front ++ (other ∷ other_back) → AreMeasured front ms → AreMeasured other_front ns
     → HasNoneInRange out.metric out.spelling → HasNoneInRange other.metric other.spelling → out ≡ other
 same_out [] out back [] other other_back ms ns e h k never nor = cc
-same_out [] out back (r ∷ front) other other_back ms ns e h (one {m = m} k more) never nor =
-    let same : out ≡ r = cc in absurd (in_range_not_none k (subst (λ (x : Reading). HasNoneInRange x.metric x.spelling) same never))
-same_out (r ∷ front) out back [] other other_back ms ns e (one {m = m} h more) k never nor =
-    let same : r ≡ other = cc in absurd (in_range_not_none h (subst (λ (x : Reading). HasNoneInRange x.metric x.spelling) (sym same) nor))
+same_out [] out back (r ∷ front) other other_back ms ns e h (one {m = m} k more) never nor = grind (arith, common_steps)
+same_out (r ∷ front) out back [] other other_back ms ns e (one {m = m} h more) k never nor = grind (arith, common_steps)
 same_out (r ∷ front) out back (s ∷ other_front) other other_back ms ns e (one {ms = rest} h more) (one {ms = others} k most_of) never nor =
     let tails : front ++ (out ∷ back) ≡ other_front ++ (other ∷ other_back) = cc in
     same_out front out back other_front other other_back rest others tails more most_of never nor
 
 out_is_one : (rs : List Reading) (test metric other_test other_metric : List ℕ) → IsOut rs test metric → IsOut rs other_test other_metric
     → OutOfRange test metric ≡ OutOfRange other_test other_metric
-out_is_one rs test metric other_test other_metric h k =
-    let same : h.out ≡ k.out = same_out h.front h.out h.back k.front k.out k.back h.samples k.samples (sym h.split ∙ k.split) h.before k.before h.none k.none in
-    let tests : test ≡ other_test = h.of_test ∙ ap (λ (r : Reading). r.test) same ∙ sym k.of_test in
-    let metrics : metric ≡ other_metric = h.of_metric ∙ ap (λ (r : Reading). r.metric) same ∙ sym k.of_metric in
-    ap (λ (t : List ℕ). OutOfRange t metric) tests ∙ ap (λ (m : List ℕ). OutOfRange other_test m) metrics
+out_is_one rs test metric other_test other_metric h k = grind (arith, common_steps, same_out)
 
 same_sample : (m n : Measurement) → m.test ≡ n.test → m.metric ≡ n.metric → m.value ≡ n.value → m ≡ n
-same_sample m n e f g =
-    ap (λ (test : List ℕ). measurement test m.metric m.value) e ∙ ap (λ (metric : List ℕ). measurement n.test metric m.value) f ∙ ap (measurement n.test n.metric) g
+same_sample m n e f g = grind (arith, common_steps)
 
 -- numbers are one list of samples
 samples_are_one : ValueIsOne → {rs : List Reading} {ms ns : List Measurement} → AreMeasured rs ms → AreMeasured rs ns → ms ≡ ns
@@ -66,14 +60,7 @@ inside : {A : Type 0} (a b : A) → Some a ≡ Some b → a ≡ b
 inside a b e = cc
 
 run_is_one : (tree : Tree) (a b : Report) → ValueIsOne → IsRun tree a → IsRun tree b → a ≡ b
-run_is_one tree a b law h k =
-    let machines : a.machine ≡ b.machine = inside a.machine b.machine (sym h.machine ∙ k.machine) in
-    let commits : a.commit ≡ b.commit = inside a.commit b.commit (sym h.commit ∙ k.commit) in
-    let counts : a.ignored ≡ b.ignored = h.ignored ∙ sym k.ignored in
-    ap (λ (m : List ℕ). report m a.commit a.samples a.ignored) machines
-    ∙ ap (λ (m : List ℕ). report b.machine m a.samples a.ignored) commits
-    ∙ ap (λ (ms : List Measurement). report b.machine b.commit ms a.ignored) (samples_are_one law h.samples k.samples)
-    ∙ ap (report b.machine b.commit b.samples) counts
+run_is_one tree a b law h k = grind (arith, common_steps, inside, report, samples_are_one)
 
 clash : {A : Type 0} (o : Option A) (a : A) → o ≡ None → o ≡ Some a → ⊥
 clash o a e f = let g : None ≡ Some a = sym e ∙ f in cc
@@ -170,11 +157,7 @@ same_fault bytes law (json.TooDeep j) said e h due d =
 
 -- two answers that come from one answer of the text are one
 one_from : (answer : Result Tree JsonFault) (a b : Result Report ReportFault) → ValueIsOne → From answer a → From answer b → a ≡ b
-one_from (Ok tree) a b law h k = due_is_one tree a b law h k
-one_from (Err (json.NotText j)) a b law h k = h ∙ sym k
-one_from (Err (json.NotJson j)) a b law h k = h ∙ sym k
-one_from (Err (json.TooDeep j)) a b law h k = h ∙ sym k
-one_from (Err json.NoMemory) a b law h k = absurd h
+one_from answer a b law h k = grind (arith, common_steps, due_is_one)
 
 pub one_due : (bytes : List ℕ) → OneText bytes → ValueIsOne → (a b : Result Report ReportFault) → IsDue bytes a → IsDue bytes b → a ≡ b
 one_due bytes law values a b h k =

@@ -1,12 +1,12 @@
 -- How the search for a key that comes again goes on.
-use Rattle.std.{proofs.Common.{◌≡◌, ℕ, List, ◌∷◌, Bool, true, false, ◌||◌, cond, Option, Some, None, is_some, refl}, specs.List.list_any, specs.Str.bytes_eq}
+use Rattle.std.proofs.lemmas.Grind.{common_steps}
+use Rattle.std.{proofs.Common.{◌≡◌, ℕ, List, ◌∷◌, Bool, false, ◌||◌, cond, Option, Some, None, is_some, refl, arith}, specs.List.list_any, specs.Str.bytes_eq}
 use Rattle.json_text.specs.Tree.{Tree, Members, member}
 use Rattle.lnt_report.specs.{Look.Entry, Rules.{repeated_key, repeated_in_members}}
 
 -- one key more is in the map
 pub with_key : {A : Type 0} (same : Bool) (value : A) (found : Option A) (among : Bool) → is_some found ≡ among → is_some (cond same (Some value) found) ≡ (same || among)
-with_key true value found among e = refl
-with_key false value found among e = e
+with_key same value found among e = grind (arith, common_steps)
 
 -- a member whose key is new, and in whose value no key comes again
 pub next_member : (keys : List (List ℕ)) (entry : Entry) (key : List ℕ) (tree : Tree) (rest : Members) → key ≡ entry.0 → tree ≡ entry.1

@@ -1,8 +1,8 @@
 -- The text of bytes is one of JSON that spells them, and is UTF-8 where they are.
-use Rattle.std.proofs.Common.{◌≡◌, ℕ, zero, suc, ◌/◌, ◌%◌, ◌<◌, ◌≤◌, Bool, true, false, cond, not, ◌&&◌, ◌||◌, ◌==◌, nat_lt, List, [], ◌∷◌, ◌++◌, length, get_or, inl, inr, refl, sym, ap, ap₂, ◌∙◌, subst, arith, append-nil, ltb-true}
+use Rattle.std.proofs.Common.{◌≡◌, ℕ, zero, suc, ◌/◌, ◌%◌, ◌<◌, ◌≤◌, Bool, true, false, cond, not, ◌&&◌, ◌||◌, ◌==◌, nat_lt, List, [], ◌∷◌, ◌++◌, length, get_or, inl, inr, refl, sym, ap₂, subst, arith, append-nil, ltb-true}
 use Rattle.std.{specs.Str.{IsUtf8, IsAscii}, specs.Fmt.digit_glyph, specs.List.flat_map, proofs.Math.Utf8.{encode, encodes, scalar, scalars}}
 use Rattle.std.proofs.lemmas.Bool.{agree_below, agree_below_at, and_parts, cases_lt, cases_eq, lt-ltb, le-ltb, eqb-true, Decides.nat_tests}
-use Rattle.std.proofs.lemmas.{Grind.flat_map-append, Str.{IsUtf8-append, IsUtf8-nil, IsUtf8-encode, IsUtf8-from_ascii, encode_ascii, inside_one}}
+use Rattle.std.proofs.lemmas.{Grind.{flat_map-append, common_steps}, Str.{IsUtf8-append, IsUtf8-nil, IsUtf8-encode, IsUtf8-from_ascii, encode_ascii, inside_one}}
 use Rattle.json_text.specs.{Classes.{is_plain, is_hex, unit_of, is_surrogate}, Grammar.{IsUnit, IsCharacter, IsQuoted, Spells, nothing, further}}
 use Rattle.lnt_report.specs.Quoted.{code_escape, escape, quoted}
 
@@ -74,10 +74,7 @@ low_ascii : agree_below (λ b. are_ascii (escape b)) (λ _. true) 128 ≡ true
 low_ascii = refl
 
 high_same : (b : ℕ) → 128 ≤ b → escape b ≡ b ∷ []
-high_same b high =
-    let unmarked : ((b == 34) || (b == 92)) ≡ false = grind (arith, nat_tests) in
-    let coded : nat_lt b 32 ≡ false = grind (arith, nat_tests) in
-    ap (λ t. cond t (92 ∷ b ∷ []) (cond (nat_lt b 32) (code_escape b) (b ∷ []))) unmarked ∙ ap (λ t. cond t (code_escape b) (b ∷ [])) coded
+high_same b high = grind (arith, common_steps)
 
 escaped_high : (bytes : List ℕ) → ((k : ℕ) → k < length bytes → 128 ≤ get_or bytes k 0) → flat_map escape bytes ≡ bytes
 escaped_high [] high = refl

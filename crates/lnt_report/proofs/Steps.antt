@@ -1,11 +1,10 @@
 -- One number more is gathered, or is no sample.
-use Rattle.std.proofs.Common.{◌≡◌, ◌≢◌, ℕ, ◌<◌, ◌≤◌, inl, inr, List, [], ◌∷◌, ◌++◌, Bool, true, false, All, length, refl, sym, ap, ◌∙◌, subst, append_assoc, append-nil, length-append, rules, arith, codes}
-use Rattle.std.proofs.lemmas.{Bool.cases_lt, List.Elements.All-append}
+use Rattle.std.proofs.Common.{◌≡◌, ◌≢◌, ℕ, ◌<◌, ◌≤◌, inl, inr, List, [], ◌∷◌, ◌++◌, Bool, true, false, All, length, sym, ap, ◌∙◌, subst, append_assoc, length-append, rules, arith, codes}
+use Rattle.std.proofs.lemmas.{Bool.cases_lt, List.Elements.All-append, Grind.common_steps}
 use Rattle.metric_table.specs.{Limits.most, declared.limits.Limit.TheVariants.RunSamples}
 use Rattle.sample_model.specs.Samples.{Measurement}
-use Rattle.lnt_report.specs.{Runs.IsGiven, Numbers.{Reading, reading, IsMeasured, AreMeasured, none, one, is_metric}}
-use Rattle.metric_value.specs.Values.{HasNoneInRange}
-use Rattle.lnt_report.specs.{Gathering.{Leaves, AreBeyond, IsRefusal, IsNamed}, declared.gathered.Gathered.Gathered, declared.fault.ReportFault.ReportFault}
+use Rattle.lnt_report.specs.{Runs.IsGiven, Numbers.{Reading, IsMeasured, AreMeasured, none, one, is_metric}}
+use Rattle.lnt_report.specs.{Gathering.{Leaves, AreBeyond}, declared.gathered.Gathered.Gathered}
 
 pub measured_end : {rs : List Reading} {ms : List Measurement} {r : Reading} {m : Measurement} → AreMeasured rs ms → IsMeasured r m
     → AreMeasured (rs ++ r ∷ []) (ms ++ m ∷ [])
@@ -19,12 +18,10 @@ pub is_given : (metric : List ℕ) → is_metric metric ≡ true → metric ≢ 
 is_given metric h e = let k : is_metric (codes "name") ≡ true = subst (λ (key : List ℕ). is_metric key ≡ true) e h in let f : false ≡ true = k in cc
 
 no_beyond : (over : Bool) (kept beyond : List Measurement) → AreBeyond over kept beyond → length kept < most RunSamples → beyond ≡ []
-no_beyond false kept beyond h room = h
-no_beyond true kept beyond h room = absurd (omega (arith, h.0, room))
+no_beyond over kept beyond h room = grind (arith, common_steps)
 
 still : (over : Bool) (kept after beyond : List Measurement) → AreBeyond over kept beyond → length kept < most RunSamples → AreBeyond over after []
-still false kept after beyond h room = refl
-still true kept after beyond h room = absurd (omega (arith, h.0, room))
+still over kept after beyond h room = grind (arith, common_steps)
 
 -- a sample that is kept, where there is room
 pub kept_one : (all left : List Reading) (total more : ℕ) (r : Reading) (m : Measurement) (old new : Gathered)
@@ -32,8 +29,7 @@ pub kept_one : (all left : List Reading) (total more : ℕ) (r : Reading) (m : M
     → new.samples ≡ old.samples ++ m ∷ [] → new.over ≡ old.over → new.ignored ≡ old.ignored → Leaves all total left more new
 kept_one all left total more r m old new h measured given room e f g =
     let nothing : h.beyond ≡ [] = no_beyond old.over old.samples h.beyond h.over room in
-    let listed : (old.samples ++ h.beyond) ++ m ∷ [] ≡ new.samples ++ [] =
-    ap (λ xs. (old.samples ++ xs) ++ m ∷ []) nothing ∙ ap (λ xs. xs ++ m ∷ []) (append-nil old.samples) ∙ sym e ∙ sym (append-nil new.samples) in
+    let listed : (old.samples ++ h.beyond) ++ m ∷ [] ≡ new.samples ++ [] = grind (arith, common_steps) in
     record {
       past = h.past ++ r ∷ [];
       beyond = [];
@@ -51,8 +47,7 @@ pub beyond_one : (all left : List Reading) (total more : ℕ) (r : Reading) (m :
     → Leaves all total (r ∷ left) more old → IsMeasured r m → most RunSamples ≤ length old.samples
     → new.samples ≡ old.samples → new.over ≡ true → new.ignored ≡ old.ignored → Leaves all total left more new
 beyond_one all left total more r m old new h measured full e f g =
-    let listed : (old.samples ++ h.beyond) ++ m ∷ [] ≡ new.samples ++ (h.beyond ++ m ∷ []) =
-    append_assoc old.samples h.beyond (m ∷ []) ∙ ap (λ xs. xs ++ (h.beyond ++ m ∷ [])) (sym e) in
+    let listed : (old.samples ++ h.beyond) ++ m ∷ [] ≡ new.samples ++ (h.beyond ++ m ∷ []) = grind (arith, common_steps) in
     let some : 0 < length (h.beyond ++ m ∷ []) = omega (arith, length-append h.beyond (m ∷ [])) in
     let still_full : most RunSamples ≤ length new.samples = omega (arith, full, ap length e) in
     record {
@@ -66,23 +61,6 @@ beyond_one all left total more r m old new h measured full e f g =
       ignored = g ∙ h.ignored;
       given = subst (λ (ms : List Measurement). All IsGiven ms) (sym e) h.given;
     }
-
--- a number that is no sample
-pub out_one : (all left : List Reading) (total more : ℕ) (test metric spelling : List ℕ) (g : Gathered) (fault : ReportFault)
-    → Leaves all total (reading test metric spelling ∷ left) more g → HasNoneInRange metric spelling → IsNamed test metric fault → IsRefusal all fault
-out_one all left total more test metric spelling g fault h never (inl e) =
-    subst (λ (f : ReportFault). IsRefusal all f) (sym e) (record {
-      front = h.past;
-      out = reading test metric spelling;
-      back = left;
-      split = sym h.split;
-      samples = g.samples ++ h.beyond;
-      before = h.measured;
-      none = never;
-      of_test = refl;
-      of_metric = refl;
-    })
-out_one all left total more test metric spelling g fault h never (inr e) = subst (λ (f : ReportFault). IsRefusal all f) (sym e) tt
 
 -- by whether there is room
 pub by_room : {C : Type 0} (a b : ℕ) → (a < b → C) → (b ≤ a → C) → C

@@ -1,4 +1,5 @@
 -- The text of a value is a number of JSON.
+use Rattle.std.proofs.lemmas.Grind.{common_steps}
 use Rattle.std.proofs.Common.{◌≡◌, ℕ, zero, suc, ◌+◌, ◌/◌, ◌%◌, ◌^◌, ◌<◌, ◌≤◌, List, [], ◌∷◌, ◌++◌, inl, inr, length, decimal, IsTrue, refl, sym, ◌∙◌, arith, append_assoc, append-nil, ℤ, pos, negsuc}
 use Rattle.std.specs.{Prelude.{All, unsigned_abs, slice_index}, Char.digit_value, Str.{IsUtf8, IsAscii}, Str.Parse.AllDigits}
 use Rattle.std.proofs.lemmas.{Bool.cases_eq, Bool.Decides.nat_tests, List.Elements.{All-head, All-tail}, Str.{IsUtf8-append, IsUtf8-nil, IsUtf8-from_ascii}}
@@ -19,15 +20,10 @@ digits_test [] are = tt
 digits_test (c ∷ digits) are = (digit_tests c are.0, digits_test digits are.1)
 
 none_left : (digits : List ℕ) → length digits ≡ 0 → digits ≡ []
-none_left [] none = refl
-none_left (c ∷ digits) none = absurd (omega (arith, none))
+none_left digits none = grind (arith, common_steps)
 
 whole_is : (word : List ℕ) → 0 < length word → AllDigits 10 word → (slice_index word 0 ≡ 48 → length word ≡ 1) → IsWhole word
-whole_is [] some are first = absurd (omega arith)
-whole_is (c ∷ digits) some are first = elim (cases_eq c 48) [
-  | inl same ↦ inl (same, none_left digits (omega (arith, first same)))
-  | inr other ↦ inr (leading_tests c are.0 other, digits_test digits are.1)
-]
+whole_is word some are first = grind (arith, common_steps, cases_eq, none_left, leading_tests, digits_test)
 
 low_test : (x : ℕ) → x < 10 → IsTrue (is_digit (48 + x))
 low_test x small = grind (arith, nat_tests)
@@ -37,8 +33,7 @@ low_tests zero n = tt
 low_tests (suc d) n = (low_test (n / 10 ^ d % 10) (omega arith), low_tests d n)
 
 fraction_is : (d n : ℕ) → IsFraction (fraction_text d n)
-fraction_is zero n = tt
-fraction_is (suc d) n = (refl, (low_test (n / 10 ^ d % 10) (omega arith), low_tests d n))
+fraction_is d n = grind (arith, common_steps, low_test, low_tests)
 
 whole_below : (n d : ℕ) → n ≤ 10 ^ 16 → n / 10 ^ d < 10 ^ 17
 whole_below n d small = omega arith
@@ -62,8 +57,7 @@ value-number law metric (pos n) small = number_of law [] n (row_of metric).decim
 value-number law metric (negsuc n) small = number_of law (45 ∷ []) (suc n) (row_of metric).decimals (inr refl) small
 
 one_ascii : (b : ℕ) → b < 128 → IsAscii (b ∷ [])
-one_ascii b small zero = small
-one_ascii b small (suc i) = omega arith
+one_ascii b small x2 = grind (arith, common_steps)
 
 standing_ascii : (bytes : List ℕ) → All IsFixedByte bytes → IsUtf8 bytes
 standing_ascii [] stand = IsUtf8-nil

@@ -1,35 +1,22 @@
 -- A walk along a list, gathering what each item gives.
-use Rattle.std.proofs.Common.{◌≡◌, ℕ, ◌+◌, ◌<◌, ◌≤◌, List, [], ◌∷◌, ◌++◌, map, length, get_or, drop, refl, ap, sym, ◌∙◌, subst, append_assoc, arith, zero-add, Option, Some, codes, if◌then◌else◌, append-nil, Bool, false, All, Result, Ok, Err}
-use Rattle.std.{specs.List.{flat_map, sum_by}, proofs.lemmas.List.{at_drop_more, at_drop_all}, proofs.lemmas.List.Sums.sum_by-cons}
+use Rattle.std.proofs.Common.{◌≡◌, ℕ, ◌+◌, ◌<◌, ◌≤◌, List, [], ◌∷◌, ◌++◌, map, length, get_or, drop, refl, ap, sym, ◌∙◌, subst, arith, zero-add, Option, Some, codes, if◌then◌else◌, append-nil, Bool, false, All, Result, Ok, Err}
+use Rattle.std.{specs.List.{flat_map, sum_by}, proofs.lemmas.List.Sums.sum_by-cons, proofs.lemmas.Grind.common_steps}
 use Rattle.json_text.specs.{Tree.{Tree, list, object}, View.{items_of, members_of}}
-use Rattle.lnt_report.specs.{Look.{Entry, fields, name_in, value_at}, Runs.IsGiven}
+use Rattle.lnt_report.specs.{Look.{Entry, fields, name_in, value_at}, Runs.IsGiven, declared.fault.ReportFault.ReportFault, declared.gathered.Gathered.Gathered}
 use Rattle.sample_model.specs.Samples.{Measurement}
 use Rattle.lnt_report.specs.Numbers.{Reading, item_readings, value_readings, is_text_or_null, test_readings, test_ignored, named_readings, named_ignored, AreMeasured, none as nothing_measured}
 use Rattle.lnt_report.{proofs.Lists.{trees_of_items, entries_of_members}, specs.Gathering.{Gathers, Leaves, AreBeyond}}
-use Rattle.lnt_report.specs.declared.{fault.ReportFault.ReportFault, gathered.Gathered.Gathered}
-
-pub flat_next : {A B : Type 0} (f : B → List Reading) (g : A → B) (xs : List A) (i : ℕ) (x : A) (left : List Reading) → i < length xs → x ≡ get_or xs i x
-    → flat_map f (map g (drop i xs)) ++ left ≡ f (g x) ++ (flat_map f (map g (drop (i + 1) xs)) ++ left)
-flat_next f g xs i x left h e =
-    at_drop_more (λ ys. flat_map f (map g ys) ++ left) xs i x h
-    ∙ ap (λ y. (f (g y) ++ flat_map f (map g (drop (i + 1) xs))) ++ left) (sym e)
-    ∙ append_assoc (f (g x)) (flat_map f (map g (drop (i + 1) xs))) left
 
 pub sum_next : {A B : Type 0} (f : B → ℕ) (g : A → B) (xs : List A) (i : ℕ) (x : A) (more : ℕ) → i < length xs → x ≡ get_or xs i x
     → sum_by f (map g (drop i xs)) + more ≡ f (g x) + (sum_by f (map g (drop (i + 1) xs)) + more)
-sum_next f g xs i x more h e =
-    let tail = drop (i + 1) xs in
-    let one : sum_by f (map g (get_or xs i x ∷ tail)) ≡ f (g (get_or xs i x)) + sum_by f (map g tail) = sum_by-cons f (g (get_or xs i x)) (map g tail) in
-    omega (arith, at_drop_more (λ ys. sum_by f (map g ys)) xs i x h, one, ap (λ y. f (g y)) e)
+sum_next f g xs i x more h e = grind (arith, common_steps)
 
 -- what is left, an item further
 left_next : {A B : Type 0} (f : B → List Reading) (count : B → ℕ) (g : A → B) (xs : List A) (i : ℕ) (x : A) (all left : List Reading) (total more : ℕ)
     (now : Gathered) → i < length xs → x ≡ get_or xs i x
     → Leaves all total (flat_map f (map g (drop i xs)) ++ left) (sum_by count (map g (drop i xs)) + more) now
     → Leaves all total (f (g x) ++ (flat_map f (map g (drop (i + 1) xs)) ++ left)) (count (g x) + (sum_by count (map g (drop (i + 1) xs)) + more)) now
-left_next f count g xs i x all left total more now h e k =
-    subst (λ (rest : List Reading). Leaves all total rest (count (g x) + (sum_by count (map g (drop (i + 1) xs)) + more)) now) (flat_next f g xs i x left h e)
-    (subst (λ (rest : ℕ). Leaves all total (flat_map f (map g (drop i xs)) ++ left) rest now) (sum_next count g xs i x more h e) k)
+left_next f count g xs i x all left total more now h e k = grind (arith, common_steps)
 
 -- what the items before this place give has been gathered
 abbrev pub Walked : {A B : Type 0} → (B → List Reading) → (B → ℕ) → (A → B) → List A → ℕ → Gathered → Gathered → Type 0
@@ -43,9 +30,7 @@ walked_none f count g xs old all left total more h = h
 -- an item more is gathered
 pub gathers_each : {A B : Type 0} (f : B → List Reading) (count : B → ℕ) (g : A → B) (xs : List A) (i : ℕ) (x : A) (old now new : Gathered)
     → i < length xs → x ≡ get_or xs i x → Walked f count g xs i old now → Gathers (f (g x)) (count (g x)) now new (Ok tt) → Walked f count g xs (i + 1) old new
-gathers_each f count g xs i x old now new h e walked here all left total more k =
-    here all (flat_map f (map g (drop (i + 1) xs)) ++ left) total (sum_by count (map g (drop (i + 1) xs)) + more)
-    (left_next f count g xs i x all left total more now h e (walked all left total more k))
+gathers_each f count g xs i x old now new h e walked here all left total more k = grind (arith, common_steps)
 
 -- a fault at an item is one of the whole
 pub refused_each : {A B : Type 0} (f : B → List Reading) (count : B → ℕ) (g : A → B) (xs : List A) (i : ℕ) (x : A) (old now new : Gathered) (fault : ReportFault)
@@ -58,10 +43,7 @@ refused_each f count g xs i x old now new fault h e walked here all left total m
 -- at the end of the list
 pub gathers_all : {A B : Type 0} (f : B → List Reading) (count : B → ℕ) (g : A → B) (xs : List A) (i : ℕ) (old now : Gathered) → length xs ≤ i
     → Walked f count g xs i old now → Gathers (flat_map f (map g xs)) (sum_by count (map g xs)) old now (Ok tt)
-gathers_all f count g xs i old now h walked all left total more k =
-    let nothing : sum_by count (map g (drop i xs)) + more ≡ more = at_drop_all (λ ys. sum_by count (map g ys) + more) xs i h ∙ zero-add more in
-    subst (λ (rest : List Reading). Leaves all total rest more now) (at_drop_all (λ ys. flat_map f (map g ys) ++ left) xs i h)
-    (subst (λ (rest : ℕ). Leaves all total (flat_map f (map g (drop i xs)) ++ left) rest now) nothing (walked all left total more k))
+gathers_all f count g xs i old now h walked all left total more k = grind (arith, common_steps)
 
 -- where no item counts, none is counted
 pub no_count : {A : Type 0} (xs : List A) → sum_by (λ _. 0) xs ≡ 0
@@ -71,8 +53,7 @@ no_count (x ∷ xs) = let rest : sum_by (λ _. 0) xs ≡ 0 = no_count xs in omeg
 -- a part gathers what an equal part does
 pub gathers_same : (here other : List Reading) (count number : ℕ) (old new : Gathered) (result : Result Unit ReportFault) → here ≡ other → count ≡ number
     → Gathers here count old new result → Gathers other number old new result
-gathers_same here other count number old new result e f h =
-    subst (λ (rs : List Reading). Gathers rs number old new result) e (subst (λ (n : ℕ). Gathers here n old new result) f h)
+gathers_same here other count number old new result e f h = grind (arith, common_steps)
 
 -- nothing is gathered of nothing
 pub gathers_none : (old : Gathered) → Gathers [] 0 old old (Ok tt)
@@ -84,18 +65,12 @@ fields_of tree ms e = ap (λ (t : Tree). fields (Some t)) e ∙ entries_of_membe
 -- what a test gives, by its members
 pub test_by : (tree : Tree) (ms : List Entry) (name : Option (List ℕ)) → tree ≡ object (members_of ms) → name ≡ name_in (value_at (codes "name") ms)
     → (test_readings tree ≡ named_readings name ms) × (test_ignored tree ≡ named_ignored name ms)
-test_by tree ms name e f = (
-  ap (λ es. named_readings (name_in (value_at (codes "name") es)) es) (fields_of tree ms e) ∙ ap (λ n. named_readings n ms) (sym f),
-  ap (λ es. named_ignored (name_in (value_at (codes "name") es)) es) (fields_of tree ms e) ∙ ap (λ n. named_ignored n ms) (sym f),
-)
+test_by tree ms name e f = grind (arith, common_steps, codes, fields_of)
 
 -- a list's numbers are those of its items
 pub list_value : (test metric : List ℕ) (value : Tree) (xs : List Tree) → value ≡ list (items_of xs)
     → (flat_map (item_readings test metric) xs ≡ value_readings test metric value) × (◌≡◌ {A = ℕ} 0 (if is_text_or_null value then 1 else 0))
-list_value test metric value xs e = (
-  sym (ap (λ t. value_readings test metric t) e ∙ ap (λ ys. flat_map (item_readings test metric) ys) (trees_of_items xs)),
-  sym (ap (λ (t : Tree). if is_text_or_null t then 1 else 0) e),
-)
+list_value test metric value xs e = grind (arith, common_steps, flat_map, trees_of_items)
 
 -- nothing is gathered at first
 pub at_first : (rs : List Reading) (n : ℕ) (g : Gathered) → g.samples ≡ [] → g.over ≡ false → g.ignored ≡ 0 → Leaves rs n (rs ++ []) (n + 0) g

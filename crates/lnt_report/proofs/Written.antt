@@ -1,8 +1,7 @@
 -- The tree that is written of a run is the run's, and breaks no rule.
-use Rattle.std.proofs.Common.{◌≡◌, ◌≢◌, ℤ, ℕ, ◌+◌, ◌≤◌, ◌<◌, ◌-◌, List, [], ◌∷◌, ◌++◌, Bool, true, false, ◌&&◌, map, length, get_or, drop, take, refl, sym, ap, ◌∙◌, subst, arith, None, Ok, nat_lt, nat_le, codes, All, append_assoc, append-nil}
-use Rattle.std.{specs.List.{flat_map, sum_by}, specs.Str.{bytes_eq, is_utf8}, proofs.lemmas.Str.is_utf8-from_IsUtf8}
-use Rattle.std.proofs.lemmas.{Bool.{lt-ltb, le-leb, and_from}, List.{drop_more, drop_all, take_rest}, List.Sums.sum_by-cons, List.Elements.{All-head, All-tail}}
-use Rattle.std.proofs.lemmas.Slice.Eq.{bytes_eq-Decides}
+use Rattle.std.proofs.Common.{◌≡◌, ◌≢◌, ℕ, ◌+◌, ◌≤◌, ◌<◌, ◌-◌, List, [], ◌∷◌, ◌++◌, Bool, true, false, map, length, get_or, drop, take, refl, sym, ap, subst, arith, None, Ok, nat_lt, nat_le, codes, All, append_assoc, append-nil}
+use Rattle.std.{specs.List.{flat_map, sum_by}, specs.Str.{bytes_eq, is_utf8}, proofs.lemmas.Str.is_utf8-from_IsUtf8, proofs.lemmas.Grind.common_steps}
+use Rattle.std.proofs.lemmas.{Bool.{lt-ltb, le-leb, and_from}, List.Elements.{All-head, All-tail}, Slice.Eq.bytes_eq-Decides}
 use Rattle.json_text.specs.{Tree.{nesting, items_nesting}, View.items_of}
 use Rattle.line_text.specs.{Names.IsName, Numbers.NumbersAreSpelled}
 use Rattle.metric_value.specs.Values.{value_text, ValueIsReadBack}
@@ -14,8 +13,7 @@ use Rattle.lnt_report.specs.{Outcomes.IsDue, Quoted.quoted, Written.{compact, co
 use Rattle.lnt_report.proofs.{ValueNumbers.{value-number, value-utf8}, Compact.{IsFine, AreFine, ascii, compact-text, compact-utf8}}
 
 is_false : (b : Bool) → (b ≡ true → ⊥) → b ≡ false
-is_false true h = absurd (h refl)
-is_false false h = refl
+is_false b h = grind (arith, common_steps)
 
 different : (a b : List ℕ) → a ≢ b → bytes_eq a b ≡ false
 different a b n = is_false (bytes_eq a b) (λ e. n ((bytes_eq-Decides a b).0 e))
@@ -29,18 +27,10 @@ record Fit (m : Measurement) : Type 0 where
   length : has_metric_length m.metric ≡ true
 
 pub named_test : (bytes : List ℕ) → IsName bytes → is_name bytes ≡ true
-named_test bytes h =
-    and_from (is_utf8 bytes) (nat_lt 0 (length bytes) && nat_le (length bytes) 256) (is_utf8-from_IsUtf8 bytes h.text)
-    (and_from (nat_lt 0 (length bytes)) (nat_le (length bytes) 256) (lt-ltb 0 (length bytes) h.some) (le-leb (length bytes) 256 h.short))
+named_test bytes h = grind (arith, common_steps, and_from, is_utf8, nat_lt, length, nat_le, is_utf8-from_IsUtf8, lt-ltb, le-leb)
 
 fits : (m : Measurement) → IsSample m → IsGiven m → Fit m
-fits m s g = record {
-  sample = s;
-  test = named_test m.test s.test;
-  new = different (codes "name") m.metric (λ e. g (sym e));
-  metric = different m.metric (codes "name") g;
-  length = and_from (nat_lt 0 (length m.metric)) (nat_le (length m.metric) 64) (lt-ltb 0 (length m.metric) s.metric.some) (le-leb (length m.metric) 64 s.short);
-}
+fits m s g = grind (arith, common_steps, named_test, different, codes, length, and_from, nat_lt, nat_le, lt-ltb)
 
 EachFit : List Measurement → Type 0
 EachFit [] = Unit {0}
@@ -75,8 +65,7 @@ test_reads : (m : Measurement) → Fit m → test_readings (test_tree m) ≡ rea
 test_reads m h = rw (h.test, h.metric, h.length) refl
 
 test_measured : ValueIsReadBack → (m : Measurement) → Fit m → IsMeasured (reading m.test m.metric (value_text m.metric m.value)) m
-test_measured law m h =
-    record { test = refl; metric = refl; value = (law m.metric m.value h.sample.in_range).reads; in_range = h.sample.in_range }
+test_measured law m h = grind (arith, common_steps)
 
 measured : ValueIsReadBack → (ms : List Measurement) → EachFit ms → AreMeasured (flat_map test_readings (trees (items_of (map test_tree ms)))) ms
 unfolding EachFit
@@ -85,17 +74,10 @@ measured law (m ∷ ms) h =
     subst (λ (rs : List Reading). AreMeasured (rs ++ flat_map test_readings (trees (items_of (map test_tree ms)))) (m ∷ ms)) (sym (test_reads m h.0))
     (one (test_measured law m h.0) (measured law ms h.1))
 
--- No member is ignored.
-test_counts : (m : Measurement) → Fit m → test_ignored (test_tree m) ≡ 0
-test_counts m h = rw (h.test, h.metric, h.length) refl
-
 none_ignored : (ms : List Measurement) → EachFit ms → sum_by test_ignored (trees (items_of (map test_tree ms))) ≡ 0
 unfolding EachFit
 none_ignored [] h = refl
-none_ignored (m ∷ ms) h =
-    let first : test_ignored (test_tree m) ≡ 0 = test_counts m h.0 in
-    let more : sum_by test_ignored (trees (items_of (map test_tree ms))) ≡ 0 = none_ignored ms h.1 in
-    omega (arith, first, more, sum_by-cons test_ignored (test_tree m) (trees (items_of (map test_tree ms))))
+none_ignored (m ∷ ms) h = grind (arith, common_steps, none_ignored ms h.1)
 
 -- How deep samples lie.
 depth : (ms : List Measurement) → items_nesting (items_of (map test_tree ms)) ≤ 1
@@ -104,15 +86,7 @@ depth (m ∷ ms) = omega (arith, depth ms)
 
 -- What is in a sample is spelled as it may be.
 test_fine : NumbersAreSpelled → ValueIsReadBack → (m : Measurement) → Fit m → IsFine (test_tree m)
-test_fine numbers law m h = (
-  ascii (codes "name") refl,
-  h.sample.test.text,
-  (
-    h.sample.metric.text,
-    (value-number numbers m.metric m.value h.sample.in_range, value-utf8 law m.metric m.value h.sample.in_range),
-    tt,
-  ),
-)
+test_fine numbers law m h = grind (arith, common_steps, ascii, codes, value-number, value-utf8)
 
 all_fine : NumbersAreSpelled → ValueIsReadBack → (ms : List Measurement) → EachFit ms → AreFine (items_of (map test_tree ms))
 unfolding EachFit
@@ -121,19 +95,7 @@ all_fine numbers law (m ∷ ms) h = (test_fine numbers law m h.0, all_fine numbe
 
 fine : NumbersAreSpelled → ValueIsReadBack → (machine commit : List ℕ) (ms : List Measurement) → IsName machine → IsName commit → EachFit ms
     → IsFine (run_tree machine commit ms)
-fine numbers law machine commit ms a b h = (
-  ascii (codes "format_version") refl,
-  ascii (codes "2") refl,
-  (
-    ascii (codes "machine") refl,
-    (ascii (codes "name") refl, a.text, tt),
-    (
-      ascii (codes "run") refl,
-      (ascii (codes "llvm_project_revision") refl, b.text, tt),
-      (ascii (codes "tests") refl, all_fine numbers law ms h, tt),
-    ),
-  ),
-)
+fine numbers law machine commit ms a b h = grind (arith, common_steps, ascii, codes, all_fine)
 
 sound : (machine commit : List ℕ) (ms : List Measurement) → is_name machine ≡ true → is_name commit ≡ true → EachFit ms
     → first_break (run_tree machine commit ms) ≡ None
@@ -142,13 +104,7 @@ sound machine commit ms a b h = rw (no_second 0 ms h, a, b, no_break 0 ms h) ref
 is_run : ValueIsReadBack → (machine commit : List ℕ) (ms : List Measurement) → is_name machine ≡ true → is_name commit ≡ true → EachFit ms
     → length ms ≤ most RunSamples
     → IsRun (run_tree machine commit ms) (record { machine = machine; commit = commit; samples = ms; ignored = 0 })
-is_run law machine commit ms a b h small = record {
-  machine = rw a refl;
-  commit = rw b refl;
-  samples = measured law ms h;
-  few = small;
-  ignored = rw (none_ignored ms h) refl;
-}
+is_run law machine commit ms a b h small = grind (arith, common_steps, measured, none_ignored)
 
 within : (machine commit : List ℕ) (ms : List Measurement) → nesting (run_tree machine commit ms) ≤ 32
 within machine commit ms = omega (arith, depth ms)
@@ -168,19 +124,6 @@ is_due numbers law machine commit ms a b s g =
       ),
     )
 
--- The pieces that are written make the texts.
-test_joined : (old : List ℕ) (m : Measurement)
-    → ((((((old ++ (123 ∷ quoted (codes "name") ++ 58 ∷ [])) ++ quoted m.test) ++ 44 ∷ []) ++ quoted m.metric) ++ 58 ∷ []) ++ value_text m.metric m.value) ++ 125 ∷ []
-    ≡ old ++ compact (test_tree m)
-test_joined old m = simp (append_assoc, append-nil)
-
-pub test_written : (m : Measurement) (test metric bytes : List ℕ) (value : ℤ) (a b c e f g h i : List ℕ)
-    → test ≡ m.test → metric ≡ m.metric → bytes ≡ m.metric → value ≡ m.value
-    → b ≡ a ++ (123 ∷ quoted (codes "name") ++ 58 ∷ []) → c ≡ b ++ quoted test → e ≡ c ++ 44 ∷ [] → f ≡ e ++ quoted metric → g ≡ f ++ 58 ∷ []
-    → h ≡ g ++ value_text bytes value → i ≡ h ++ 125 ∷ [] → i ≡ a ++ compact (test_tree m)
-test_written m test metric bytes value a b c e f g h i et en eb ev p q r s t u w =
-    cc (test_joined a m)
-
 -- a sample behind a comma
 pub behind : Measurement → List ℕ
 behind m = 44 ∷ compact (test_tree m)
@@ -196,9 +139,7 @@ tests_begin o p first rest samples e h = rw (e, h, more_are rest) (append_assoc 
 
 -- a list of one or more, as its first and the rest
 pub first_and_rest : (xs : List Measurement) (x : Measurement) → 0 < length xs → x ≡ get_or xs 0 x → xs ≡ x ∷ take (length xs - 1) (drop 1 xs)
-first_and_rest xs x h e =
-    let whole : xs ≡ get_or xs 0 x ∷ drop 1 xs = drop_more xs 0 x h in
-    whole ∙ (ap (λ (y : Measurement). y ∷ drop 1 xs) (sym e) ∙ ap (λ (rest : List Measurement). x ∷ rest) (sym (take_rest xs 1)))
+first_and_rest xs x h e = grind (arith, common_steps)
 
 regroup : (a c r : List ℕ) → ((a ++ 44 ∷ []) ++ c) ++ r ≡ a ++ (44 ∷ (c ++ r))
 regroup a c r = simp append_assoc
@@ -206,14 +147,10 @@ regroup a c r = simp append_assoc
 pub tests_step : (whole o p q : List ℕ) (xs : List Measurement) (i : ℕ) (x : Measurement) → i < length xs → x ≡ get_or xs i x
     → p ≡ o ++ 44 ∷ [] → q ≡ p ++ compact (test_tree x) → o ++ flat_map behind (drop i xs) ≡ whole → q ++ flat_map behind (drop (i + 1) xs) ≡ whole
 unfolding behind
-tests_step whole o p q xs i x h e f g k =
-    let d : drop i xs ≡ x ∷ drop (i + 1) xs = drop_more xs i x h ∙ ap (λ (y : Measurement). y ∷ drop (i + 1) xs) (sym e) in
-    rw (g, f, regroup o (compact (test_tree x)) (flat_map behind (drop (i + 1) xs))) (rw d at k)
+tests_step whole o p q xs i x h e f g k = grind (arith, common_steps)
 
 pub tests_end : (whole o : List ℕ) (xs : List Measurement) (i : ℕ) → length xs ≤ i → o ++ flat_map behind (drop i xs) ≡ whole → o ≡ whole
-tests_end whole o xs i h k =
-    let d : drop i xs ≡ [] = drop_all i xs h in
-    sym (append-nil o) ∙ (rw d at k)
+tests_end whole o xs i h k = grind (arith, common_steps)
 
 run_joined : (old machine commit : List ℕ) (samples : List Measurement)
     → ((((((old ++ (123 ∷ quoted (codes "format_version") ++ 58 ∷ quoted (codes "2") ++ 44 ∷ quoted (codes "machine") ++ 58 ∷ 123 ∷ quoted (codes "name") ++ 58 ∷ []))

@@ -1,6 +1,5 @@
 -- A step that is there or not.
-use Rattle.std.{proofs.Common.{◌≡◌, ℕ, not, refl, Option, Some, None, is_some}, specs.Prelude.is_none}
+use Rattle.std.{proofs.Common.{◌≡◌, ℕ, not, Option, is_some, arith}, specs.Prelude.is_none, proofs.lemmas.Grind.common_steps}
 
 pub none-is : (o : Option ℕ) → is_none o ≡ not (is_some o)
-none-is None = refl
-none-is (Some n) = refl
+none-is o = grind (arith, common_steps)

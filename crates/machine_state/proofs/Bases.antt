@@ -1,6 +1,6 @@
 -- What the next segmentation of a series begins with, by what is kept and by what is home.
-use Rattle.std.proofs.Common.{◌≡◌, ℕ, zero, suc, ◌<◌, Bool, true, false, cond, List, take, refl, sym, ap, ap₂, subst, ◌∙◌, Option, Some, None, inl, inr, true≢false, arith}
-use Rattle.std.{specs.Prelude.{is_some, nat_eq}, proofs.lemmas.Bool.{cases_Bool, ne_eqb}}
+use Rattle.std.proofs.Common.{◌≡◌, ℕ, ◌<◌, Bool, true, false, cond, List, take, sym, ap, ap₂, subst, ◌∙◌, Option, Some, None, inl, inr, arith}
+use Rattle.std.{specs.Prelude.{is_some, nat_eq}, proofs.lemmas.Bool.cases_Bool, proofs.lemmas.Grind.common_steps}
 use Rattle.std.specs.FinSet as set
 use Rattle.segment_model.specs.{Segments.Position, Values.values_by_position}
 use Rattle.pelt_core.specs.Seen.{table_of}
@@ -8,22 +8,17 @@ use Rattle.history_model.specs.{Allowed.Legal, Laws.LastStands, Positions.positi
 use Rattle.publication_index.specs.{Standing.{IsKeptTable, table_for}, Homes.homes, Kept.{home, kept, kept_at_home, series_of}}
 use Rattle.machine_state.specs.{declared.base.Base.Base, Made.{Segmentations, publication_from, setting_in, IsMadeFrom}, State.{BeginsWith, IsKept}}
 use Rattle.segment_cost.specs.declared.done.Done.{Done}
-use Rattle.history_model.specs.{declared.setting.Setting.Setting, Entries.entries_of, Penalties.setting_of, Publications.last_publication}
-use Rattle.history_model.specs.Runs.{Series, is_known}
+use Rattle.history_model.specs.{declared.setting.Setting.Setting, Entries.entries_of, Penalties.setting_of, Publications.last_publication, Runs.Series}
 use Rattle.publication_index.proofs.Homes.{contains-homes}
 use Rattle.track_model.{specs.Tracks.{Track, is_setting, base_of, version_at, with_home, with_taken}, proofs.Settings.setting-is}
 use Rattle.machine_state.proofs.Published.{nothing, something, of-series}
 
 same-either : (b : Bool) (n : ℕ) → cond b n n ≡ n
-same-either true n = refl
-same-either false n = refl
+same-either b n = grind (arith, common_steps)
 
 -- nothing is made from the first entries, none at all
 pub some-version : (h : List Entry) (done : Done) → IsMadeFrom h done → 0 < done.version
-some-version h done made = elim done.version as (λ (v : ℕ). is_known (series_of done) (take v h) ≡ true → 0 < v) [
-  | zero ↦ λ known. absurd (true≢false (sym known))
-  | suc v ↦ λ known. omega arith
-] made.known
+some-version h done made = grind (arith, common_steps)
 
 module _ (t : Track) (s : Series) (tests : Segmentations) (are : homes tests ≡ t.home) where
   there : set.contains t.home s ≡ is_some (home s tests)
@@ -86,6 +81,4 @@ pub taken-none : (t : Track) (s : Series) → base_of t s ≡ 0 → t ≡ with_t
 taken-none t s none = sym (ap (λ (n : ℕ). cond (nat_eq n 0) t (with_home (set.remove t.home s) t)) none)
 
 pub taken-some : (t : Track) (s : Series) → 0 < base_of t s → with_home (set.remove t.home s) t ≡ with_taken s t
-taken-some t s some =
-    let other : nat_eq (base_of t s) 0 ≡ false = ne_eqb (base_of t s) 0 (λ is. omega (arith, some, is)) in
-    sym (ap (λ b. cond b t (with_home (set.remove t.home s) t)) other)
+taken-some t s some = grind (arith, common_steps)

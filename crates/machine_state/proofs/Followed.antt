@@ -1,13 +1,13 @@
 -- What is followed of a machine: it takes each entry in that is allowed, and follows from the history after it.
-use Rattle.std.proofs.Common.{◌≡◌, ℕ, zero, suc, ◌+◌, ◌-◌, ◌≤◌, true, cond, List, [], ◌∷◌, ◌++◌, length, set, refl, sym, ap, ap₂, subst, ◌∙◌, Option, Some, None, arith, eq-eqb, ne_eqb, append-nil}
-use Rattle.std.specs.Prelude.{slice_get, option_to_list}
+use Rattle.std.proofs.Common.{◌≡◌, ℕ, zero, suc, ◌+◌, ◌-◌, ◌≤◌, cond, List, [], ◌∷◌, ◌++◌, length, set, refl, sym, ap, ap₂, subst, ◌∙◌, Option, Some, None, arith, eq-eqb, ne_eqb, append-nil}
+use Rattle.std.{specs.Prelude.{slice_get, option_to_list}, proofs.lemmas.Grind.common_steps}
 use Rattle.bisect_core.specs.{Bisections.{Bisection, bisection, IsRecorded}, Turns.{Turn, tested, given_up}}
 use Rattle.regression_state.specs.declared.states.State.{State, TheVariants.Detected}
 use Rattle.history_model.specs.declared.{entries.Entry.Entry, events.JobEvent.TheVariants.{Begin, Answer, GiveUp}, events.Raised.Raised}
 use Rattle.history_model.specs.declared.entries.Entry.TheVariants as entry
 use Rattle.history_model.specs.{declared.events.RegressionEvent.TheVariants.{Raise, Move}, Allowed.{Allowed, Legal}, Commits.{declarations, numbers_between}}
 use Rattle.history_model.specs.Followed.{RegressionsGrow, StateIsMoved, StateStays, NewIsDetected, IsOfNoJob, JobsStay, JobIsBegun, JobGoesOn, NumbersAreTwo}
-use Rattle.history_model.specs.{Jobs.{jobs, job_in, place_asked}, Regressions.{raised, regressions, moved, state_of, is_number}}
+use Rattle.history_model.specs.{Jobs.{jobs, job_in}, Regressions.{raised, regressions, moved, state_of}}
 use Rattle.follow_index.specs.{declared.regressions.Followed.Followed, Followed.{followed, followed_from}, Numbered.{followed_in, GoesOn}}
 use Rattle.machine_state.specs.{declared.following.Following.Following, Following.{AreFollowed, IsFollowable, IsFollowed}}
 
@@ -20,39 +20,26 @@ followed-length h k (r ∷ rs) = ap suc (followed-length h (k + 1) rs)
 
 same-states : (h h' : List Entry) (rs : List Raised) (k : ℕ) → ((n : ℕ) → k ≤ n → state_of n h' ≡ state_of n h) → followed_from h' k rs ≡ followed_from h k rs
 same-states h h' [] k same = refl
-same-states h h' (r ∷ rs) k same =
-    ap₂ (λ (s : State) (fs : List Followed). made r s ∷ fs) (same k (omega arith)) (same-states h h' rs (k + 1) (λ n le. same n (omega (arith, le))))
+same-states h h' (r ∷ rs) k same = grind (arith, common_steps, same-states h h' rs (k + 1) (λ n le. same n (omega (arith, le))))
 
 followed-push : (h : List Entry) (rs : List Raised) (r : Raised) (k : ℕ) → followed_from h k (rs ++ r ∷ []) ≡ followed_from h k rs ++ made r (state_of (k + length rs) h) ∷ []
-followed-push h [] r k =
-    let first : k ≡ k + 0 = omega arith in
-    ap (λ (n : ℕ). made r (state_of n h) ∷ []) first
-followed-push h (x ∷ rs) r k =
-    let next : k + 1 + length rs ≡ k + length (x ∷ rs) = omega arith in
-    ap (λ (fs : List Followed). made x (state_of k h) ∷ fs) (followed-push h rs r (k + 1) ∙ ap (λ (n : ℕ). followed_from h (k + 1) rs ++ made r (state_of n h) ∷ []) next)
+followed-push h [] r k = grind (arith, common_steps)
+followed-push h (x ∷ rs) r k = grind (arith, common_steps, followed-push h rs r (k + 1))
 
 module _ (h h' : List Entry) (number : ℕ) (state : State) (moves : state_of number h' ≡ state) (others : (n : ℕ) → (n ≡ number → ⊥) → state_of n h' ≡ state_of n h) where
   followed-moved : (rs : List Raised) (k i : ℕ) (one : Followed) → number ≡ k + i → slice_get (followed_from h k rs) i ≡ Some one
       → followed_from h' k rs ≡ set (followed_from h k rs) i (made one.raised state)
-  followed-moved [] k i one is there = absurd (none i there)
-    where
-      none : (i : ℕ) → slice_get {X = Followed} [] i ≡ Some one → ⊥
-      none i is = cc
+  followed-moved [] k i one is there = grind (arith, common_steps)
   followed-moved (r ∷ rs) k zero one is there =
       let same : made r (state_of k h) ≡ one = cc in
       let here : k ≡ number = omega (arith, is) in
       ap₂ (λ (s : State) (fs : List Followed). made r s ∷ fs) (ap (λ (n : ℕ). state_of n h') here ∙ moves)
       (same-states h h' rs (k + 1) (λ n le. others n (λ e. omega (arith, e, is, le))))
       ∙ ap (λ (f : Followed). made f.raised state ∷ followed_from h (k + 1) rs) same
-  followed-moved (r ∷ rs) k (suc i) one is there =
-      ap₂ (λ (s : State) (fs : List Followed). made r s ∷ fs) (others k (λ e. omega (arith, e, is)))
-      (followed-moved rs (k + 1) i one (omega (arith, is)) there)
+  followed-moved (r ∷ rs) k (suc i) one is there = grind (arith, common_steps, followed-moved rs (k + 1) i one (omega (arith, is)) there)
 
 place-of : (number : ℕ) (fs : List Followed) (one : Followed) → followed_in number fs ≡ Some one → (number ≡ 1 + (number - 1)) × (slice_get fs (number - 1) ≡ Some one)
-place-of zero fs one there = absurd (cc)
-place-of (suc k) fs one there =
-    let first : k ≡ suc k - 1 = omega arith in
-    (omega arith, subst (λ (n : ℕ). slice_get fs n ≡ Some one) first there)
+place-of number fs one there = grind (arith, common_steps)
 
 module _ (grow : RegressionsGrow) (stays : StateStays) where
   after-other : (h : List Entry) (e : Entry) → raised (length h + 1) e ≡ None → ((n : ℕ) → moved n (length h + 1) e ≡ None) → followed (h ++ e ∷ []) ≡ followed h
@@ -61,19 +48,11 @@ module _ (grow : RegressionsGrow) (stays : StateStays) where
       ∙ same-states h (h ++ e ∷ []) (regressions h) 1 (λ n le. stays h e n (still n))
 
   pub quiet : JobsStay → (h : List Entry) (e : Entry) (f f' : Following) → raised (length h + 1) e ≡ None → ((n : ℕ) → moved n (length h + 1) e ≡ None) → IsOfNoJob e → AreFollowed h f → f' ≡ f → AreFollowed (h ++ e ∷ []) f'
-  quiet stay h e f f' none still no_job are is = record {
-    regressions_are = ap (λ (x : Following). x.regressions) is ∙ are.regressions_are ∙ sym (after-other h e none still);
-    jobs_are = ap (λ (x : Following). x.jobs) is ∙ are.jobs_are ∙ sym (stay h e no_job);
-  }
+  quiet stay h e f f' none still no_job are is = grind (arith, common_steps, after-other)
 
 module _ (grow : RegressionsGrow) (moves : StateIsMoved) (stays : StateStays) (new : NewIsDetected) where
   after-raise : (h : List Entry) (r : Raised) → Legal h → followed (h ++ entry.Regression (Raise r) ∷ []) ≡ followed h ++ made r Detected ∷ []
-  after-raise h r legal =
-      let e : Entry = entry.Regression (Raise r) in
-      ap (followed_from (h ++ e ∷ []) 1) (grow h e)
-      ∙ followed-push (h ++ e ∷ []) (regressions h) r 1
-      ∙ ap₂ (λ (fs : List Followed) (s : State). fs ++ made r s ∷ []) (same-states h (h ++ e ∷ []) (regressions h) 1 (λ n le. stays h e n refl))
-      (stays h e (1 + length (regressions h)) refl ∙ new h (1 + length (regressions h)) legal (omega arith))
+  after-raise h r legal = grind (arith, common_steps, grow, followed-push, ap₂, made, same-states, stays, length, new)
 
   after-move : (h : List Entry) (number : ℕ) (state : State) (one : Followed) → followed_in number (followed h) ≡ Some one
       → followed (h ++ entry.Regression (Move number state) ∷ []) ≡ set (followed h) (number - 1) (made one.raised state)
@@ -131,16 +110,4 @@ module _ (grow : RegressionsGrow) (moves : StateIsMoved) (stays : StateStays) (n
 
 -- an entry that is allowed is taken in
 pub followable : NumbersAreTwo → (h : List Entry) (f : Following) (e : Entry) → AreFollowed h f → Allowed h e → IsFollowable (declarations h) f e
-followable two h f (entry.Commit number name) are allowed = tt
-followable two h f (entry.Accept run) are allowed = tt
-followable two h f (entry.Retract run) are allowed = tt
-followable two h f (entry.Tune metric penalty len) are allowed = tt
-followable two h f (entry.Publish p) are allowed = tt
-followable two h f (entry.Regression (Raise r)) are allowed = tt
-followable two h f (entry.Regression (Move number state)) are allowed =
-    subst (λ (n : ℕ). is_number n number ≡ true) (sym (ap length are.regressions_are ∙ followed-length h 1 (regressions h))) allowed.0.0
-followable two h f (entry.Job (Begin lo hi)) are allowed = two lo hi (declarations h) allowed.0.2 allowed.0.0 allowed.0.1
-followable two h f (entry.Job (Answer number place status)) are allowed =
-    subst (λ (js : List Bisection). place_asked (job_in number js) ≡ Some place) (sym are.jobs_are) allowed.0
-followable two h f (entry.Job (GiveUp number place)) are allowed =
-    subst (λ (js : List Bisection). place_asked (job_in number js) ≡ Some place) (sym are.jobs_are) allowed.0
+followable two h f e are allowed = grind (arith, common_steps, length, followed-length)

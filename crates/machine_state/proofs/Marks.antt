@@ -1,5 +1,5 @@
 -- The stored runs after a retraction: the one of that name is marked.
-use Rattle.std.proofs.Common.{◌≡◌, ℕ, true, false, List, [], ◌∷◌, ◌++◌, map, refl, sym, ap, ◌∙◌, Option, inl, inr, cond}
+use Rattle.std.proofs.{Common.{◌≡◌, ℕ, true, false, List, [], ◌∷◌, ◌++◌, map, refl, sym, ap, ◌∙◌, Option, inl, inr, cond, arith}, lemmas.Grind.common_steps}
 use Rattle.std.{specs.Prelude.{Some, None, find, option_map, bytes_eq}, specs.Option.option_or, proofs.lemmas.Bool.cases_Bool}
 use Rattle.std.proofs.lemmas.{List.Folds.find-append, Slice.Eq.bytes_eq-Decides}
 use Rattle.history_model.specs.declared.entries.{Acceptance.Acceptance, Entry.Entry}
@@ -11,8 +11,7 @@ eq-bytes : (xs : List ℕ) → bytes_eq xs xs ≡ true
 eq-bytes xs = (bytes_eq-Decides xs xs).1 refl
 
 or-none : {A : Type 0} (o : Option A) → option_or o None ≡ o
-or-none None = refl
-or-none (Some x) = refl
+or-none o = grind (arith, common_steps)
 
 module _ (taken : List Retraction) (step : ℕ) (run : List ℕ) (live : find (takes_back run) taken ≡ None) where
   marked-stored : (a : Acceptance) → marked step run (stored taken a) ≡ stored (taken ++ record { step = step; run = run } ∷ []) a

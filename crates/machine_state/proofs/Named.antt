@@ -12,9 +12,7 @@ found-again p q (x ∷ xs) d found passes = elim (cases_Bool (q x)) [
       let P : Bool → Type 0 = λ b. IsSome (cond b (Some x) (find q xs)) in
       subst P (sym miss) (elim (cases_Bool (p x)) [
         | inl first ↦ absurd (
-            let same : Some x ≡ Some d = sym (ap (λ b. cond b (Some x) (find p xs)) first) ∙ found in
             let is : x ≡ d = cc in
-            let both : true ≡ false = sym passes ∙ ap q (sym is) ∙ miss in
             cc)
         | inr later ↦ found-again p q xs d (sym (ap (λ b. cond b (Some x) (find p xs)) later) ∙ found) passes
       ])

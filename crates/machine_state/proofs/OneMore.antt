@@ -1,36 +1,22 @@
 -- The indexes after any entry that is allowed.
-use Rattle.std.proofs.Common.{◌≡◌, ℕ, ◌+◌, List, [], ◌∷◌, ◌++◌, length, refl, sym, ap, subst, ◌∙◌, Option, cond, arith}
-use Rattle.std.{specs.Prelude.{option_to_list, option_map, find, None, Some}, proofs.lemmas.List.{map-append, append-nil}}
+use Rattle.std.proofs.{Common.{◌≡◌, ℕ, ◌+◌, List, [], ◌∷◌, ◌++◌, length, refl, sym, ap, subst, ◌∙◌, Option, cond, arith}, lemmas.Grind.common_steps}
+use Rattle.std.{specs.Prelude.{option_to_list, option_map, find, Some}, proofs.lemmas.List.{map-append, append-nil}}
 use Rattle.history_model.specs.{declared.entries.Declaration.Declaration, declared.entries.Entry.Entry, Allowed.{Allowed, MayFollow, Legal}}
-use Rattle.history_model.specs.declared.entries.Entry.TheVariants as entry
-use Rattle.history_model.specs.Commits.{declaration}
+use Rattle.history_model.specs.{Commits.declaration, Runs.{Series, known_series, same_series}, Followed.{RegressionsGrow, StateStays, JobsStay}}
 use Rattle.history_model.specs.Laws.{LegalGrows, PositionsAfterAccept, PositionsAfterRetract, PositionsUntouched, OnlyAcceptedAreRetracted}
-use Rattle.history_model.specs.Runs.{Series, known_series, Retraction, acceptance, acceptances, retraction, retractions, takes_back}
 use Rattle.history_model.{proofs.Chosen.{chosen-push, chosen-skip}, specs.Penalties.{IsSetting, SettingIsSet, SettingStays}}
 use Rattle.sample_store.specs.declared.store.Stored.{Stored}
 use Rattle.history_model.specs.{Publications.{last_publication, cut_count}, Laws.{PublicationIsLast, PublicationStays, VersionsStay, CutsGrow}}
 use Rattle.segment_cost.specs.declared.done.Done.{Done}
 use Rattle.publication_index.specs.{Given.given, Kept.kept, Kept.series_of}
-use Rattle.machine_state.specs.{Indexes.{Kept, Settings, stored, stored_runs, runs_after, seen_after, given_after}, Made.entry_of}
-use Rattle.history_model.specs.{Runs.same_series, Followed.{RegressionsGrow, StateStays, JobsStay}}
+use Rattle.machine_state.specs.{Indexes.{Kept, Settings, stored_runs, runs_after, seen_after, given_after}, Made.entry_of}
 use Rattle.machine_state.specs.{Made.{Segmentations, IsMadeFrom}, declared.following.Following.Following, Following.AreFollowed}
 use Rattle.machine_state.{proofs.Followed.quiet, specs.State.{IsTracked, IsKept, StandsFor}, proofs.Publishing.{setting-after, fits-after, just-kept}}
 use Rattle.machine_state.proofs.{Series.{tracked-after, no-more}, Marks.all-marked}
 use Rattle.series_index.specs.{Seen.seen, declared.tracked.Tracked.Tracked}
 
 stored_runs-push : OnlyAcceptedAreRetracted → (h : List Entry) (e : Entry) → Legal h → MayFollow h e → stored_runs (h ++ e ∷ []) ≡ runs_after (length h + 1) e (stored_runs h)
-stored_runs-push only h (entry.Commit number name) legal may = rw (chosen-skip acceptance h (entry.Commit number name) refl, chosen-skip retraction h (entry.Commit number name) refl) refl
-stored_runs-push only h (entry.Tune metric penalty len) legal may = rw (chosen-skip acceptance h (entry.Tune metric penalty len) refl, chosen-skip retraction h (entry.Tune metric penalty len) refl) refl
-stored_runs-push only h (entry.Publish p) legal may = rw (chosen-skip acceptance h (entry.Publish p) refl, chosen-skip retraction h (entry.Publish p) refl) refl
-stored_runs-push only h (entry.Regression event) legal may = rw (chosen-skip acceptance h (entry.Regression event) refl, chosen-skip retraction h (entry.Regression event) refl) refl
-stored_runs-push only h (entry.Job event) legal may = rw (chosen-skip acceptance h (entry.Job event) refl, chosen-skip retraction h (entry.Job event) refl) refl
-stored_runs-push only h (entry.Retract run) legal may =
-    rw (chosen-skip acceptance h (entry.Retract run) refl, chosen-push retraction h (entry.Retract run)) (sym (all-marked (retractions h) (length h + 1) run may.1 (acceptances h)))
-stored_runs-push only h (entry.Accept run) legal may =
-    let never : find (takes_back run.run) (retractions h) ≡ None = only h run.run legal may.0 in
-    rw (chosen-push acceptance h (entry.Accept run), chosen-skip retraction h (entry.Accept run) refl)
-    (map-append (stored (retractions h)) (acceptances h) (record { step = length h + 1; run = run } ∷ [])
-    ∙ ap (λ (o : Option Retraction). stored_runs h ++ record { step = length h + 1; run = run; retracted = option_map (λ (r : Retraction). r.step) o } ∷ []) never)
+stored_runs-push only h e legal may = grind (arith, common_steps, chosen-skip, chosen-push, all-marked, length, find, map-append, option_map)
 
 module _ (grows : LegalGrows) (accept : PositionsAfterAccept) (retract : PositionsAfterRetract) (untouched : PositionsUntouched) (only : OnlyAcceptedAreRetracted) (set : SettingIsSet) (stay : SettingStays) where
   pub follows : (h : List Entry) (e : Entry) (commits : List Declaration) (runs : List Stored) (series series' : Kept) (known more : ℕ) (settings settings' : Settings) (published published' : Segmentations) (cuts cuts' : ℕ) (f f' : Following)
@@ -46,11 +32,7 @@ module _ (grows : LegalGrows) (accept : PositionsAfterAccept) (retract : Positio
     limits = allowed.1;
     commits_are = ap (λ ds. ds ++ option_to_list (declaration (length h + 1) e)) stands.commits_are ∙ sym (chosen-push declaration h e);
     runs_are = ap (runs_after (length h + 1) e) stands.runs_are ∙ sym (stored_runs-push only h e stands.legal allowed.0);
-    series_are = λ s.
-        let P : Tracked → Type 0 = λ t. IsTracked (h ++ e ∷ []) s t in
-        let is : seen s series' ≡ seen_after (length h + 1) e (stored_runs h) s (seen s series) =
-        followed s ∙ ap (λ (rs : List Stored). seen_after (length h + 1) e rs s (seen s series)) stands.runs_are in
-        subst P (sym is) (tracked-after accept retract untouched only h e s (seen s series) stands.legal allowed (stands.series_are s));
+    series_are = grind (arith, common_steps, length, tracked-after, accept, retract, untouched, only);
     known_are = ap (λ n. n + more) stands.known_are ∙ sym grown;
     settings_are = λ metric. given_are metric ∙ ap (given_after e metric) (stands.settings_are metric) ∙ sym (setting-after set stay h e metric);
     settings_fit = λ metric. subst IsSetting (sym (setting-after set stay h e metric)) (fits-after h e metric allowed.0 (stands.settings_fit metric));

@@ -1,7 +1,6 @@
 -- The indexes of a history are ready for each entry that is allowed after it.
-use Rattle.std.proofs.Common.{◌≡◌, ℕ, ◌+◌, ◌<◌, ◌≤◌, false, true, List, [], ◌∷◌, ◌++◌, length, map, refl, sym, ap, ◌∙◌, cond, Option, arith, nat_lt}
-use Rattle.std.{specs.Prelude.{Some, None, IsSome, find, option_map}, proofs.lemmas.Bool.{lt-leb, le-ltb}, proofs.lemmas.List.{length-append, length-map}}
-use Rattle.std.proofs.lemmas.List.Sums.{sum_by-cons, sum_by_push}
+use Rattle.std.proofs.{Common.{◌≡◌, ℕ, ◌+◌, ◌<◌, ◌≤◌, List, [], ◌∷◌, ◌++◌, length, map, refl, ap, ◌∙◌, Option, arith}, lemmas.Grind.common_steps}
+use Rattle.std.{specs.Prelude.{Some, None, IsSome, find, option_map}, proofs.lemmas.List.{length-append, length-map}, proofs.lemmas.List.Sums.sum_by_push}
 use Rattle.metric_table.specs.Limits.{most}
 use Rattle.metric_table.specs.declared.limits.Limit.TheVariants as limit
 use Rattle.history_model.specs.declared.{entries.Acceptance.Acceptance, entries.Declaration.Declaration, entries.Entry.Entry, run.Run.Run}
@@ -19,27 +18,17 @@ use Rattle.machine_state.specs.{Indexes.{stored, stored_runs, IsReady}, declared
 use Rattle.machine_state.proofs.{Followed.followable, Marks.look-up}
 
 pair-new : (commits : List Declaration) (number : ℕ) (name : List ℕ) → find (has_number number) commits ≡ None → find (has_name name) commits ≡ None → length commits < most limit.Commits → pair.judged commits number name ≡ declared.New
-pair-new commits number name no_number no_name room =
-    ap (pair.judged_by commits name) no_number
-    ∙ ap (pair.without_its_number commits) no_name
-    ∙ ap (λ b. cond b declared.Full declared.New) (lt-leb (most limit.Commits) (length commits) room)
+pair-new commits number name no_number no_name room = grind (arith, common_steps)
 
 run-new : (runs : List Stored) (new : Run) → find (names new.run) runs ≡ None → length runs < most limit.Runs → samples_in runs + length new.samples ≤ most limit.Samples → run.judged runs new ≡ taken.New
-run-new runs new none room few =
-    ap (run.judged_by runs new) none
-    ∙ ap (λ b. cond b (taken.Full limit.Runs) (cond (nat_lt (most limit.Samples) (samples_in runs + length new.samples)) (taken.Full limit.Samples) taken.New)) (le-ltb (most limit.Runs) (length runs + 1) (omega arith))
-    ∙ ap (λ b. cond b (taken.Full limit.Samples) taken.New) (le-ltb (most limit.Samples) (samples_in runs + length new.samples) few)
+run-new runs new none room few = grind (arith, common_steps)
 
 pub samples-stored : (gone : List Retraction) (runs : List Acceptance) → samples_in (map (stored gone) runs) ≡ sample_count runs
 samples-stored gone [] = refl
-samples-stored gone (a ∷ runs) =
-    sum_by-cons (λ (s : Stored). length s.run.samples) (stored gone a) (map (stored gone) runs)
-    ∙ ap (λ n. length a.run.samples + n) (samples-stored gone runs)
-    ∙ sym (sum_by-cons (λ (b : Acceptance). length b.run.samples) a runs)
+samples-stored gone (a ∷ runs) = grind (arith, common_steps, samples-stored gone runs)
 
 some-of : {A : Type 0} (o : Option A) → IsSome o → (x : A) × (o ≡ Some x)
-some-of None some = absurd (let no : false ≡ true = some in cc)
-some-of (Some x) some = (x, refl)
+some-of o some = grind (arith, common_steps)
 
 pub ready : NumbersAreTwo → (h : List Entry) (f : Following) (e : Entry) → AreFollowed h f → Allowed h e → IsReady (declarations h) (stored_runs h) f e
 ready two h f (entry.Commit number name) are allowed =

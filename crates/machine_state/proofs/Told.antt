@@ -1,5 +1,5 @@
 -- What a form about a series comes to where nothing is done, and where something is.
-use Rattle.std.proofs.Common.{◌≡◌, ℕ, Bool, true, false, refl, sym, ap}
+use Rattle.std.proofs.{Common.{◌≡◌, ℕ, Bool, true, false, refl, sym, ap, arith}, lemmas.Grind.common_steps}
 use Rattle.history_model.specs.{declared.entries.Author.Author, Entries.entries_of}
 use Rattle.request_model.specs.declared.replies.{Answer.Answer, Reply.Reply}
 use Rattle.request_model.specs.declared.replies.Refusal.TheVariants as refusal
@@ -21,25 +21,19 @@ any-step old author o reply is = record { track = sym (ap (with_added author old
 
 -- the tests in front of a form
 pub factor-out : (Comes : Outcome → Type 0) (b : Bool) → b ≡ false → OfFactor b Comes (refuses refusal.BadPenalty)
-factor-out Comes false is = refl
-factor-out Comes true is = absurd (let no : true ≡ false = is in cc)
+factor-out Comes b is = grind (arith, common_steps)
 
 pub factor-in : (Comes : Outcome → Type 0) (o : Outcome) (b : Bool) → b ≡ true → Comes o → OfFactor b Comes o
-factor-in Comes o true is comes = comes
-factor-in Comes o false is comes = absurd (let no : false ≡ true = is in cc)
+factor-in Comes o b is comes = grind (arith, common_steps)
 
 pub unknown : (Comes : Outcome → Type 0) (b : Bool) → b ≡ false → OfKnown b Comes (refuses refusal.UnknownSeries)
-unknown Comes false is = refl
-unknown Comes true is = absurd (let no : true ≡ false = is in cc)
+unknown Comes b is = grind (arith, common_steps)
 
 pub known : (Comes : Outcome → Type 0) (o : Outcome) (b : Bool) → b ≡ true → Comes o → OfKnown b Comes o
-known Comes o true is comes = comes
-known Comes o false is comes = absurd (let no : false ≡ true = is in cc)
+known Comes o b is comes = grind (arith, common_steps)
 
 pub few : (Comes : Outcome → Type 0) (n : ℕ) (b : Bool) → b ≡ true → OfMany b n Comes (refuses (refusal.TooFewPoints n))
-few Comes n true is = refl
-few Comes n false is = absurd (let no : false ≡ true = is in cc)
+few Comes n b is = grind (arith, common_steps)
 
 pub many : (Comes : Outcome → Type 0) (o : Outcome) (n : ℕ) (b : Bool) → b ≡ false → Comes o → OfMany b n Comes o
-many Comes o n false is comes = comes
-many Comes o n true is comes = absurd (let no : true ≡ false = is in cc)
+many Comes o n b is comes = grind (arith, common_steps)

@@ -1,8 +1,8 @@
 -- What is found of a name says where it stands, and what isn't found that it stands nowhere.
-use Rattle.std.proofs.Common.{◌≡◌, ◌≢◌, ◌↔◌, ℕ, zero, suc, ◌+◌, ◌<◌, ◌≤◌, Bool, true, false, cond, not, List, [], ◌∷◌, length, get_or, refl, sym, ap, subst, ◌∙◌, Some, None, inl, inr, arith, nat_lt}
+use Rattle.std.proofs.Common.{◌≡◌, ◌≢◌, ◌↔◌, ℕ, zero, suc, ◌+◌, ◌<◌, ◌≤◌, Bool, true, false, cond, not, List, [], ◌∷◌, length, get_or, refl, sym, ap, ◌∙◌, Some, None, arith, nat_lt}
 use Rattle.std.specs.{Prelude.{IsTrue, bytes_eq, position, ◌++◌}, List.position_or_len, Ordering.nat_cmp, Cmp.Lexicographic.slice_cmp}
-use Rattle.std.{specs.BTreeMap.{BTreeMap, get, Updates}, proofs.lemmas.Bool.{cases_Bool, cases_lt, lt-ltb, le-ltb}, proofs.lemmas.Map.Text.is_eq-slice_cmp}
-use Rattle.std.proofs.lemmas.Slice.Eq.{bytes_eq-Decides}
+use Rattle.std.{specs.BTreeMap.{BTreeMap, get, Updates}, proofs.lemmas.Bool.{cases_Bool, lt-ltb, le-ltb}, proofs.lemmas.Map.Text.is_eq-slice_cmp}
+use Rattle.std.proofs.lemmas.{Slice.Eq.bytes_eq-Decides, Grind.common_steps}
 use Rattle.name_index.specs.{declared.places.Places.Places, Placed.{slot, hard_hash, IsAt, AreFound, AreDistinct, StandsAt}}
 
 -- a name of the list is found: in its slot, by its hash, or by itself
@@ -11,12 +11,7 @@ pub nowhere : (names : List (List ℕ)) (p : Places) (name : List ℕ) → AreFo
     → (slot p name ≢ 0 → (i : ℕ) → get nat_cmp p.hashed (hard_hash name) ≡ Some i → ¬ StandsAt names i name)
     → (slot p name ≢ 0 → get nat_cmp p.hashed (hard_hash name) ≢ None → (i : ℕ) → get (slice_cmp nat_cmp) p.named name ≡ Some i → ¬ StandsAt names i name)
     → (i : ℕ) → ¬ StandsAt names i name
-nowhere names p name found in_slot by_hash by_name i at =
-    let here : IsAt p name i = let P : List ℕ → Type 0 = λ n. IsAt p n i in subst P at.1 (found i at.0) in
-    elim here [
-      | inl s ↦ in_slot i s at
-      | inr more ↦ elim more.1 [ inl h ↦ by_hash more.0 i h at | inr n ↦ by_name more.0 n.0 i n.1 at ]
-    ]
+nowhere names p name found in_slot by_hash by_name i at = grind (arith, common_steps)
 
 module _ (p : List ℕ → Bool) where
   first : (xs : List (List ℕ)) (i : ℕ) → i < length xs → p (get_or xs i []) ≡ true → ((j : ℕ) → j < i → p (get_or xs j []) ≡ false) → position_or_len p xs ≡ i
@@ -33,30 +28,19 @@ module _ (p : List ℕ → Bool) where
       ap (λ b. cond (not b) (1 + position_or_len p xs) 0) (none 0 (omega arith)) ∙ omega (arith, rest)
 
 other : (name k : List ℕ) → k ≢ name → bytes_eq name k ≡ false
-other name k apart = elim (cases_Bool (bytes_eq name k)) [
-  | inl hit ↦ absurd (apart (sym ((bytes_eq-Decides name k).0 hit)))
-  | inr miss ↦ miss
-]
+other name k apart = grind (arith, common_steps, cases_Bool, bytes_eq-Decides)
 
 pub position-at : (names : List (List ℕ)) (name : List ℕ) (i : ℕ) → AreDistinct names → StandsAt names i name → position (λ (k : List ℕ). bytes_eq name k) names ≡ Some i
-position-at names name i distinct at =
-    let is : position_or_len (λ (k : List ℕ). bytes_eq name k) names ≡ i =
-    first (λ (k : List ℕ). bytes_eq name k) names i at.0 ((bytes_eq-Decides name (get_or names i [])).1 (sym at.1))
-    (λ j less. other name (get_or names j []) (λ same. distinct j i less at.0 (same ∙ sym at.1))) in
-    ap (λ n. cond (nat_lt n (length names)) (Some n) None) is ∙ ap (λ b. cond b (Some i) None) (lt-ltb i (length names) at.0)
+position-at names name i distinct at = grind (arith, common_steps, first, bytes_eq-Decides, get_or, other, cond, nat_lt, length, lt-ltb)
 
 pub position-none : (names : List (List ℕ)) (name : List ℕ) → ((i : ℕ) → ¬ StandsAt names i name) → position (λ (k : List ℕ). bytes_eq name k) names ≡ None
-position-none names name none =
-    let is : position_or_len (λ (k : List ℕ). bytes_eq name k) names ≡ length names =
-    never (λ (k : List ℕ). bytes_eq name k) names (λ j less. other name (get_or names j []) (λ same. none j (less, same))) in
-    ap (λ n. cond (nat_lt n (length names)) (Some n) None) is ∙ ap (λ b. cond b (Some (length names)) None) (le-ltb (length names) (length names) (omega arith))
+position-none names name none = grind (arith, common_steps, length, never, other, get_or, cond, nat_lt, le-ltb)
 
 pub position-misses : (names : List (List ℕ)) (name : List ℕ) → position (λ (k : List ℕ). bytes_eq name k) names ≡ None → (i : ℕ) → ¬ StandsAt names i name
 position-misses names name none i at =
     let within = before names i at.0 ((bytes_eq-Decides name (get_or names i [])).1 (sym at.1)) in
     let less : position_or_len (λ (k : List ℕ). bytes_eq name k) names < length names = omega (arith, within, at.0) in
-    let no : Some (position_or_len (λ (k : List ℕ). bytes_eq name k) names) ≡ None =
-    sym (ap (λ b. cond b (Some (position_or_len (λ (k : List ℕ). bytes_eq name k) names)) None) (lt-ltb (position_or_len (λ (k : List ℕ). bytes_eq name k) names) (length names) less)) ∙ none in
+    let no : Some (position_or_len (λ (k : List ℕ). bytes_eq name k) names) ≡ None = grind (arith, common_steps) in
     cc
   where
     before : (xs : List (List ℕ)) (i : ℕ) → i < length xs → bytes_eq name (get_or xs i []) ≡ true → position_or_len (λ (k : List ℕ). bytes_eq name k) xs ≤ i
@@ -68,21 +52,13 @@ position-misses names name none i at =
 
 -- a test that fails at a place
 pub untold : (names : List (List ℕ)) (name : List ℕ) (j : ℕ) (b : Bool) → (IsTrue b ↔ StandsAt names j name) → b ≡ false → (i : ℕ) → i ≡ j → ¬ StandsAt names i name
-untold names name j b tells fails i same at =
-    let yes : b ≡ true = tells.1 (let P : ℕ → Type 0 = λ k. StandsAt names k name in subst P same at) in
-    cc
+untold names name j b tells fails i same at = grind (arith, common_steps)
 
 -- ---- One name more
 -- what is put in by name leaves other names
 pub others-stay : (p : Places) (m : BTreeMap (List ℕ) ℕ) (key : List ℕ) (v : ℕ) → Updates (slice_cmp nat_cmp) p.named m key (Some v)
     → (n : List ℕ) (i : ℕ) → n ≢ key → IsAt p n i → IsAt (record { alloc = p.alloc; slots = p.slots; hashed = p.hashed; named = m }) n i
-others-stay p m key v updates n i apart at =
-    let same : get (slice_cmp nat_cmp) m n ≡ get (slice_cmp nat_cmp) p.named n =
-    updates.0 n ∙ ap (λ b. cond b (Some v) (get (slice_cmp nat_cmp) p.named n)) (is_eq-slice_cmp key n ∙ other key n apart) in
-    elim at [
-      | inl s ↦ inl s
-      | inr more ↦ inr (more.0, elim more.1 [ inl h ↦ inl h | inr k ↦ inr (k.0, same ∙ k.1) ])
-    ]
+others-stay p m key v updates n i apart at = grind (arith, common_steps, get, cond, is_eq-slice_cmp, other)
 
 front : (xs : List (List ℕ)) (x : List ℕ) (i : ℕ) → i < length xs → get_or (xs ++ x ∷ []) i [] ≡ get_or xs i []
 front [] x i lt = absurd (omega (arith, lt))
@@ -103,22 +79,7 @@ pub still-found : (names : List (List ℕ)) (name : List ℕ) (p q : Places) →
 still-found names name p q found new others i lt = others (get_or names i []) i (λ same. new i (lt, same)) (found i lt)
 
 pub found-push : (names : List (List ℕ)) (name : List ℕ) (q : Places) → AreFound names q → IsAt q name (length names) → AreFound (names ++ name ∷ []) q
-found-push names name q found here i lt = elim (cases_lt i (length names)) [
-  | inl less ↦ let P : List ℕ → Type 0 = λ n. IsAt q n i in subst P (sym (front names name i less)) (found i less)
-  | inr ge ↦
-      let count = longer names name in
-      let same : length names ≡ i = omega (arith, lt, ge, count) in
-      let P : ℕ → Type 0 = λ k. IsAt q (get_or (names ++ name ∷ []) k []) k in
-      let Q : List ℕ → Type 0 = λ n. IsAt q n (length names) in
-      subst P same (subst Q (sym (last names name)) here)
-]
+found-push names name q found here i lt = grind (arith, common_steps)
 
 pub distinct-push : (names : List (List ℕ)) (name : List ℕ) → AreDistinct names → ((i : ℕ) → ¬ StandsAt names i name) → AreDistinct (names ++ name ∷ [])
-distinct-push names name distinct new i j less within = elim (cases_lt j (length names)) [
-  | inl lt ↦ λ same. distinct i j less lt (sym (front names name i (omega (arith, less, lt))) ∙ same ∙ front names name j lt)
-  | inr ge ↦
-      let count = longer names name in
-      let lt : i < length names = omega (arith, less, within, count) in
-      let at : length names ≡ j = omega (arith, within, ge, count) in
-      λ same. new i (lt, sym (front names name i lt) ∙ same ∙ ap (λ k. get_or (names ++ name ∷ []) k []) (sym at) ∙ last names name)
-]
+distinct-push names name distinct new i j less within = grind (arith, common_steps)

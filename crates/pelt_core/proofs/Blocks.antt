@@ -1,6 +1,6 @@
 -- The bounds of the blocks of candidates.
-use Rattle.std.proofs.Common.{◌≡◌, ◌≢◌, ℕ, ℤ, zero, suc, ◌+◌, ◌*◌, ◌^◌, ◌<◌, ◌≤◌, List, [], ◌∷◌, ◌++◌, length, set, slice_index, inl, inr, refl, sym, ap, ◌∙◌, pos, neg_ℤ, ◌+ℤ◌, ◌≤ℤ◌, get_or-set_same, get_or-set_other, FitsSigned, arith}
-use Rattle.std.{proofs.Math.ListN.length-set, specs.Int.w128, proofs.lemmas.Int.ints, proofs.lemmas.Bool.{cases_lt, cases_eq}}
+use Rattle.std.proofs.Common.{◌≡◌, ◌≢◌, ℕ, ℤ, ◌+◌, ◌*◌, ◌^◌, ◌<◌, ◌≤◌, List, [], ◌∷◌, ◌++◌, length, set, slice_index, inl, inr, refl, sym, ◌∙◌, pos, neg_ℤ, ◌+ℤ◌, ◌≤ℤ◌, get_or-set_same, get_or-set_other, arith}
+use Rattle.std.proofs.{Math.ListN.length-set, lemmas.Int.ints, lemmas.Bool.{cases_lt, cases_eq}, lemmas.Grind.common_steps}
 use Rattle.std.proofs.lemmas.List.{length-append, get_or_append_left, get_or_push}
 use Rattle.segment_model.specs.{Cuts.{Agree, Merges}, Tables.{int_at, IsCandidate, IsFirstLeast}}
 use Rattle.pelt_core.specs.{declared.bounds.Bound.Bound, declared.bounds.Found.Found, Candidates.total_from}
@@ -26,12 +26,6 @@ lowered-range cost t least cs apart bounds bounds' h k x size in' low high lower
     | inr away ↦ rw (others j away) (h.high j (omega (arith, lt, size)))
   ]),
 )
-
--- a bound that rises by what a segment costs fits its word
-pub rise-fits : (total cost : ℤ) → neg_ℤ (pos (10 ^ 36)) ≤ℤ total → total ≤ℤ pos (2 * 10 ^ 37) → pos 0 ≤ℤ cost → cost ≤ℤ pos (10 ^ 37)
-    → FitsSigned w128 total × FitsSigned w128 cost × FitsSigned w128 (total +ℤ cost)
-rise-fits total cost low high cost_low cost_high =
-    (omega (arith, ints, low, high), omega (arith, ints, cost_low, cost_high), omega (arith, ints, cost_low, cost_high, low, high))
 
 module _ (cost : ℕ → ℕ → ℤ) (least : List ℤ) (t : ℕ) (merges : Merges cost t) (range : AreInRange cost t) where
   -- a bound that is lowered is one for a later place
@@ -184,13 +178,7 @@ bounds-from cost t least x cs apart bounds below h = record {
 pub bounds-reset : (cost : ℕ → ℕ → ℤ) (t : ℕ) (least : List ℤ) (cs : List ℕ) (apart : ℕ) (total : ℤ) (bounds : List Bound) → length cs ≤ 256 * length bounds
     → ((k : ℕ) → k < length bounds → bound_at bounds k ≡ record { at = t; total = total }) → neg_ℤ (pos (10 ^ 36)) ≤ℤ total → total ≤ℤ pos (2 * 10 ^ 37)
     → ((i : ℕ) → i < length cs → (slice_index cs i ≤ t) × (total ≤ℤ total_from cost least t (slice_index cs i))) → HaveBounds cost t least cs apart bounds
-bounds-reset cost t least cs apart total bounds size same low high at_most = record {
-  enough = size;
-  placed = λ k lt. rw (same k lt) (omega arith);
-  low = λ k lt. rw (same k lt) low;
-  high = λ k lt. rw (same k lt) high;
-  holds = λ k i lt from upto inside away. rw (same k lt) (record { behind = (at_most i inside).0; at_most = (at_most i inside).1 });
-}
+bounds-reset cost t least cs apart total bounds size same low high at_most = grind (arith, common_steps)
 
 -- one candidate more, whose total lowered the bound of its block
 pub bounds-push : (cost : ℕ → ℕ → ℤ) (t : ℕ) (least : List ℤ) (cs : List ℕ) (apart k c : ℕ) (x : ℤ) (bounds bounds' : List Bound) → Merges cost t → AreInRange cost t
@@ -224,14 +212,7 @@ pub more_none : (bounds : List Bound) → HaveMore bounds bounds
 more_none bounds = record { more = omega arith; same = λ k lt. refl; fresh = λ k le lt. absurd (omega (arith, le, lt)) }
 
 pub more_push : (old new : List Bound) → HaveMore old new → HaveMore old (new ++ record { at = 0; total = neg_ℤ (pos (10 ^ 36)) } ∷ [])
-more_push old new h = record {
-  more = omega (arith, h.more, length-append new (record { at = 0; total = neg_ℤ (pos (10 ^ 36)) } ∷ []));
-  same = λ k lt. get_or_append_left new (record { at = 0; total = neg_ℤ (pos (10 ^ 36)) } ∷ []) no_bound k (omega (arith, lt, h.more)) ∙ h.same k lt;
-  fresh = λ k le lt. elim (cases_lt k (length new)) [
-    | inl before ↦ get_or_append_left new (record { at = 0; total = neg_ℤ (pos (10 ^ 36)) } ∷ []) no_bound k before ∙ h.fresh k le before
-    | inr behind ↦ get_or_push new (record { at = 0; total = neg_ℤ (pos (10 ^ 36)) }) no_bound k (omega (arith, behind, lt, length-append new (record { at = 0; total = neg_ℤ (pos (10 ^ 36)) } ∷ [])))
-  ];
-}
+more_push old new h = grind (arith, common_steps)
 
 -- of blocks that have no candidate yet
 pub bounds-more : (cost : ℕ → ℕ → ℤ) (t : ℕ) (least : List ℤ) (cs : List ℕ) (apart : ℕ) (bounds bounds' : List Bound) → HaveMore bounds bounds'
@@ -250,22 +231,7 @@ bounds-more cost t least cs apart bounds bounds' has h = record {
 -- each candidate of t makes at least the total of the first least one
 pub least-made : (cost : ℕ → ℕ → ℤ) (len t best : ℕ) (least : List ℤ) (x total : ℤ) → length least ≡ t → IsFirstLeast cost len (int_at least) t best → total ≡ total_from cost least t best
     → (s : ℕ) → IsCandidate len t s → total ≤ℤ total_from cost (least ++ x ∷ []) t s
-least-made cost len t best least x total size found is s may =
-    let most = found.at_most s may in
-    rw (get_or_append_left least (x ∷ []) (pos 0) s (omega (arith, may.0, size))) (omega (arith, ints, is, most))
-
-abbrev first_place : List ℕ
-first_place = 0 ∷ []
-
--- the bounds of the first place
-pub first-bounds : (cost : ℕ → ℕ → ℤ) (b : ℤ) (least : List ℤ) (cs : List ℕ) (bounds : List Bound) → cost 0 0 ≡ pos 0 → b ≤ℤ pos (10 ^ 36) → least ≡ neg_ℤ b ∷ [] → cs ≡ 0 ∷ [] → length bounds ≡ 1
-    → ((k : ℕ) → k < length bounds → bound_at bounds k ≡ record { at = 0; total = neg_ℤ (pos (10 ^ 36)) }) → HaveBounds cost 0 least cs 0 bounds
-first-bounds cost b least cs bounds none high is are size same =
-    bounds-reset cost 0 least cs 0 (neg_ℤ (pos (10 ^ 36))) bounds (omega (arith, ap length are, size)) same (omega (arith, ints)) (omega (arith, ints)) (rw (is, are) one)
-  where
-    one : (i : ℕ) → i < length first_place → (slice_index first_place i ≤ 0) × (neg_ℤ (pos (10 ^ 36)) ≤ℤ total_from cost (neg_ℤ b ∷ []) 0 (slice_index first_place i))
-    one zero lt = (omega arith, omega (arith, ints, none, high))
-    one (suc i) lt = absurd (omega arith)
+least-made cost len t best least x total size found is s may = grind (arith, common_steps)
 
 -- equal bounds
 pub bounds-by : (cost : ℕ → ℕ → ℤ) (t : ℕ) (least least' : List ℤ) (cs cs' : List ℕ) (apart apart' : ℕ) (bounds bounds' : List Bound) → least' ≡ least → cs' ≡ cs → apart' ≡ apart → bounds' ≡ bounds

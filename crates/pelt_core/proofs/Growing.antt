@@ -1,11 +1,11 @@
 -- The row of the last of some positions: the rows before it, and what they come to with it.
 use Rattle.std.proofs.Common.{◌≡◌, ◌≢◌, ℕ, ℤ, Bool, true, false, List, [], ◌∷◌, ◌++◌, ◌+◌, ◌-◌, ◌*◌, ◌<◌, ◌≤◌, length, slice_index, filter, inl, inr, refl, ap, ◌∙◌, ◌+ℤ◌, arith}
-use Rattle.std.proofs.lemmas.{Int.ints, Bool.{cases_lt, cases_Bool}, List.length-append}
+use Rattle.std.proofs.lemmas.{Int.ints, Bool.{cases_lt, cases_Bool}, List.length-append, Grind.common_steps}
 use Rattle.segment_model.specs.{Cuts.Merges, Tables.{int_at, IsCandidate, IsTable, IsFirstLeast}}
 use Rattle.segment_model.specs.{Laws.{TotalsAreInRange, TableGrows, MarkMayBegin, NotDearWhereSettled}, Values.cost_between}
 use Rattle.pelt_core.specs.declared.{bounds.Bound.Bound, bounds.Found.Found, rows.Rows.Rows}
 use Rattle.pelt_core.specs.Candidates.{stays, open_places, AreTotals, AreCandidates, AreLookedAt, IsNear}
-use Rattle.pelt_core.specs.{Bounds.{bound_at, HaveBounds, IsMade, IsLowered, AreInRange}, Rows.{CanGrow, HasOneMore, IsAdmitted}}
+use Rattle.pelt_core.specs.{Bounds.{bound_at, HaveBounds, IsMade, IsLowered, AreInRange}, Rows.{CanGrow, IsAdmitted}}
 use Rattle.pelt_core.proofs.Blocks.{apart-same, bounds-agree, bounds-from, bounds-reset, bounds-push, bounds-by, least-made}
 use Rattle.pelt_core.proofs.Growth.{candidates-below, candidates-are, candidates-few, candidates-some, totals, totals-next, marks, kept-are, dropped-are, next-is, none-next, open-few, open-candidates, places-below}
 
@@ -213,21 +213,7 @@ module _ (t ready t' ready' len : ℕ) (old new : Rows) (left : List ℕ) (least
   pub admitted-none : ready' < len → (new.candidates.items ≡ left) × (new.bounds.items ≡ old.bounds.items)
   admitted-none short = let is = h.none (omega (arith, at-ready, at-len, short)) in (is.0 ∙ at-left, is.1)
 
-  one-by : (k : ℕ) → HasOneMore t ready k old new → (new.candidates.items ≡ left ++ ready' ∷ []) × (256 * k ≤ length left) × (length left < 256 * k + 256)
-      × IsLowered (bound_at old.bounds.items k) t' (int_at least ready') (bound_at new.bounds.items k)
-      × ((j : ℕ) → j ≢ k → bound_at new.bounds.items j ≡ bound_at old.bounds.items j)
-  one-by k is = (
-    rw (← at-left, ← at-ready) is.candidates,
-    rw (← at-left) is.start,
-    rw (← at-left) is.end,
-    rw (← at-t, ← at-ready, ← at-least) is.lowered,
-    is.others,
-  )
-
   pub admitted-one : len ≤ ready' → (k : ℕ) × (new.candidates.items ≡ left ++ ready' ∷ []) × (256 * k ≤ length left) × (length left < 256 * k + 256)
       × IsLowered (bound_at old.bounds.items k) t' (int_at least ready') (bound_at new.bounds.items k)
       × ((j : ℕ) → j ≢ k → bound_at new.bounds.items j ≡ bound_at old.bounds.items j)
-  admitted-one enough =
-      let is = h.one (omega (arith, at-ready, at-len, enough)) in
-      let by = one-by is.0 is.1 in
-      (is.0, by.0, by.1, by.2, by.3, by.4)
+  admitted-one enough = grind (arith, common_steps)

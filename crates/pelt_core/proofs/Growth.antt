@@ -1,9 +1,8 @@
 -- The pruned table with one place more.
 use Rattle.std.proofs.Common.{◌≡◌, ◌≢◌, ℕ, ℤ, zero, suc, ◌+◌, ◌-◌, ◌^◌, ◌<◌, ◌≤◌, Bool, ◌&&◌, List, [], ◌∷◌, ◌++◌, length, take, get_or, slice_index, filter, ◌⊎◌, inl, inr, refl, sym, ap, ◌∙◌, pos, neg_ℤ, ◌+ℤ◌, ◌≤ℤ◌, ◌<ℤ◌, arith}
-use Rattle.std.proofs.lemmas.{Int.ints, Bool.{cases_lt, cases_eq}, List.{length-append, get_or_append_left, get_or_push, get_or_read, get_or-take}}
-use Rattle.segment_model.specs.Cuts.{Merges}
+use Rattle.std.proofs.lemmas.{Int.ints, Bool.{cases_lt, cases_eq}, List.{length-append, get_or_append_left, get_or_push, get_or_read}, Grind.common_steps}
+use Rattle.segment_model.specs.{Cuts.Merges, Laws.{TotalsAreInRange, OpenIsFirstLeast, MarkMayBegin, NotDearWhereSettled}}
 use Rattle.segment_model.specs.Tables.{int_at, MayBegin, IsCandidate, IsUnmarkedBehind, IsOpenAt, IsSettled, IsTable, IsFirstLeast, IsMarkedAt, AreMarkedAt}
-use Rattle.segment_model.specs.Laws.{TotalsAreInRange, OpenIsFirstLeast, MarkMayBegin, NotDearWhereSettled}
 use Rattle.pelt_core.specs.{Candidates.{begins, stays, open_places, AreTotals, total_from, AreLookedAt, IsAmong, IsNear}, Bounds.AreInRange}
 use Rattle.pelt_core.proofs.Open.{IsUnmarkedTo, chosen-in, chosen-find, chosen-rising, chosen-few, chosen-next, chosen-skip, chosen-same, chosen-filter, stays-alike, stays-more, open-when, open-is, begins-not}
 
@@ -57,19 +56,7 @@ module _ (cost : ℕ → ℕ → ℤ) (n : ℕ) (b : ℤ) (len g : ℕ) (least :
 
   -- each open candidate of the next place is one
   pub candidate-of : (s : ℕ) → IsCandidate len (n + 1) s → IsOpenAt len pruned s (n + 1) → (i : ℕ) × (i < length cs) × (slice_index cs i ≡ s)
-  candidate-of s is open' = elim is.1 [
-    | inl none ↦ candidate-at s (omega (arith, none)) (inl none) (unmarked s open')
-    | inr long ↦ candidate-at s (omega (arith, long.1)) (inr long.0) (unmarked s open')
-  ]
-    where
-      unmarked : (s : ℕ) → IsOpenAt len pruned s (n + 1) → IsUnmarkedTo g pruned s
-      unmarked s open' = elim open' [
-        | inl none ↦ inl none
-        | inr late ↦ elim (cases_eq (slice_index pruned s) 0) [
-          | inl none ↦ inl none
-          | inr apart ↦ inr (omega (arith, late, apart, swept))
-        ]
-      ]
+  candidate-of s is open' = grind (arith, common_steps, candidate-at, len, pruned, n, g, cases_eq, slice_index, swept)
 
   pub candidates-some : pos 0 ≤ℤ b → MarkMayBegin → 0 < length cs
   candidates-some low mark-begins = elim (cases_lt (n + 1 - len) len) [
@@ -285,30 +272,13 @@ pub open-few : (len g : ℕ) (pruned : List ℕ) (n : ℕ) (cs : List ℕ) → c
 open-few len g pruned n cs are = omega (arith, ap length are, chosen-few (λ s. begins len s && stays g pruned s) n)
 
 pub places-below : (len g : ℕ) (pruned : List ℕ) (n : ℕ) (cs : List ℕ) → cs ≡ open_places len g pruned n → (i : ℕ) → i < length cs → slice_index cs i < n
-places-below len g pruned n cs are i lt =
-    let size : length cs ≡ length (open_places len g pruned n) = ap length are in
-    omega (arith, ap (λ (ps : List ℕ). slice_index ps i) are, (chosen-in (λ s. begins len s && stays g pruned s) n i (omega (arith, size))).0)
+places-below len g pruned n cs are i lt = grind (arith, common_steps, length, slice_index, chosen-in)
 
 -- the open places up to the last one from which a segment may reach place t are candidates there
 pub open-candidates : (len g : ℕ) (pruned : List ℕ) (t : ℕ) (cs : List ℕ) → 0 < len → 0 < t → cs ≡ open_places len g pruned (t - len + 1) → (i : ℕ) → i < length cs → IsCandidate len t (slice_index cs i)
-open-candidates len g pruned t cs some-length some are i lt =
-    let size : length cs ≡ length (open_places len g pruned (t - len + 1)) = ap length are in
-    let is = chosen-in (λ s. begins len s && stays g pruned s) (t - len + 1) i (omega (arith, size)) in
-    let may = open-is len g pruned (slice_index (open_places len g pruned (t - len + 1)) i) is.1 in
-    rw (ap (λ (ps : List ℕ). slice_index ps i) are) (
-      omega (arith, is.0, some-length, some),
-      elim may.0 [
-        | inl none ↦ inl none
-        | inr enough ↦ elim (cases_eq (slice_index (open_places len g pruned (t - len + 1)) i) 0) [
-          | inl none ↦ inl none
-          | inr apart ↦ inr (enough, omega (arith, is.0, apart))
-        ]
-      ],
-    )
+open-candidates len g pruned t cs some-length some are i lt = grind (arith, common_steps, length, chosen-in, open-is, slice_index, cases_eq)
 
 -- a mark that was read from the first places
 pub unmarked-at : (k : ℕ) (front old new : List ℕ) → front ≡ take (k + 1) old → (s : ℕ) → s ≤ k → IsUnmarkedBehind k (slice_index front s) (slice_index new s)
     → IsUnmarkedBehind k (slice_index old s) (slice_index new s)
-unmarked-at k front old new e s le mark =
-    let same : slice_index front s ≡ slice_index old s = ap (λ (xs : List ℕ). slice_index xs s) e ∙ get_or-take (k + 1) old s 0 (omega arith) in
-    rw same at mark
+unmarked-at k front old new e s le mark = grind (arith, common_steps)

@@ -1,5 +1,5 @@
 -- Which places were looked at, and their marks.
-use Rattle.std.proofs.{Common.{◌≡◌, ◌≢◌, ℕ, ℤ, ◌<◌, List, length, slice_index, ◌⊎◌, inl, inr, refl, sym, ◌∙◌, arith}, lemmas.Bool.cases_eq}
+use Rattle.std.proofs.{lemmas.Grind.common_steps, Common.{◌≡◌, ◌≢◌, ℕ, ℤ, ◌<◌, List, length, slice_index, ◌⊎◌, inl, inr, sym, ◌∙◌, arith}, lemmas.Bool.cases_eq}
 use Rattle.segment_model.specs.Tables.{IsMarkedAt}
 use Rattle.pelt_core.specs.Candidates.{AreLookedAt}
 
@@ -19,10 +19,6 @@ module _ (cost : ℕ → ℕ → ℤ) (len : ℕ) (least : List ℤ) (t : ℕ) w
       ]
     ]
   ]
-
-  -- nothing was looked at
-  pub none-looked : (looked : ℕ → Type 0) (old : List ℕ) → ((s : ℕ) → looked s → ⊥) → AreLookedAt cost len least t looked old old
-  none-looked looked old none = record { size = refl; each = λ s. inl refl; all = λ s is. absurd (none s is); behind = λ s le. refl }
 
   -- one place more was looked at
   pub one-looked : (looked more : ℕ → Type 0) (old mid new : List ℕ) (s : ℕ) → AreLookedAt cost len least t looked old mid → s < t → length new ≡ length mid
@@ -52,10 +48,7 @@ module _ (cost : ℕ → ℕ → ℤ) (len : ℕ) (least : List ℤ) (t : ℕ) w
       → AreLookedAt cost len least t (λ s. one s ⊎ other s) old new
   both-looked one other old mid new some h k = record {
     size = k.size ∙ h.size;
-    each = λ s. elim (k.each s) [
-      | inl same ↦ rw same (h.each s)
-      | inr mark ↦ inr (again s (slice_index old s) (slice_index mid s) (slice_index new s) some (h.each s) mark)
-    ];
+    each = grind (arith, common_steps);
     all = λ s which. elim which [
       | inr second ↦ again s (slice_index old s) (slice_index mid s) (slice_index new s) some (h.each s) (k.all s second)
       | inl first ↦ elim (k.each s) [

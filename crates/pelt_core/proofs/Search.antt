@@ -1,14 +1,7 @@
 -- The search for the first least of the candidates.
 use Rattle.std.proofs.Common.{◌≡◌, ◌≢◌, ℕ, ℤ, ◌+◌, ◌*◌, ◌^◌, ◌<◌, ◌≤◌, List, length, slice_index, ◌⊎◌, inl, inr, sym, ◌∙◌, pos, neg_ℤ, ◌≤ℤ◌, ◌<ℤ◌, arith}
-use Rattle.std.proofs.lemmas.{Int.{ints, by_lt_z}, Bool.{cases_lt, cases_eq}}
+use Rattle.std.proofs.lemmas.{Int.{ints, by_lt_z}, Bool.{cases_lt, cases_eq}, Grind.common_steps}
 use Rattle.pelt_core.specs.{declared.bounds.Found.Found, Candidates.total_from, Bounds.{IsNoLater, IsFirst, AreLooked}}
-
--- no later than more at a later index
-pub no-later : (found : Found) (x y : ℤ) (i j : ℕ) → IsNoLater found x i → x ≤ℤ y → i ≤ j → IsNoLater found y j
-no-later found x y i j h le from = elim h [
-  | inl less ↦ inl (omega (arith, ints, less, le))
-  | inr tied ↦ by_lt_z found.total y (λ less. inl less) (λ ge. inr (omega (arith, ints, ge, le, tied.0), omega (arith, tied.1, from)))
-]
 
 module _ (cost : ℕ → ℕ → ℤ) (least : List ℤ) (t : ℕ) (cs : List ℕ) (guess : ℕ) where
   -- one candidate more was looked at
@@ -56,10 +49,7 @@ module _ (cost : ℕ → ℕ → ℤ) (least : List ℤ) (t : ℕ) (cs : List �
   pub found : (best : Found) → IsFirst cost least t cs guess (length cs) best
       → ((k : ℕ) → k < length cs → total_from cost least t (slice_index cs best.index) ≤ℤ total_from cost least t (slice_index cs k))
       × ((k : ℕ) → k < best.index → total_from cost least t (slice_index cs best.index) <ℤ total_from cost least t (slice_index cs k))
-  found best h = (
-    λ k lt. elim (h.before k lt (inl lt)) [ inl above ↦ omega (arith, ints, above, h.made.exact) | inr tied ↦ omega (arith, ints, tied.0, h.made.exact) ],
-    λ k lt. elim (h.before k (omega (arith, lt, h.made.inside)) (inl (omega (arith, lt, h.made.inside)))) [ inl above ↦ omega (arith, ints, above, h.made.exact) | inr tied ↦ absurd (omega (arith, tied.1, lt)) ],
-  )
+  found best h = grind (arith, common_steps)
 
 -- one candidate more of a block was looked at
 pub looked-next : (cost : ℕ → ℕ → ℤ) (least : List ℤ) (t : ℕ) (cs : List ℕ) (guess start upto : ℕ) (best here r : Found) (lowest r_low : ℤ) → AreLooked cost least t cs guess start upto best lowest

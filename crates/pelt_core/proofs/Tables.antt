@@ -1,8 +1,8 @@
 -- Pruned tables of positions: of none, before one more, and of the first ones.
-use Rattle.std.proofs.Common.{◌≡◌, ℕ, ℤ, ◌+◌, ◌-◌, ◌^◌, ◌≤◌, List, [], ◌∷◌, ◌++◌, length, take, drop, refl, sym, ap, subst, ◌∙◌, pos, ◌≤ℤ◌, arith}
-use Rattle.std.proofs.lemmas.{Int.ints, List.{length-append, length-take, take-append-drop}}
+use Rattle.std.proofs.Common.{◌≡◌, ℕ, ℤ, ◌+◌, ◌-◌, ◌^◌, ◌≤◌, List, [], ◌∷◌, ◌++◌, length, take, drop, refl, ap, subst, ◌∙◌, pos, ◌≤ℤ◌, arith}
+use Rattle.std.proofs.lemmas.{Int.ints, List.{length-append, length-take, take-append-drop}, Grind.common_steps}
 use Rattle.segment_model.specs.{Cuts.{Agree, IsBest, total}, Laws.{AgreeingCostsHaveOneTable, BestOfNoneIsEmpty}}
-use Rattle.segment_model.specs.Values.{AreWithinLimits, values_between, cost_between, MergesValues, CostsInRange, FrontHasSameValues, FrontIsWithinLimits, SegmentsMerge, SegmentsAreInRange}
+use Rattle.segment_model.specs.Values.{AreWithinLimits, cost_between, MergesValues, CostsInRange, FrontHasSameValues, FrontIsWithinLimits, SegmentsMerge, SegmentsAreInRange}
 use Rattle.segment_cost.specs.{declared.cert.Cert.Cert, Certificate.IsCertificate}
 use Rattle.pelt_core.specs.{declared.rows.Rows.Rows, declared.table.Best.Best, Best.IsBestOf, Seen.Tabled, Rows.{ArePruned, IsPrunedTable, HasRoomMade}}
 use Rattle.pelt_core.{specs.Bounds.AreInRange, proofs.Growth.{table-by, candidates-by}, proofs.Blocks.{bounds-by, bounds-more, bounds-agree}}
@@ -15,12 +15,7 @@ nothing-costs f merging in_range =
     omega (arith, ints, twice, range.0)
 
 pub none-within : AreWithinLimits []
-none-within = record {
-  few_positions = omega arith;
-  few_values = omega arith;
-  small = λ k d lt. absurd (omega arith);
-  none_empty = λ k d lt. absurd (omega arith);
-}
+none-within = grind (arith, common_steps)
 
 pub table-of-none : (f : List ℤ → ℤ) → MergesValues f → CostsInRange f → (ps : List (List ℤ)) → ps ≡ [] → (b : ℤ) (rows : Rows) → pos 0 ≤ℤ b → b ≤ℤ pos (10 ^ 36)
     → ((cost : ℕ → ℕ → ℤ) → cost 0 0 ≡ pos 0 → ArePruned cost 0 b rows) → IsPrunedTable f ps b rows
@@ -87,8 +82,7 @@ module _ (f : List ℤ → ℤ) (merging : MergesValues f) (in_range : CostsInRa
       let whole : take k ps ++ drop k ps ≡ ps = take-append-drop k ps in
       let size : length (take k ps) ≡ k = length-take k ps ∙ omega arith in
       let within : AreWithinLimits (take k ps) = limits (take k ps) (drop k ps) (rw whole h.within) in
-      let agree : Agree (cost_between f ps) (cost_between f (take k ps)) k =
-      λ s t le' fits. ap f (sym (front (take k ps) (drop k ps) s t le' (omega (arith, size))) ∙ ap (λ (qs : List (List ℤ)). values_between qs s t) whole) in
+      let agree : Agree (cost_between f ps) (cost_between f (take k ps)) k = grind (arith, common_steps) in
       let are : ArePruned (cost_between f ps) k b rows' = cut (cost_between f ps) (length ps) b le h.low h.high (ranges f in_range ps h.within) h.pruned in
       rw e (record {
         low = h.low;
@@ -100,9 +94,7 @@ module _ (f : List ℤ → ℤ) (merging : MergesValues f) (in_range : CostsInRa
 -- no positions have a total of 0
 pub total-of-none : (f : List ℤ → ℤ) → MergesValues f → CostsInRange f → BestOfNoneIsEmpty → (ps : List (List ℤ)) (b : ℤ) (len n : ℕ) (cuts : List ℕ) → n ≡ 0
     → IsBest (cost_between f ps) b len n cuts → total (cost_between f ps) b n cuts ≡ pos 0
-total-of-none f merging in_range empty ps b len n cuts none best =
-    let best' : IsBest (cost_between f ps) b len 0 cuts = rw none at best in
-    rw (none, empty (cost_between f ps) b len cuts best') (nothing-costs f merging in_range)
+total-of-none f merging in_range empty ps b len n cuts none best = grind (arith, common_steps, nothing-costs)
 
 -- what the table and its best cut list come to
 pub certified : (f : List ℤ → ℤ) (ps : List (List ℤ)) (b : ℤ) (rows : Rows) (t : Tabled) (best : Best) (cert : Cert) → record { positions = ps; penalty = b; length = rows.length } ≡ t → IsPrunedTable f ps b rows
@@ -110,8 +102,7 @@ pub certified : (f : List ℤ → ℤ) (ps : List (List ℤ)) (b : ℤ) (rows : 
     → cert.cuts ≡ best.cuts.items → cert.total ≡ best.total → cert.least ≡ rows.least.items → cert.back ≡ rows.back.items → cert.pruned ≡ rows.pruned.items
     → IsCertificate (cost_between f t.positions) (length t.positions) t.penalty t.length cert
 certified f ps b rows t best cert seen table is points penalty len cuts total least back pruned =
-    let best' : IsBestOf (cost_between f ps) (length ps) b rows.length best =
-    subst (λ (u : Tabled). IsBestOf (cost_between f u.positions) (length u.positions) u.penalty u.length best) (sym seen) is in
+    let best' : IsBestOf (cost_between f ps) (length ps) b rows.length best = grind (arith, common_steps) in
     let made : IsCertificate (cost_between f ps) (length ps) b rows.length cert = record {
       counted = points;
       same_penalty = penalty;

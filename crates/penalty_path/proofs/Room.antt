@@ -28,9 +28,6 @@ Room points last (next ∷ more) room =
     ((last.cuts ≡ next.cuts) × Room points next more room)
     ⊎ ((last.cuts ≢ next.cuts) × ((rest : ℕ) × Pair points last next room rest × Room points next more rest))
 
-end-small : (points : List Position) (cert : Cert) (u : ℕ) → IsEnd points cert u → u ≤ 1
-end-small points cert u h = elim h [ inl e ↦ omega (arith, e) | inr e ↦ omega (arith, e.0) ]
-
 start-small : (points : List Position) (cert : Cert) (v : ℕ) → IsStart points cert v → v ≤ 1
 start-small points cert v h = elim h [ inl e ↦ omega (arith, e) | inr e ↦ omega (arith, e.0) ]
 

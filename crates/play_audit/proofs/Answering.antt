@@ -1,6 +1,6 @@
 -- Private: no public contract cites this. What a request comes to behind a walk, as a reply by the journal.
-use Rattle.std.proofs.Common.{◌≡◌, ◌≢◌, inl, inr, ℕ, ◌^◌, ◌+◌, ◌<◌, ◌≤◌, false, List, [], ◌∷◌, ◌++◌, length, drop, Option, Some, None, refl, sym, ap, subst, ◌∙◌, arith, length-append}
-use Rattle.std.{specs.Prelude.slice_get, proofs.lemmas.Option.slice_get_past}
+use Rattle.std.proofs.Common.{◌≡◌, ◌≢◌, inl, inr, ℕ, ◌^◌, ◌+◌, ◌<◌, ◌≤◌, false, List, ◌++◌, length, drop, Option, Some, None, sym, ap, subst, ◌∙◌, arith}
+use Rattle.std.{specs.Prelude.slice_get, proofs.lemmas.Option.slice_get_past, proofs.lemmas.Grind.common_steps}
 use Rattle.history_model.specs.declared.entries.{Author.Author, Entry.Entry, Placed.Placed}
 use Rattle.history_model.specs.declared.entries.Author.TheVariants as author
 use Rattle.request_model.specs.declared.{requests.Request.Request, replies.Reply.Reply}
@@ -17,20 +17,10 @@ use Rattle.play_audit.proofs.Walking.{first_behind}
 -- ---- what was added
 
 pub none_added : (a : Author) (t : Track) (o : Option Entry) → length (with_added a t o).history ≡ length t.history → o ≡ None
-none_added a t None is = refl
-none_added a t (Some e) is = absurd (omega (arith, is, length-append t.history (record { author = a; entry = e } ∷ [])))
+none_added a t o is = grind (arith, common_steps)
 
 pub one_added : (a : Author) (t : Track) (o : Option Entry) (p : Placed) → slice_get (with_added a t o).history (length t.history) ≡ Some p → o ≡ Some p.entry
-one_added a t None p is = let no : None ≡ Some p = sym (slice_get_past t.history (length t.history) (omega arith)) ∙ is in absurd (cc)
-one_added a t (Some e) p is =
-    let x : Placed = record { author = a; entry = e } in
-    let both : Some x ≡ Some p = sym (at_end t.history x) ∙ is in
-    let same : x ≡ p = cc in
-    ap (λ (y : Placed). Some y.entry) same
-
-pub length_added : (a : Author) (t : Track) (o : Option Entry) (e : Entry) → o ≡ Some e → length (with_added a t o).history ≡ length t.history + 1
-length_added a t None e is = absurd (cc)
-length_added a t (Some x) e is = length-append t.history (record { author = a; entry = x } ∷ [])
+one_added a t o p is = grind (arith, common_steps, slice_get_past, length, at_end)
 
 -- ---- what a transcript tells of a reply in front of it
 
@@ -74,32 +64,17 @@ module _ (machine : List ℕ) (j : List Placed) (known count : ℕ) (q : Request
   }
 
   pub plain_tells : PlainBeside → stands_alone q ≡ false → o.adds ≡ None → Tells j known q r
-  plain_tells alone shared none = record {
-    count = count;
-    outcome = o;
-    comes = comes-behind alone shared;
-    adds = none;
-    told = reply-is;
-  }
+  plain_tells alone shared none = grind (arith, common_steps, count, o, comes, comes-behind, told, reply-is)
 
   pub plain_adds : PlainBeside → stands_alone q ≡ false → (author : Author) (e : Entry) → o.adds ≡ Some e → slice_get j count ≡ Some (record { author = author; entry = e }) → Adds author j known q r
-  plain_adds alone shared author e adds stands = record {
-    count = count;
-    outcome = o;
-    comes = comes-behind alone shared;
-    entry = e;
-    adds = adds;
-    stands = stands;
-    told = reply-is;
-  }
+  plain_adds alone shared author e adds stands = grind (arith, common_steps, count, o, comes, comes-behind, told, reply-is)
 
   -- another reply that names as many comes from the same outcome
   pub tells_same : OneBeside → PlainBeside → stands_alone q ≡ false → (s : Reply) → Tells j known q s → s.step ≡ count → o.adds ≡ None
   tells_same once alone shared s t its =
       let counts : t.count ≡ count = sym (told-step j known q s t) ∙ its in
       let mine : ComesToBeside (first_of count j) 0 (first_of count j) q o = alone (first_of count j) 0 (first_of count j) q o seg shared there in
-      let other : ComesToBeside (first_of t.comes.version j) t.comes.base (first_of count j) q t.outcome =
-      subst (λ (n : ℕ). ComesToBeside (first_of t.comes.version j) t.comes.base (first_of n j) q t.outcome) counts t.comes.comes in
+      let other : ComesToBeside (first_of t.comes.version j) t.comes.base (first_of count j) q t.outcome = grind (arith, common_steps) in
       let same : o ≡ t.outcome = once (first_of count j) (first_of t.comes.version j) 0 t.comes.base (first_of count j) q o t.outcome seg mine other in
       ap (λ (x : Outcome). x.adds) same ∙ t.adds
 
@@ -109,8 +84,7 @@ module _ (machine : List ℕ) (j : List Placed) (known count : ℕ) (q : Request
       let step : s.step ≡ a.count + 1 = added-step author j known q s a in
       let counts : a.count ≡ count = omega (arith, step, its) in
       let mine : ComesToBeside (first_of count j) 0 (first_of count j) q o = alone (first_of count j) 0 (first_of count j) q o seg shared there in
-      let other : ComesToBeside (first_of a.comes.version j) a.comes.base (first_of count j) q a.outcome =
-      subst (λ (n : ℕ). ComesToBeside (first_of a.comes.version j) a.comes.base (first_of n j) q a.outcome) counts a.comes.comes in
+      let other : ComesToBeside (first_of a.comes.version j) a.comes.base (first_of count j) q a.outcome = grind (arith, common_steps) in
       let same : o ≡ a.outcome = once (first_of count j) (first_of a.comes.version j) 0 a.comes.base (first_of count j) q o a.outcome seg mine other in
       (a.entry, ap (λ (x : Outcome). x.adds) same ∙ a.adds, subst (λ (n : ℕ). slice_get j n ≡ Some (record { author = author; entry = a.entry })) counts a.stands)
 
@@ -128,9 +102,7 @@ module _ (text : List ℕ) (Fits : Reply → Type 0) (once : (r s : Reply) → F
   }
 
   no-text-of : (r : Reply) (step : ℕ) → Fits r → r.step ≡ step → ((rest : List ℕ) → text ≢ text_of r ++ rest) → HasNone Fits text step
-  no-text-of r step fit its none reply rest fits same is =
-      let one : reply ≡ r = once reply r fits fit (same ∙ sym its) in
-      none rest (is ∙ ap (λ (x : Reply). text_of x ++ rest) one)
+  no-text-of r step fit its none reply rest fits same is = grind (arith, common_steps)
 
 module _ (j : List Placed) (known : ℕ) (q : Request) (text : List ℕ) (fits64 : length j < 2 ^ 64) where
   pub tells_next : RepliesAreNamed → RepliesNameEntries → OneTells → is_segment q ≡ false → (r : Reply) (len step : ℕ) → Tells j known q r → r.step ≡ step → BeginsWith text r len

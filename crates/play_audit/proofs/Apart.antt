@@ -1,19 +1,17 @@
 -- Private: no public contract cites this. Items that name no machine's history.
-use Rattle.std.proofs.Common.{◌≡◌, ◌≢◌, inl, ℕ, zero, suc, Bool, true, false, List, [], ◌∷◌, ◌++◌, Option, Result, Ok, Err, Some, None, refl, sym, ap, subst, ◌∙◌}
-use Rattle.std.specs.{Prelude.{slice_get, if◌then◌else◌, IfOk, IfSome, IfNone}, List.AllByRecursion}
+use Rattle.std.proofs.Common.{◌≡◌, ◌≢◌, inl, ℕ, zero, suc, Bool, true, false, List, [], ◌∷◌, ◌++◌, Option, Result, Ok, Err, Some, None, sym, ap, ◌∙◌, arith}
+use Rattle.std.{specs.Prelude.{slice_get, if◌then◌else◌, IfOk, IfSome, IfNone}, specs.List.AllByRecursion, proofs.lemmas.Grind.common_steps}
 use Rattle.request_words.specs.Bodies.{Item}
 use Rattle.request_model.specs.{declared.replies.Reply.Reply, declared.replies.Refusal.Refusal, declared.requests.Request.Request, Requests.machine_of}
 use Rattle.request_model.specs.declared.requests.Request.TheVariants as request
 use Rattle.reply_text.specs.Replies.{text_of}
-use Rattle.track_model.specs.{Tracks.Track, Outcomes.{Outcome, refuses}, Replies.apart}
-use Rattle.history_model.specs.declared.entries.Author.TheVariants as author
-use Rattle.history_model.specs.declared.entries.{Author.Author, Entry.Entry, Placed.Placed}
+use Rattle.track_model.specs.{Tracks.Track, Outcomes.refuses, Replies.apart}
 use Rattle.request_model.specs.declared.replies.Refusal.TheVariants as refusal
 use Rattle.journal_reader.specs.Journals.{Journal, IsOther}
-use Rattle.play_model.specs.Replies.{Adds, ComesToBeside, IsReplyWhere, first_of, is_of_history, stands_alone, why_apart}
-use Rattle.play_fits.{specs.Journals.{history_in, machines_of}, specs.Scripts.{Exchange, known_after, names_history}, proofs.Lists.mapped-back}
+use Rattle.play_model.specs.Replies.{is_of_history, stands_alone, why_apart}
+use Rattle.play_fits.{specs.Journals.machines_of, specs.Scripts.{Exchange, names_history}, proofs.Lists.mapped-back}
 use Rattle.audit_model.{specs.Heard.kept_count, specs.Hearing.{Gives, HearsNone}, specs.Verdicts.track_of, proofs.Exchanges.known_else}
-use Rattle.audit_model.proofs.Machines.{alone, undeclared}
+use Rattle.audit_model.proofs.Machines.{undeclared}
 use Rattle.play_audit.specs.{Texts.BeginsWith, Known.{AreKnown, tracks_of}, Marks.{AreRows, IsAddedBy}, Heard.{exchange, HearsItem}, declared.place.Place.Place}
 use Rattle.play_audit.proofs.Knowing.{none_other}
 
@@ -29,11 +27,7 @@ module _ (js : List Journal) (i : ℕ) (item : Item) (reply : Reply) (is : IsApa
       → HearsItem js i xs item transcript len places rows rows
   hears-apart len places rows xs shape begins known = record {
     reply = reply;
-    next = record {
-      gives = is.gives xs;
-      text = begins.text;
-      only = λ other more gives text. is.only xs other gives;
-    };
+    next = grind (arith, common_steps);
     whole = begins.whole;
     known = record {
       many = known.many;
@@ -52,9 +46,7 @@ module _ (js : List Journal) (i : ℕ) (item : Item) (reply : Reply) (is : IsApa
   pub apart_some : {E : Type 0} (places : List Place) (rows : List (List Bool)) → AreRows (tracks_of js) rows → (r : Result (Option ℕ) E)
       → IfOk r (λ o. IfSome o (BeginsWith transcript reply))
       → IfOk r (λ o. IfSome o (λ len. (xs : List Exchange) → AreKnown js xs places → HearsItem js i xs item transcript len places rows rows))
-  apart_some places rows shape (Ok (Some len)) begins = λ xs known. hears-apart len places rows xs shape begins known
-  apart_some places rows shape (Ok None) begins = tt
-  apart_some places rows shape (Err e) begins = tt
+  apart_some places rows shape r begins = grind (arith, common_steps, hears-apart)
 
   pub apart_none : {E : Type 0} (places : List Place) → (r : Result (Option ℕ) E) → IfOk r (λ o. IfNone o ((rest : List ℕ) → transcript ≢ text_of reply ++ rest))
       → IfOk r (λ o. IfNone o ((xs : List Exchange) → AreKnown js xs places → HearsNone (tracks_of js) i xs item transcript))
@@ -66,23 +58,16 @@ module _ (js : List Journal) (i : ℕ) (item : Item) (reply : Reply) (is : IsApa
   pub made_some : {E : Type 0} (places : List Place) (rows : List (List Bool)) (made : Reply) → made ≡ reply → AreRows (tracks_of js) rows → (r : Result (Option ℕ) E)
       → IfOk r (λ o. IfSome o (BeginsWith transcript made))
       → IfOk r (λ o. IfSome o (λ len. (xs : List Exchange) → AreKnown js xs places → HearsItem js i xs item transcript len places rows rows))
-  made_some places rows made same shape r begins =
-      apart_some places rows shape r (subst (λ (x : Reply). IfOk r (λ o. IfSome o (BeginsWith transcript x))) same begins)
+  made_some places rows made same shape r begins = grind (arith, common_steps, apart_some, transcript)
 
   pub made_none : {E : Type 0} (places : List Place) (made : Reply) → made ≡ reply → (r : Result (Option ℕ) E)
       → IfOk r (λ o. IfNone o ((rest : List ℕ) → transcript ≢ text_of made ++ rest))
       → IfOk r (λ o. IfNone o ((xs : List Exchange) → AreKnown js xs places → HearsNone (tracks_of js) i xs item transcript))
-  made_none places made same r none =
-      apart_none places r (subst (λ (x : Reply). IfOk r (λ o. IfNone o ((rest : List ℕ) → transcript ≢ text_of x ++ rest))) same none)
+  made_none places made same r none = grind (arith, common_steps, apart_none, transcript)
 
 -- what couldn't be read
 pub refused_apart : (js : List Journal) (i : ℕ) (reason : Refusal) → IsApart js i (Err reason) (apart (refuses reason))
-refused_apart js i reason = record {
-  gives = λ xs. refl;
-  only = λ xs other is. is;
-  quiet = λ a j here. refl;
-  adds_none = λ xs at place t here by. (let no = by.asked in absurd (cc));
-}
+refused_apart js i reason = grind (arith, common_steps)
 
 -- ---- requests of no journal
 
@@ -92,60 +77,15 @@ other_at m [] (suc a) j each is same = absurd (cc)
 other_at m (x ∷ js) zero j each is same = let one : x ≡ j = cc in each.0 (ap (λ (y : Journal). y.machine) one ∙ same)
 other_at m (x ∷ js) (suc a) j each is same = other_at m js a j each.1 is same
 
-beside-apart : (named : Bool) (i : ℕ) (journal : List ℕ → List Placed) (known : List ℕ → ℕ) (q : Request) (reason : Refusal) → named ≡ false → why_apart q ≡ reason
-    → IsReplyWhere named (author.Script i) journal known q (apart (refuses reason))
-beside-apart named i journal known q reason past why =
-    subst (λ (b : Bool). IsReplyWhere b (author.Script i) journal known q (apart (refuses reason))) (sym past) (ap (λ (r : Refusal). apart (refuses r)) (sym why))
-
-only-apart : (named : Bool) (i : ℕ) (journal : List ℕ → List Placed) (known : List ℕ → ℕ) (q : Request) (reason : Refusal) (other : Reply) → named ≡ false → why_apart q ≡ reason
-    → IsReplyWhere named (author.Script i) journal known q other → other ≡ apart (refuses reason)
-only-apart named i journal known q reason other past why is =
-    let so : other ≡ apart (refuses (why_apart q)) = subst (λ (b : Bool). IsReplyWhere b (author.Script i) journal known q other) past is in
-    so ∙ ap (λ (r : Refusal). apart (refuses r)) why
-
 -- a request that names none of them
 pub nameless_apart : (js : List Journal) (i : ℕ) (q : Request) (reason : Refusal) → is_of_history (machines_of (tracks_of js)) q ≡ false
     → ((a : ℕ) (j : Journal) → slice_get js a ≡ Some j → names_history j.machine (Ok q) ≡ false) → why_apart q ≡ reason
     → ((xs : List Exchange) (at place : ℕ) (t : Track) → slice_get (tracks_of js) at ≡ Some t → IsAddedBy (tracks_of js) i xs (exchange (Ok q) (apart (refuses reason))) t place → ⊥)
     → IsApart js i (Ok q) (apart (refuses reason))
-nameless_apart js i q reason past quiet why none = record {
-  gives = λ xs. beside-apart (is_of_history (machines_of (tracks_of js)) q) i (history_in (tracks_of js)) (λ m. known_after (kept_count (tracks_of js) m) m xs) q reason past why;
-  only = λ xs other is. only-apart (is_of_history (machines_of (tracks_of js)) q) i (history_in (tracks_of js)) (λ m. known_after (kept_count (tracks_of js) m) m xs) q reason other past why is;
-  quiet = quiet;
-  adds_none = none;
-}
-
--- one for scripts alone, and one about an unknown machine
-nothing-alone : (j : List Placed) (a : Author) (known : ℕ) (q : Request) (reply : Reply) → stands_alone q ≡ true → Adds a j known q reply → ⊥
-nothing-alone j a known q reply is adds = nothing-comes (first_of adds.comes.version j) adds.comes.base (first_of adds.count j) q adds.outcome adds.entry is adds.comes.comes adds.adds
-  where
-    nothing-comes : (v : List Entry) (b : ℕ) (h : List Entry) (q : Request) (o : Outcome) (e : Entry) → stands_alone q ≡ true → ComesToBeside v b h q o → o.adds ≡ Some e → ⊥
-    nothing-comes v b h (request.Machine machine) o e is comes adds = let no : None ≡ Some e = sym (ap (λ (x : Outcome). x.adds) comes) ∙ adds in absurd (cc)
-    nothing-comes v b h (request.Segment machine test metric) o e is comes adds = absurd (cc)
-    nothing-comes v b h (request.Commit machine number name) o e is comes adds = absurd (cc)
-    nothing-comes v b h (request.Submit machine commit run samples ignored stated) o e is comes adds = absurd (cc)
-    nothing-comes v b h (request.Retract machine run) o e is comes adds = absurd (cc)
-    nothing-comes v b h (request.Tune machine metric penalty given) o e is comes adds = absurd (cc)
-    nothing-comes v b h (request.Calibrate machine test metric factor) o e is comes adds = absurd (cc)
-    nothing-comes v b h (request.Changes machine test metric) o e is comes adds = absurd (cc)
-    nothing-comes v b h (request.Verify machine test metric) o e is comes adds = absurd (cc)
-    nothing-comes v b h (request.Regress machine test metric number) o e is comes adds = absurd (cc)
-    nothing-comes v b h (request.SetState machine number state) o e is comes adds = absurd (cc)
-    nothing-comes v b h (request.Bisect machine lo hi) o e is comes adds = absurd (cc)
-    nothing-comes v b h (request.Answer machine number commit status) o e is comes adds = absurd (cc)
-    nothing-comes v b h (request.Resume machine number) o e is comes adds = absurd (cc)
-    nothing-comes v b h (request.Job machine number) o e is comes adds = absurd (cc)
-    nothing-comes v b h (request.Runs machine) o e is comes adds = absurd (cc)
-    nothing-comes v b h (request.Report machine json) o e is comes adds = absurd (cc)
+nameless_apart js i q reason past quiet why none = grind (arith, common_steps)
 
 pub alone_apart : (js : List Journal) (i : ℕ) (q : Request) → stands_alone q ≡ true → IsApart js i (Ok q) (apart (refuses refusal.OnlyAlone))
-alone_apart js i q is =
-    nameless_apart js i q refusal.OnlyAlone (alone (tracks_of js) q is) (λ a j here. alone (track_of j ∷ []) q is)
-    (ap (λ (b : Bool). if b then refusal.OnlyAlone else refusal.UnknownMachine) is)
-    (λ xs at place t here by.
-    let same : q ≡ by.request = let both : Ok q ≡ Ok by.request = by.asked in cc in
-    nothing-alone (history_in (tracks_of js) t.machine) (author.Script i) (known_after (kept_count (tracks_of js) t.machine) t.machine xs) by.request (apart (refuses refusal.OnlyAlone))
-    (subst (λ (r : Request). stands_alone r ≡ true) same is) by.adds)
+alone_apart js i q is = grind (arith, common_steps)
 
 pub unknown_apart : (js : List Journal) (i : ℕ) (q : Request) → stands_alone q ≡ false → AllByRecursion (IsOther (machine_of q)) js
     → IsApart js i (Ok q) (apart (refuses refusal.UnknownMachine))
@@ -154,7 +94,6 @@ unknown_apart js i q shared each =
     (λ a j here. undeclared (track_of j ∷ []) q shared (other_at (machine_of q) js a j each here, tt))
     (ap (λ (b : Bool). if b then refusal.OnlyAlone else refusal.UnknownMachine) shared)
     (λ xs at place t here by.
-    let both : Ok q ≡ Ok by.request = by.asked in
     let same : q ≡ by.request = cc in
     let back = mapped-back track_of js at t here in
     other_at (machine_of q) js at back.0 each back.1

@@ -1,14 +1,9 @@
 -- Private: no public contract cites this. A script's way whose walk begins where it is wanted.
-use Rattle.std.{proofs.Common.{◌≡◌, ℕ, ◌≤◌, true, false, List, length, Option, Some, None, refl, sym, subst, arith}, specs.Prelude.is_some}
+use Rattle.std.{proofs.lemmas.Grind.common_steps, proofs.Common.{◌≡◌, ℕ, true, false, List, Option, Some, None, refl, arith}, specs.Prelude.is_some}
 use Rattle.history_model.specs.declared.entries.Placed.{Placed}
 use Rattle.track_model.specs.Tracks.{new_track}
 use Rattle.journal_walk.specs.{Laws.BeginsAlong, Walks.Walked}
 use Rattle.play_audit.specs.{Places.{IsBy, IsPlace, IsWay, Walks}, declared.place.Place.Place}
-
--- it knows no more entries than there are
-known_within : (machine : List ℕ) (history : List Placed) (count : ℕ) (o : Option Walked) → IsWay machine history count o → count ≤ length history
-known_within machine history count None way = way
-known_within machine history count (Some w) way = way.within
 
 -- it has a walk
 pub walks_on : (machine : List ℕ) (history : List Placed) (p : Place) → is_some p.walk ≡ true → IsPlace machine history p → Walks machine history p
@@ -21,13 +16,4 @@ walks_on machine history p some place = of p.walk refl some place
 -- or a new one
 pub walks_new : BeginsAlong → (machine : List ℕ) (history : List Placed) (p : Place) (name : List ℕ) (w : Walked) → IsPlace machine history p → name ≡ machine
     → w ≡ record { history = history; track = new_track name true } → IsBy machine history p.known w
-walks_new begins machine history p name w place same is =
-    let within : p.known ≤ length history = known_within machine history p.known p.walk place in
-    subst (λ (v : Walked). IsBy machine history p.known v) (sym is)
-    (record {
-      along = begins name history;
-      same = refl;
-      machine_is = same;
-      behind = omega arith;
-      within = within;
-    })
+walks_new begins machine history p name w place same is = grind (arith, common_steps)

@@ -1,14 +1,13 @@
 -- Private: no public contract cites this. A script, heard item by item.
 use Rattle.std.proofs.Common.{◌≡◌, ℕ, zero, suc, ◌+◌, ◌<◌, ◌≤◌, Bool, List, [], ◌∷◌, ◌++◌, length, drop, Some, refl, sym, ap, subst, ◌∙◌, arith, length-append}
-use Rattle.std.{specs.Prelude.slice_get, proofs.Common.length-drop, proofs.Math.ListN.drop_of_length-le}
+use Rattle.std.{specs.Prelude.slice_get, proofs.Common.length-drop, proofs.lemmas.Grind.common_steps}
 use Rattle.request_words.specs.Bodies.{Item}
 use Rattle.reply_text.specs.Replies.{text_of}
 use Rattle.journal_reader.specs.Journals.{Journal}
 use Rattle.play_fits.specs.Scripts.{Exchange}
-use Rattle.audit_model.specs.{Hearing.{HasHeard, HearsNext, HearsNone}, Heard.IsRefusedAt}
-use Rattle.play_audit.specs.{Known.{AreKnown, tracks_of}, Marks.{AreRows, MarksAll}, Heard.{exchange, HearsAll, HearsItem, RefusesAt}}
-use Rattle.audit_model.proofs.Hears.{heard_more, heard_none, refused_next, refused_past}
-use Rattle.play_audit.{proofs.Marking.{more_marked, none_marked}, specs.declared.place.Place.Place}
+use Rattle.audit_model.{specs.Hearing.{HasHeard, HearsNext, HearsNone}, specs.Heard.IsRefusedAt, proofs.Hears.{heard_more, refused_next, refused_past}}
+use Rattle.play_audit.specs.{Known.{AreKnown, tracks_of}, Marks.MarksAll, Heard.{exchange, HearsAll, HearsItem, RefusesAt}}
+use Rattle.play_audit.{proofs.Marking.more_marked, specs.declared.place.Place.Place}
 
 -- so many first items of a script were heard, up to a place of its transcript
 pub record HasGone (js : List Journal) (i : ℕ) (items : List Item) (transcript : List ℕ) (n at : ℕ) (places : List Place) (old now : List (List Bool)) : Type 0 where
@@ -19,8 +18,7 @@ pub record HasGone (js : List Journal) (i : ℕ) (items : List Item) (transcript
   pub marked : MarksAll (tracks_of js) i xs old now
 
 drop-none : (k : ℕ) → drop {A = ℕ} k [] ≡ []
-drop-none zero = refl
-drop-none (suc k) = refl
+drop-none k = grind (arith, common_steps)
 
 drop-drop : (len at : ℕ) (ts : List ℕ) → drop len (drop at ts) ≡ drop (at + len) ts
 drop-drop len zero ts = let none : 0 + len ≡ len = omega arith in ap (λ (k : ℕ). drop k ts) (sym none)
@@ -28,15 +26,6 @@ drop-drop len (suc at) [] = drop-none len ∙ sym (drop-none (suc at + len))
 drop-drop len (suc at) (t ∷ ts) = let step : suc at + len ≡ suc (at + len) = omega arith in drop-drop len at ts ∙ ap (λ (k : ℕ). drop k (t ∷ ts)) (sym step)
 
 module _ (js : List Journal) (i : ℕ) (items : List Item) (transcript : List ℕ) where
-  pub begins_gone : (places : List Place) (rows : List (List Bool)) → AreKnown js [] places → AreRows (tracks_of js) rows → HasGone js i items transcript 0 0 places rows rows
-  begins_gone places rows known shape = record {
-    xs = [];
-    heard = heard_none (tracks_of js) i items transcript;
-    within = omega arith;
-    known = known;
-    marked = none_marked (tracks_of js) i rows shape;
-  }
-
   -- one item more
   pub more_gone : (n at len : ℕ) (item : Item) (places after : List Place) (old mid new : List (List Bool)) → slice_get items n ≡ Some item
       → (gone : HasGone js i items transcript n at places old mid) → HearsItem js i gone.xs item (drop at transcript) len after mid new
@@ -72,17 +61,10 @@ module _ (js : List Journal) (i : ℕ) (items : List Item) (transcript : List �
       → RefusesAt js i items transcript (n + 1)
   past_gone n at places old now all more gone script reads once =
       let left = some-left at transcript more in
-      let heard : HasHeard (tracks_of js) i items transcript (length items) gone.xs (left.0 ∷ left.1) =
-      subst (λ (k : ℕ). HasHeard (tracks_of js) i items transcript k gone.xs (left.0 ∷ left.1)) all
-      (subst (HasHeard (tracks_of js) i items transcript n gone.xs) left.2 gone.heard) in
+      let heard : HasHeard (tracks_of js) i items transcript (length items) gone.xs (left.0 ∷ left.1) = grind (arith, common_steps) in
       subst (λ (k : ℕ). IsRefusedAt (tracks_of js) i (record { script = script; transcript = transcript }) (k + 1)) (sym all)
       (refused_past (tracks_of js) i items transcript gone.xs left.0 left.1 script heard reads once)
 
   pub all_gone : (n at : ℕ) (places : List Place) (old now : List (List Bool)) → n ≡ length items → length transcript ≤ at → HasGone js i items transcript n at places old now
       → HearsAll js i items transcript old now
-  all_gone n at places old now all over gone = record {
-    exchanges = gone.xs;
-    heard = subst (λ (k : ℕ). HasHeard (tracks_of js) i items transcript k gone.xs []) all
-        (subst (HasHeard (tracks_of js) i items transcript n gone.xs) (drop_of_length-le transcript over) gone.heard);
-    marked = gone.marked;
-  }
+  all_gone n at places old now all over gone = grind (arith, common_steps)

@@ -1,6 +1,6 @@
 -- Private: no public contract cites this. Scripts, heard one after another.
 use Rattle.std.proofs.Common.{◌≡◌, inl, inr, ℕ, zero, suc, ◌+◌, ◌-◌, ◌<◌, ◌≤◌, Bool, true, false, List, [], ◌∷◌, ◌++◌, length, take, Some, refl, sym, ap, subst, ◌∙◌, arith}
-use Rattle.std.{specs.Prelude.{slice_get, slice_index_or, sum_by}, proofs.lemmas.Bool.cases_Bool, proofs.lemmas.List.take_all}
+use Rattle.std.{specs.Prelude.{slice_get, slice_index_or, sum_by}, proofs.lemmas.Bool.cases_Bool, proofs.lemmas.List.take_all, proofs.lemmas.Grind.common_steps}
 use Rattle.std.proofs.lemmas.Option.{slice_get_within}
 use Rattle.history_model.specs.declared.entries.Author.TheVariants as author
 use Rattle.history_model.specs.declared.entries.Placed.{Placed}
@@ -77,11 +77,7 @@ none_heard js heard rows shape none = record {
   asked = λ i. [];
   told = λ i x below here. absurd (omega (arith, below));
   none = λ i below. refl;
-  marks = record {
-    rows_are = shape;
-    added = λ i at place t here by. absurd (none-added (tracks_of js) i [] t place refl by);
-    only = λ at place t here now. let both : true ≡ false = sym now ∙ none at place in absurd (cc);
-  };
+  marks = grind (arith, common_steps);
   counted = refl;
 }
 
@@ -129,14 +125,7 @@ module _ (js : List Journal) (sound : AreSound js) where
   -- an entry that was added is the script's
   added-author : (i : ℕ) (xs : List Exchange) (a : ℕ) (t : Track) (place : ℕ) (p : Placed) → slice_get (tracks_of js) a ≡ Some t → slice_get t.history place ≡ Some p
       → IsAddedIn (tracks_of js) i xs t place → p.author ≡ author.Script i
-  added-author i xs a t place p here there by =
-      let history : history_in (tracks_of js) t.machine ≡ t.history = history_at (tracks_of js) a t others here in
-      let step : by.exchange.reply.step ≡ by.adds.count + 1 = added_step (history_in (tracks_of js) t.machine) (author.Script i) _ by.request by.exchange.reply by.adds in
-      let spot : by.adds.count ≡ place = omega (arith, step, by.its_step) in
-      let its : Placed = record { author = author.Script i; entry = by.adds.entry } in
-      let stands : slice_get t.history place ≡ Some its =
-      subst (λ (k : ℕ). slice_get t.history k ≡ Some its) spot (subst (λ (h : List Placed). slice_get h by.adds.count ≡ Some its) history by.adds.stands) in
-      ap (λ (q : Placed). q.author) (same_at t.history place p its there stands)
+  added-author i xs a t place p here there by = grind (arith, common_steps, js, history_at, others, added_step, slice_get, same_at)
 
   script-same : (i k : ℕ) → author.Script i ≡ author.Script k → i ≡ k
   script-same i k same = cc

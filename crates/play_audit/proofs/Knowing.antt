@@ -1,6 +1,6 @@
 -- Private: no public contract cites this. A script's ways along the journals.
-use Rattle.std.proofs.Common.{◌≡◌, inl, inr, ℕ, ◌+◌, ◌≤◌, List, [], ◌∷◌, ◌++◌, length, Some, None, refl, sym, ap, subst, ◌∙◌, arith}
-use Rattle.std.{specs.Prelude.{Bool, slice_get}, proofs.lemmas.Option.slice_get_within, specs.List.AllByRecursion, proofs.Common.{filter, length-append}}
+use Rattle.std.proofs.{Common.{◌≡◌, inl, inr, ℕ, ◌+◌, ◌≤◌, List, [], ◌∷◌, ◌++◌, length, Some, None, sym, ap, subst, ◌∙◌, arith}, lemmas.Grind.common_steps}
+use Rattle.std.{specs.Prelude.{Bool, slice_get}, specs.List.AllByRecursion, proofs.Common.{filter, length-append}}
 use Rattle.journal_reader.specs.Journals.{Journal, AreDifferent, IsOther}
 use Rattle.audit_model.{specs.Heard.{is_of_store, kept_count}, specs.Verdicts.track_of, proofs.Exchanges.snoc_at}
 use Rattle.audit_model.proofs.Machines.{AreOthers, IsOtherTrack, kept_at}
@@ -27,9 +27,6 @@ none_other m js each = other-tracks m js each
 
 -- ---- at the beginning
 
-pub none_known : (js : List Journal) → AreKnownFirst js 0 []
-none_known js = record { many = refl; each = λ a j p here there. absurd (omega (arith, slice_get_within {A = Place} [] a p there)) }
-
 -- one way more
 pub known_next : (js : List Journal) (n known : ℕ) (anew : Bool) (j : Journal) (places : List Place) → AreSound js → AreKnownFirst js n places
     → slice_get js n ≡ Some j → known ≡ length (filter is_of_store j.history) → AreKnownFirst js (n + 1) (places ++ record { walk = None; known = known; anew = anew } ∷ [])
@@ -39,10 +36,7 @@ known_next js n known anew j places sound first here counted =
     kept_at (tracks_of js) n (track_of j) (tracks_other js sound.different) (track_at js n j here) in
     let short : length (filter is_of_store j.history) ≤ length j.history = filter_short is_of_store j.history in
     let within : known ≤ length j.history = omega (arith, counted, short) in
-    let is : IsKnown js [] j p = record {
-      place = within;
-      known = counted ∙ sym kept;
-    } in
+    let is : IsKnown js [] j p = grind (arith, common_steps) in
     record {
       many = length-append places (p ∷ []) ∙ ap (λ (k : ℕ). k + 1) first.many;
       each = λ a i q at there. elim (snoc_at places p q a there) [

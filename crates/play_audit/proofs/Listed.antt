@@ -1,4 +1,5 @@
 -- Private: no public contract cites this. Lists by their places.
+use Rattle.std.proofs.lemmas.Grind.{common_steps}
 use Rattle.std.proofs.Common.{◌≡◌, ◌⊎◌, inl, inr, ℕ, zero, suc, ◌+◌, ◌<◌, ◌≤◌, Bool, List, [], ◌∷◌, ◌++◌, length, map, take, get_or, set, Some, Vec, Global, refl, sym, ap, ◌∙◌, arith}
 use Rattle.std.{specs.Prelude.{slice_get, sum_by}, proofs.lemmas.List.Sums.{sum_by-append, sum_by-cons, sum_by-take-le}, proofs.lemmas.Option.slice_get_read}
 use Rattle.std.proofs.lemmas.List as lists
@@ -30,11 +31,7 @@ sum_longer f [] (suc n) zero le = absurd (omega (arith, le))
 sum_longer f [] (suc n) (suc m) le = omega arith
 sum_longer f (x ∷ xs) zero m le = omega arith
 sum_longer f (x ∷ xs) (suc n) zero le = absurd (omega (arith, le))
-sum_longer f (x ∷ xs) (suc n) (suc m) le =
-    let one : sum_by f (x ∷ take n xs) ≡ f x + sum_by f (take n xs) = sum_by-cons f x (take n xs) in
-    let two : sum_by f (x ∷ take m xs) ≡ f x + sum_by f (take m xs) = sum_by-cons f x (take m xs) in
-    let more : sum_by f (take n xs) ≤ sum_by f (take m xs) = sum_longer f xs n m (omega (arith, le)) in
-    omega (arith, one, two, more)
+sum_longer f (x ∷ xs) (suc n) (suc m) le = grind (arith, common_steps, sum_longer f xs n m (omega (arith, le)))
 
 -- lists of rows
 pub row_at : (marks : List (Vec Bool Global)) (n : ℕ) (row : Vec Bool Global) → n < length marks → row ≡ get_or marks n row → get_or (rows_of marks) n [] ≡ row.items
@@ -63,7 +60,4 @@ pub lt-or-le : (n m : ℕ) → (n < m) ⊎ (m ≤ n)
 lt-or-le zero zero = inr (omega arith)
 lt-or-le zero (suc m) = inl (omega arith)
 lt-or-le (suc n) zero = inr (omega arith)
-lt-or-le (suc n) (suc m) = elim (lt-or-le n m) [
-  | inl below ↦ inl (omega (arith, below))
-  | inr past ↦ inr (omega (arith, past))
-]
+lt-or-le (suc n) (suc m) = grind (arith, common_steps, lt-or-le n m)

@@ -1,47 +1,18 @@
 -- Private: no public contract cites this. Marks on the entries that exchanges added.
-use Rattle.std.proofs.Common.{◌≡◌, ◌⊎◌, inl, inr, ℕ, suc, ◌+◌, ◌<◌, ◌≤◌, Bool, true, false, List, [], ◌∷◌, ◌++◌, length, filter, take, get_or, replicate, Some, refl, sym, ap, subst, ◌∙◌, arith, length-append}
-use Rattle.std.{specs.Prelude.{slice_get, if◌then◌else◌}, proofs.lemmas.Bool.cases_Bool, proofs.lemmas.Option.slice_get_within}
+use Rattle.std.proofs.Common.{◌≡◌, ◌⊎◌, inl, inr, ℕ, ◌+◌, ◌<◌, ◌≤◌, Bool, true, false, List, [], ◌∷◌, ◌++◌, length, filter, take, get_or, replicate, Some, sym, ap, subst, ◌∙◌, arith}
+use Rattle.std.{specs.Prelude.slice_get, proofs.lemmas.Option.slice_get_within, proofs.lemmas.Grind.common_steps}
 use Rattle.track_model.specs.Tracks.{Track}
 use Rattle.history_model.specs.declared.entries.Placed.{Placed}
-use Rattle.audit_model.{specs.Heard.is_of_store, proofs.Exchanges.{at_end, at_front, snoc_at, take_front, take_next}, specs.Heard.kept_count}
+use Rattle.audit_model.{proofs.Exchanges.{at_end, at_front, snoc_at, take_front}, specs.Heard.kept_count}
 use Rattle.play_fits.specs.{Journals.history_in, Scripts.{Exchange, known_after}}
 use Rattle.play_model.specs.Replies.{Adds}
 use Rattle.std.proofs.lemmas.List as lists
-use Rattle.play_audit.{specs.Marks.{AreRows, IsAddedBy, IsAddedIn, IsOpenIn, MarksAll, MarksOne, NoneMarked, mark_at}, proofs.Listed.{lt-or-le, same_at}}
-use Rattle.std.proofs.Math.Seq.{get_or-append_seam}
+use Rattle.play_audit.{specs.Marks.{AreRows, IsAddedBy, IsAddedIn, IsOpenIn, MarksAll, MarksOne, NoneMarked}, proofs.Listed.{lt-or-le, same_at}}
 use Rattle.history_model.specs.declared.entries.Author.TheVariants as author
-
--- how many entries a store kept, one further
-filter-last : {A : Type 0} (p : A → Bool) (xs : List A) (x : A) → length (filter p (xs ++ x ∷ [])) ≡ length (filter p xs) + (if p x then 1 else 0)
-filter-last p [] x = elim (cases_Bool (p x)) [
-  | inl hit ↦ rw hit refl
-  | inr past ↦ rw past refl
-]
-filter-last p (y ∷ xs) x = elim (cases_Bool (p y)) [
-  | inl hit ↦ let more : length (filter p (xs ++ x ∷ [])) ≡ length (filter p xs) + (if p x then 1 else 0) = filter-last p xs x in rw hit (omega (arith, more))
-  | inr past ↦ rw past (filter-last p xs x)
-]
-
-pub kept_more : (h : List Placed) (n count one : ℕ) (p : Placed) → slice_get h n ≡ Some p → count ≡ length (filter is_of_store (take n h)) → one ≡ (if is_of_store p then 1 else 0)
-    → count + one ≡ length (filter is_of_store (take (n + 1) h))
-kept_more h n count one p is counted more =
-    let step : suc n ≡ n + 1 = omega arith in
-    let grown : length (filter is_of_store (take (n + 1) h)) ≡ length (filter is_of_store (take n h)) + (if is_of_store p then 1 else 0) =
-    ap (λ (k : ℕ). length (filter is_of_store (take k h))) (sym step) ∙ ap (λ (l : List Placed). length (filter is_of_store l)) (take_next h n p is)
-    ∙ filter-last is_of_store (take n h) p in
-    let one-of : ℕ = (if is_of_store p then 1 else 0) in
-    ap (λ (k : ℕ). k + one) counted ∙ ap (λ (k : ℕ). length (filter is_of_store (take n h)) + k) more ∙ sym grown
-
-pub one_most : (one : ℕ) (b : Bool) → one ≡ (if b then 1 else 0) → one ≤ 1
-one_most one true is = omega (arith, is)
-one_most one false is = omega (arith, is)
 
 pub filter_short : {A : Type 0} (p : A → Bool) (xs : List A) → length (filter p xs) ≤ length xs
 filter_short p [] = omega arith
-filter_short p (x ∷ xs) = elim (cases_Bool (p x)) [
-  | inl hit ↦ rw hit (omega (arith, filter_short p xs))
-  | inr past ↦ rw past (omega (arith, filter_short p xs))
-]
+filter_short p (x ∷ xs) = grind (arith, common_steps, filter_short p xs)
 
 -- rows for the first journals, so many, with nothing marked
 pub record AreRowsFirst (ts : List Track) (n : ℕ) (rows : List (List Bool)) : Type 0 where
@@ -49,46 +20,12 @@ pub record AreRowsFirst (ts : List Track) (n : ℕ) (rows : List (List Bool)) : 
   pub each : (at : ℕ) (t : Track) → at < n → slice_get ts at ≡ Some t → length (get_or rows at []) ≡ length t.history
   pub none : NoneMarked rows
 
-pub no_rows : (ts : List Track) → AreRowsFirst ts 0 []
-no_rows ts = record { many = refl; each = λ at t below here. absurd (omega (arith, below)); none = λ at place. refl }
-
-unmarked-row : (n place : ℕ) → get_or (replicate n false) place false ≡ false
-unmarked-row n place = elim (lt-or-le place n) [
-  | inl below ↦ lists.get_or-replicate n place false false below
-  | inr past ↦ lists.get_or_past (replicate n false) place false (omega (arith, past, lists.length-replicate n false))
-]
-
 pub next_row : (ts : List Track) (n : ℕ) (t : Track) (rows : List (List Bool)) (row : List Bool) → AreRowsFirst ts n rows → slice_get ts n ≡ Some t
     → row ≡ replicate (length t.history) false → AreRowsFirst ts (n + 1) (rows ++ row ∷ [])
-next_row ts n t rows row first here is = record {
-  many = length-append rows (row ∷ []) ∙ ap (λ (k : ℕ). k + 1) first.many;
-  each = λ at x below there. elim (lt-or-le at n) [
-    | inl front ↦ ap length (lists.get_or_append_left rows (row ∷ []) [] at (omega (arith, front, first.many))) ∙ first.each at x front there
-    | inr past ↦
-        let same : at ≡ n = omega (arith, past, below) in
-        let track : x ≡ t = same_at ts n x t (subst (λ (k : ℕ). slice_get ts k ≡ Some x) same there) here in
-        ap (λ (k : ℕ). length (get_or (rows ++ row ∷ []) k [])) (same ∙ sym first.many) ∙ ap length (get_or-append_seam rows row [] [])
-        ∙ ap length is ∙ lists.length-replicate (length t.history) false ∙ ap (λ (y : Track). length y.history) (sym track)
-  ];
-  none = λ at place. elim (lt-or-le at n) [
-    | inl front ↦ ap (λ (r : List Bool). get_or r place false) (lists.get_or_append_left rows (row ∷ []) [] at (omega (arith, front, first.many))) ∙ first.none at place
-    | inr past ↦ elim (lt-or-le at (n + 1)) [
-      | inl below ↦
-          let same : at ≡ n = omega (arith, past, below) in
-          ap (λ (k : ℕ). mark_at (rows ++ row ∷ []) k place) (same ∙ sym first.many) ∙ ap (λ (r : List Bool). get_or r place false) (get_or-append_seam rows row [] [] ∙ is)
-          ∙ unmarked-row (length t.history) place
-      | inr beyond ↦
-          let size : length (rows ++ row ∷ []) ≡ n + 1 = length-append rows (row ∷ []) ∙ ap (λ (k : ℕ). k + 1) first.many in
-          ap (λ (r : List Bool). get_or r place false) (lists.get_or_past (rows ++ row ∷ []) at [] (omega (arith, beyond, size)))
-    ]
-  ];
-}
+next_row ts n t rows row first here is = grind (arith, common_steps)
 
 pub all_rows : (ts : List Track) (n : ℕ) (rows : List (List Bool)) → n ≡ length ts → AreRowsFirst ts n rows → AreRows ts rows
-all_rows ts n rows size first = record {
-  many = first.many ∙ size;
-  each = λ at t here. first.each at t (omega (arith, slice_get_within ts at t here, size)) here;
-}
+all_rows ts n rows size first = grind (arith, common_steps, slice_get_within)
 
 -- ---- one entry further
 
@@ -155,19 +92,10 @@ added-so ts i xs x t place is = elim (snoc_at xs x is.exchange is.before is.here
         request = is.request;
         asked = ap (λ (y : Exchange). y.item) (sym r.1) ∙ is.asked;
         about = is.about;
-        adds = subst (λ (y : Exchange). Adds (author.Script i) (history_in ts t.machine) (known_after (kept_count ts t.machine) t.machine xs) is.request y.reply) r.1
-            (subst (λ (m : List Exchange). Adds (author.Script i) (history_in ts t.machine) (known_after (kept_count ts t.machine) t.machine m) is.request is.exchange.reply) front is.adds);
+        adds = grind (arith, common_steps);
         its_step = ap (λ (y : Exchange). y.reply.step) (sym r.1) ∙ is.its_step;
       }
 ]
-
-pub none_marked : (ts : List Track) (i : ℕ) (rows : List (List Bool)) → AreRows ts rows → MarksAll ts i [] rows rows
-none_marked ts i rows shape = record {
-  rows = shape;
-  kept = λ at place is. is;
-  added = λ at place t here is. absurd (omega (arith, slice_get_within {A = Exchange} [] is.before is.exchange is.here));
-  only = λ at place t here is. inl is;
-}
 
 pub more_marked : (ts : List Track) (i : ℕ) (xs : List Exchange) (x : Exchange) (old mid new : List (List Bool)) → MarksAll ts i xs old mid → MarksOne ts i xs x mid new
     → MarksAll ts i (xs ++ x ∷ []) old new
@@ -178,11 +106,5 @@ more_marked ts i xs x old mid new all one = record {
     | inl before ↦ one.kept at place (all.added at place t here before)
     | inr by ↦ one.added at place t here by
   ];
-  only = λ at place t here is. elim (one.only at place t here is) [
-    | inl before ↦ elim (all.only at place t here before) [
-      | inl was ↦ inl was
-      | inr asked ↦ inr (added-front ts i xs x t place asked)
-    ]
-    | inr by ↦ inr (added-last ts i xs x t place by)
-  ];
+  only = grind (arith, common_steps, added-front, added-last);
 }

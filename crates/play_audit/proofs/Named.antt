@@ -1,19 +1,19 @@
 -- Private: no public contract cites this. A request about one of the machines.
 use Rattle.std.proofs.Common.{◌≡◌, ◌⊎◌, inl, inr, ℕ, zero, suc, ◌+◌, ◌-◌, ◌<◌, Bool, true, false, List, [], ◌∷◌, ◌++◌, length, set, get_or, Option, Result, Ok, Err, Some, None, refl, sym, ap, subst, ◌∙◌, arith}
-use Rattle.std.{specs.Prelude.{slice_get, IfOk, IfSome, IfNone}, proofs.lemmas.Option.slice_get_within, proofs.Common.take}
+use Rattle.std.{specs.Prelude.{slice_get, IfOk, IfSome, IfNone}, proofs.lemmas.Option.slice_get_within, proofs.lemmas.Grind.common_steps}
 use Rattle.std.proofs.lemmas.List as lists
 use Rattle.request_model.specs.{declared.replies.Reply.Reply, declared.requests.Request.Request, Requests.machine_of}
-use Rattle.track_model.specs.{Tracks.Track, Outcomes.Outcome, Replies.reply_of}
+use Rattle.track_model.specs.Tracks.{Track}
 use Rattle.history_model.specs.declared.entries.Author.TheVariants as author
-use Rattle.history_model.specs.declared.entries.{Placed.Placed, Author.Author, Entry.Entry}
+use Rattle.history_model.specs.declared.entries.{Placed.Placed, Author.Author}
 use Rattle.journal_reader.specs.Journals.{Journal, AreDifferent}
-use Rattle.play_model.specs.Replies.{Adds, IsReplyOn, IsReplyWhere, is_of_history, stands_alone, first_of}
+use Rattle.play_model.specs.Replies.{Adds, IsReplyOn, is_of_history, stands_alone}
 use Rattle.play_fits.{specs.Journals.{history_in, machines_of}, specs.Scripts.{Exchange, known_after}, proofs.Lists.mapped-back}
 use Rattle.audit_model.{specs.Heard.kept_count, specs.Hearing.{Gives, HearsNone}, specs.Verdicts.track_of, proofs.Exchanges.{known_about, known_else}}
 use Rattle.audit_model.proofs.Machines.{declared, history_at, undeclared}
 use Rattle.play_audit.specs.{Known.{AreKnown, AreSound, IsKnown, tracks_of}, Marks.{AreRows, IsAddedBy, MarksOne, mark_at}, Heard.{exchange, HearsItem}}
 use Rattle.play_audit.{specs.Places.IsPlace, specs.Replies.{IsHeardNext, IsUnheard}, specs.declared.place.Place.Place, proofs.Knowing.tracks_other}
-use Rattle.play_audit.proofs.{Listed.{same_at, track_at}, Apart.other_at, Walking.entries_length}
+use Rattle.play_audit.proofs.{Listed.{same_at, track_at}, Apart.other_at}
 
 -- ---- places of different machines
 
@@ -45,10 +45,7 @@ pub same-or : (a b : ℕ) → (a ≡ b) ⊎ (a ≡ b → ⊥)
 same-or zero zero = inl refl
 same-or zero (suc b) = inr (λ same. absurd (omega (arith, same)))
 same-or (suc a) zero = inr (λ same. absurd (omega (arith, same)))
-same-or (suc a) (suc b) = elim (same-or a b) [
-  | inl same ↦ inl (ap suc same)
-  | inr other ↦ inr (λ same. other (omega (arith, same)))
-]
+same-or (suc a) (suc b) = grind (arith, common_steps, same-or a b)
 
 -- ---- marks with one row changed
 
@@ -61,14 +58,7 @@ module _ (rows : List (List Bool)) (a : ℕ) (row : List Bool) (within : a < len
 
 -- what an entry that was added says of the reply
 pub added_step : (j : List Placed) (a : Author) (known : ℕ) (q : Request) (reply : Reply) → (adds : Adds a j known q reply) → reply.step ≡ adds.count + 1
-added_step j a known q reply adds =
-    let told : reply.step ≡ (reply_of (first_of adds.count j) adds.outcome).step = ap (λ (r : Reply). r.step) adds.told in
-    let size : length (first_of adds.count j) ≡ adds.count =
-    entries_length (take adds.count j) ∙ lists.length-take-le adds.count j (omega (arith, slice_get_within j adds.count (record { author = a; entry = adds.entry }) adds.stands)) in
-    told ∙ step-of (first_of adds.count j) adds.outcome adds.entry adds.adds ∙ ap (λ (n : ℕ). n + 1) size
-  where
-    step-of : (h : List Entry) (o : Outcome) (e : Entry) → o.adds ≡ Some e → (reply_of h o).step ≡ length h + 1
-    step-of h o e is = rw is refl
+added_step j a known q reply adds = grind (arith, common_steps)
 
 -- ---- one request
 
@@ -82,19 +72,11 @@ module _ (js : List Journal) (sound : AreSound js) (i : ℕ) (q : Request) (tran
 
   pub gives_so : (xs : List Exchange) (known : ℕ) (reply : Reply) → known ≡ known_after (kept_count (tracks_of js) (machine_of q)) (machine_of q) xs
       → IsReplyOn (author.Script i) j.history known q reply → Gives (tracks_of js) i xs (Ok q) reply
-  gives_so xs known reply same on =
-      let there : IsReplyOn (author.Script i) (history_in (tracks_of js) (machine_of q)) (known_after (kept_count (tracks_of js) (machine_of q)) (machine_of q) xs) q reply =
-      subst (λ (k : ℕ). IsReplyOn (author.Script i) (history_in (tracks_of js) (machine_of q)) k q reply) same
-      (subst (λ (h : List Placed). IsReplyOn (author.Script i) h known q reply) (sym its-history) on) in
-      subst (λ (b : Bool). IsReplyWhere b (author.Script i) (history_in (tracks_of js)) (λ m. known_after (kept_count (tracks_of js) m) m xs) q reply) (sym named) there
+  gives_so xs known reply same on = grind (arith, common_steps, i, history_in, js, q, known_after, kept_count, its-history, named)
 
   pub given_so : (xs : List Exchange) (known : ℕ) (reply : Reply) → known ≡ known_after (kept_count (tracks_of js) (machine_of q)) (machine_of q) xs
       → Gives (tracks_of js) i xs (Ok q) reply → IsReplyOn (author.Script i) j.history known q reply
-  given_so xs known reply same gives =
-      let there : IsReplyOn (author.Script i) (history_in (tracks_of js) (machine_of q)) (known_after (kept_count (tracks_of js) (machine_of q)) (machine_of q) xs) q reply =
-      subst (λ (b : Bool). IsReplyWhere b (author.Script i) (history_in (tracks_of js)) (λ m. known_after (kept_count (tracks_of js) m) m xs) q reply) named gives in
-      subst (λ (h : List Placed). IsReplyOn (author.Script i) h known q reply) its-history
-      (subst (λ (k : ℕ). IsReplyOn (author.Script i) (history_in (tracks_of js) (machine_of q)) k q reply) (sym same) there)
+  given_so xs known reply same gives = grind (arith, common_steps, i, history_in, js, q, known_after, kept_count, named, its-history)
 
   -- what is known behind it
   known-so : (xs : List Exchange) (reply : Reply) (places : List Place) (p p' : Place) → AreKnown js xs places → slice_get places a ≡ Some p → IsPlace (machine_of q) j.history p'
@@ -246,17 +228,14 @@ module _ (js : List Journal) (sound : AreSound js) (i : ℕ) (q : Request) (tran
   pub hears_nothing : (places : List Place) (p : Place) (xs : List Exchange) → AreKnown js xs places → slice_get places a ≡ Some p
       → IsUnheard (author.Script i) j.history p.known q transcript → HearsNone (tracks_of js) i xs (Ok q) transcript
   hears_nothing places p xs known at none reply more gives text =
-      let same : p.known ≡ known_after (kept_count (tracks_of js) (machine_of q)) (machine_of q) xs =
-      subst (λ (m : List ℕ). p.known ≡ known_after (kept_count (tracks_of js) m) m xs) about (known.each a j p here at).known in
+      let same : p.known ≡ known_after (kept_count (tracks_of js) (machine_of q)) (machine_of q) xs = grind (arith, common_steps) in
       none reply more (given_so xs p.known reply same gives) text
 
   pub named_some : {E : Type 0} (places : List Place) (p p' : Place) (rows : List (List Bool)) (old row : List Bool) → slice_get places a ≡ Some p → AreRows (tracks_of js) rows
       → old ≡ get_or rows a [] → (r : Result (Option ℕ) E) → IfOk r (λ o. IfSome o (λ len. IsPlace (machine_of q) j.history p'))
       → IfOk r (λ o. IfSome o (λ len. IsHeardNext (author.Script i) j.history p.known p'.known q transcript len old row))
       → IfOk r (λ o. IfSome o (λ len. (xs : List Exchange) → AreKnown js xs places → HearsItem js i xs (Ok q) transcript len (set places a p') rows (set rows a row)))
-  named_some places p p' rows old row at shape was (Ok (Some len)) place heard = λ xs known. hears_named len places p p' rows old row xs known at shape was place heard
-  named_some places p p' rows old row at shape was (Ok None) place heard = tt
-  named_some places p p' rows old row at shape was (Err e) place heard = tt
+  named_some places p p' rows old row x6 shape was r place heard = grind (arith, common_steps, hears_named, place)
 
   pub named_none : {E : Type 0} (places : List Place) (p : Place) → slice_get places a ≡ Some p → (r : Result (Option ℕ) E)
       → IfOk r (λ o. IfNone o (IsUnheard (author.Script i) j.history p.known q transcript))

@@ -1,7 +1,7 @@
 -- Private: no public contract cites this. Files have one verdict.
 use Rattle.std.proofs.Common.{◌≡◌, ◌⊎◌, inl, inr, ℕ, zero, suc, ◌^◌, ◌+◌, ◌-◌, ◌<◌, ◌≤◌, Bool, true, false, List, [], ◌∷◌, ◌++◌, length, map, take, drop, Some, Ok, Err, refl, sym, ap, subst, ◌∙◌, arith, append_assoc, append-nil}
-use Rattle.std.specs.{Prelude.{slice_get, bytes_eq, if◌then◌else◌, ◌||◌, Contains, sum_by}, List.AllByRecursion}
-use Rattle.std.proofs.lemmas.{Bool.{cases_Bool, cases_order}, Grind.flat_map-append, List.{take-append-drop, take_all, take-take}}
+use Rattle.std.{specs.Prelude.{slice_get, bytes_eq, if◌then◌else◌, ◌||◌, Contains}, specs.List.AllByRecursion, proofs.lemmas.Grind.common_steps}
+use Rattle.std.proofs.lemmas.{Bool.{cases_Bool, cases_order}, List.{take-append-drop, take_all, take-take}}
 use Rattle.history_model.specs.{declared.entries.Author.Author, declared.entries.Entry.Entry, declared.entries.Placed.Placed, Laws.CutsGrow, Runs.Series}
 use Rattle.history_model.specs.declared.entries.Author.TheVariants as author
 use Rattle.request_model.specs.{declared.requests.Request.Request, declared.replies.Refusal.Refusal, declared.replies.Reply.Reply, Requests.machine_of}
@@ -47,23 +47,7 @@ record IsSegment (q : Request) : Type 0 where
   is : q ≡ request.Segment machine test metric
 
 segment-is : (q : Request) → is_segment q ≡ true → IsSegment q
-segment-is (request.Segment machine test metric) seg = record { machine = machine; test = test; metric = metric; is = refl }
-segment-is (request.Machine machine) seg = absurd (cc)
-segment-is (request.Commit machine number name) seg = absurd (cc)
-segment-is (request.Submit machine commit run samples ignored stated) seg = absurd (cc)
-segment-is (request.Retract machine run) seg = absurd (cc)
-segment-is (request.Tune machine metric penalty given) seg = absurd (cc)
-segment-is (request.Calibrate machine test metric factor) seg = absurd (cc)
-segment-is (request.Changes machine test metric) seg = absurd (cc)
-segment-is (request.Verify machine test metric) seg = absurd (cc)
-segment-is (request.Regress machine test metric number) seg = absurd (cc)
-segment-is (request.SetState machine number state) seg = absurd (cc)
-segment-is (request.Bisect machine lo hi) seg = absurd (cc)
-segment-is (request.Answer machine number commit status) seg = absurd (cc)
-segment-is (request.Resume machine number) seg = absurd (cc)
-segment-is (request.Job machine number) seg = absurd (cc)
-segment-is (request.Runs machine) seg = absurd (cc)
-segment-is (request.Report machine json) seg = absurd (cc)
+segment-is q seg = grind (arith, common_steps)
 
 module _ (laws : Laws) (author : Author) (j : List Placed) (known : ℕ) (text : List ℕ) (fits64 : length j < 2 ^ 64) where
   same-step : (q : Request) (a b : Reply) (rest more : List ℕ) → IsReplyOn author j known q a → IsReplyOn author j known q b → text ≡ text_of a ++ rest → text ≡ text_of b ++ more → a.step ≡ b.step
@@ -83,7 +67,6 @@ module _ (laws : Laws) (author : Author) (j : List Placed) (known : ℕ) (text :
       let added : adds_none q a.answer ≡ false = kind_of_adds laws.kinds author j known q a one in
       let told : adds_none q b.answer ≡ true = kind_of_tells laws.kinds author j known q b two in
       let kinds : adds_none q a.answer ≡ adds_none q b.answer = ap (λ (t : Bool). asks_only q || t) (same.1 ∙ own.kind) in
-      let no : false ≡ true = sym added ∙ kinds ∙ told in
       absurd (cc)
 
   -- of a segmentation that adds nothing, one reason
@@ -155,11 +138,9 @@ module _ (laws : Laws) (ts : List Track) (small : AreSmall ts) (i : ℕ) where
       let reply : x.reply ≡ y.reply = one-given front x.item text (replies_text xs ++ rest) (replies_text ys ++ more) x.reply y.reply (first-given front x xs one) gives split also in
       let Made : Item → Reply → Exchange = λ it r. record { item = it; reply = r } in
       let same : x ≡ y = ap (λ (it : Item). Made it x.reply) item ∙ ap (Made y.item) reply in
-      let behind : replies_text xs ++ rest ≡ replies_text ys ++ more =
-      behind_same (text_of x.reply) (replies_text xs ++ rest) (replies_text ys ++ more) (sym split ∙ also ∙ ap (λ (r : Reply). text_of r ++ (replies_text ys ++ more)) (sym reply)) in
+      let behind : replies_text xs ++ rest ≡ replies_text ys ++ more = grind (arith, common_steps, behind_same, split, also, reply) in
       let left : AreGiven ts i ((front ++ x ∷ []) ++ xs) = subst (AreGiven ts i) (sym (append_assoc front (x ∷ []) xs)) one in
-      let right : AreGiven ts i ((front ++ x ∷ []) ++ ys) =
-      subst (λ (z : Exchange). AreGiven ts i ((front ++ z ∷ []) ++ ys)) (sym same) (subst (AreGiven ts i) (sym (append_assoc front (y ∷ []) ys)) two) in
+      let right : AreGiven ts i ((front ++ x ∷ []) ++ ys) = grind (arith, common_steps) in
       let rest_is : xs ≡ ys = same-from (front ++ x ∷ []) xs ys (replies_text xs ++ rest) rest more others left right refl behind in
       ap (λ (z : Exchange). z ∷ xs) same ∙ ap (λ (l : List Exchange). y ∷ l) rest_is
 
@@ -179,9 +160,7 @@ module _ (laws : Laws) (ts : List Track) (i : ℕ) (heard : Heard) where
         exchanges = take m xs;
         asks = map_take (λ (x : Exchange). x.item) xs m ∙ ap (λ (l : List Item). take m l) well.asks ∙ take-take m n items le;
         rest = replies_text (drop m xs) ++ well.rest;
-        replies = well.replies ∙ ap (λ (l : List Exchange). replies_text l ++ well.rest) (sym split)
-            ∙ ap (λ (t : List ℕ). t ++ well.rest) (flat_map-append (λ (y : Exchange). text_of y.reply) (take m xs) (drop m xs))
-            ∙ append_assoc (replies_text (take m xs)) (replies_text (drop m xs)) well.rest;
+        replies = grind (arith, common_steps);
         given = given_front (author.Script i) (machines_of ts) (history_in ts) (kept_count ts) (take m xs) (drop m xs) (subst (AreGiven ts i) (sym split) well.given);
       }
 
@@ -208,10 +187,7 @@ module _ (laws : Laws) (ts : List Track) (i : ℕ) (heard : Heard) where
   no-less r s a b below =
       let same : b.items ≡ a.items = (one_script laws.scripts heard.script b.items a.items end end b.script a.script).0 in
       let size : length b.items ≡ length a.items = ap length same in
-      let within : b.before ≤ length b.items = elim b.refused [
-        | inl cut ↦ omega (arith, cut.0)
-        | inr past ↦ omega (arith, past.0)
-      ] in
+      let within : b.before ≤ length b.items = grind (arith, common_steps) in
       elim a.refused [
         | inl cut ↦ cut.1 (begins-less a.items (a.before + 1) b.before (omega (arith, below)) (subst (λ (l : List Item). BeginsWell ts i heard l b.before) same b.begins))
         | inr past ↦ absurd (omega (arith, past.0, within, below, size))
@@ -227,10 +203,7 @@ module _ (laws : Laws) (ts : List Track) (i : ℕ) (heard : Heard) where
 -- ---- whose entries there are
 
 may-script : (crew : Crew) (a : Author) (e : Entry) (k : ℕ) → MayAdd crew (record { author = a; entry = e }) → a ≡ author.Script k → IsOneOf crew.scripts k
-may-script crew author.Kept e k may is = absurd may
-may-script crew (author.Script n) e k may is = let same : n ≡ k = cc in subst (IsOneOf crew.scripts) same may
-may-script crew (author.Recompute n) e k may is = absurd (cc)
-may-script crew (author.Bisect n) e k may is = absurd (cc)
+may-script crew a e k may is = grind (arith, common_steps)
 
 in-parts : (n : ℕ) (kept made : List Placed) (place : ℕ) (p : Placed) → AllByRecursion WasKept kept → AllByRecursion (MayAdd (crew_with n)) made → slice_get (kept ++ made) place ≡ Some p
     → WasKept p ⊎ MayAdd (crew_with n) p
@@ -239,11 +212,7 @@ in-parts n (x ∷ kept) made zero p each run is = let same : x ≡ p = cc in inl
 in-parts n (x ∷ kept) made (suc place) p each run is = in-parts n kept made place p each.1 run is
 
 script-in : (n : ℕ) (j : Journal) (place k : ℕ) (p : Placed) → IsJournal n j → slice_get j.history place ≡ Some p → p.author ≡ author.Script k → IsOneOf n k
-script-in n j place k p is there its =
-    elim (in-parts n is.kept is.made place p is.of_store is.of_run (subst (λ (h : List Placed). slice_get h place ≡ Some p) is.parts there)) [
-      | inl kept ↦ let no : author.Kept ≡ author.Script k = sym kept.author ∙ its in absurd (cc)
-      | inr may ↦ may-script (crew_with n) p.author p.entry k may its
-    ]
+script-in n j place k p is there its = grind (arith, common_steps, in-parts, may-script)
 
 small-of : (n : ℕ) (js : List Journal) → AllByRecursion (IsJournal n) js → AreSmall (tracks_of js)
 small-of n [] each m = omega arith
@@ -288,8 +257,7 @@ module _ (laws : Laws) (bytes : List ℕ) (heard : List Heard) (ts : List Track)
       let same : asked u.script ≡ also u.script = same-asked asked also one two u.script (its-script at place u.script u.track u.entry u.here u.there u.its) in
       record {
         made = u.made;
-        alone = λ by. u.alone
-            (subst (λ (l : List Exchange). IsAdded (author.Script u.script) u.track.machine (history_in ts u.track.machine) (kept_count ts u.track.machine) l place) (sym same) by);
+        alone = grind (arith, common_steps);
       }
 
   no-lower : (l m : ℕ) → IsUnaskedAt ts heard l → IsUnaskedAt ts heard m → l < m → ⊥
@@ -316,8 +284,7 @@ module _ (laws : Laws) (bytes : List ℕ) (heard : List Heard) (ts : List Track)
       let history : history_in ts t.machine ≡ t.history = history_at ts u.at t others at.here in
       let p : Placed = record { author = author.Script (k - 1 + 1); entry = at.entry.entry } in
       let entry : at.entry ≡ p = ap (λ (a : Author). let y : Placed = record { author = a; entry = at.entry.entry } in y) (at.its ∙ ap (λ (n : ℕ). author.Script n) (sym back)) in
-      let there : slice_get (history_in ts t.machine) u.place ≡ Some p =
-      subst (λ (h : List Placed). slice_get h u.place ≡ Some p) (sym history) (at.there ∙ ap (λ (y : Placed). Some y) entry) in
+      let there : slice_get (history_in ts t.machine) u.place ≡ Some p = grind (arith, common_steps) in
       let by : IsAdded (author.Script (k - 1 + 1)) t.machine (history_in ts t.machine) (kept_count ts t.machine) so.exchanges u.place =
       so.asked t.machine u.place at.entry.entry (has-machine ts u.at t at.here) there in
       let same : so.exchanges ≡ u.asked (k - 1 + 1) =
@@ -337,9 +304,7 @@ record IsRefusedBy (ts : List Track) (heard : List Heard) (script request : ℕ)
   refused : IsRefusedAt ts script refused_of request
 
 by-journals : (bytes : List ℕ) (heard : List Heard) (ts : List Track) (script request : ℕ) (a : IsRefusedRequest bytes heard script request) → a.journals ≡ ts → IsRefusedBy ts heard script request
-by-journals bytes heard ts script request a same =
-    subst (λ (l : List Track). IsRefusedBy l heard script request) same
-    (record { some = a.some; before = a.before; refused_of = a.refused_of; here = a.here; refused = a.refused })
+by-journals bytes heard ts script request a same = grind (arith, common_steps)
 
 module _ (laws : Laws) (heard : List Heard) (ts : List Track) where
   all-told : (script request : ℕ) → ((i : ℕ) (x : Heard) → slice_get heard i ≡ Some x → (exchanges : List Exchange) × IsTold ts (i + 1) x exchanges) → IsRefusedBy ts heard script request → ⊥
@@ -409,12 +374,7 @@ module _ (laws : Laws) (bytes : List ℕ) (heard : List Heard) where
   one-line-of l m (inr a) (inr b) = one-line laws bytes heard a.journals a.are l m a.unasked (unasked-by a.journals m a.are b)
 
   one-shown : (m s r n t q : ℕ) → AreShown bytes heard m s r → AreShown bytes heard n t q → ◌≡◌ {A = Verdict} (verdict.Shown m s r) (verdict.Shown n t q)
-  one-shown m s r n t q a b =
-      let same : b.journals ≡ a.journals = one-reading a.journals b.journals a.are b.are in
-      let machines : m ≡ n = a.machines_are ∙ ap length (sym same) ∙ sym b.machines_are in
-      let steps : s ≡ t = a.steps_are ∙ ap (λ (l : List Track). sum_by (λ (x : Track). length x.history) l) (sym same) ∙ sym b.steps_are in
-      let requests : r ≡ q = one-asked laws.scripts heard r q a.asked b.asked in
-      ap (λ (k : ℕ). verdict.Shown k s r) machines ∙ ap (λ (k : ℕ). verdict.Shown n k r) steps ∙ ap (λ (k : ℕ). verdict.Shown n t k) requests
+  one-shown m s r n t q a b = grind (arith, common_steps, one-reading, length, one-asked, laws.scripts, heard, verdict.Shown)
 
   one-request-of : (s t r q : ℕ) → IsRefusedRequest bytes heard s r → IsRefusedRequest bytes heard t q → ◌≡◌ {A = Verdict} (verdict.Request s r) (verdict.Request t q)
   one-request-of s t r q a b =

@@ -1,6 +1,6 @@
 -- Private: no public contract cites this. The first entry that isn't marked.
-use Rattle.std.proofs.Common.{◌≡◌, inl, inr, ℕ, ◌+◌, ◌<◌, ◌≤◌, Bool, List, [], ◌∷◌, length, take, get_or, Some, refl, sym, ap, subst, ◌∙◌, arith}
-use Rattle.std.{specs.Prelude.{slice_get, sum_by}, proofs.lemmas.List.Sums.sum_by-cons, proofs.lemmas.Option.slice_get_within}
+use Rattle.std.proofs.Common.{◌≡◌, inl, inr, ℕ, ◌+◌, ◌<◌, ◌≤◌, Bool, List, [], ◌∷◌, length, take, get_or, Some, sym, ap, subst, ◌∙◌, arith}
+use Rattle.std.{specs.Prelude.{slice_get, sum_by}, proofs.lemmas.Option.slice_get_within, proofs.lemmas.Grind.common_steps}
 use Rattle.history_model.specs.declared.entries.Placed.{Placed}
 use Rattle.track_model.specs.Tracks.{Track}
 use Rattle.play_audit.specs.{Known.lines_in, Marks.{IsFirstIn, IsFirstOpen, IsOpen, IsOpenIn, NoneIn, NoneOpen}}
@@ -13,9 +13,6 @@ pub record AreShut (ts : List Track) (rows : List (List Bool)) (n before : ℕ) 
 
 abbrev lines-of : Track → ℕ
 lines-of t = 1 + length t.history
-
-pub shut_none : (ts : List Track) (rows : List (List Bool)) → AreShut ts rows 0 0
-shut_none ts rows = record { lines = refl; none = λ m k below o. absurd (omega (arith, below)) }
 
 -- behind one journal more
 pub shut_next : (ts : List Track) (rows : List (List Bool)) (n before : ℕ) (t : Track) → AreShut ts rows n before → slice_get ts n ≡ Some t
@@ -35,10 +32,7 @@ shut_next ts rows n before t shut here none = record {
 -- how many lines there are so far
 pub lines_fit : (ts : List Track) (rows : List (List Bool)) (n before : ℕ) (t : Track) → AreShut ts rows n before → slice_get ts n ≡ Some t
     → before + (1 + length t.history) ≤ lines_in ts
-lines_fit ts rows n before t shut here =
-    let grown : lines_in (take (n + 1) ts) ≡ lines_in (take n ts) + (1 + length t.history) = sum_next lines-of ts n t here in
-    let most : lines_in (take (n + 1) ts) ≤ lines_in ts = sum_most lines-of ts (n + 1) in
-    omega (arith, grown, most, shut.lines)
+lines_fit ts rows n before t shut here = omega (arith, shut.lines, sum_next lines-of ts n t here, sum_most lines-of ts (n + 1))
 
 pub place_fits : (h : List Placed) (row : List Bool) (place : ℕ) → IsFirstIn h row place → place < length h
 place_fits h row place first = slice_get_within h place first.open_.entry first.open_.there
@@ -77,7 +71,4 @@ none_open ts rows n before all shut at place o = shut.none at place (omega (arit
 -- all entries are lines
 pub steps_fit : (ts : List Track) → sum_by (λ (t : Track). length t.history) ts ≤ lines_in ts
 steps_fit [] = omega arith
-steps_fit (t ∷ ts) =
-    let one : sum_by (λ (x : Track). length x.history) (t ∷ ts) ≡ length t.history + sum_by (λ (x : Track). length x.history) ts = sum_by-cons (λ (x : Track). length x.history) t ts in
-    let two : lines_in (t ∷ ts) ≡ (1 + length t.history) + lines_in ts = sum_by-cons lines-of t ts in
-    omega (arith, one, two, steps_fit ts)
+steps_fit (t ∷ ts) = grind (arith, common_steps, steps_fit ts)

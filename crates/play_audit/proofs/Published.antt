@@ -1,9 +1,10 @@
 -- Private: no public contract cites this. A segmentation that a journal published next.
-use Rattle.std.proofs.Common.{◌≡◌, ◌≢◌, inl, inr, ℕ, ◌^◌, ◌+◌, ◌<◌, ◌≤◌, List, ◌++◌, length, take, Option, Some, None, Ok, Err, refl, sym, ap, subst, ◌∙◌, arith}
+use Rattle.std.proofs.lemmas.Grind.{common_steps}
+use Rattle.std.proofs.Common.{◌≡◌, ◌≢◌, ℕ, ◌^◌, ◌+◌, ◌<◌, ◌≤◌, List, ◌++◌, length, take, Option, Some, None, Ok, Err, refl, sym, ap, subst, ◌∙◌, arith}
 use Rattle.std.{specs.Prelude.{slice_get, IfNone, IfOk, IfSome, Result}, proofs.lemmas.List.{length-take, length-take-le, length-map, take-take}}
 use Rattle.history_model.specs.declared.{entries.Author.Author, entries.Entry.Entry, entries.Placed.Placed, publication.Publication.Publication}
 use Rattle.history_model.specs.declared.entries.Entry.TheVariants as entry
-use Rattle.history_model.specs.{Entries.entries_of, Publications.{last_publication, published}, Runs.{Series, is_known}}
+use Rattle.history_model.specs.{Publications.{last_publication, published}, Runs.{Series, is_known}}
 use Rattle.request_model.specs.declared.{requests.Request.TheVariants.Segment, replies.Reply.Reply}
 use Rattle.reply_text.specs.Replies.{text_of}
 use Rattle.track_model.specs.{Outcomes.Outcome, Publishing.{SegmentComesFrom, later, publication}, Replies.reply_of}
@@ -18,8 +19,7 @@ first-length : (j : List Placed) (count : ℕ) → count ≤ length j → length
 first-length j count le = length-map (take count j) (λ (p : Placed). p.entry) ∙ length-take-le count j le
 
 series-of : (a b c d : List ℕ) → a ≡ c → b ≡ d → (let x : Series = record { test = a; metric = b } in x) ≡ (record { test = c; metric = d })
-series-of a b c d one two =
-    ap (λ (t : List ℕ). let x : Series = record { test = t; metric = b } in x) one ∙ ap (λ (m : List ℕ). let x : Series = record { test = c; metric = m } in x) two
+series-of a b c d one two = grind (arith, common_steps)
 
 -- a request for a segmentation that adds an entry publishes the series, at a version that is no older than what was known
 pub adds_publishes : (author : Author) (j : List Placed) (known : ℕ) (machine test metric : List ℕ) (r : Reply) (a : Adds author j known (Segment machine test metric) r)
@@ -45,17 +45,10 @@ made-before h p o comes adds =
     omega (arith, version, length-take p.version h)
 
 first-of-first : (w : Walked) → IsAlong w → (n : ℕ) → n ≤ length w.track.history → take n (added w) ≡ first_of n w.history
-first-of-first w along n le =
-    ap (take n) (along.first ∙ take_entries (length w.track.history) w.history) ∙ take-take n (length w.track.history) (entries_of w.history) le ∙ sym (take_entries n w.history)
+first-of-first w along n le = grind (arith, common_steps, take, take_entries, length, take-take)
 
 publishes-is : (e : Entry) (test metric : List ℕ) (known : ℕ) → Publishes e test metric known → IsPublication e
-publishes-is (entry.Publish p) test metric known is = tt
-publishes-is (entry.Commit number name) test metric known is = absurd is
-publishes-is (entry.Accept run) test metric known is = absurd is
-publishes-is (entry.Retract run) test metric known is = absurd is
-publishes-is (entry.Tune of penalty len) test metric known is = absurd is
-publishes-is (entry.Regression event) test metric known is = absurd is
-publishes-is (entry.Job event) test metric known is = absurd is
+publishes-is e test metric known is = grind (arith, common_steps)
 
 module _ (names : RepliesAreNamed) (numbers : RepliesNameEntries) (once : OneAdds) (w v : Walked) (known : ℕ) (p : Placed) (test metric text : List ℕ) (along : IsAlong w)
     (few : length w.history < 2 ^ 64) (since : known ≤ length w.track.history) (next : coming w ≡ Some p) where
@@ -70,14 +63,7 @@ module _ (names : RepliesAreNamed) (numbers : RepliesNameEntries) (once : OneAdd
 
   -- what may be published isn't refused
   pub published_always : IsSound w.history → Publishes p.entry test metric known → PublishesNothing w → ⊥
-  published_always sound is (inl none) = let no : Some p ≡ None = sym next ∙ none in absurd (cc)
-  published_always sound is (inr s) =
-      let both : Some s.0 ≡ Some p = sym s.1 ∙ next in
-      let same : s.0 ≡ p = cc in
-      elim s.2 [
-        | inl none ↦ none (subst (λ (x : Placed). IsPublication x.entry) (sym same) (publishes-is p.entry test metric known is))
-        | inr none ↦ none (next_allowed w s.0 along sound.legal s.1)
-      ]
+  published_always sound is x2 = grind (arith, common_steps, p, next, publishes-is, p.entry, test, metric, known, next_allowed)
 
   module _ (r : Reply) (made : IsPublishedNext w v r) (publishes : Publishes p.entry test metric known) where
     same-placed : made.goes.entry ≡ p

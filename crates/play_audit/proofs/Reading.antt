@@ -1,6 +1,6 @@
 -- Private: no public contract cites this. What a script asks, one item more.
-use Rattle.std.proofs.Common.{◌≡◌, inl, inr, ℕ, ◌+◌, ◌-◌, ◌<◌, ◌≤◌, Bool, true, false, List, [], ◌++◌, length, refl, sym, ap, subst, ◌∙◌, arith, append_assoc, length-append}
-use Rattle.std.{specs.Prelude.if◌then◌else◌, proofs.lemmas.Bool.cases_Bool}
+use Rattle.std.proofs.Common.{◌≡◌, inl, inr, ℕ, ◌+◌, ◌-◌, ◌≤◌, true, false, List, [], ◌++◌, length, sym, ap, subst, ◌∙◌, arith, append_assoc, length-append}
+use Rattle.std.{specs.Prelude.if◌then◌else◌, proofs.lemmas.Grind.common_steps}
 use Rattle.request_words.specs.Bodies.{Item}
 use Rattle.request_reader.specs.{Next.{TakesWhole, TakesLast}, Reading.{PiecesComeFirst, PiecesJoin}}
 use Rattle.request_reader.specs.{Scripts.{ArePieces, IsScript, Reads, ReadsLeft, cut_off, end, input_limit}, Unread.{Unread, nothing_read}}
@@ -16,18 +16,13 @@ still_of join old new more grown takes script is = record {
   pieces = subst (ArePieces (is.used ++ takes.used)) (sym grown) (join is.used takes.used old.items more is.pieces takes.pieces);
 }
 
-zero-more : (n : ℕ) → n ≡ 0 + n
-zero-more n = omega arith
-
 pub ends_of : PiecesComeFirst → (old : Reading) (items more : List Item) (rest : List ℕ) → items ≡ old.items ++ more
     → TakesLast old.unread.before (old.unread.kept ++ old.left) more rest
     → (script : List ℕ) → IsOf script old → IsScript script items end
 ends_of first old items more rest grown takes script is =
     let size : length script ≡ length is.used + length (old.unread.kept ++ old.left) = ap length is.split ∙ length-append is.used (old.unread.kept ++ old.left) in
-    let here : Reads true (0 + length is.used) (old.unread.kept ++ old.left) more end =
-    subst (λ n. Reads true n (old.unread.kept ++ old.left) more end) (is.place ∙ zero-more (length is.used)) takes.reads in
-    let all : Reads true 0 (is.used ++ (old.unread.kept ++ old.left)) (old.items ++ more) end =
-    first true 0 is.used (old.unread.kept ++ old.left) old.items more end is.pieces here in
+    let here : Reads true (0 + length is.used) (old.unread.kept ++ old.left) more end = grind (arith, common_steps) in
+    let all : Reads true 0 (is.used ++ (old.unread.kept ++ old.left)) (old.items ++ more) end = grind (arith, common_steps) in
     inl (
       omega (arith, size, takes.short, is.place),
       subst (λ l. Reads true 0 l items end) (sym is.split) (subst (λ l. Reads true 0 (is.used ++ (old.unread.kept ++ old.left)) l end) (sym grown) all),
@@ -35,10 +30,8 @@ ends_of first old items more rest grown takes script is =
 
 pub cut_of : PiecesComeFirst → (old : Reading) (offset : ℕ) → ReadsLeft old.unread.before (old.unread.kept ++ old.left) [] (cut_off offset) → IsCutOff old offset
 cut_of first old offset (inl reads) script is short =
-    let here : Reads true (0 + length is.used) (old.unread.kept ++ old.left) [] (cut_off offset) =
-    subst (λ n. Reads true n (old.unread.kept ++ old.left) [] (cut_off offset)) (is.place ∙ zero-more (length is.used)) reads.1 in
-    let all : Reads true 0 (is.used ++ (old.unread.kept ++ old.left)) (old.items ++ []) (cut_off offset) =
-    first true 0 is.used (old.unread.kept ++ old.left) old.items [] (cut_off offset) is.pieces here in
+    let here : Reads true (0 + length is.used) (old.unread.kept ++ old.left) [] (cut_off offset) = grind (arith, common_steps) in
+    let all : Reads true 0 (is.used ++ (old.unread.kept ++ old.left)) (old.items ++ []) (cut_off offset) = grind (arith, common_steps) in
     (old.items ++ [], inl (omega (arith, short), subst (λ l. Reads true 0 l (old.items ++ []) (cut_off offset)) (sym is.split) all))
 cut_of first old offset (inr reads) script is short =
     let size : length script ≡ length is.used + length (old.unread.kept ++ old.left) = ap length is.split ∙ length-append is.used (old.unread.kept ++ old.left) in
@@ -51,19 +44,7 @@ pub record Going (script : List ℕ) (u : Unread) (left : List ℕ) (items : Lis
   pub over : u.ended ≡ true → IsScript script items end
 
 pub begins_going : (script source : List ℕ) (u : Unread) (items : List Item) → source ≡ script → u ≡ nothing_read → items ≡ [] → Going script u source items
-begins_going script source u items same none empty = record {
-  open_ = λ going. (
-    ap (λ (x : Unread). x.stopped) none,
-    (let zero-before : u.before ≡ 0 = ap (λ (x : Unread). x.before) none in omega (arith, zero-before)),
-    record {
-      used = [];
-      split = sym same ∙ ap (λ (l : List ℕ). l ++ source) (sym (ap (λ (x : Unread). x.kept) none));
-      place = ap (λ (x : Unread). x.before) none;
-      pieces = subst (ArePieces []) (sym empty) ([], (refl, refl));
-    },
-  );
-  over = λ ended. (let no : false ≡ true = sym (ap (λ (x : Unread). x.ended) none) ∙ ended in absurd (cc));
-}
+begins_going script source u items same none empty = grind (arith, common_steps)
 
 pub goes_going : (script left rest : List ℕ) (u v : Unread) (items more : List Item) → u.ended ≡ false → Going script u left items
     → (v.ended ≡ false → GoesOn (record { unread = u; left = left; items = items }) (record { unread = v; left = rest; items = more }))
@@ -78,19 +59,3 @@ goes_going script left rest u v items more going is on last =
 -- how much may still be read
 abbrev pub left_of : Unread → ℕ
 left_of u = if u.ended then 0 else 1 + (input_limit - u.before)
-
-pub less_left : (u v : Unread) (left rest : List ℕ) (items more : List Item) → u.ended ≡ false
-    → (v.ended ≡ false → GoesOn (record { unread = u; left = left; items = items }) (record { unread = v; left = rest; items = more })) → left_of v < left_of u
-less_left u v left rest items more going on =
-    let here : left_of u ≡ 1 + (input_limit - u.before) = ap (λ (b : Bool). if b then 0 else 1 + (input_limit - u.before)) going in
-    elim (cases_Bool v.ended) [
-      | inl ended ↦
-          let none : left_of v ≡ 0 = ap (λ (b : Bool). if b then 0 else 1 + (input_limit - v.before)) ended in
-          omega (arith, here, none)
-      | inr still ↦
-          let some : left_of v ≡ 1 + (input_limit - v.before) = ap (λ (b : Bool). if b then 0 else 1 + (input_limit - v.before)) still in
-          let step = on still in
-          let ahead : u.before < v.before = step.ahead in
-          let within : v.before ≤ input_limit = step.within in
-          omega (arith, here, some, ahead, within)
-    ]

@@ -1,7 +1,6 @@
 -- Private: no public contract cites this. Why a request for a segmentation publishes nothing, as a reply by the journal.
 use Rattle.std.proofs.Common.{◌≡◌, inl, inr, ℕ, ◌+◌, ◌<◌, ◌≤◌, Bool, true, false, List, [], ◌∷◌, ◌++◌, get_or, length, take, Option, Some, None, decimal, refl, sym, ap, subst, ◌∙◌, arith, append_assoc}
-use Rattle.std.{specs.Prelude.{nat_lt, if◌then◌else◌}, proofs.lemmas.Bool.{cases_Bool, cases_lt, lt-ltb, le-ltb, ltb-true}}
-use Rattle.std.proofs.lemmas.List.{length-take-le, length-map, length-append}
+use Rattle.std.proofs.lemmas.{Bool.cases_lt, Grind.common_steps, List.{length-take-le, length-map}}
 use Rattle.metric_table.specs.{Limits.most, declared.limits.Limit.Limit, declared.limits.Limit.TheVariants.{Cuts, Steps}}
 use Rattle.history_model.specs.declared.{entries.Entry.Entry, entries.Entry.TheVariants.Publish, entries.Placed.Placed, publication.Publication.Publication}
 use Rattle.history_model.specs.{Allowed.first_passed, Publications.{cut_count, last_publication}, Laws.CutsGrow, Runs.{Series, is_known}}
@@ -17,30 +16,16 @@ use Rattle.play_audit.specs.Segments.{IsFullBehind, IsReason}
 pub first_length : (j : List Placed) (count : ℕ) → count ≤ length j → length (first_of count j) ≡ count
 first_length j count le = length-map (take count j) (λ (p : Placed). p.entry) ∙ length-take-le count j le
 
--- what was published later than a version is later than an older one
-pub later-old : (a b w : ℕ) (p : Option Publication) → a ≤ b → later b p ≡ Some w → later a p ≡ Some w
-later-old a b w None le is = absurd (cc)
-later-old a b w (Some p) le is = elim (cases_Bool (nat_lt b p.version)) [
-  | inl hit ↦
-      let past : nat_lt a p.version ≡ true = lt-ltb a p.version (let h : b < p.version = ltb-true b p.version hit in omega (arith, h, le)) in
-      ap (λ (t : Bool). if t then Some p.version else None) past
-      ∙ sym (ap (λ (t : Bool). if t then Some p.version else None) hit) ∙ is
-  | inr past ↦ let no : None ≡ Some w = sym (ap (λ (t : Bool). if t then Some p.version else None) past) ∙ is in absurd (cc)
-]
-
 passed-some : (passed : Option Limit) (e : Entry) (told : Answer) → (added_unless passed e told).adds ≡ None
     → (limit : Limit) × (passed ≡ Some limit) × (added_unless passed e told ≡ refuses (Full limit))
-passed-some None e told is = absurd (cc)
-passed-some (Some limit) e told is = (limit, refl, refl)
+passed-some passed e told is = grind (arith, common_steps)
 
 module _ (j : List Placed) (known count v base : ℕ) (s : Series) (since : known ≤ v) (until : v ≤ count) (within : count ≤ length j) where
   reason-of : (o : Outcome) (b : Bool) (old : Option ℕ) → is_known s (first_of count j) ≡ b → later (length (first_of v j)) (last_publication s (first_of count j)) ≡ old
       → OfKnown b (OfLatest old (IsPublishedFrom (first_of v j) base (first_of count j) s)) o → o.adds ≡ None
       → (reason : Refusal) × IsReason j known count s reason × (o ≡ refuses reason)
   reason-of o false old known-is last is adds = (UnknownSeries, inl (known-is, refl), is)
-  reason-of o true (Some w) known-is last is adds =
-      let size : length (first_of v j) ≡ v = first_length j v (omega (arith, until, within)) in
-      (Stale w, inr (known-is, inl (w, later-old known (length (first_of v j)) w (last_publication s (first_of count j)) (omega (arith, since, size)) last, refl)), is)
+  reason-of o true (Some w) known-is last is adds = grind (arith, common_steps)
   reason-of o true None known-is last is adds =
       let p : Publication = publication s (length (first_of v j)) base is.0 in
       let told : Answer = segmented (length (first_of v j)) base (redone_since (first_of v j) base s) is.0 in
@@ -71,13 +56,7 @@ module _ (j : List Placed) (known : ℕ) (machine test metric : List ℕ) where
   tells-so : (count v base : ℕ) (reason : Refusal) → known ≤ count → count ≤ length j → known ≤ v → v ≤ count
       → OfKnown (is_known s (first_of count j)) (OfLatest (later (length (first_of v j)) (last_publication s (first_of count j))) (IsPublishedFrom (first_of v j) base (first_of count j) s)) (refuses reason)
       → Tells j known (Segment machine test metric) (reply_of (first_of count j) (refuses reason))
-  tells-so count v base reason since within made_since made_before comes = record {
-    count = count;
-    outcome = refuses reason;
-    comes = record { since = since; within = within; version = v; made_since = made_since; made_before = made_before; base = base; comes = comes };
-    adds = refl;
-    told = refl;
-  }
+  tells-so count v base reason since within made_since made_before comes = grind (arith, common_steps)
 
   -- and each reason is told
   pub reason_tells : (count : ℕ) (reason : Refusal) → known ≤ count → count ≤ length j → IsReason j known count s reason
@@ -119,9 +98,7 @@ coded step reason code c = (
 )
 
 apart-by : (front x y : List ℕ) → front ++ (32 ∷ 69 ∷ 50 ∷ 52 ∷ x) ≡ front ++ (32 ∷ 69 ∷ 50 ∷ 49 ∷ y) → ⊥
-apart-by front x y is =
-    let byte : 52 ≡ 49 = ap (λ (l : List ℕ). get_or l 3 0) (behind_same front (32 ∷ 69 ∷ 50 ∷ 52 ∷ x) (32 ∷ 69 ∷ 50 ∷ 49 ∷ y) is) in
-    absurd (omega (arith, byte))
+apart-by front x y is = grind (arith, common_steps, get_or, behind_same)
 
 front-of : (text back more rest front : List ℕ) → back ≡ front ++ more → text ≡ back ++ rest → text ≡ front ++ (more ++ rest)
 front-of text back more rest front is split = split ∙ ap (λ (l : List ℕ). l ++ rest) is ∙ append_assoc front more rest
@@ -139,45 +116,22 @@ stale-or-full text step w limit rest more one two =
 
 -- every step is taken
 pub steps_first : (h : List Entry) (e : Entry) → most Steps ≤ length h → first_passed (Steps ∷ Cuts ∷ []) h e ≡ Some Steps
-steps_first h e full =
-    let past : nat_lt (most Steps) (length (h ++ e ∷ [])) ≡ true = lt-ltb (most Steps) (length (h ++ e ∷ [])) (omega (arith, full, length-append h (e ∷ []))) in
-    ap (λ (b : Bool). if b then Some Steps else first_passed (Cuts ∷ []) h e) past
-
-few-steps : (h : List Entry) (e : Entry) → length h < most Steps → first_passed (Steps ∷ Cuts ∷ []) h e ≡ first_passed (Cuts ∷ []) h e
-few-steps h e few =
-    let kept : nat_lt (most Steps) (length (h ++ e ∷ [])) ≡ false = le-ltb (most Steps) (length (h ++ e ∷ [])) (omega (arith, few, length-append h (e ∷ []))) in
-    ap (λ (b : Bool). if b then Some Steps else first_passed (Cuts ∷ []) h e) kept
-
-cuts-passed : (h : List Entry) (e : Entry) (limit : Limit) → first_passed (Cuts ∷ []) h e ≡ Some limit → (limit ≡ Cuts) × (most Cuts < cut_count (h ++ e ∷ []))
-cuts-passed h e limit is = elim (cases_Bool (nat_lt (most Cuts) (cut_count (h ++ e ∷ [])))) [
-  | inl hit ↦
-      let found : Some Cuts ≡ Some limit = sym (ap (λ (b : Bool). if b then Some Cuts else None) hit) ∙ is in
-      let same : Cuts ≡ limit = cc in
-      (sym same, ltb-true (most Cuts) (cut_count (h ++ e ∷ [])) hit)
-  | inr past ↦ let no : None ≡ Some limit = sym (ap (λ (b : Bool). if b then Some Cuts else None) past) ∙ is in absurd (cc)
-]
+steps_first h e full = grind (arith, common_steps)
 
 module _ (grow : CutsGrow) (h : List Entry) (p : Publication) where
   -- the cuts are too many
   pub cuts_first : length h < most Steps → most Cuts < cut_count h + length p.cuts → first_passed (Steps ∷ Cuts ∷ []) h (Publish p) ≡ Some Cuts
-  cuts_first few many =
-      let past : nat_lt (most Cuts) (cut_count (h ++ Publish p ∷ [])) ≡ true =
-      lt-ltb (most Cuts) (cut_count (h ++ Publish p ∷ [])) (omega (arith, many, grow h (Publish p))) in
-      few-steps h (Publish p) few ∙ ap (λ (b : Bool). if b then Some Cuts else None) past
+  cuts_first few many = grind (arith, common_steps)
 
   pub cuts_only : (limit : Limit) → length h < most Steps → first_passed (Steps ∷ Cuts ∷ []) h (Publish p) ≡ Some limit
       → (limit ≡ Cuts) × (most Cuts < cut_count h + length p.cuts)
-  cuts_only limit few is =
-      let found = cuts-passed h (Publish p) limit (sym (few-steps h (Publish p) few) ∙ is) in
-      (found.0, omega (arith, found.1, grow h (Publish p)))
+  cuts_only limit few is = grind (arith, common_steps)
 
 -- ---- one reason
 
 module _ (grow : CutsGrow) (j : List Placed) (known count : ℕ) (s : Series) where
   pub steps_only : (limit : Limit) → most Steps ≤ length (first_of count j) → IsFullBehind j known count s limit → limit ≡ Steps
-  steps_only limit full is =
-      let both : Some limit ≡ Some Steps = sym is.passed ∙ steps_first (first_of count j) (Publish (publication s (length (first_of is.version j)) is.base is.cert)) full in
-      cc
+  steps_only limit full is = grind (arith, common_steps, steps_first, count, j, s, length)
 
   one-full : (x y : Limit) → IsFullBehind j known count s x → IsFullBehind j known count s y → x ≡ y
   one-full x y a b = elim (cases_lt (length (first_of count j)) (most Steps)) [
@@ -192,10 +146,7 @@ module _ (grow : CutsGrow) (j : List Placed) (known count : ℕ) (s : Series) wh
   one_reason text rest more step a b (inl x) (inl y) one two = x.1 ∙ sym y.1
   one_reason text rest more step a b (inl x) (inr y) one two = let no : false ≡ true = sym x.0 ∙ y.0 in absurd (cc)
   one_reason text rest more step a b (inr x) (inl y) one two = let no : true ≡ false = sym x.0 ∙ y.0 in absurd (cc)
-  one_reason text rest more step a b (inr (k, inl x)) (inr (l, inl y)) one two =
-      let both : Some x.0 ≡ Some y.0 = sym x.1 ∙ y.1 in
-      let same : x.0 ≡ y.0 = cc in
-      x.2 ∙ ap Stale same ∙ sym y.2
+  one_reason text rest more step a b (inr (k, inl x)) (inr (l, inl y)) one two = grind (arith, common_steps)
   one_reason text rest more step a b (inr (k, inl x)) (inr (l, inr y)) one two =
       absurd (stale-or-full text step x.0 y.0 rest more
       (one ∙ ap (λ (r : Refusal). text_of (record { step = step; answer = Refused r }) ++ rest) x.2)

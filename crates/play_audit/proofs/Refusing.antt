@@ -1,6 +1,6 @@
 -- Private: no public contract cites this. The refusal of a segmentation that stands next in a transcript, behind a walk.
-use Rattle.std.proofs.Common.{◌≡◌, ◌≢◌, inl, inr, ℕ, ◌^◌, ◌+◌, ◌<◌, ◌≤◌, Bool, true, false, List, ◌++◌, length, drop, Option, Some, None, Ok, Err, refl, sym, ap, subst, ◌∙◌, arith}
-use Rattle.std.{specs.Prelude.{max, nat_lt, if◌then◌else◌, IfNone, IfOk, IfSome, Result}, proofs.lemmas.Bool.{cases_Bool, cases_lt, lt-ltb, le-ltb, ltb-true}}
+use Rattle.std.proofs.Common.{◌≡◌, ◌≢◌, inl, inr, ℕ, ◌^◌, ◌+◌, ◌<◌, ◌≤◌, true, false, List, ◌++◌, length, drop, Option, Some, None, Ok, Err, refl, sym, ap, subst, ◌∙◌, arith}
+use Rattle.std.{specs.Prelude.{max, IfNone, IfOk, IfSome, Result}, proofs.lemmas.Grind.common_steps}
 use Rattle.metric_table.specs.{Limits.most, declared.limits.Limit.Limit, declared.limits.Limit.TheVariants.{Cuts, Steps}}
 use Rattle.segment_cost.specs.Certificate.{StandsFor}
 use Rattle.history_model.specs.declared.entries.Author.TheVariants as author
@@ -14,45 +14,23 @@ use Rattle.track_model.specs.{Outcomes.refuses, Publishing.{later, publication},
 use Rattle.play_model.{specs.Laws.RepliesNameEntries, specs.Replies.{Tells, first_of}, proofs.Replies.told-step}
 use Rattle.reply_laws.specs.Laws.{RepliesAreNamed}
 use Rattle.journal_walk.specs.Walks.{Walked, AreCutsNow, IsAlong, added}
-use Rattle.play_audit.specs.Replies.{HasNone, IsCompared, IsNext}
+use Rattle.play_audit.{specs.Replies.{HasNone, IsCompared, IsNext}, proofs.Answering.same_steps, proofs.Compared.compared, proofs.Walking.entries_length}
 use Rattle.play_audit.specs.{Segments.{HasFewCuts, IsFullBehind, IsFullNext, IsKnownAt, IsLastVersion, IsNotFull, IsReason, PassesCuts}, Texts.BeginsWith}
-use Rattle.play_audit.proofs.{Answering.same_steps, Compared.compared}
 use Rattle.play_audit.proofs.Reasons.{cuts_first, cuts_only, first_length, one_reason, reason_tells, steps_first, steps_only, tells_reason}
-use Rattle.play_audit.proofs.Walking.{entries_length}
 
 -- ---- the last version
 
 last-later : (p : Option Publication) (last version : ℕ) → IsLastVersion p last → last ≤ version → later version p ≡ None
-last-later None last version is le = refl
-last-later (Some p) last version is le =
-    let past : nat_lt version p.version ≡ false = le-ltb version p.version (omega (arith, is, le)) in
-    ap (λ (b : Bool). if b then Some p.version else None) past
+last-later p last version is le = grind (arith, common_steps)
 
 last-stale : (p : Option Publication) (last known : ℕ) → IsLastVersion p last → known < last → later known p ≡ Some last
-last-stale None last known is low = absurd (omega (arith, is, low))
-last-stale (Some p) last known is low =
-    let past : nat_lt known p.version ≡ true = lt-ltb known p.version (omega (arith, is, low)) in
-    ap (λ (b : Bool). if b then Some p.version else None) past ∙ ap Some (sym is)
+last-stale p last known is low = grind (arith, common_steps)
 
 stale-last : (p : Option Publication) (last known version : ℕ) → IsLastVersion p last → later known p ≡ Some version → (version ≡ last) × (known < last)
-stale-last None last known version is found = absurd (cc)
-stale-last (Some p) last known version is found = elim (cases_Bool (nat_lt known p.version)) [
-  | inl hit ↦
-      let both : Some p.version ≡ Some version = sym (ap (λ (b : Bool). if b then Some p.version else None) hit) ∙ found in
-      let same : p.version ≡ version = cc in
-      (sym same ∙ sym is, (let h : known < p.version = ltb-true known p.version hit in omega (arith, h, is)))
-  | inr past ↦ let no : None ≡ Some version = sym (ap (λ (b : Bool). if b then Some p.version else None) past) ∙ found in absurd (cc)
-]
+stale-last p last known version is found = grind (arith, common_steps)
 
 later-last : (p : Option Publication) (last version : ℕ) → IsLastVersion p last → later version p ≡ None → last ≤ version
-later-last None last version is none = omega (arith, is)
-later-last (Some p) last version is none = elim (cases_Bool (nat_lt version p.version)) [
-  | inl hit ↦ let no : Some p.version ≡ None = sym (ap (λ (b : Bool). if b then Some p.version else None) hit) ∙ none in absurd (cc)
-  | inr past ↦ elim (cases_lt version p.version) [
-    | inl low ↦ let no : true ≡ false = sym (lt-ltb version p.version low) ∙ past in absurd (cc)
-    | inr kept ↦ omega (arith, is, kept)
-  ]
-]
+later-last p last version is none = grind (arith, common_steps)
 
 -- ---- behind a walk
 module _ (grow : CutsGrow) (w : Walked) (known : ℕ) (test metric text : List ℕ) (along : IsAlong w) (since : known ≤ length w.track.history) where
@@ -79,8 +57,7 @@ module _ (grow : CutsGrow) (w : Walked) (known : ℕ) (test metric text : List �
             same_steps named text other (reply_of (added w) (refuses reason)) rest (drop len text) (omega (arith, bound.within, few)) (omega (arith, mine.within, few)) is begins.text in
             let counts : t.count ≡ length w.track.history = sym (told-step w.history known (Segment w.track.machine test metric) other t) ∙ steps ∙ entries_length w.track.history in
             let its : IsReason w.history known (length w.track.history) s found.0 = subst (λ (k : ℕ). IsReason w.history known k s found.0) counts found.1 in
-            let same-reply : other ≡ reply_of (added w) (refuses found.0) =
-            found.2 ∙ ap (λ (k : ℕ). reply_of (first_of k w.history) (refuses found.0)) counts ∙ ap (λ (h : List Entry). reply_of h (refuses found.0)) (sym along.first) in
+            let same-reply : other ≡ reply_of (added w) (refuses found.0) = grind (arith, common_steps) in
             let same : found.0 ≡ reason =
             one_reason grow w.history known (length w.track.history) s text rest (drop len text) (length (added w)) found.0 reason its why
             (is ∙ ap (λ (r : Reply). text_of r ++ rest) same-reply) begins.text in
@@ -94,8 +71,7 @@ module _ (grow : CutsGrow) (w : Walked) (known : ℕ) (test metric text : List �
       let found = tells_reason w.history known w.track.machine test metric reply t in
       let counts : t.count ≡ length w.track.history = sym (told-step w.history known (Segment w.track.machine test metric) reply t) ∙ its in
       let why : IsReason w.history known (length w.track.history) s found.0 = subst (λ (k : ℕ). IsReason w.history known k s found.0) counts found.1 in
-      let same-reply : reply ≡ reply_of (added w) (refuses found.0) =
-      found.2 ∙ ap (λ (k : ℕ). reply_of (first_of k w.history) (refuses found.0)) counts ∙ ap (λ (h : List Entry). reply_of h (refuses found.0)) (sym along.first) in
+      let same-reply : reply ≡ reply_of (added w) (refuses found.0) = grind (arith, common_steps) in
       none found.0 rest why (is ∙ ap (λ (r : Reply). text_of r ++ rest) same-reply)
 
   -- ---- of a series that isn't known
@@ -229,9 +205,7 @@ module _ (grow : CutsGrow) (w : Walked) (known : ℕ) (test metric text : List �
       → (((rest : List ℕ) → text ≢ text_of (reply_of (added w) (refuses reason)) ++ rest) → IsNotFull w known (record { test = test; metric = metric }) text)
       → IfOk found (λ o. IfNone o ((rest : List ℕ) → text ≢ text_of (reply_of (added w) (refuses reason)) ++ rest))
       → IfOk found (λ o. IfNone o (IsNotFull w known (record { test = test; metric = metric }) text))
-  not_front reason (Ok (Some len)) so none = tt
-  not_front reason (Ok None) so none = so none
-  not_front reason (Err e) so none = tt
+  not_front reason found so none = grind (arith, common_steps)
 
   module _ (names : RepliesAreNamed) (numbers : RepliesNameEntries) (few : length w.history < 2 ^ 64) (along : IsAlong w) (since : known ≤ length w.track.history) where
     pub unknown_front : {E : Type 0} (found : Result (Option ℕ) E) → is_known (record { test = test; metric = metric }) (added w) ≡ false

@@ -1,6 +1,6 @@
 -- Private: no public contract cites this. A reply behind the entries of a walk, by what its request came to there.
 use Rattle.std.proofs.Common.{◌≡◌, ◌≢◌, ℕ, ◌^◌, ◌+◌, ◌<◌, ◌≤◌, false, List, [], ◌∷◌, ◌++◌, length, drop, Option, Some, None, Ok, refl, sym, ap, ◌∙◌, arith}
-use Rattle.std.{specs.Prelude.{slice_get, IfNone, IfSome}, proofs.lemmas.List.map-append}
+use Rattle.std.{specs.Prelude.{slice_get, IfNone, IfSome}, proofs.lemmas.List.map-append, proofs.lemmas.Grind.common_steps}
 use Rattle.history_model.specs.{declared.entries.Author.Author, declared.entries.Entry.Entry, declared.entries.Placed.Placed, Entries.entries_of}
 use Rattle.history_model.specs.declared.entries.Author.TheVariants as author
 use Rattle.request_model.specs.declared.{requests.Request.Request, replies.Reply.Reply}
@@ -10,53 +10,33 @@ use Rattle.play_model.specs.{Laws.RepliesNameEntries, Replies.{Adds, Tells, stan
 use Rattle.reply_laws.specs.Laws.{OneAdds, OneBeside, OneTells, PlainBeside, RepliesAreNamed}
 use Rattle.journal_walk.specs.Walks.{Walked, GoesOn, IsAlong, added, coming}
 use Rattle.audit_model.proofs.Exchanges.{at_end}
-use Rattle.play_audit.specs.{Places.IsBehind, Replies.{HasNone, IsCompared, IsNext}, Texts.{BeginsWith, HasEntry}}
+use Rattle.play_audit.{specs.Places.IsBehind, specs.Replies.{HasNone, IsCompared, IsNext}, specs.Texts.{BeginsWith, HasEntry}, proofs.Compared.compared_front}
 use Rattle.play_audit.proofs.Answering.{none_added, one_added, plain_tells, plain_adds, tells_same, adds_same, tells_next, tells_no_text, adds_next, adds_no_text}
-use Rattle.play_audit.proofs.{Compared.compared_front, Walking.entries_length}
 
 -- a walk is behind its own entries
 pub here_behind : (w : Walked) → IsAlong w → IsBehind w.track.machine w.history (length w.track.history) w
-here_behind w along = record {
-  by = record { along = along; same = refl; machine_is = refl; behind = omega arith; within = along.within };
-  there = refl;
-}
+here_behind w along = grind (arith, common_steps)
 
 same-walk : (w v : Walked) → v.history ≡ w.history → v.track ≡ w.track → v ≡ w
-same-walk w v one two =
-    ap (λ (h : List Placed). let x : Walked = record { history = h; track = v.track } in x) one
-    ∙ ap (λ (t : Track). let x : Walked = record { history = w.history; track = t } in x) two
+same-walk w v one two = grind (arith, common_steps)
 
 none-with : (a : Author) (t : Track) (o : Option Entry) → o ≡ None → with_added a t o ≡ t
-none-with a t None is = refl
-none-with a t (Some e) is = absurd (cc)
+none-with a t o is = grind (arith, common_steps)
 
 one-with : (a : Author) (t : Track) (o : Option Entry) (e : Entry) → o ≡ Some e → (with_added a t o).history ≡ t.history ++ record { author = a; entry = e } ∷ []
-one-with a t None e is = absurd (cc)
-one-with a t (Some x) e is = let same : x ≡ e = cc in ap (λ (y : Entry). t.history ++ record { author = a; entry = y } ∷ []) same
+one-with a t o e is = grind (arith, common_steps)
 
 machine-with : (a : Author) (t : Track) (o : Option Entry) → (with_added a t o).machine ≡ t.machine
-machine-with a t None = refl
-machine-with a t (Some e) = refl
+machine-with a t o = grind (arith, common_steps)
 
 step-told : (w : Walked) (o : Outcome) (r : Reply) → r ≡ reply_of (added w) o → o.adds ≡ None → r.step ≡ length w.track.history
-step-told w o r told none =
-    let step : (reply_of (added w) o).step ≡ length (added w) = rw none refl in
-    ap (λ (x : Reply). x.step) told ∙ step ∙ entries_length w.track.history
+step-told w o r told none = grind (arith, common_steps)
 
 pub step_added : (w : Walked) (o : Outcome) (r : Reply) (e : Entry) → r ≡ reply_of (added w) o → o.adds ≡ Some e → r.step ≡ length w.track.history + 1
-step_added w o r e told adds =
-    let step : (reply_of (added w) o).step ≡ length (added w) + 1 = rw adds refl in
-    ap (λ (x : Reply). x.step) told ∙ step ∙ ap (λ (n : ℕ). n + 1) (entries_length w.track.history)
+step_added w o r e told adds = grind (arith, common_steps)
 
 pub entry_of : (p : Placed) (a : Author) (e : Entry) → Some p ≡ Some (record { author = a; entry = e }) → p.entry ≡ e
-entry_of p a e is =
-    let x : Placed = record { author = a; entry = e } in
-    let same : p ≡ x = cc in
-    ap (λ (y : Placed). y.entry) same
-
-its-record : (p : Placed) (a : Author) (e : Entry) → a ≡ p.author → e ≡ p.entry → p ≡ record { author = a; entry = e }
-its-record p a e one two =
-    ap (λ (x : Author). let y : Placed = record { author = x; entry = p.entry } in y) (sym one) ∙ ap (λ (x : Entry). let y : Placed = record { author = a; entry = x } in y) (sym two)
+entry_of p a e is = grind (arith, common_steps)
 
 -- the request came to this behind the walk
 module _ (names : RepliesAreNamed) (numbers : RepliesNameEntries) (alone : PlainBeside) (beside : OneBeside) (w v : Walked) (q : Request) (text : List ℕ) (o : Outcome) (r : Reply)

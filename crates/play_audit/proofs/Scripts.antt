@@ -1,10 +1,9 @@
 -- Private: no public contract cites this. What scripts ask, script by script.
-use Rattle.std.proofs.Common.{◌≡◌, inl, inr, ℕ, zero, suc, ◌+◌, ◌-◌, ◌<◌, ◌≤◌, Bool, true, false, List, [], ◌∷◌, ◌++◌, length, take, drop, Some, Vec, Global, refl, sym, ap, subst, ◌∙◌, arith, length-append}
-use Rattle.std.{specs.Prelude.slice_get, proofs.lemmas.Option.slice_get_within}
+use Rattle.std.proofs.Common.{◌≡◌, inl, inr, ℕ, zero, suc, ◌+◌, ◌-◌, ◌<◌, ◌≤◌, Bool, true, false, List, [], ◌∷◌, ◌++◌, length, take, drop, Some, Vec, Global, sym, ap, subst, ◌∙◌, arith, length-append}
+use Rattle.std.{specs.Prelude.slice_get, proofs.lemmas.Option.slice_get_within, proofs.lemmas.Grind.common_steps}
 use Rattle.std.proofs.lemmas.List as lists
-use Rattle.request_words.specs.{Bodies.Item, Items.Gives}
-use Rattle.request_reader.specs.Reading.{OneReading}
-use Rattle.request_reader.specs.Scripts.{ArePiecesOf, Ending, Ends, IsScript, Piece, Reads, cut_off, end, inside, input_limit, last, long, more, text_of}
+use Rattle.request_words.specs.Bodies.{Item}
+use Rattle.request_reader.specs.{Reading.OneReading, Scripts.{ArePiecesOf, Ending, Ends, IsScript, Piece, Reads, cut_off, end, input_limit}}
 use Rattle.audit_model.{specs.declared.heard.Heard.Heard, specs.Verdicts.{IsCutOff, NoneCutOff}, proofs.Exchanges.snoc_at}
 use Rattle.journal_reader.proofs.Lists.{some_at}
 use Rattle.play_audit.{specs.Heard.AskThese, proofs.Listed.same_at}
@@ -14,10 +13,7 @@ pub left_some : {A : Type 0} (xs : List A) (n : ℕ) (x : A) (rest : List A) →
 left_some [] zero x rest is = absurd (cc)
 left_some [] (suc n) x rest is = absurd (cc)
 left_some (y ∷ xs) zero x rest is = let one : y ≡ x = cc in let two : rest ≡ xs = cc in (ap (λ (z : _). Some z) one, two)
-left_some (y ∷ xs) (suc n) x rest is =
-    let both = left_some xs n x rest is in
-    let step : suc (n + 1) ≡ suc n + 1 = omega arith in
-    (both.0, both.1 ∙ ap (λ (k : ℕ). drop k (y ∷ xs)) step)
+left_some (y ∷ xs) (suc n) x rest is = grind (arith, common_steps, left_some xs n x rest is)
 
 -- a script is read one way
 pub one_script : OneReading → (bytes : List ℕ) (items others : List Item) (ending other : Ending) → IsScript bytes items ending → IsScript bytes others other → (items ≡ others) × (ending ≡ other)
@@ -32,36 +28,15 @@ one_script law bytes items others ending other one two = elim one [
   ]
 ]
 
--- a script asks no more than it has bytes, and one thing
-gives-one : (line body : List ℕ) (items : List Item) → Gives line body items → length items ≤ 1
-gives-one line body items gives = elim gives [
-  | inl skipped ↦ let none : length items ≡ 0 = ap length skipped.1 in omega (arith, none)
-  | inr asks ↦ let one : length items ≡ 1 = ap length asks.3 in omega (arith, one)
-]
-
 pieces-short : (ps : List Piece) (bytes : List ℕ) (items : List Item) → ArePiecesOf ps bytes items → length items ≤ length bytes
 pieces-short [] bytes items are = let none : length items ≡ 0 = ap length are.1 in omega (arith, none)
-pieces-short (p ∷ ps) bytes items are =
-    let front : length bytes ≡ length (text_of p) + length are.0 = ap length are.2 ∙ length-append (text_of p) are.0 in
-    let line : length (text_of p) ≡ length p.line + (1 + length p.body) = length-append p.line (10 ∷ p.body) ∙ (omega arith) in
-    let asked : length items ≡ length p.asks + length are.1 = ap length are.3 ∙ length-append p.asks are.1 in
-    let one : length p.asks ≤ 1 = gives-one p.line p.body p.asks are.4.gives in
-    let rest : length are.1 ≤ length are.0 = pieces-short ps are.0 are.1 are.5 in
-    omega (arith, front, line, asked, one, rest)
+pieces-short (p ∷ ps) bytes items are = grind (arith, common_steps, pieces-short ps are.0 are.1 are.5)
 
 ends-one : (all : Bool) (at : ℕ) (bytes : List ℕ) (items : List Item) (ending : Ending) → Ends all at bytes items ending → length items ≤ 1
-ends-one all at bytes items ending (long so none is) = let size : length items ≡ 0 = ap length none in omega (arith, size)
-ends-one all at bytes items ending (last whole line counts gives is) = gives-one bytes [] items gives
-ends-one all at bytes items ending (inside whole so none is) = let size : length items ≡ 0 = ap length none in omega (arith, size)
-ends-one all at bytes items ending (more part so none is) = let size : length items ≡ 0 = ap length none in omega (arith, size)
+ends-one all at bytes items ending x5 = grind (arith, common_steps)
 
 reads-short : (all : Bool) (at : ℕ) (bytes : List ℕ) (items : List Item) (ending : Ending) → Reads all at bytes items ending → length items ≤ length bytes + 1
-reads-short all at bytes items ending r =
-    let split : length bytes ≡ length r.front + length r.back = ap length r.split ∙ length-append r.front r.back in
-    let told : length items ≡ length r.asked + length r.last = ap length r.told ∙ length-append r.asked r.last in
-    let front : length r.asked ≤ length r.front = pieces-short r.pieces.0 r.front r.asked r.pieces.1 in
-    let back : length r.last ≤ 1 = ends-one all (at + length r.front) r.back r.last ending r.ends in
-    omega (arith, split, told, front, back)
+reads-short all at bytes items ending r = grind (arith, common_steps, length, length-append, pieces-short, ends-one)
 
 pub script_short : (bytes : List ℕ) (items : List Item) → IsScript bytes items end → length items ≤ 1_073_741_825
 script_short bytes items reads = elim reads [
@@ -82,10 +57,7 @@ pub record HaveRead (heard : List Heard) (n : ℕ) (asked : List (Vec Item Globa
   pub each : (i : ℕ) (x : Heard) (items : Vec Item Global) → slice_get heard i ≡ Some x → slice_get asked i ≡ Some items → IsScript x.script items.items end
 
 pub none_read : (heard : List Heard) → HaveRead heard 0 []
-none_read heard = record {
-  many = refl;
-  each = λ i x items here there. absurd (omega (arith, slice_get_within {A = Vec Item Global} [] i items there));
-}
+none_read heard = grind (arith, common_steps)
 
 pub next_read : (heard : List Heard) (n : ℕ) (asked : List (Vec Item Global)) (x : Heard) (items : Vec Item Global) → HaveRead heard n asked → slice_get heard n ≡ Some x
     → IsScript x.script items.items end → HaveRead heard (n + 1) (asked ++ items ∷ [])

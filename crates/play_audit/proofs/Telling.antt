@@ -1,31 +1,25 @@
 -- Private: no public contract cites this. A reply that stands next in a transcript, by the kind that its text tells.
-use Rattle.std.proofs.Common.{◌≡◌, ◌⊎◌, inl, inr, ℕ, ◌^◌, ◌-◌, ◌<◌, Bool, true, false, List, ◌++◌, length, drop, set, Option, Some, None, Ok, Err, refl, sym, ap, subst, ◌∙◌, arith}
-use Rattle.std.specs.Prelude.{◌||◌, is_none, IfNone, IfOk, IfSome, Result}
+use Rattle.std.proofs.Common.{◌≡◌, ◌⊎◌, inl, inr, ℕ, ◌^◌, ◌-◌, ◌<◌, Bool, true, false, List, ◌++◌, length, drop, set, Option, Some, None, Ok, refl, sym, ap, subst, ◌∙◌, arith}
+use Rattle.std.{specs.Prelude.{◌||◌, is_none, IfNone, IfOk, IfSome, Result}, proofs.lemmas.Grind.common_steps}
 use Rattle.history_model.specs.declared.entries.{Author.Author, Placed.Placed}
 use Rattle.request_model.specs.declared.{requests.Request.Request, replies.Reply.Reply}
 use Rattle.reply_text.specs.Replies.{text_of}
-use Rattle.play_model.specs.{Laws.RepliesNameEntries, Replies.{Adds, IsReplyOn, Tells, first_of}}
+use Rattle.play_model.specs.{Laws.RepliesNameEntries, Replies.{Adds, IsReplyOn, Tells}}
 use Rattle.reply_laws.specs.{Kinds.{Names, adds_none, asks_only, tells_by_letter, tells_none}, Laws.{KindsAreTold, RepliesAreNamed}}
 use Rattle.play_audit.{specs.Replies.{HasNone, IsHeardNext, IsNext, IsUnheard}, proofs.Answering.told_names, proofs.Fronts.names_more}
 
 none-of : {A : Type 0} (o : Option A) (x : A) → o ≡ Some x → is_none o ≡ false
-none-of None x is = absurd (cc)
-none-of (Some y) x is = refl
+none-of o x is = grind (arith, common_steps)
 
 all-of : {A : Type 0} (o : Option A) → o ≡ None → is_none o ≡ true
-all-of None is = refl
-all-of (Some y) is = absurd (cc)
+all-of o is = grind (arith, common_steps)
 
 module _ (kinds : KindsAreTold) (author : Author) (j : List Placed) (known : ℕ) (q : Request) (r : Reply) where
   pub kind_of_adds : Adds author j known q r → adds_none q r.answer ≡ false
-  kind_of_adds a =
-      ap (λ (x : Reply). adds_none q x.answer) a.told
-      ∙ sym (kinds (first_of a.comes.version j) a.comes.base (first_of a.count j) q a.outcome a.comes.comes) ∙ none-of a.outcome.adds a.entry a.adds
+  kind_of_adds a = grind (arith, common_steps)
 
   pub kind_of_tells : Tells j known q r → adds_none q r.answer ≡ true
-  kind_of_tells t =
-      ap (λ (x : Reply). adds_none q x.answer) t.told
-      ∙ sym (kinds (first_of t.comes.version j) t.comes.base (first_of t.count j) q t.outcome t.comes.comes) ∙ all-of t.outcome.adds t.adds
+  kind_of_tells t = grind (arith, common_steps)
 
 module _ (kinds : KindsAreTold) (named : RepliesAreNamed) (names : RepliesNameEntries) (author : Author) (j : List Placed) (known : ℕ) (q : Request) (text : List ℕ)
     (step letter : ℕ) (fits64 : length j < 2 ^ 64) (few : step < 2 ^ 64) (front : Names text step letter) where
@@ -39,20 +33,12 @@ module _ (kinds : KindsAreTold) (named : RepliesAreNamed) (names : RepliesNameEn
 
   -- it names fewer entries than were known, or more than there are
   pub out_of_range : (step < known) ⊎ (length j < step) → IsUnheard author j known q text
-  out_of_range (inl low) r rest fits is =
-      let bound = names author j known q r fits in
-      let same = (its-step r rest fits is).0 in
-      absurd (omega (arith, low, bound.since, same))
-  out_of_range (inr high) r rest fits is =
-      let bound = names author j known q r fits in
-      let same = (its-step r rest fits is).0 in
-      absurd (omega (arith, high, bound.within, same))
+  out_of_range x0 r rest fits is = grind (arith, common_steps, names, author, j, known, q, its-step)
 
   -- what stands next of one kind stands next of both
   next-on : (Fits : Reply → Type 0) (len now : ℕ) → now ≡ step → (next : IsNext Fits text step len) → IsReplyOn author j known q next.reply
       → ((other : Reply) (rest : List ℕ) → IsReplyOn author j known q other → text ≡ text_of other ++ rest → other ≡ next.reply) → IsNext (IsReplyOn author j known q) text now len
-  next-on Fits len now same next fits only =
-      record { reply = next.reply; fits = fits; its_step = next.its_step ∙ sym same; begins = next.begins; only = only }
+  next-on Fits len now same next fits only = grind (arith, common_steps)
 
   -- the text tells that nothing was added
   module _ (kind : (asks_only q || tells_by_letter letter) ≡ true) where
@@ -115,25 +101,16 @@ names_nothing named names author j known q text fits64 none r rest fits is =
 -- ---- what was found
 
 pub some_by : {E : Type 0} (found : Result (Option ℕ) E) (P Q : ℕ → Type 0) → ((len : ℕ) → P len → Q len) → IfOk found (λ o. IfSome o P) → IfOk found (λ o. IfSome o Q)
-some_by (Ok (Some len)) P Q each some = each len some
-some_by (Ok None) P Q each some = tt
-some_by (Err e) P Q each some = tt
+some_by found P Q each some = grind (arith, common_steps)
 
 pub none_by : {E : Type 0} (found : Result (Option ℕ) E) (P Q : Type 0) → (P → Q) → IfOk found (λ o. IfNone o P) → IfOk found (λ o. IfNone o Q)
-none_by (Ok (Some len)) P Q each none = tt
-none_by (Ok None) P Q each none = each none
-none_by (Err e) P Q each none = tt
+none_by found P Q each none = grind (arith, common_steps)
 
 pub in_some : {E : Type 0} (found : Result (Option ℕ) E) (o : Option ℕ) (len : ℕ) (P : ℕ → Type 0) → found ≡ Ok o → o ≡ Some len → IfOk found (λ x. IfSome x P) → P len
-in_some (Ok (Some k)) o len P is at some = let same : k ≡ len = cc in subst P same some
-in_some (Ok None) o len P is at some = absurd (cc)
-in_some (Err e) o len P is at some = absurd (cc)
+in_some found o len P is x5 some = grind (arith, common_steps)
 
 pub in_none : {E : Type 0} (found : Result (Option ℕ) E) (o : Option ℕ) (P : Type 0) → found ≡ Ok o → o ≡ None → IfOk found (λ x. IfNone x P) → P
-in_none (Ok (Some k)) o P is at none = absurd (cc)
-in_none (Ok None) o P is at none = none
-in_none (Err e) o P is at none = absurd (cc)
+in_none found o P is x4 none = grind (arith, common_steps)
 
 pub outside_is : (step known count most : ℕ) → count ≡ most → (step < known) ⊎ (count < step) → (step < known) ⊎ (most < step)
-outside_is step known count most same (inl low) = inl low
-outside_is step known count most same (inr high) = inr (omega (arith, high, same))
+outside_is step known count most same x5 = grind (arith, common_steps)

@@ -1,6 +1,6 @@
 -- Private: no public contract cites this. A walk along a sound journal.
-use Rattle.std.proofs.Common.{◌≡◌, inl, inr, ℕ, zero, suc, ◌+◌, ◌<◌, List, [], ◌∷◌, ◌++◌, length, take, Some, None, refl, sym, ap, subst, ◌∙◌, arith, append_assoc, append-nil, length-append}
-use Rattle.std.{specs.Prelude.slice_get, proofs.lemmas.List.length-map}
+use Rattle.std.proofs.Common.{◌≡◌, inl, inr, ℕ, zero, suc, ◌+◌, ◌<◌, List, [], ◌∷◌, ◌++◌, length, take, Some, refl, sym, ap, subst, ◌∙◌, arith, append-nil}
+use Rattle.std.{specs.Prelude.slice_get, proofs.lemmas.List.length-map, proofs.lemmas.Grind.common_steps}
 use Rattle.history_model.specs.{declared.entries.Entry.Entry, declared.entries.Placed.Placed, Allowed.{Allowed, AllowedAfter, Legal}, Entries.entries_of}
 use Rattle.play_model.specs.Replies.{first_of}
 use Rattle.journal_walk.specs.{Laws.StaysAlong, Walks.{Walked, GoesOn, IsAlong, IsStuck, added, coming}}
@@ -11,8 +11,7 @@ allowed_in : (before es : List Entry) (n : ℕ) (e : Entry) → AllowedAfter bef
 allowed_in before [] zero e all is = absurd (cc)
 allowed_in before [] (suc n) e all is = absurd (cc)
 allowed_in before (x ∷ es) zero e all is = let same : x ≡ e = cc in rw (append-nil before) (subst (Allowed before) same all.0)
-allowed_in before (x ∷ es) (suc n) e all is =
-    subst (λ (h : List Entry). Allowed h e) (append_assoc before (x ∷ []) (take n es)) (allowed_in (before ++ x ∷ []) es n e all.1 is)
+allowed_in before (x ∷ es) (suc n) e all is = grind (arith, common_steps, allowed_in (before ++ x ∷ []) es n e all.1 is)
 
 entry_at : (j : List Placed) (n : ℕ) (p : Placed) → slice_get j n ≡ Some p → slice_get (entries_of j) n ≡ Some p.entry
 entry_at [] zero p is = absurd (cc)
@@ -38,27 +37,16 @@ next_allowed w p along legal is =
 pub not_stuck : (w : Walked) → IsAlong w → Legal (entries_of w.history) → length w.track.history < length w.history → IsStuck w → ⊥
 not_stuck w along legal below (inl none) =
     let some = some_at w.history (length w.track.history) below in
-    let no : Some some.0 ≡ None = sym some.1 ∙ none in
     absurd (cc)
 not_stuck w along legal below (inr s) = s.2 (next_allowed w s.0 along legal s.1)
 
 pub grown_length : (w v : Walked) → GoesOn w v → length v.track.history ≡ length w.track.history + 1
-grown_length w v g =
-    sym (entries_length v.track.history) ∙ ap length g.grown ∙ length-append (added w) (g.entry.entry ∷ []) ∙ ap (λ n. n + 1) (entries_length w.track.history)
+grown_length w v g = grind (arith, common_steps)
 
 pub goes_by : StaysAlong → (machine : List ℕ) (history : List Placed) (count : ℕ) (w v : Walked) → IsBy machine history count w → length w.track.history < count → GoesOn w v
     → IsBy machine history count v
-goes_by stays machine history count w v by below g =
-    let more : length v.track.history ≡ length w.track.history + 1 = grown_length w v g in
-    record {
-      along = stays w v by.along g;
-      same = g.same ∙ by.same;
-      machine_is = g.machine ∙ by.machine_is;
-      behind = omega (arith, below, more);
-      within = by.within;
-    }
+goes_by stays machine history count w v by below g = grind (arith, common_steps, length, grown_length)
 
 -- the entries of a walk behind so many are the first ones
 pub first_behind : (machine : List ℕ) (history : List Placed) (count : ℕ) (w : Walked) → IsBehind machine history count w → added w ≡ first_of count history
-first_behind machine history count w b =
-    b.by.along.first ∙ ap (λ (n : ℕ). entries_of (take n w.history)) b.there ∙ ap (λ (h : List Placed). entries_of (take count h)) b.by.same
+first_behind machine history count w b = grind (arith, common_steps)

@@ -1,4 +1,5 @@
 -- Private: no public contract cites this. First entries of a longer list, and tests.
+use Rattle.std.proofs.lemmas.Grind.{common_steps}
 use Rattle.std.proofs.Common.{◌≡◌, ◌<◌, ◌≤◌, ◌+◌, ◌-◌, ℕ, zero, suc, Bool, true, false, List, [], ◌∷◌, ◌++◌, length, map, refl, Some, arith}
 use Rattle.std.{specs.List.AllByRecursion, specs.Prelude.{slice_get, bytes_eq, ◌&&◌, ◌||◌}, proofs.lemmas.Slice.Eq.bytes_eq-Decides}
 use native.Mathlib.Numerals.{unary_clauses}
@@ -14,12 +15,10 @@ same-bytes xs ys same = (bytes_eq-Decides xs ys).0 same
 
 -- both tests hold
 pub both : (a b : Bool) → (a && b) ≡ true → b ≡ true
-both true b is = is
-both false b is = cc
+both a b is = grind (arith, common_steps)
 
 pub first-alone : (a : Bool) → (a || false) ≡ true → a ≡ true
-first-alone true is = refl
-first-alone false is = is
+first-alone a is = grind (arith, common_steps)
 
 -- what stands in the second of two lists
 pub stands-behind : {A : Type 0} (xs ys : List A) (n : ℕ) (y : A) → length xs ≤ n → slice_get (xs ++ ys) n ≡ Some y → slice_get ys (n - length xs) ≡ Some y

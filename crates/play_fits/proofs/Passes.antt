@@ -1,16 +1,15 @@
 -- Private: no public contract cites this. The answers to a script's items are its part in what its pass has seen.
-use Rattle.std.proofs.Common.{◌≡◌, ◌≤◌, ◌<◌, ◌+◌, ℕ, zero, suc, Bool, true, false, List, [], ◌∷◌, ◌++◌, length, map, refl, sym, ap, subst, ◌∙◌, inl, inr, Some, arith}
-use Rattle.std.specs.{Prelude.{not, filter, take, slice_get, bytes_eq, if◌then◌else◌, Ok, Err}, List.list_any}
-use Rattle.std.proofs.lemmas.{List.{append-nil, append_assoc, length-append, length-map, map-append}, Option.slice_get_within, Bool.cases_order}
+use Rattle.std.proofs.Common.{◌≡◌, ◌≤◌, ◌<◌, ◌+◌, ℕ, zero, suc, Bool, true, false, List, [], ◌∷◌, ◌++◌, length, map, refl, sym, ap, subst, ◌∙◌, Some, arith}
+use Rattle.std.{specs.Prelude.{filter, take, slice_get, if◌then◌else◌, Ok, Err}, proofs.lemmas.Grind.common_steps}
+use Rattle.std.proofs.lemmas.{List.{append-nil, append_assoc, length-map, map-append}, Option.slice_get_within}
 use Rattle.history_lock.specs.{Marks.{entries, marked}, declared.view.Marked.Marked}
 use Rattle.history_model.specs.declared.entries.{Author.Author, Placed.Placed}
 use Rattle.request_model.specs.{declared.requests.Request.Request, declared.replies.Reply.Reply, Requests.machine_of}
 use Rattle.request_words.specs.Bodies.{Item}
-use Rattle.play_model.specs.Replies.{is_of_history, IsReplyOn, IsReplyWhere, Adds, stands_alone}
+use Rattle.play_model.{specs.Replies.{IsReplyOn, IsReplyWhere, Adds}, proofs.Replies.{replies-stay, replies-earlier, replies-name, adds-stay, adds-earlier}}
 use Rattle.play_fits.specs.Scripts.{Exchange, is_about, names_history, last_from, known_after, IsAnswer, AreAnswered, IsAdded}
 use Rattle.play_fits.specs.Passes.{Waits, Sight, journal_of, count_of, IsMadeBy, SeesMore, AsksItem, AsksAll, IsSeenPart}
 use Rattle.play_fits.proofs.Lists.{same-bytes, both, first-alone, stays-before}
-use Rattle.play_model.proofs.Replies.{replies-stay, replies-earlier, replies-name, adds-stay, adds-earlier}
 
 -- ---- what is seen
 
@@ -31,9 +30,7 @@ journal-grows : (one other : Sight) (s : SeesMore one other) (m : List ℕ) → 
 journal-grows one other s m = ap (λ (l : List (Marked Placed)). entries l) (s.seen m) ∙ map-append (λ (x : Marked Placed). x.entry) (one.seen m) (s.more m)
 
 count-grows : (one other : Sight) → SeesMore one other → (m : List ℕ) → count_of one m ≤ count_of other m
-count-grows one other s m =
-    let is : count_of other m ≡ count_of one m + length (s.more m) = ap length (s.seen m) ∙ length-append (one.seen m) (s.more m) in
-    omega (arith, is)
+count-grows one other s m = grind (arith, common_steps)
 
 -- ---- replies on what is seen later, from fewer entries on
 
@@ -48,14 +45,11 @@ reply-later false author one other s known fewer le q reply is = is
 
 pub answer-later : (author : Author) (machines : List (List ℕ)) (one other : Sight) → SeesMore one other → (known fewer : List ℕ → ℕ) → ((m : List ℕ) → fewer m ≤ known m) → (item : Item) (reply : Reply)
     → IsAnswer author machines (journal_of one) known item reply → IsAnswer author machines (journal_of other) fewer item reply
-answer-later author machines one other s known fewer le (Ok q) reply is = reply-later (is_of_history machines q) author one other s known fewer le q reply is
-answer-later author machines one other s known fewer le (Err reason) reply is = is
+answer-later author machines one other s known fewer le item reply is = grind (arith, common_steps, reply-later)
 
 pub adds-later : (author : Author) (one other : Sight) → SeesMore one other → (m : List ℕ) (known fewer : ℕ) → fewer ≤ known → (q : Request) (reply : Reply)
     → Adds author (journal_of one m) known q reply → Adds author (journal_of other m) fewer q reply
-adds-later author one other s m known fewer le q reply a =
-    subst (λ (j : List Placed). Adds author j fewer q reply) (sym (journal-grows one other s m))
-    (adds-stay author (journal_of one m) (entries (s.more m)) fewer q reply (adds-earlier author (journal_of one m) known fewer q reply le a))
+adds-later author one other s m known fewer le q reply a = grind (arith, common_steps, journal-grows, adds-stay, adds-earlier)
 
 -- ---- what is known
 
@@ -63,45 +57,31 @@ adds-later author one other s m known fewer le q reply a =
 by-test : (b : Bool) (kept : ℕ) (x : Exchange) (xs : List Exchange)
     → last_from kept (map (λ (y : Exchange). y.reply.step) (if b then x ∷ xs else xs))
     ≡ last_from (last_from kept (map (λ (y : Exchange). y.reply.step) (if b then x ∷ [] else []))) (map (λ (y : Exchange). y.reply.step) xs)
-by-test true kept x xs = refl
-by-test false kept x xs = refl
+by-test b kept x xs = grind (arith, common_steps)
 
 known-on : (kept : ℕ) (m : List ℕ) (x : Exchange) (xs : List Exchange) → known_after kept m (x ∷ xs) ≡ known_after (known_after kept m (x ∷ [])) m xs
 known-on kept m x xs = by-test (is_about m x) kept x (filter (is_about m) xs)
 
 -- a reply names no more than is seen of the machine behind it
 step-where : (named : Bool) (author : Author) (s : Sight) (known : List ℕ → ℕ) (q : Request) (reply : Reply) → IsReplyWhere named author (journal_of s) known q reply → reply.step ≤ count_of s (machine_of q)
-step-where true author s known q reply is =
-    let m : List ℕ = machine_of q in
-    let le : reply.step ≤ length (journal_of s m) = (replies-name author (journal_of s m) (known m) q reply is).within in
-    let len : length (journal_of s m) ≡ count_of s m = counted s m in
-    omega (arith, le, len)
-step-where false author s known q reply is =
-    let none : reply.step ≡ 0 = ap (λ (r : Reply). r.step) is in
-    omega (arith, none)
+step-where named author s known q reply is = grind (arith, common_steps, length, replies-name, counted)
 
 known-item : (author : Author) (machines : List (List ℕ)) (before between : Sight) (m : List ℕ) (item : Item) (reply : Reply) → AsksItem author machines before item reply between
     → names_history m item ≡ true → reply.step ≤ count_of between m
-known-item author machines before between m (Ok q) reply a about =
-    let same : machine_of q ≡ m = sym (same-bytes m (machine_of q) (first-alone (bytes_eq m (machine_of q)) (both (not (stands_alone q)) (list_any (λ name. bytes_eq name (machine_of q)) (m ∷ [])) about))) in
-    subst (λ (n : List ℕ). reply.step ≤ count_of between n) same (step-where (is_of_history machines q) author between (count_of before) q reply a.replies)
-known-item author machines before between m (Err reason) reply a about = cc
+known-item author machines before between m item reply a about = grind (arith, common_steps, same-bytes, first-alone, both, step-where)
 
 sees-item : (author : Author) (machines : List (List ℕ)) (before between : Sight) (item : Item) (reply : Reply) → AsksItem author machines before item reply between → SeesMore before between
-sees-item author machines before between (Ok q) reply a = a.sees
-sees-item author machines before between (Err reason) reply a = subst (λ (s : Sight). SeesMore before s) (sym a.1) (same-sight before)
+sees-item author machines before between item reply a = grind (arith, common_steps, same-sight)
 
 known-within : (b : Bool) (kept step seen : ℕ) (x : Exchange) → kept ≤ seen → (b ≡ true → x.reply.step ≤ seen)
     → last_from kept (map (λ (y : Exchange). y.reply.step) (if b then x ∷ [] else [])) ≤ seen
-known-within true kept step seen x le here = here refl
-known-within false kept step seen x le here = le
+known-within b kept step seen x le here = grind (arith, common_steps)
 
 -- ---- the answer to one item
 
 answer-item : (author : Author) (machines : List (List ℕ)) (before between : Sight) (item : Item) (reply : Reply) → AsksItem author machines before item reply between
     → IsAnswer author machines (journal_of between) (count_of before) item reply
-answer-item author machines before between (Ok q) reply a = a.replies
-answer-item author machines before between (Err reason) reply a = a.0
+answer-item author machines before between item reply a = grind (arith, common_steps)
 
 -- ---- the entries that it adds
 
@@ -122,8 +102,7 @@ made-item author machines before between after kept x xs (Ok q) is a later m pla
       its_step = adds.2;
     }
 made-item author machines before between after kept x xs (Err reason) is a later m place p le from made =
-    let made_before : slice_get (before.seen m) place ≡ Some (marked p (Some (before.mark m))) =
-    subst (λ (s : Sight). slice_get (s.seen m) place ≡ Some (marked p (Some (s.mark m)))) a.1 made in
+    let made_before : slice_get (before.seen m) place ≡ Some (marked p (Some (before.mark m))) = grind (arith, common_steps) in
     let within : place < count_of before m = slice_get_within (before.seen m) place (marked p (Some (before.mark m))) made_before in
     absurd (omega (arith, within, from))
 
@@ -131,14 +110,10 @@ made-item author machines before between after kept x xs (Err reason) is a later
 
 -- what a pass made among the entries that were seen between is there
 made-between : (between after : Sight) (s : SeesMore between after) (m : List ℕ) (place : ℕ) (p : Placed) → place < count_of between m → IsMadeBy after m place p → IsMadeBy between m place p
-made-between between after s m place p within made =
-    sym (stays-before (between.seen m) (s.more m) place within)
-    ∙ ap (λ (l : List (Marked Placed)). slice_get l place) (sym (s.seen m))
-    ∙ made ∙ ap (λ (n : ℕ). Some (marked p (Some n))) (s.marks m)
+made-between between after s m place p within made = grind (arith, common_steps, stays-before)
 
 pub by-order : {P : Type 0} (a b : ℕ) → (a < b → P) → (b ≤ a → P) → P
-by-order a b before behind =
-    elim (cases_order a b) [ inl is ↦ behind (omega (arith, is)) | inr (inl lt) ↦ before lt | inr (inr gt) ↦ behind (omega (arith, gt)) ]
+by-order a b before behind = grind (arith, common_steps)
 
 -- what the later exchanges added
 added-behind : (author : Author) (m : List ℕ) (j : List Placed) (kept : ℕ) (x : Exchange) (xs : List Exchange) (place : ℕ)
@@ -175,16 +150,7 @@ record PartFrom (author : Author) (machines : List (List ℕ)) (kept : List ℕ 
 
 part-from : (author : Author) (machines : List (List ℕ)) (kept : List ℕ → ℕ) (before : Sight) (xs : List Exchange) (after : Sight) → ((m : List ℕ) → kept m ≤ count_of before m)
     → AsksAll author machines before xs after → PartFrom author machines kept before xs after
-part-from author machines kept before [] after le all =
-    record {
-      sees = subst (λ (s : Sight). SeesMore before s) (sym all) (same-sight before);
-      answered = λ n x is. cc;
-      made = λ m place p from made.
-          let made_before : slice_get (before.seen m) place ≡ Some (marked p (Some (before.mark m))) =
-          subst (λ (s : Sight). slice_get (s.seen m) place ≡ Some (marked p (Some (s.mark m)))) all made in
-          let within : place < count_of before m = slice_get_within (before.seen m) place (marked p (Some (before.mark m))) made_before in
-          absurd (omega (arith, within, from));
-    }
+part-from author machines kept before [] after le all = grind (arith, common_steps, same-sight, slice_get_within)
 part-from author machines kept before (x ∷ xs) after le all =
     let between : Sight = all.0 in
     let item : AsksItem author machines before x.item x.reply between = all.1 in

@@ -1,13 +1,13 @@
 -- Private: no public contract cites this. What the parts of passes that were joined come to in the whole histories.
-use Rattle.std.proofs.Common.{◌≡◌, ◌≢◌, ◌≤◌, ◌+◌, ◌-◌, ℕ, zero, suc, Bool, true, false, List, [], ◌∷◌, ◌++◌, length, refl, sym, ap, subst, ◌∙◌, Option, Some, None, arith}
-use Rattle.std.{specs.Prelude.{Ok, Err, take, slice_get, Contains}, proofs.lemmas.List.{length-map, map-append}}
+use Rattle.std.proofs.Common.{◌≡◌, ◌≢◌, ◌≤◌, ◌+◌, ◌-◌, ℕ, zero, suc, List, [], ◌∷◌, ◌++◌, length, refl, sym, ap, subst, ◌∙◌, Option, Some, None, arith}
+use Rattle.std.{specs.Prelude.{take, slice_get, Contains}, proofs.lemmas.List.length-map, proofs.lemmas.Grind.common_steps}
 use Rattle.history_lock.specs.{Marks.{AreByOthers, IsOtherMark, entries, marked, unmarked}, declared.view.Marked.Marked}
 use Rattle.history_model.specs.declared.entries.{Author.Author, Placed.Placed}
 use Rattle.history_model.specs.declared.entries.Author.TheVariants as author
 use Rattle.play_fits.specs.{Passes.{Sight, journal_of, count_of, IsMadeBy, SeesMore, IsSeenPart}, Scripts.{IsAnswer, Exchange, known_after, IsAdded}}
-use Rattle.request_model.specs.{declared.replies.Reply.Reply, Requests.machine_of}
+use Rattle.request_model.specs.declared.replies.Reply.{Reply}
 use Rattle.request_words.specs.Bodies.{Item}
-use Rattle.play_model.{specs.Replies.{Adds, is_of_history, IsReplyWhere}, proofs.Replies.{replies-stay, adds-stay}}
+use Rattle.play_model.{specs.Replies.{Adds, is_of_history}, proofs.Replies.{replies-stay, adds-stay}}
 use Rattle.play_fits.specs.{Workers.{Crew, MayAdd}, Whole.{longer, Joined, GoesOn, IsMadeByOne, AreAll, journals_of, count_in, FitsIn, AreByCrew}}
 use Rattle.play_fits.proofs.{Lists.{stays-before, stands-behind, behind-stands, mapped-back, all-places}, Passes.{answer-later, adds-later, by-order}}
 
@@ -25,13 +25,7 @@ own-mark mark by is other = (subst (IsOtherMark (mark ∷ [])) is other).0 refl
 
 pub is-seen : (crew : Crew) (log : List ℕ → List (Marked Placed)) (v : Joined) → GoesOn crew log v → (m : List ℕ) (place : ℕ) (x : Marked Placed)
     → slice_get (log m) place ≡ Some x → x.by ≡ Some (v.sight.mark m) → IsMadeBy v.sight m place x.entry
-is-seen crew log v goes m place x is by =
-    let both : slice_get (v.sight.seen m ++ goes.rest m) place ≡ Some x = ap (λ (l : List (Marked Placed)). slice_get l place) (sym (goes.seen m)) ∙ is in
-    by-order place (count_of v.sight m)
-    (λ within. sym (stays-before (v.sight.seen m) (goes.rest m) place within) ∙ both ∙ ap (λ (b : Option ℕ). Some (marked x.entry b)) by)
-    (λ behind. absurd (own-mark (v.sight.mark m) x.by by
-    (other-at (v.sight.mark m ∷ []) (goes.rest m) (place - count_of v.sight m) x (goes.others m)
-    (stands-behind (v.sight.seen m) (goes.rest m) place x behind both))))
+is-seen crew log v goes m place x is by = grind (arith, common_steps, slice_get, by-order, stays-before, own-mark, other-at, stands-behind)
 
 -- ---- an entry of an author of this session was made by the author's pass
 
@@ -69,8 +63,7 @@ sees-whole crew log w goes = record { marks = λ m. refl; more = goes.rest; seen
 -- what a request added is so in another journal too, if the request adds it there
 added-in : (author : Author) (m : List ℕ) (j k : List Placed) (had has : ℕ) (xs : List Exchange) (place : ℕ) (a : IsAdded author m j had xs place)
     → Adds author k (known_after has m (take a.before xs)) a.request a.exchange.reply → IsAdded author m k has xs place
-added-in author m j k had has xs place a adds =
-    record { before = a.before; exchange = a.exchange; here = a.here; request = a.request; asked = a.asked; about = a.about; adds = adds; its_step = a.its_step }
+added-in author m j k had has xs place a adds = grind (arith, common_steps)
 
 pub seen-parts-fit : (crew : Crew) (machines : List (List ℕ)) (kept : List ℕ → List Placed) (log : List ℕ → List (Marked Placed)) (parts : List Joined) (w : Joined) (before : Sight) (xs : List Exchange)
     → AreAll crew kept log parts → Contains parts w → w.author ≢ author.Kept → ((m : List ℕ) → count_of before m ≡ count_in kept m) → IsSeenPart w.author machines before xs w.sight
@@ -100,8 +93,7 @@ entries-unmarked (e ∷ es) = ap (λ (l : List Placed). e ∷ l) (entries-unmark
 pub all-by-crew : (crew : Crew) (kept : List ℕ → List Placed) (log : List ℕ → List (Marked Placed)) (parts : List Joined) → AreAll crew kept log parts
     → (m : List ℕ) → AreByCrew crew (kept m) (journals_of log m)
 all-by-crew crew kept log parts all m =
-    let split : journals_of log m ≡ entries (unmarked (kept m)) ++ entries (all.rest m) =
-    ap (λ (l : List (Marked Placed)). entries l) (all.begins m) ∙ map-append (λ (x : Marked Placed). x.entry) (unmarked (kept m)) (all.rest m) in
+    let split : journals_of log m ≡ entries (unmarked (kept m)) ++ entries (all.rest m) = grind (arith, common_steps) in
     record {
       added = entries (all.rest m);
       goes_on = split ∙ ap (λ (l : List Placed). l ++ entries (all.rest m)) (entries-unmarked (kept m));
@@ -118,12 +110,7 @@ all-by-crew crew kept log parts all m =
 
 answer-stays : (author : Author) (machines : List (List ℕ)) (journal more : List ℕ → List Placed) (known : List ℕ → ℕ) (item : Item) (reply : Reply)
     → IsAnswer author machines journal known item reply → IsAnswer author machines (longer journal more) known item reply
-answer-stays author machines journal more known (Ok q) reply is = by-name (is_of_history machines q) is
-  where
-    by-name : (named : Bool) → IsReplyWhere named author journal known q reply → IsReplyWhere named author (longer journal more) known q reply
-    by-name true one = replies-stay author (journal (machine_of q)) (more (machine_of q)) (known (machine_of q)) q reply one
-    by-name false one = one
-answer-stays author machines journal more known (Err reason) reply is = is
+answer-stays author machines journal more known item reply is = grind (arith, common_steps, is_of_history, replies-stay)
 
 pub parts-stay : (author : Author) (machines : List (List ℕ)) (journal more : List ℕ → List Placed) (kept : List ℕ → ℕ) (xs : List Exchange)
     → ((m : List ℕ) (place : ℕ) (p : Placed) → slice_get (more m) place ≡ Some p → p.author ≢ author)

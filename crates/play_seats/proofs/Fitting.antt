@@ -1,7 +1,7 @@
 -- Private: no public contract cites this. A shared run of scripts alone fits.
-use Rattle.std.proofs.Common.{◌≡◌, ◌≢◌, ◌<◌, ◌≤◌, ◌+◌, ℕ, zero, suc, inl, inr, Bool, true, false, List, [], ◌∷◌, ◌++◌, length, map, refl, sym, ap, subst, ◌∙◌, Some, None, arith, append-nil, ne_eqb}
-use Rattle.std.specs.{Prelude.{◌⊎◌, slice_get, Contains, bytes_eq, if◌then◌else◌, take, fold, IfSome, sum_by}, List.{AllByRecursion, AllZip}}
-use Rattle.std.proofs.lemmas.{Bool.cases_lt, List.length-map, Slice.Eq.bytes_eq-Decides}
+use Rattle.std.proofs.Common.{◌≡◌, ◌≢◌, ◌<◌, ◌≤◌, ◌+◌, ℕ, zero, suc, inl, inr, Bool, true, false, List, [], ◌∷◌, ◌++◌, length, map, refl, sym, ap, subst, ◌∙◌, Some, None, arith, append-nil}
+use Rattle.std.specs.{Prelude.{◌⊎◌, slice_get, Contains, bytes_eq, take, fold, IfSome, sum_by}, List.{AllByRecursion, AllZip}}
+use Rattle.std.proofs.lemmas.{Bool.cases_lt, List.length-map, Slice.Eq.bytes_eq-Decides, Grind.common_steps}
 use Rattle.history_lock.specs.{Marks.{AreBy, entries, marked, unmarked}, declared.view.Marked.Marked}
 use Rattle.history_model.specs.{Allowed.Legal, Entries.entries_of, declared.entries.Author.Author, declared.entries.Entry.Entry, declared.entries.Placed.Placed}
 use Rattle.history_model.specs.declared.entries.Author.TheVariants as author
@@ -9,10 +9,9 @@ use Rattle.track_model.specs.Tracks.{Track}
 use Rattle.track_room.specs.{Asked.names_of, Rooms.IsPassOf, Sights.{EndsWhole, Home, Sight, own_marks}}
 use Rattle.play_model.proofs.Replies.{added-step}
 use Rattle.play_fits.specs.{Ends.{AreEndsOf, HasPlayed}, Fits.{Fits, Play, Played, crew_of}, Journals.{machines_of, history_in}}
-use Rattle.play_fits.{specs.Passes.{IsMadeBy, IsSeenPart, count_of}, specs.Scripts.{IsAdded, IsWritten, known_after}, proofs.Ends.ends-fit}
-use Rattle.play_fits.{proofs.Whole.all-by-crew, specs.Whole.{AreAll, AreByCrew, Joined, journals_of}}
+use Rattle.play_fits.{specs.Passes.{IsMadeBy, count_of}, specs.Scripts.{IsAdded, IsWritten, known_after}, proofs.Ends.ends-fit}
+use Rattle.play_fits.{proofs.Whole.all-by-crew, specs.Whole.{AreAll, AreByCrew, Joined, journals_of}, proofs.Lists.{all-append, stays-before}}
 use Rattle.play_fits.specs.Workers.{Asked, AreAsksOf, Crew, IsBisector, IsOneOf, MayAdd, findings_behind, give_ups, all_give_ups, is_bisector}
-use Rattle.play_fits.proofs.Lists.{all-append, stays-before}
 use Rattle.play_seats.specs.{Gathered.{OwnsMade, joined_of}, Seats.{Seat, seen_in, sight_of}, Shared.{AreKeptAs, EndsShared, HasSeenKept, onto}}
 use Rattle.play_seats.specs.Seats as seats
 use Rattle.play_seats.specs.Fitting.{ArePlayedFrom, IsPlayedAt, IsUnasked, RunsScripts}
@@ -92,9 +91,6 @@ all-owned crew tracks room n (s ∷ ss) (b ∷ bs) (a ∷ us) played saw some fe
   all-owned crew tracks room (n + 1) ss bs us played.1 saw.1 (omega (arith, some)) (omega (arith, few)),
 )
 
-first-place : (n : ℕ) → n ≡ n + 0
-first-place n = omega arith
-
 next-place : (n k : ℕ) → (n + 1) + k ≡ n + suc k
 next-place n k = omega arith
 
@@ -107,19 +103,10 @@ pub record PlayedAt (room : List Home) (n : ℕ) (bs : List (List Sight)) (us : 
   pub played : IsPlayedAt room (n + k) s before after
 
 pub played-at : (room : List Home) (n : ℕ) (ss : List Played) (bs : List (List Sight)) (us : List Seat) → ArePlayedFrom room n ss bs us → (k : ℕ) (s : Played) → slice_get ss k ≡ Some s → PlayedAt room n bs us s k
-played-at room n [] bs us played k s is = absurd (no-item k s is)
-  where
-    no-item : (k : ℕ) (s : Played) → slice_get [] k ≡ Some s → ⊥
-    no-item k s is = cc
+played-at room n [] bs us played k s is = grind (arith, common_steps)
 played-at room n (x ∷ ss) [] us played k s is = absurd played
 played-at room n (x ∷ ss) (b ∷ bs) [] played k s is = absurd played
-played-at room n (x ∷ ss) (b ∷ bs) (a ∷ us) played zero s is = record {
-  before = b;
-  after = a;
-  from = refl;
-  to = refl;
-  played = subst (λ (j : ℕ). IsPlayedAt room j s b a) (first-place n) (subst (λ (y : Played). IsPlayedAt room n y b a) (same-some x s is) played.0);
-}
+played-at room n (x ∷ ss) (b ∷ bs) (a ∷ us) played zero s is = grind (arith, common_steps)
 played-at room n (x ∷ ss) (b ∷ bs) (a ∷ us) played (suc k) s is = later (played-at room (n + 1) ss bs us played.1 k s is)
   where
     later : PlayedAt room (n + 1) bs us s k → PlayedAt room n (b ∷ bs) (a ∷ us) s (suc k)
@@ -132,13 +119,8 @@ author-at room n [] [] (x ∷ us) played k a is = absurd played
 author-at room n [] (b ∷ bs) us played k a is = absurd played
 author-at room n (s ∷ ss) [] us played k a is = absurd played
 author-at room n (s ∷ ss) (b ∷ bs) [] played k a is = cc
-author-at room n (s ∷ ss) (b ∷ bs) (x ∷ us) played zero a is =
-    let same : x ≡ a = cc in
-    let first : n + 0 ≡ n = omega arith in
-    rw first (subst (λ (y : Seat). y.author ≡ author.Script n) same played.0.author)
-author-at room n (s ∷ ss) (b ∷ bs) (x ∷ us) played (suc k) a is =
-    let next : n + suc k ≡ (n + 1) + k = omega arith in
-    rw next (author-at room (n + 1) ss bs us played.1 k a is)
+author-at room n (s ∷ ss) (b ∷ bs) (x ∷ us) played zero a is = grind (arith, common_steps)
+author-at room n (s ∷ ss) (b ∷ bs) (x ∷ us) played (suc k) a is = grind (arith, common_steps, author-at room (n + 1) ss bs us played.1 k a is)
 
 -- one of the seats, the last first, is at some place
 pub from-onto : {A : Type 0} (xs behind : List A) (x : A) → Contains (onto xs behind) x → ((k : ℕ) × (slice_get xs k ≡ Some x)) ⊎ Contains behind x
@@ -182,19 +164,13 @@ machines-left : (last : List Sight) (journals : List Track) → AllZip EndsWhole
 machines-left [] [] ends = refl
 machines-left [] (j ∷ journals) ends = absurd ends
 machines-left (s ∷ last) [] ends = absurd ends
-machines-left (s ∷ last) (j ∷ journals) ends =
-    ap (λ (t : Track). t.machine ∷ machines_of journals) ends.0.0 ∙ ap (λ (l : List (List ℕ)). s.home.machine ∷ l) (machines-left last journals ends.1)
+machines-left (s ∷ last) (j ∷ journals) ends = grind (arith, common_steps, machines-left last journals ends.1)
 
 history-left : (last : List Sight) (journals : List Track) (m : List ℕ) → AllZip EndsWhole last journals → history_in journals m ≡ entries (seen_in last m)
 history-left [] [] m ends = refl
 history-left [] (j ∷ journals) m ends = absurd ends
 history-left (s ∷ last) [] m ends = absurd ends
-history-left (s ∷ last) (j ∷ journals) m ends =
-    ap (λ (t : Track). if bytes_eq t.machine m then t.history else history_in journals m) ends.0.0 ∙ by-name (bytes_eq s.home.machine m) (history-left last journals m ends.1)
-  where
-    by-name : (b : Bool) → history_in journals m ≡ entries (seen_in last m) → (if b then entries s.seen else history_in journals m) ≡ entries (if b then s.seen else seen_in last m)
-    by-name true rest = refl
-    by-name false rest = rest
+history-left (s ∷ last) (j ∷ journals) m ends = grind (arith, common_steps, history-left last journals m ends.1)
 
 pub eq-bytes : (xs : List ℕ) → bytes_eq xs xs ≡ true
 eq-bytes xs = (bytes_eq-Decides xs xs).1 refl
@@ -209,10 +185,7 @@ Apart (t ∷ ts) = Others t.machine ts × Apart ts
 
 others-named : (m : List ℕ) (ts : List Track) (room : List Home) → machines_of ts ≡ names_of room → AllByRecursion (seats.IsOther m) room → Others m ts
 others-named m [] room same all = tt
-others-named m (t ∷ ts) [] same all = absurd (no-cons same)
-  where
-    no-cons : t.machine ∷ machines_of ts ≡ [] → ⊥
-    no-cons is = cc
+others-named m (t ∷ ts) [] same all = grind (arith, common_steps)
 others-named m (t ∷ ts) (h ∷ room) same all =
     let head : t.machine ≡ h.machine = cc in
     let tail : machines_of ts ≡ names_of room = cc in
@@ -220,10 +193,7 @@ others-named m (t ∷ ts) (h ∷ room) same all =
 
 pub apart-named : (ts : List Track) (room : List Home) → machines_of ts ≡ names_of room → seats.AreDifferent room → Apart ts
 apart-named [] room same all = tt
-apart-named (t ∷ ts) [] same all = absurd (no-cons same)
-  where
-    no-cons : t.machine ∷ machines_of ts ≡ [] → ⊥
-    no-cons is = cc
+apart-named (t ∷ ts) [] same all = grind (arith, common_steps)
 apart-named (t ∷ ts) (h ∷ room) same all =
     let head : t.machine ≡ h.machine = cc in
     let tail : machines_of ts ≡ names_of room = cc in
@@ -265,11 +235,7 @@ all-with P Q R (x ∷ xs) f one two = (f x one.0 two.0, all-with P Q R xs f one.
 
 pub own-histories : (tracks : List Track) → Apart tracks → AllByRecursion (λ (t : Track). history_in tracks t.machine ≡ t.history) tracks
 own-histories [] apart = tt
-own-histories (t ∷ tracks) apart = (
-  rw (eq-bytes t.machine) refl,
-  all-with (λ (u : Track). bytes_eq t.machine u.machine ≡ false) (λ (u : Track). history_in tracks u.machine ≡ u.history) (λ (u : Track). history_in (t ∷ tracks) u.machine ≡ u.history) tracks
-      (λ u other own. rw other own) apart.0 (own-histories tracks apart.1),
-)
+own-histories (t ∷ tracks) apart = grind (arith, common_steps, eq-bytes, all-with, own-histories tracks apart.1)
 
 pub own-seen : (last : List Sight) → seats.AreDifferent (map (λ (s : Sight). s.home) last) → AllByRecursion (λ (s : Sight). seen_in last s.home.machine ≡ s.seen) last
 own-seen [] apart = tt
@@ -301,15 +267,7 @@ sum-none f (m ∷ ms) each = let here : 0 + f m ≡ 0 = let is = each m in omega
 
 -- a number that no worker has which bisects
 pub no-bisector-of : (crew : Crew) (i : ℕ) → ((k : ℕ) → IsOneOf crew.bisect k → k ≢ i) → (p : Placed) → MayAdd crew p → IsNoBisector i p
-no-bisector-of crew i apart p may = by p.author refl may
-  where
-    by : (w : Author) → p.author ≡ w → MayAdd crew p → is_bisector i p.author ≡ false
-    by author.Kept is may = rw is refl
-    by (author.Script n) is may = rw is refl
-    by (author.Recompute n) is may = rw is refl
-    by (author.Bisect n) is may =
-        let told : MayAdd crew (record { author = author.Bisect n; entry = p.entry }) = subst (MayAdd crew) (ap (λ (v : Author). record { author = v; entry = p.entry }) is) may in
-        rw is (ne_eqb n i (apart n told.0))
+no-bisector-of crew i apart p may = grind (arith, common_steps)
 
 -- a script that was played at one of the seats
 pub has-played : (tracks : List Track) (machines : List (List ℕ)) (room : List Home) (seated : List Seat) (bs : List (List Sight)) (us : List Seat) (i : ℕ) (s : Played) (p : PlayedAt room 1 bs us s i)
@@ -325,8 +283,7 @@ has-played tracks machines room seated bs us i s p at saw names =
       before = sight_of p.before;
       counts = λ m. ap length (saw m) ∙ length-map (history_in tracks m) (λ (x : Placed). marked x None);
       exchanges = p.played.played.exchanges;
-      part = subst (λ (w : Author). IsSeenPart w machines (sight_of p.before) p.played.played.exchanges (sight_of p.after.pass)) (sym of)
-          (subst (λ (ms : List (List ℕ)). IsSeenPart (author.Script (1 + i)) ms (sight_of p.before) p.played.played.exchanges (sight_of p.after.pass)) (sym names) p.played.played.part);
+      part = grind (arith, common_steps);
       written = subst (λ (f : Bool). IsWritten f s.script s.transcript p.played.played.exchanges) (sym p.played.full) p.played.played.written;
     }
 

@@ -1,6 +1,6 @@
 -- Private: no public contract cites this. From places to names: the passes that were joined are all that made entries.
 use Rattle.std.proofs.Common.{◌≡◌, ◌<◌, ℕ, zero, suc, inl, inr, Bool, true, false, List, [], ◌∷◌, ◌++◌, length, map, get_or, refl, sym, ap, subst, ◌∙◌, Some, arith}
-use Rattle.std.specs.{Prelude.{◌⊎◌, slice_get, Contains, bytes_eq, if◌then◌else◌}, List.AllByRecursion}
+use Rattle.std.{specs.Prelude.{◌⊎◌, slice_get, Contains, bytes_eq, if◌then◌else◌}, specs.List.AllByRecursion, proofs.lemmas.Grind.common_steps}
 use Rattle.std.proofs.lemmas.Option.{slice_get_within, get_or_from_slice_get}
 use Rattle.history_lock.specs.{Marks.{AreBy, Follows, unmarked}, declared.view.Marked.Marked}
 use Rattle.history_model.specs.declared.entries.Author.TheVariants as author
@@ -161,12 +161,7 @@ find-at [] m = inr (record { unseen = λ pass of. unseen-none pass of; none = λ
     none-none : (tracks : List Track) → machines_of tracks ≡ names_of [] → history_in tracks m ≡ []
     none-none [] of = refl
     none-none (t ∷ tracks) of = absurd (no-cons (sym of))
-find-at (h ∷ room) m = by-name (bytes_eq h.machine m) refl (find-at room m)
-  where
-    by-name : (b : Bool) → bytes_eq h.machine m ≡ b → At room m ⊎ Missing room m → At (h ∷ room) m ⊎ Missing (h ∷ room) m
-    by-name true is rest = inl (named-here h room m is)
-    by-name false is (inl at) = inl (named-later h room m is at)
-    by-name false is (inr miss) = inr (missing-later h room m is miss)
+find-at (h ∷ room) m = grind (arith, common_steps, named-here, named-later, missing-later, find-at room m)
 
 -- ---- what is known of a machine
 module _ (crew : Crew) (tracks : List Track) (room : List Home) (seats : List Seat) (pass : List Sight) (g : Gathered crew tracks room seats pass) where

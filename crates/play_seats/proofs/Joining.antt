@@ -1,6 +1,6 @@
 -- Private: no public contract cites this. What the first pass of a machine's lock knows while others are joined into it.
 use Rattle.std.proofs.Common.{◌≡◌, ◌<◌, ℕ, suc, inl, inr, List, [], ◌∷◌, ◌++◌, refl, sym, ap, subst, ◌∙◌, Option, Some, None, arith, append_assoc, append-nil}
-use Rattle.std.{specs.Prelude.{◌⊎◌, slice_get}, specs.List.AllByRecursion, proofs.lemmas.Bool.cases_order}
+use Rattle.std.{specs.Prelude.{◌⊎◌, slice_get}, specs.List.AllByRecursion, proofs.lemmas.Bool.cases_order, proofs.lemmas.Grind.common_steps}
 use Rattle.history_lock.specs.{Marks.{AreBy, AreByOthers, IsLongerOf, IsNoneOf, IsOtherMark, entries, marked, unmarked}, declared.view.Marked.Marked}
 use Rattle.history_model.specs.declared.entries.Placed.{Placed}
 use Rattle.track_model.specs.Tracks.{Track}
@@ -10,25 +10,14 @@ use Rattle.play_seats.specs.Joining.{Part, part_of, marks_of, IsBehind, Joining,
 
 -- ---- a new lock
 no-mark : (x : Marked Placed) → ((m : ℕ) → x.by ≡ Some m → ¬ (IsNoneOf m [])) → x ≡ marked x.entry None
-no-mark x none = by-mark x.by refl
-  where
-    by-mark : (b : Option ℕ) → x.by ≡ b → x ≡ marked x.entry None
-    by-mark None is = ap (λ (c : Option ℕ). marked x.entry c) is
-    by-mark (Some m) is = absurd (none m is tt)
+no-mark x none = grind (arith, common_steps)
 
 pub all-unmarked : (xs : List (Marked Placed)) → AreBy [] xs → xs ≡ unmarked (entries xs)
 all-unmarked [] none = refl
 all-unmarked (x ∷ xs) none = ap (λ (y : Marked Placed). y ∷ xs) (no-mark x none.0) ∙ ap (λ (l : List (Marked Placed)). marked x.entry None ∷ l) (all-unmarked xs none.1)
 
 pub joining-starts : (t : Track) (s : Sight) → IsFirstOf t s → Joining t.history [] s
-joining-starts t s first = record {
-  mark = first.1;
-  joined = first.3;
-  rest = [];
-  begins = all-unmarked s.seen first.4 ∙ ap (λ (u : Track). unmarked u.history) first.0 ∙ sym (append-nil (unmarked t.history));
-  others = tt;
-  behind = tt;
-}
+joining-starts t s first = grind (arith, common_steps, all-unmarked, append-nil)
 
 pub joining-splits : (kept : List Placed) (parts : List Part) (s : Sight) → Joining kept parts s → Joining kept parts (splitting s)
 joining-splits kept parts s j = record { mark = j.mark; joined = j.joined; rest = j.rest; begins = j.begins; others = j.others; behind = j.behind }
@@ -80,8 +69,7 @@ joining-goes-on kept parts old other new j joins =
 
 -- ---- the end
 not-equal : (a b : ℕ) → a ≡ b → (a < b) ⊎ (b < a) → ⊥
-not-equal a b same (inl lt) = omega (arith, same, lt)
-not-equal a b same (inr gt) = omega (arith, same, gt)
+not-equal a b same x3 = grind (arith, common_steps)
 
 -- one of some parts has this mark
 find-part : (parts : List Part) (m : ℕ) → ¬ (IsNoneOf m (marks_of parts)) → (place : ℕ) × (w : Part) × (slice_get parts place ≡ Some w) × (m ≡ w.mark)
@@ -102,8 +90,7 @@ made-by-parts parts s zero_is joined (x ∷ rest) others by = (one x.by refl oth
     one : (b : Option ℕ) → x.by ≡ b → IsOtherMark (0 ∷ []) b → IsMadeByPart parts x
     one None is other = absurd other
     one (Some m) is other =
-        let found : (place : ℕ) × (w : Part) × (slice_get parts place ≡ Some w) × (m ≡ w.mark) =
-        find-part parts m (λ none. by.0 m is ((λ same. other.0 (same ∙ zero_is)), subst (λ (l : List ℕ). IsNoneOf m l) (sym joined) none)) in
+        let found : (place : ℕ) × (w : Part) × (slice_get parts place ≡ Some w) × (m ≡ w.mark) = grind (arith, common_steps, find-part) in
         record { place = found.0; part = found.1; there = found.2; mark = is ∙ ap (λ (k : ℕ). Some k) found.3 }
 
 by-behind : (marks : List ℕ) (xs ys : List (Marked Placed)) → AreBy marks (xs ++ ys) → AreBy marks ys
@@ -111,5 +98,4 @@ by-behind marks [] ys by = by
 by-behind marks (x ∷ xs) ys by = by-behind marks xs ys by.1
 
 pub joining-ends : (kept : List Placed) (parts : List Part) (s : Sight) (j : Joining kept parts s) → AreBy (own_marks s) s.seen → AllByRecursion (IsMadeByPart parts) j.rest
-joining-ends kept parts s j by =
-    made-by-parts parts s j.mark j.joined j.rest j.others (by-behind (own_marks s) (unmarked kept) j.rest (subst (λ (l : List (Marked Placed)). AreBy (own_marks s) l) j.begins by))
+joining-ends kept parts s j by = grind (arith, common_steps, made-by-parts, by-behind)

@@ -1,7 +1,7 @@
 -- Private: no public contract cites this. A request to a room is asked beside others.
-use Rattle.std.proofs.Common.{◌≡◌, ◌≤◌, ◌<◌, ◌+◌, ◌-◌, ℕ, zero, suc, inl, inr, Bool, true, false, List, [], ◌∷◌, ◌++◌, length, map, refl, sym, ap, subst, ◌∙◌, Option, Some, arith, append_assoc, append-nil, length-append}
+use Rattle.std.proofs.Common.{◌≡◌, ◌≤◌, ◌<◌, ◌+◌, ◌-◌, ℕ, zero, suc, inl, inr, Bool, true, false, List, [], ◌∷◌, ◌++◌, length, map, refl, sym, ap, subst, ◌∙◌, Option, Some, arith, append-nil, length-append}
 use Rattle.std.{specs.Prelude.{slice_get, slice_set, bytes_eq, if◌then◌else◌}, specs.List.AllByRecursion, proofs.lemmas.Option.slice_get_within}
-use Rattle.std.{proofs.lemmas.Slice.Eq.bytes_eq-Decides, specs.List.AllZip}
+use Rattle.std.{proofs.lemmas.Slice.Eq.bytes_eq-Decides, specs.List.AllZip, proofs.lemmas.Grind.common_steps}
 use Rattle.history_lock.specs.{Marks.{AreByOthers, IsOtherMark, entries, marked}, declared.view.Marked.Marked}
 use Rattle.history_model.specs.declared.entries.{Author.Author, Placed.Placed}
 use Rattle.request_model.specs.{declared.requests.Request.Request, declared.replies.Reply.Reply, Requests.machine_of}
@@ -53,13 +53,8 @@ module _ {A : Type 0} (found : List Sight → List ℕ → A) (pick : Sight → 
   -- another machine stays
   found-other : (pass : List Sight) (place : ℕ) (s t : Sight) (n : List ℕ) → slice_get pass place ≡ Some s → t.home ≡ s.home → bytes_eq s.home.machine n ≡ false → found (slice_set pass place t) n ≡ found pass n
   found-other [] place s t n is home other = refl
-  found-other (u ∷ pass) zero s t n is home other =
-      let same : u ≡ s = cc in
-      let new : bytes_eq t.home.machine n ≡ false = ap (λ (h : Home). bytes_eq h.machine n) home ∙ other in
-      let old : bytes_eq u.home.machine n ≡ false = ap (λ (v : Sight). bytes_eq v.home.machine n) same ∙ other in
-      rw (first t pass n, first u pass n, new, old) refl
-  found-other (u ∷ pass) (suc place) s t n is home other =
-      first u (slice_set pass place t) n ∙ ap (λ (x : A). if bytes_eq u.home.machine n then pick u else x) (found-other pass place s t n is home other) ∙ sym (first u pass n)
+  found-other (u ∷ pass) zero s t n is home other = grind (arith, common_steps)
+  found-other (u ∷ pass) (suc place) s t n is home other = grind (arith, common_steps, found-other pass place s t n is home other)
 
 seen-at : (pass : List Sight) (place : ℕ) (s : Sight) → slice_get pass place ≡ Some s → AreDifferent pass → seen_in pass s.home.machine ≡ s.seen
 seen-at = found-at seen_in (λ s. s.seen) (λ s pass m. refl)
@@ -81,9 +76,7 @@ set-at (u ∷ pass) (suc place) s t is = set-at pass place s t is
 
 set-different : (pass : List Sight) (place : ℕ) (s t : Sight) → slice_get pass place ≡ Some s → t.home ≡ s.home → AreDifferent pass → AreDifferent (slice_set pass place t)
 set-different [] place s t is home different = different
-set-different (u ∷ pass) zero s t is home different =
-    let same : u ≡ s = cc in
-    (subst (λ (h : Home). AllByRecursion (IsOther h.machine) pass) (ap (λ (v : Sight). v.home) same ∙ sym home) different.0, different.1)
+set-different (u ∷ pass) zero s t is home different = grind (arith, common_steps)
 set-different (u ∷ pass) (suc place) s t is home different = (set-others u.home.machine pass place s t is home different.0, set-different pass place s t is home different.1)
   where
     set-others : (machine : List ℕ) (rest : List Sight) (n : ℕ) (v w : Sight) → slice_get rest n ≡ Some v → w.home ≡ v.home → AllByRecursion (IsOther machine) rest → AllByRecursion (IsOther machine) (slice_set rest n w)
@@ -99,16 +92,7 @@ record Grown (before after : Sight) : Type 0 where
   is : after ≡ seeing before (before.seen ++ suffix)
 
 grown : (author : Author) (q : Request) (reply : Reply) (before after : Sight) → IsAnswered author q reply before after → Grown before after
-grown author q reply before after (inl adds) =
-    let found : Sight = adds.1.0 in
-    let sees : SeesMore before found = adds.1.1 in
-    let one : AddsOne found after = adds.1.2 in
-    record {
-      suffix = sees.0 ++ marked one.0 (Some found.mark) ∷ [];
-      is = one.1 ∙ ap (λ (f : Sight). seeing f (f.seen ++ marked one.0 (Some found.mark) ∷ [])) sees.2
-          ∙ ap (λ (l : List (Marked Placed)). seeing before l) (append_assoc before.seen sees.0 (marked one.0 (Some found.mark) ∷ []));
-    }
-grown author q reply before after (inr tells) = record { suffix = tells.1.0; is = tells.1.2 }
+grown author q reply before after x5 = grind (arith, common_steps)
 
 -- ---- what it made of that
 not-own : (m : ℕ) (ms : List ℕ) → IsOtherMark (m ∷ ms) (Some m) → ⊥
@@ -144,8 +128,7 @@ made-more author q reply before after r place p le is = by-answer r.answered
 
 -- ---- the request
 reply-on : (author : Author) (q : Request) (reply : Reply) (before after : Sight) → IsAnswered author q reply before after → IsReplyOn author (track_of after).history (length before.seen) q reply
-reply-on author q reply before after (inl adds) = inl adds.0
-reply-on author q reply before after (inr tells) = inr tells.0
+reply-on author q reply before after x5 = grind (arith, common_steps)
 
 -- what is to be shown, whether the request names a history or not
 record AsksWhere (named : Bool) (author : Author) (q : Request) (reply : Reply) (old new : List Sight) : Type 0 where
@@ -200,8 +183,7 @@ module _ (author : Author) (q : Request) (reply : Reply) (old : List Sight) (dif
       → (machine_of q ≡ m) × Adds author (passes.journal_of (sight_of (slice_set old at a)) m) (passes.count_of (sight_of old) m) q reply × (reply.step ≡ place + 1)) (same-bytes b.home.machine n is)
       (λ from here.
       let old_seen : seen_in old b.home.machine ≡ b.seen = seen-at old at b there different in
-      let entry : slice_get a.seen place ≡ Some (marked p (Some b.mark)) =
-      ap (λ (l : List (Marked Placed)). slice_get l place) (sym seen-new) ∙ here ∙ ap (λ (k : ℕ). Some (marked p (Some k))) (mark-new ∙ mark-same) in
+      let entry : slice_get a.seen place ≡ Some (marked p (Some b.mark)) = grind (arith, common_steps, slice_get, seen-new, mark-new, mark-same) in
       let count : length (seen_in old b.home.machine) ≡ length b.seen = ap length old_seen in
       let known : Adds author (track_of a).history (length b.seen) q reply × (reply.step ≡ place + 1) = made-more author q reply b a r place p (omega (arith, from, count)) entry in (
         sym r.of_machine,
@@ -236,9 +218,7 @@ asks-where true author q reply old new different asks =
 asks-where false author q reply old new different asks = rw asks.1 (record {
   sees = record { marks = λ n. refl; more = λ n. []; seen = λ n. sym (append-nil (seen_in old n)) };
   replies = asks.0;
-  made = λ n place p le made.
-      let within : place < length (seen_in old n) = slice_get_within (seen_in old n) place (marked p (Some (mark_in old n))) made in
-      absurd (omega (arith, within, le));
+  made = grind (arith, common_steps, length, slice_get_within);
 })
 
 room-asks-beside : (room : List Home) (author : Author) (q : Request) (reply : Reply) (old new : List Sight) → IsSeated room old → Asks room author q reply old new → passes.Asks author (names_of room) (sight_of old) q reply (sight_of new)
@@ -291,17 +271,7 @@ same-post : (before after : Seat) → Stays before after → IsSamePost (post_of
 same-post before after stays = record { author = stays.author; machines = ap names_of stays.room }
 
 pub asks-told : (before : Seat) (q : Request) (told : Option Reply) (after : Seat) → AnswersAt before q told after → AsksTold (post_of before) q told (post_of after)
-asks-told before q told after a = record {
-  same = same-post before after a.stays;
-  reply = a.reply;
-  asks = room-asks-beside before.room before.author q a.reply before.pass after.pass a.stays.seated a.asks;
-  tells = a.tells;
-}
+asks-told before q told after a = grind (arith, common_steps, same-post, room-asks-beside)
 
 pub waits-at : (before after : Seat) → FailsAt before after → WaitsAt (post_of before) (post_of after)
-waits-at before after f =
-    let w : Waited before.pass after.pass = waited before.pass after.pass f.sees in
-    record {
-      same = same-post before after f.stays;
-      waits = record { sees = record { marks = w.marks; more = w.more; seen = w.seen }; nothing = w.none };
-    }
+waits-at before after f = grind (arith, common_steps, waited, same-post)

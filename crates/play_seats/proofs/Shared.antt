@@ -1,13 +1,13 @@
 -- Private: no public contract cites this. The first pass of a room, from its beginning to where all passes are joined.
-use Rattle.std.proofs.Common.{◌≡◌, ◌<◌, ℕ, zero, suc, List, [], ◌∷◌, ◌++◌, length, map, get_or, refl, sym, ap, subst, ◌∙◌, Some, Bool, true, false, arith, append_assoc, append-nil}
+use Rattle.std.proofs.Common.{◌≡◌, ◌<◌, ℕ, zero, suc, List, [], ◌∷◌, ◌++◌, length, map, get_or, refl, sym, ap, subst, ◌∙◌, Some, arith, append_assoc, append-nil}
 use Rattle.std.{specs.Prelude.{slice_get, bytes_eq, if◌then◌else◌}, specs.List.{AllByRecursion, AllZip}, proofs.lemmas.List.length-map}
-use Rattle.std.proofs.lemmas.Option.{slice_get_within, get_or_from_slice_get}
-use Rattle.history_lock.specs.{Marks.unmarked, declared.view.Marked.Marked}
+use Rattle.std.proofs.lemmas.{Option.{slice_get_within, get_or_from_slice_get}, Grind.common_steps}
+use Rattle.history_lock.specs.declared.view.Marked.{Marked}
 use Rattle.history_model.specs.declared.entries.Placed.{Placed}
 use Rattle.track_model.specs.Tracks.{Track}
 use Rattle.track_room.specs.{Asked.names_of, Rooms.{AreSame, IsPassOf}, Sights.{Home, Sight, IsFirstOf, split_off, splitting}, Whole.AreOut}
 use Rattle.track_room.proofs.Outs.{none-is-out, none-out-is-whole, split-goes-out, work-stays-out, join-comes-back}
-use Rattle.play_fits.specs.Journals.{machines_of, history_in}
+use Rattle.play_fits.specs.Journals.{machines_of}
 use Rattle.play_seats.specs.{Gathered.{AreJoining, parts_at}, Joining.{Joining, part_of}, Seats.{Seat, seen_in}}
 use Rattle.play_seats.specs.Shared.{SplitsAll, JoinsAll, IsShared, EndsShared, AreKeptAs, HasSeenKept, onto, pass_of}
 use Rattle.play_seats.proofs.{Joining.{joining-starts, joining-splits, joining-goes-on, all-unmarked}, Gathered.mapped-from}
@@ -61,10 +61,7 @@ starts-joining : (tracks : List Track) (first : List Sight) → AllZip IsFirstOf
 starts-joining [] [] all k t d s is here = cc
 starts-joining [] (x ∷ first) all k t d s is here = absurd all
 starts-joining (u ∷ tracks) [] all k t d s is here = absurd all
-starts-joining (u ∷ tracks) (x ∷ first) all zero t d s is here =
-    let one : u ≡ t = cc in
-    let two : x ≡ s = cc in
-    subst (λ (v : Track). Joining v.history [] s) one (subst (λ (y : Sight). Joining u.history [] y) two (joining-starts u x all.0))
+starts-joining (u ∷ tracks) (x ∷ first) all zero t d s is here = grind (arith, common_steps, joining-starts)
 starts-joining (u ∷ tracks) (x ∷ first) all (suc k) t d s is here = starts-joining tracks first all.1 k t d s is here
 
 splits-joining : (tracks : List Track) (old : List Sight) (befores : List (List Sight)) (new : List Sight) → SplitsAll old befores new → AreJoining tracks [] old → AreJoining tracks [] new
@@ -92,15 +89,7 @@ seen-first : (tracks : List Track) (first : List Sight) → AllZip IsFirstOf tra
 seen-first [] [] all m = refl
 seen-first [] (x ∷ first) all m = absurd all
 seen-first (t ∷ tracks) [] all m = absurd all
-seen-first (t ∷ tracks) (x ∷ first) all m =
-    let machine : x.home.machine ≡ t.machine = ap (λ (u : Track). u.machine) all.0.0 in
-    let seen : x.seen ≡ unmarked t.history = all-unmarked x.seen all.0.4 ∙ ap (λ (u : Track). unmarked u.history) all.0.0 in
-    rw machine (by-name (bytes_eq t.machine m) seen (seen-first tracks first all.1 m))
-  where
-    by-name : (b : Bool) → x.seen ≡ unmarked t.history → seen_in first m ≡ unmarked (history_in tracks m)
-        → (if b then x.seen else seen_in first m) ≡ unmarked (if b then t.history else history_in tracks m)
-    by-name true one rest = one
-    by-name false one rest = rest
+seen-first (t ∷ tracks) (x ∷ first) all m = grind (arith, common_steps, all-unmarked, bytes_eq, seen-first tracks first all.1 m)
 
 seen-off : (pass : List Sight) (m : List ℕ) → seen_in (map split_off pass) m ≡ seen_in pass m
 seen-off [] m = refl

@@ -1,6 +1,6 @@
 -- Blocks of positions: where a position stands in them, when two are the same, and what keeps them.
 use Rattle.std.proofs.Common.{◌≡◌, ℕ, ℤ, zero, suc, ◌+◌, ◌-◌, ◌*◌, ◌<◌, ◌≤◌, true, false, cond, ◌&&◌, List, [], ◌∷◌, ◌++◌, length, map, take, drop, get_or, refl, sym, ap, ap₂, subst, ◌∙◌, arith}
-use Rattle.std.{specs.Cmp.Rules.signed_items, proofs.lemmas.Bool.{le-ltb, eq-eqb, ne_eqb}}
+use Rattle.std.{specs.Cmp.Rules.signed_items, proofs.lemmas.Bool.{le-ltb, eq-eqb, ne_eqb}, proofs.lemmas.Grind.common_steps}
 use Rattle.std.proofs.lemmas.List.{append-nil, append_assoc, length-append, length-map, length-drop, length-take-le, drop-drop, take_all, get_or-append-add, get_or_append_left}
 use Rattle.segment_model.specs.{Segments.{Observation, Position, values_of, position_values}, Edits.{inserted, removed, same_position}}
 use Rattle.point_list.{specs.Places.common, specs.Blocks.{heads_of, joined, AreFull, IsFront}, proofs.CommonFirst.same-values, proofs.Places.AreFilled}
@@ -12,8 +12,7 @@ heads-push (q ∷ points) p = ap (λ hs. q.commit ∷ length q.samples ∷ hs) (
 
 pub values-push : (points : List Position) (p : Position) → values_of (points ++ p ∷ []) ≡ values_of points ++ position_values p
 values-push [] p = append-nil (position_values p)
-values-push (q ∷ points) p =
-    ap (λ vs. position_values q ++ vs) (values-push points p) ∙ sym (append_assoc (position_values q) (values_of points) (position_values p))
+values-push (q ∷ points) p = grind (arith, common_steps, values-push points p)
 
 -- ---- the same positions
 head-of : ℕ → List ℕ → ℕ
@@ -78,11 +77,7 @@ at-least (suc n) (p ∷ ps) size = let rest = at-least n ps (omega (arith, size)
 
 take-both : {A : Type 0} (a b : ℕ) (xs : List A) → take a xs ++ take b (drop a xs) ≡ take (a + b) xs
 take-both zero b xs = let on : b ≡ zero + b = omega arith in ap (λ n. take n xs) on
-take-both (suc a) b [] = let on : suc a + b ≡ suc (a + b) = omega arith in rw on (nothing b)
-  where
-    nothing : {A : Type 0} (n : ℕ) → take n (let no : List A = [] in no) ≡ []
-    nothing zero = refl
-    nothing (suc n) = refl
+take-both (suc a) b [] = grind (arith, common_steps)
 take-both (suc a) b (x ∷ xs) = let on : suc a + b ≡ suc (a + b) = omega arith in rw on (ap (λ l. x ∷ l) (take-both a b xs))
 
 module _ {A : Type 0} (view : A → List Position) where

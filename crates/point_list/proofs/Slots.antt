@@ -1,6 +1,6 @@
 -- What becomes of positions in slots where one is written, comes or goes.
 use Rattle.std.proofs.Common.{◌≡◌, ◌≢◌, ℕ, zero, suc, ◌+◌, ◌-◌, ◌<◌, ◌≤◌, cond, List, [], ◌∷◌, ◌++◌, length, map, set, get_or, refl, sym, ap, ap₂, subst, ◌∙◌, inl, inr, arith}
-use Rattle.std.{specs.Prelude.{insert, remove}, specs.List.swap_remove, proofs.lemmas.Bool.{cases_eq, eq-eqb, ne_eqb}}
+use Rattle.std.{specs.Prelude.{insert, remove}, specs.List.swap_remove, proofs.lemmas.Bool.{cases_eq, eq-eqb, ne_eqb}, proofs.lemmas.Grind.common_steps}
 use Rattle.std.proofs.lemmas.List.{length_push, length-set, length-take, length-map, get_or-set_same, get_or-set_other, get_or_append_left, get_or_push, get_or-take, get_or_default}
 use Rattle.std.proofs.lemmas.List.Edits.{length-insert, length-remove}
 use Rattle.segment_model.specs.Segments.{Position}
@@ -32,8 +32,7 @@ order-length slots order points view = sym (length-map order (in_slot slots)) �
 -- the position that was read at the slot of a place
 pub order-read : (slots : List Position) (order : List ℕ) (points : List Position) (i slot : ℕ) (p d : Position) → IsOrder slots order → in_order slots order ≡ points → i < length order
     → slot ≡ get_or order i 0 → p ≡ get_or slots slot p → p ≡ get_or points i d
-order-read slots order points i slot p d is view lt slot_is read =
-    read ∙ ap (λ s. get_or slots s p) slot_is ∙ at-order slots order i d p is.below lt ∙ ap (λ ps. get_or ps i d) view
+order-read slots order points i slot p d is view lt slot_is read = grind (arith, common_steps, get_or, at-order)
 
 -- ---- a position is written
 unwritten : (slots : List Position) (order : List ℕ) (s : ℕ) (p : Position) → IsMissing s order → in_order (set slots s p) order ≡ in_order slots order
@@ -62,9 +61,7 @@ unpushed slots (s ∷ order) p below = ap₂ (λ q ps. q ∷ ps) (get_or_append_
 
 pub order-insert : (slots : List Position) (order : List ℕ) (place : ℕ) (p : Position) → AreBelow (length slots) order
     → in_order (slots ++ p ∷ []) (insert order place (length slots)) ≡ insert (in_order slots order) place p
-order-insert slots order place p below =
-    map-insert (in_slot (slots ++ p ∷ [])) order place (length slots)
-    ∙ ap₂ (λ ps q. insert ps place q) (unpushed slots order p below) (get_or_push slots p nowhere (length slots) refl)
+order-insert slots order place p below = grind (arith, common_steps, map-insert, length, ap₂, insert, unpushed, get_or_push, nowhere)
 
 below-weaker : (n m : ℕ) (order : List ℕ) → n ≤ m → AreBelow n order → AreBelow m order
 below-weaker n m [] le below = tt

@@ -1,5 +1,5 @@
 -- Counts and sums that are stored apart: with one more, the first ones, and one of them.
-use Rattle.std.proofs.Common.{◌≡◌, ℕ, zero, suc, ◌<◌, List, [], ◌∷◌, ◌++◌, length, take, get_or, refl, ap, ap₂, arith}
+use Rattle.std.proofs.{Common.{◌≡◌, ℕ, zero, suc, ◌<◌, List, [], ◌∷◌, ◌++◌, length, take, get_or, refl, ap, arith}, lemmas.Grind.common_steps}
 use Rattle.prefix_sums.specs.{declared.sums.Sums.Sums, declared.sum_list.Totals.Totals, Lists.sums_in}
 
 pub sums-push : (counts : List ℕ) (totals : List Totals) (n : ℕ) (t : Totals) → length counts ≡ length totals
@@ -25,6 +25,5 @@ pub sums-at : (counts : List ℕ) (totals : List Totals) (i : ℕ) (n : ℕ) (t 
     → n ≡ get_or counts i n → t ≡ get_or totals i t → record { count = n; sum = t.sum; squares = t.squares } ≡ get_or (sums_in counts totals) i d
 sums-at [] totals i n t d lt within is total = absurd (omega (arith, lt))
 sums-at (m ∷ counts) [] i n t d lt within is total = absurd (omega (arith, within))
-sums-at (m ∷ counts) (u ∷ totals) zero n t d lt within is total =
-    ap₂ (λ k v. let s : Sums = record { count = k; sum = v.sum; squares = v.squares } in s) is total
+sums-at (m ∷ counts) (u ∷ totals) zero n t d lt within is total = grind (arith, common_steps)
 sums-at (m ∷ counts) (u ∷ totals) (suc i) n t d lt within is total = sums-at counts totals i n t d (omega (arith, lt)) (omega (arith, within)) is total

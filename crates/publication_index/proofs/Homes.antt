@@ -125,21 +125,6 @@ homes-without before after x are = set.same_set series-total series-once (homes 
     ∙ ap₂ (λ a b. not a && b) (sym (tied-is s x)) (sym (contains-homes before s))
     ∙ sym (set.contains-remove series-total (homes before) x s))
 
-either : (b : Bool) (o : Option Tabled) → o ≡ cond b o o
-either true o = refl
-either false o = refl
-
--- of a test that isn't there nothing is home
-pub absent : (t s : Series) (es : List (List ℕ × List (List ℕ × Held))) → lookup (λ (n : List ℕ). is_same t.test n) es ≡ None → home s es ≡ cond (same_series t s) None (home s es)
-absent t s es none = elim (cases_Bool (bytes_eq t.test s.test)) [
-  | inl hit ↦
-      let same : t.test ≡ s.test = (bytes_eq-Decides t.test s.test).0 hit in
-      let found : lookup (λ (n : List ℕ). is_same s.test n) es ≡ None = ap (λ (name : List ℕ). lookup (λ (n : List ℕ). is_same name n) es) (sym same) ∙ none in
-      let gone : home s es ≡ None = ap (λ (o : Option (List (List ℕ × Held))). table_in (held_of s.metric (unwrap_or o []))) found in
-      gone ∙ either (same_series t s) None ∙ ap (λ (o : Option Tabled). cond (same_series t s) None o) (sym gone)
-  | inr miss ↦ ap (λ b. cond (b && bytes_eq t.metric s.metric) None (home s es)) (sym miss)
-]
-
 -- of nothing nothing is home
 pub homes-none : homes [] ≡ set.empty
 homes-none = set.same_set series-total series-once (homes []) set.empty (λ s. contains-homes [] s ∙ sym (set.contains-empty series_cmp s))

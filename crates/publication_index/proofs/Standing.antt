@@ -21,7 +21,3 @@ stands-for done (Some t) s =
 pub kept-table : (done : Done) (o : Option Done) → o ≡ Some done → (table : Option Tabled) → IsTableFor done table → IfSome table (λ t. IsKeptTable t o)
 kept-table done o is None stands = tt
 kept-table done o is (Some t) stands = subst (λ (d : Option Done). IsKeptTable t d) (sym is) stands
-
--- a test that is there has its metrics
-pub moved-table : (one other : Option Done) → one ≡ other → (table : Option Tabled) → IfSome table (λ t. IsKeptTable t one) → IfSome table (λ t. IsKeptTable t other)
-moved-table one other is table stands = subst (λ (d : Option Done). IfSome table (λ t. IsKeptTable t d)) is stands

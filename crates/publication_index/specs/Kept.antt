@@ -1,6 +1,7 @@
 -- What an index keeps of a series: the last finished segmentation that was put in, with its table where that is home.
-use Rattle.std.specs.{Prelude.{ℕ, Bool, if◌then◌else◌, List, [], unwrap_or, is_some, Option, Some, None}, Ordering.{nat_cmp, is_eq}}
+use Rattle.std.specs.{Prelude.{ℕ, Bool, if◌then◌else◌, List, is_some, Option, Some, None}, Ordering.{nat_cmp, is_eq}}
 use Rattle.std.specs.{Cmp.Lexicographic.slice_cmp, Map.lookup}
+use Rattle.name_index.specs.Pairs.{found_pair}
 use Rattle.history_model.specs.Runs.{Series}
 use Rattle.pelt_core.specs.{Done.Done, Seen.Tabled}
 use Rattle.publication_index.specs.declared.held.Held.{Held}
@@ -15,7 +16,7 @@ held_of metric entries = lookup (λ (m : List ℕ). is_same metric m) entries
 
 -- what is held of a series
 abbrev pub held : Series → List (List ℕ × List (List ℕ × Held)) → Option Held
-held s tests = held_of s.metric (unwrap_or (lookup (λ (t : List ℕ). is_same s.test t) tests) [])
+held s tests = found_pair s.test s.metric tests
 
 -- the segmentation in it
 abbrev pub done_in : Option Held → Option Done

@@ -5,12 +5,11 @@
 //! table may be taken, and comes home with the series' next segmentation. `SettingIndex` gives each metric its setting, by
 //! [`given`](specs/Given.antt). Look-ups are logarithmic, and take no memory.
 //!
-//! Stands on `segment_cost` for finished segmentations, on `pelt_core` for their tables, on `history_model` for series and settings, and on `metric_table` for the
-//! penalties of metrics for which none was set.
+//! Stands on `name_index` for ordered maps, on `pelt_core` for finished segmentations and their tables, on `history_model`
+//! for series and settings, and on `metric_table` for the penalties of metrics for which none was set.
 #![tactic(auto)]
 
 mod held;
-mod metrics;
 mod published;
 mod settings;
 

@@ -6,19 +6,15 @@ ghost use Rattle.publication_index.specs.{Homes.homes, Kept.{held, home, kept, k
 
 use crate::NoMemory;
 use crate::held::Held;
-use crate::metrics::MetricIndex;
-use line_text::{Duplicate, Name};
+use line_text::{Boxed, Duplicate, Name};
+use name_index::PairMap;
 use pelt_core::{Done, Square, Table};
 use std::alloc::Global;
-use std::collections::BTreeMap;
 use std::marker::Model;
 
 /// The last finished segmentation of each series, in order of test and metric, with its table where that is home.
 #[derive(Drop)]
-pub struct PublicationIndex {
-    alloc: Global,
-    tests: BTreeMap<Name, MetricIndex>,
-}
+pub struct PublicationIndex(PairMap<Boxed<Held>>);
 
 impl Model for PublicationIndex {
     ghost use Rattle.std.specs.Prelude.{ℕ, List};
@@ -26,7 +22,7 @@ impl Model for PublicationIndex {
 
     ghost Value = { List (List ℕ × List (List ℕ × Held)) };
 
-    ghost view = { λ s. s.tests.entries };
+    ghost view = { λ s. s.0 };
 }
 
 impl PublicationIndex {
@@ -34,10 +30,7 @@ impl PublicationIndex {
     pub fn new(alloc: Global) -> PublicationIndex
         ensures { result ≡ [] }
     {
-        PublicationIndex {
-            alloc,
-            tests: BTreeMap::new(alloc),
-        }
+        PublicationIndex(PairMap::new(alloc))
     }
 
     // What is held of a series.
@@ -45,8 +38,8 @@ impl PublicationIndex {
         ensures { option_copied result
             ≡ held (record { test = test.now; metric = metric.now }) self.now }
     {
-        match self.tests.get(test) {
-            Some(metrics) => metrics.get(metric),
+        match self.0.get(test, metric) {
+            Some(held) => Some(held.get()),
             None => None,
         }
     }
@@ -79,14 +72,12 @@ impl PublicationIndex {
         ensures same { OnErr result ((s : Series) → kept s self.new ≡ kept s self.old) }
         ensures stay { OnErr result (homes self.new ≡ homes self.old) }
     {
-        if let Some(metrics) = self.tests.get_mut(&done.test) {
-            metrics.insert(done, table)?;
-            return Ok(());
-        }
-        let key = done.test.copy(self.alloc)?;
-        let mut metrics = MetricIndex::new(self.alloc);
-        metrics.insert(done, table)?;
-        self.tests.insert(key, metrics)?;
+        let alloc = self.0.allocator();
+        let test = done.test.copy(alloc)?;
+        let metric = done.metric.copy(alloc)?;
+        let table = Some(table);
+        let held = Boxed::new(alloc, Held { done, table })?;
+        self.0.put(&test, &metric, held)?;
         Ok(())
     }
 
@@ -99,8 +90,8 @@ impl PublicationIndex {
         ensures left { homes self.new ≡ set.remove (homes self.old)
             (record { test = test.now; metric = metric.now }) }
     {
-        if let Some(metrics) = self.tests.get_mut(test) {
-            let table = metrics.take_table(metric);
+        if let Some(held) = self.0.get_mut(test, metric) {
+            let table = held.get_mut().take_table();
             return table;
         }
         None

@@ -4,18 +4,15 @@ ghost use Rattle.publication_index.specs.Given.{given};
 
 use crate::NoMemory;
 use history_model::Setting;
-use line_text::{Duplicate, Name};
+use line_text::Name;
 use metric_table::default_penalty;
+use name_index::OrderedMap;
 use std::alloc::Global;
-use std::collections::BTreeMap;
 use std::marker::Model;
 
 /// The setting of each metric: the last one that was set, else the penalty of the table and length 1.
 #[derive(Drop)]
-pub struct SettingIndex {
-    alloc: Global,
-    entries: BTreeMap<Name, Setting>,
-}
+pub struct SettingIndex(OrderedMap<Name, Setting>);
 
 impl Model for SettingIndex {
     ghost use Rattle.std.specs.Prelude.{ℕ, List};
@@ -23,7 +20,7 @@ impl Model for SettingIndex {
 
     ghost Value = { List (List ℕ × ASetting) };
 
-    ghost view = { λ p. p.entries.entries };
+    ghost view = { λ p. p.0 };
 }
 
 impl SettingIndex {
@@ -31,17 +28,14 @@ impl SettingIndex {
     pub fn new(alloc: Global) -> SettingIndex
         ensures { result ≡ [] }
     {
-        SettingIndex {
-            alloc,
-            entries: BTreeMap::new(alloc),
-        }
+        SettingIndex(OrderedMap::new(alloc))
     }
 
     /// The metric's setting. Logarithmic time; takes no memory.
     pub fn get(&self, metric: &Name) -> Setting
         ensures { result ≡ given metric.now self.now }
     {
-        match self.entries.get(metric) {
+        match self.0.get(metric) {
             Some(setting) => *setting,
             None => Setting {
                 penalty: default_penalty(metric.as_str().as_bytes()),
@@ -56,8 +50,7 @@ impl SettingIndex {
             ≡ (if bytes_eq metric.now m then setting else given m self.old)) }
         ensures err { OnErr result ((m : List ℕ) → given m self.new ≡ given m self.old) }
     {
-        let key = metric.copy(self.alloc)?;
-        self.entries.insert(key, setting)?;
+        self.0.put(metric, setting)?;
         Ok(())
     }
 }

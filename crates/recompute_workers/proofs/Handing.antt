@@ -1,20 +1,18 @@
 -- A series is quiet once it was published, or refused by a limit.
-use Rattle.std.proofs.Common.{◌≡◌, ℕ, ◌+◌, ◌≤◌, ◌<◌, Bool, true, false, cond, ◌&&◌, List, [], ◌∷◌, ◌++◌, length, refl, sym, ap, subst, ◌∙◌, ◌⊎◌, inl, inr, Option, Some, None, arith}
-use Rattle.std.{specs.Prelude.{bytes_eq, nat_lt}, proofs.lemmas.Bool.cases_Bool, proofs.lemmas.Bool.Decides.nat_tests, proofs.lemmas.List.length-append}
+use Rattle.std.proofs.Common.{◌≡◌, ℕ, ◌+◌, ◌≤◌, ◌<◌, Bool, true, false, cond, ◌&&◌, List, [], ◌∷◌, ◌++◌, length, refl, ap, ◌∙◌, ◌⊎◌, inl, inr, Option, Some, None, arith}
+use Rattle.std.{specs.Prelude.{bytes_eq, nat_lt}, proofs.lemmas.Bool.Decides.nat_tests, proofs.lemmas.List.length-append, proofs.lemmas.Grind.common_steps}
 use Rattle.std.proofs.lemmas.Slice.Eq.{bytes_eq-Decides}
 use Rattle.metric_table.specs.{Limits.most, declared.limits.Limit.Limit}
 use Rattle.metric_table.specs.declared.limits.Limit.TheVariants as limit
-use Rattle.segment_model.specs.Segments.{Position}
-use Rattle.segment_cost.specs.{Certificate.StandsFor, declared.done.Done.Done}
-use Rattle.history_model.specs.declared.{entries.Author.Author, entries.Entry.Entry, entries.Entry.TheVariants.Publish, publication.Publication.Publication}
+use Rattle.segment_cost.specs.declared.done.Done.{Done}
+use Rattle.history_model.specs.declared.{entries.Author.Author, entries.Entry.Entry, publication.Publication.Publication}
 use Rattle.history_model.specs.{Allowed.{KeepsLimits, Legal, count_of, first_passed}, Entries.entries_of, Laws.{CutsGrow, LastStands, PublicationIsLast}}
-use Rattle.history_model.specs.{Penalties.{setting_of, penalty_of, length_of}, declared.setting.Setting.Setting, Positions.positions}
-use Rattle.track_model.{proofs.Settings.same-setting, specs.Tracks.{Track, with_entry}}
+use Rattle.history_model.specs.{Penalties.{penalty_of, length_of}, Positions.positions}
+use Rattle.track_model.specs.Tracks.{Track, with_entry}
 use Rattle.history_model.specs.{Publications.{AreBest, cut_count, last_publication}, Runs.{Series, is_known}}
 use Rattle.publication_index.specs.Kept.{series_of}
 use Rattle.touch_model.specs.{Laws.{TouchesArePast, TouchesGrow}, Stale.is_behind, Touches.last_touch}
 use Rattle.track_room.specs.{Publications.{IsAdded, IsPublished, IsTaken, later, passed}, Snapshots.{IsRedone, IsTakenAt}, Published.Published, Redone.Redone}
-use Rattle.track_room.specs.Published.TheVariants as published
 use Rattle.track_room.specs.{Snapshot.Snapshot, Work.bare}
 use Rattle.machine_state.specs.Made.{entry_of, publication_from}
 use Rattle.recompute_workers.specs.{Quiet.IsQuiet, Recomputing.AddsOne}
@@ -22,13 +20,11 @@ use Rattle.recompute_workers.specs.{Quiet.IsQuiet, Recomputing.AddsOne}
 -- ---- what was told
 added-of : (l : Option Limit) (old : Track) (author : Author) (done : Done) (told : Published) (new : Track) → IsAdded l old author done told new
     → (bare new ≡ bare (with_entry author old (entry_of done))) ⊎ ((limit : Limit) × (l ≡ Some limit) × (bare new ≡ bare old))
-added-of None old author done told new is = inl (ap bare is.1)
-added-of (Some limit) old author done told new is = inr (limit, refl, ap bare is.1)
+added-of l old author done told new is = grind (arith, common_steps)
 
 taken-of : (o : Option ℕ) (old : Track) (author : Author) (done : Done) (told : Published) (new : Track) → o ≡ None → IsTaken o old author done told new
     → IsAdded (passed (entries_of old.history) done) old author done told new
-taken-of None old author done told new none is = is
-taken-of (Some v) old author done told new none is = absurd (cc)
+taken-of o old author done told new none is = grind (arith, common_steps)
 
 -- no version after the present one was published
 up-to-date : LastStands → (h : List Entry) (s : Series) (version : ℕ) → Legal h → version ≡ length h → (o : Option Publication) → last_publication s h ≡ o → later version o ≡ None
@@ -41,53 +37,29 @@ up-to-date stands h s version legal now (Some p) last =
     not-less : (n m : ℕ) → m ≤ n → nat_lt n m ≡ false
     not-less n m le = grind (arith, nat_tests)
 
-not-above : (n m : ℕ) → m ≤ n → nat_lt n m ≡ false
-not-above n m le = grind (arith, nat_tests)
-
 is-above : (n m : ℕ) → nat_lt n m ≡ true → n < m
 is-above n m is = grind (arith, nat_tests)
 
 -- either it was added, or a limit forbids it
 pub outcome : LastStands → (old : Track) (author : Author) (done : Done) (told : Published) (new : Track) → Legal (entries_of old.history) → done.version ≡ length (entries_of old.history)
     → IsPublished old author done told new → (bare new ≡ bare (with_entry author old (entry_of done))) ⊎ ((limit : Limit) × (passed (entries_of old.history) done ≡ Some limit) × (bare new ≡ bare old))
-outcome stands old author done told new legal now is =
-    let h : List Entry = entries_of old.history in
-    added-of (passed h done) old author done told new
-    (taken-of (later done.version (last_publication (series_of done) h)) old author done told new
-    (up-to-date stands h (series_of done) done.version legal now (last_publication (series_of done) h) refl) is)
+outcome stands old author done told new legal now is = grind (arith, common_steps, added-of, done, taken-of, done.version, up-to-date)
 
 pub adds-one : (old : Track) (author : Author) (done : Done) (new : Track) → (bare new ≡ bare (with_entry author old (entry_of done))) ⊎ ((limit : Limit) × (passed (entries_of old.history) done ≡ Some limit) × (bare new ≡ bare old))
     → AddsOne author old new
-adds-one old author done new (inl is) = inr (publication_from done, is)
-adds-one old author done new (inr is) = inl is.2
+adds-one old author done new x4 = grind (arith, common_steps)
 
 -- ---- a limit that a history passes with the publication
 which-limit : (h : List Entry) (e : Entry) (l : Limit) → first_passed (limit.Steps ∷ limit.Cuts ∷ []) h e ≡ Some l
     → (nat_lt (most limit.Steps) (count_of limit.Steps (h ++ e ∷ [])) ≡ true) ⊎ (nat_lt (most limit.Cuts) (count_of limit.Cuts (h ++ e ∷ [])) ≡ true)
-which-limit h e l is = elim (cases_Bool (nat_lt (most limit.Steps) (count_of limit.Steps (h ++ e ∷ [])))) [
-  | inl steps ↦ inl steps
-  | inr few ↦ elim (cases_Bool (nat_lt (most limit.Cuts) (count_of limit.Cuts (h ++ e ∷ [])))) [
-    | inl cuts ↦ inr cuts
-    | inr fewer ↦ absurd (
-        let never : None ≡ Some l =
-        sym (ap (λ b. cond b (Some limit.Steps) (first_passed (limit.Cuts ∷ []) h e)) few ∙ ap (λ b. cond b (Some limit.Cuts) None) fewer) ∙ is in
-        cc)
-  ]
-]
+which-limit h e l is = grind (arith, common_steps)
 
 module _ (cuts : CutsGrow) (h : List Entry) (keeps : KeepsLimits h) (t : Track) (same : entries_of t.history ≡ h) (s : Series) (x : Snapshot) (taken : IsTakenAt t s x) (made : Redone) (is : IsRedone x made) where
   abbrev done : Done
   done = made.done
 
   are-best : AreBest (positions h s) (penalty_of s.metric h) (length_of s.metric h) made.done.cert.cuts made.done.cert.total
-  are-best =
-      let asked : Setting = record { penalty = x.penalty; length = x.length } in
-      let setting : asked ≡ setting_of s.metric (entries_of t.history) = same-setting asked (setting_of s.metric (entries_of t.history)) taken.penalty taken.long in
-      let stands : StandsFor (positions h s) (penalty_of s.metric h) (length_of s.metric h) made.done.cert =
-      subst (λ (g : List Entry). StandsFor (positions g s) (penalty_of s.metric g) (length_of s.metric g) made.done.cert) same
-      (subst (λ (y : Setting). StandsFor (positions (entries_of t.history) s) y.penalty y.length made.done.cert) setting
-      (subst (λ (ps : List Position). StandsFor ps x.penalty x.length made.done.cert) taken.points is.stands)) in
-      record { cost = stands.cost; is_cost = stands.is_cost; best = stands.best; totalled = stands.totalled }
+  are-best = grind (arith, common_steps)
 
   pub full-quiet : (l : Limit) → passed h made.done ≡ Some l → IsQuiet h s
   full-quiet l full = elim (which-limit h (entry_of made.done) l full) [
@@ -107,9 +79,7 @@ eq-bytes : (xs : List ℕ) → bytes_eq xs xs ≡ true
 eq-bytes xs = (bytes_eq-Decides xs xs).1 refl
 
 its-own : (done : Done) (s : Series) → series_of done ≡ s → (bytes_eq done.test s.test && bytes_eq done.metric s.metric) ≡ true
-its-own done s is =
-    ap (λ (t : Series). bytes_eq done.test t.test && bytes_eq done.metric t.metric) (sym is)
-    ∙ ap (λ b. b && bytes_eq done.metric done.metric) (eq-bytes done.test) ∙ eq-bytes done.metric
+its-own done s is = grind (arith, common_steps, bytes_eq, done.test, done.metric, eq-bytes)
 
 module _ (last : PublicationIsLast) (grow : TouchesGrow) (past : TouchesArePast) (h : List Entry) (s : Series) (done : Done) (is : series_of done ≡ s) (now : done.version ≡ length h) where
   pub ok-quiet : IsQuiet (h ++ entry_of done ∷ []) s
@@ -118,9 +88,7 @@ module _ (last : PublicationIsLast) (grow : TouchesGrow) (past : TouchesArePast)
       let last_is : last_publication s h' ≡ Some (publication_from done) =
       last h (entry_of done) s (publication_from done) (ap (λ b. cond b (Some (publication_from done)) None) (its-own done s is)) in
       let le = past h s in
-      let fresh : is_behind (last_touch h' s) (last_publication s h') ≡ false =
-      ap (is_behind (last_touch h' s)) last_is
-      ∙ ap (λ (n : ℕ). nat_lt done.version n) (grow h (entry_of done) s) ∙ not-above done.version (last_touch h s) (omega (arith, le, now)) in
+      let fresh : is_behind (last_touch h' s) (last_publication s h') ≡ false = grind (arith, common_steps) in
       inl (ap (λ b. is_known s h' && b) fresh ∙ and-false (is_known s h'))
     where
       and-false : (b : Bool) → (b && false) ≡ false

@@ -1,17 +1,16 @@
 -- What a worker's pass has seen, call after call.
-use Rattle.std.proofs.Common.{◌≡◌, ◌⊎◌, inl, inr, ℕ, zero, suc, ◌+◌, List, [], ◌∷◌, ◌++◌, length, take, refl, sym, ap, subst, ◌∙◌, Option, Some, None, arith}
-use Rattle.std.specs.{Prelude.{slice_get, slice_set}, List.{AllByRecursion, AllZip}}
-use Rattle.std.proofs.lemmas.List.{append-nil, append_assoc, length-append, map-append}
+use Rattle.std.proofs.Common.{◌≡◌, ◌⊎◌, inl, ℕ, zero, suc, ◌+◌, List, [], ◌∷◌, ◌++◌, sym, ap, subst, ◌∙◌, Option, Some, arith}
+use Rattle.std.{specs.Prelude.{slice_get, slice_set}, specs.List.{AllByRecursion, AllZip}, proofs.lemmas.Grind.common_steps}
+use Rattle.std.proofs.lemmas.List.{append-nil, append_assoc}
 use Rattle.metric_table.specs.declared.limits.Limit.{Limit}
 use Rattle.segment_cost.specs.declared.done.Done.{Done}
-use Rattle.history_lock.specs.{declared.view.Marked.Marked, Marks.{AreByOthers, entries, marked}}
-use Rattle.history_model.specs.{declared.entries.Author.Author, declared.entries.Placed.Placed, Entries.entries_of, Publications.last_publication}
-use Rattle.publication_index.specs.Kept.{series_of}
+use Rattle.history_lock.specs.{declared.view.Marked.Marked, Marks.AreByOthers}
+use Rattle.history_model.specs.declared.entries.{Author.Author, Placed.Placed}
 use Rattle.track_model.specs.Tracks.{Track, with_entry}
-use Rattle.track_room.specs.{Work.bare, Asked.ChangesAt, Sights.{AddsOneAtMost, SeesMore, Sight, Visits, own_marks, seeing, track_of}, Taking.Publishes}
-use Rattle.track_room.specs.{Publications.{IsAdded, IsTaken, later, passed}, Published.Published}
-use Rattle.machine_state.specs.Made.{entry_of, publication_from}
-use Rattle.recompute_workers.specs.{Recomputing.IsPublicationBy, Works.{IsByWorker, Works}}
+use Rattle.track_room.specs.{Work.bare, Asked.ChangesAt, Sights.{AddsOneAtMost, SeesMore, Sight, Visits, own_marks, seeing}, Taking.Publishes}
+use Rattle.track_room.specs.{Publications.{IsAdded, IsTaken}, Published.Published}
+use Rattle.machine_state.specs.Made.{entry_of}
+use Rattle.recompute_workers.specs.Works.{IsByWorker, Works}
 
 pub works-none : (author : Author) (s : Sight) → Works author s s
 works-none author s = ([], tt, ap (λ (log : List (Marked Placed)). seeing s log) (sym (append-nil s.seen)))
@@ -37,43 +36,21 @@ works-trans author a b c first then = (
 
 -- ---- a publication
 not-longer : {A : Type 0} (xs : List A) (a : A) → xs ++ a ∷ [] ≡ xs → ⊥
-not-longer xs a is =
-    let size = length-append xs (a ∷ []) in
-    let same = ap length is in
-    absurd (omega (arith, size, same))
+not-longer xs a is = grind (arith, common_steps)
 
 last-same : {A : Type 0} (xs : List A) (a b : A) → xs ++ a ∷ [] ≡ xs ++ b ∷ [] → a ≡ b
 last-same [] a b is = cc
 last-same (x ∷ xs) a b is = last-same xs a b (cc)
 
 added-of : (l : Option Limit) (old : Track) (author : Author) (done : Done) (told : Published) (new : Track) → IsAdded l old author done told new → (bare new ≡ bare old) ⊎ (bare new ≡ bare (with_entry author old (entry_of done)))
-added-of None old author done told new is = inr (ap bare is.1)
-added-of (Some limit) old author done told new is = inl (ap bare is.1)
+added-of l old author done told new is = grind (arith, common_steps)
 
 taken-of : (o : Option ℕ) (old : Track) (author : Author) (done : Done) (told : Published) (new : Track) → IsTaken o old author done told new → (bare new ≡ bare old) ⊎ (bare new ≡ bare (with_entry author old (entry_of done)))
-taken-of None old author done told new is = added-of (passed (entries_of old.history) done) old author done told new is
-taken-of (Some v) old author done told new is = inl (ap bare is.1)
+taken-of o old author done told new is = grind (arith, common_steps)
 
 module _ (author : Author) (done : Done) (told : Published) (old new : Sight) (visits : Visits (Publishes author done told) old new) where
   own : AddsOneAtMost visits.found new → Works author visits.found new
-  own (inl same) = subst (λ (s : Sight). Works author visits.found s) (sym same) (works-none author visits.found)
-  own (inr one) =
-      let found : Sight = visits.found in
-      let e : Placed = one.0 in
-      let before : Track = visits.before.track in
-      let history : (track_of new).history ≡ (track_of found).history ++ e ∷ [] =
-      ap (λ (s : Sight). (track_of s).history) one.1 ∙ map-append (λ (x : Marked Placed). x.entry) found.seen (marked e (Some found.mark) ∷ []) in
-      let made : IsPublicationBy author e =
-      elim (taken-of (later done.version (last_publication (series_of done) (entries_of before.history))) before author done told visits.after.track visits.does.track) [
-        | inl kept ↦ absurd (not-longer (track_of found).history e (sym history ∙ ap (λ (t : Track). t.history) (sym visits.left ∙ kept ∙ visits.was)))
-        | inr added ↦
-            let then : track_of new ≡ with_entry author (track_of found) (entry_of done) =
-            sym visits.left ∙ added ∙ ap (λ (t : Track). with_entry author t (entry_of done)) visits.was in
-            let same : e ≡ record { author = author; entry = entry_of done } =
-            last-same (track_of found).history e (record { author = author; entry = entry_of done }) (sym history ∙ ap (λ (t : Track). t.history) then) in
-            record { author_is = ap (λ (p : Placed). p.author) same; publication = publication_from done; entry_is = ap (λ (p : Placed). p.entry) same }
-      ] in
-      (marked e (Some found.mark) ∷ [], (inr (refl, made), tt), one.1)
+  own x0 = grind (arith, common_steps)
 
   pub works-publishes : Works author old new
   works-publishes = works-trans author old visits.found new (works-sees author old visits.found visits.sees) (own visits.adds)
@@ -99,24 +76,11 @@ module _ (R : Sight → Sight → Type 0) where
   zip-from Q weaker (x ∷ xs) (y ∷ ys) one = (weaker x y one.0, zip-from Q weaker xs ys one.1)
 
   pub zip-change : ((s : Sight) → R s s) → (xs : List Sight) (place : ℕ) (before after : Sight) → slice_get xs place ≡ Some before → R before after → AllZip R xs (slice_set xs place after)
-  zip-change same [] place before after there changed = absurd (nothing place there)
-    where
-      nothing : (k : ℕ) → slice_get {X = Sight} [] k ≡ Some before → ⊥
-      nothing k is = cc
-  zip-change same (x ∷ xs) zero before after there changed =
-      let is : x ≡ before = cc in
-      (subst (λ (s : Sight). R s after) (sym is) changed, zip-none same xs)
+  zip-change same [] place before after there changed = grind (arith, common_steps)
+  zip-change same (x ∷ xs) zero before after there changed = grind (arith, common_steps, zip-none)
   zip-change same (x ∷ xs) (suc k) before after there changed = (same x, zip-change same xs k before after there changed)
 
 -- what one machine's change makes of all
 pub works-change : (author : Author) (place : ℕ) (Becomes : Sight → Sight → Type 0) → ((a b : Sight) → Becomes a b → Works author a b) → (old new : List Sight)
     → ChangesAt place Becomes old new → AllZip (Works author) old new
-works-change author place Becomes weaker old new is =
-    subst (λ (xs : List Sight). AllZip (Works author) old xs) (sym is.changed)
-    (zip-change (Works author) (works-none author) old place is.before is.after is.there (weaker is.before is.after is.becomes))
-
-pub zip-length : (R : Sight → Sight → Type 0) (xs ys : List Sight) → AllZip R xs ys → length ys ≡ length xs
-zip-length R [] [] one = refl
-zip-length R [] (y ∷ ys) one = absurd one
-zip-length R (x ∷ xs) [] one = absurd one
-zip-length R (x ∷ xs) (y ∷ ys) one = ap suc (zip-length R xs ys one.1)
+works-change author place Becomes weaker old new is = grind (arith, common_steps, zip-change, works-none)

@@ -35,7 +35,11 @@ pub(crate) fn put_answer(alloc: Global, out: &mut Vec<u8>, answer: &Answer) -> R
             run,
             samples,
             ignored,
-        } => put_accepted(alloc, out, run, *samples, *ignored),
+        } => {
+            put_named(alloc, out, "accepted", run)?;
+            put_counted(alloc, out, "samples", *samples)?;
+            put_counted(alloc, out, "ignored", *ignored)
+        }
         Answer::Retracted { run } => put_named(alloc, out, "retracted", run),
         Answer::Tuned {
             metric,
@@ -207,25 +211,6 @@ fn line_count(pages: &Pages) -> u128
     ensures few { result < 2 ^ 66 }
 {
     pages.series.len() as u128 + pages.regressions.len() as u128 + pages.jobs.len() as u128
-}
-
-// Appends the words of a run that was accepted.
-fn put_accepted(
-    alloc: Global,
-    out: &mut Vec<u8>,
-    run: &Name,
-    samples: u64,
-    ignored: u64,
-) -> Result<(), NoMemory>
-    ensures { Puts result out.old.items out.new.items
-        (spaced (answer_words (answer.Accepted run.now samples ignored))) }
-{
-    put_word(out, "accepted")?;
-    put_spelled(alloc, out, run)?;
-    put_word(out, "samples")?;
-    put_number(alloc, out, samples)?;
-    put_word(out, "ignored")?;
-    put_number(alloc, out, ignored)
 }
 
 // Appends the line of a change in this metric.

@@ -4,8 +4,7 @@ use Rattle.bisect_core.specs.{Bisections.Bisection, declared.outcome.Outcome.Out
 use Rattle.follow_index.specs.declared.regressions.Followed.{Followed}
 use Rattle.history_model.specs.{Commits.name_in, declared.entries.Declaration.Declaration}
 use Rattle.report_model.specs.declared.{items.JobLine.JobLine, items.RegressionLine.RegressionLine, told.Told.Told}
-use Rattle.report_model.specs.declared.told.Told.TheVariants as told
-use Rattle.track_model.specs.Following.{asked_commit}
+use Rattle.track_model.specs.Following.{asked_commit, told_named}
 
 -- the name of the commit of a number
 abbrev pub name_at : List Declaration → ℕ → List ℕ
@@ -35,10 +34,7 @@ followed_line commits number r = record {
 
 -- where a bisection stands, its commits by name
 abbrev pub told_at : List Declaration → Bisection → Outcome → Told
-told_at commits b (Asks place) = told.Asks (name_at commits (asked_commit b))
-told_at commits b (Found lo hi) = told.Found (name_at commits b.low_commit) (name_at commits b.high_commit)
-told_at commits b (Undecided place status) = told.Undecided (name_at commits (unwrap_or b.end_commit 0)) status
-told_at commits b (Faulted place) = told.Faulted (name_at commits (unwrap_or b.end_commit 0))
+told_at commits b o = told_named (name_at commits) b o
 
 abbrev pub told_in : List Declaration → Bisection → Told
 told_in commits b = told_at commits b b.outcome

@@ -1,8 +1,8 @@
 -- No item of a report has a float.
 use Rattle.std.proofs.Common.{◌≡◌, ℕ, ℤ, false, List, Option, Some, None, refl}
 use Rattle.serde_json.specs.Written.{has_float}
-use Rattle.report_model.specs.declared.items.{SeriesLine.SeriesLine, RegressionLine.RegressionLine, JobLine.JobLine}
-use Rattle.report_pages.specs.Json.{count_or_null, centre_or_null, series_data, regression_data, job_data}
+use Rattle.report_model.specs.declared.items.SeriesLine.{SeriesLine}
+use Rattle.report_pages.specs.Json.{count_or_null, centre_or_null, series_data}
 
 count_without : (n : Option ℕ) → has_float (count_or_null n) ≡ false
 count_without None = refl
@@ -14,9 +14,3 @@ centre_without metric (Some z) = refl
 
 pub series_without : (s : SeriesLine) → has_float (series_data s) ≡ false
 series_without s = rw (centre_without s.metric s.centre, count_without s.changes) refl
-
-pub regression_without : (r : RegressionLine) → has_float (regression_data r) ≡ false
-regression_without r = refl
-
-pub job_without : (j : JobLine) → has_float (job_data j) ≡ false
-job_without j = refl

@@ -1,58 +1,33 @@
 -- Bytes that were passed, and what is read behind them.
-use Rattle.std.proofs.Common.{◌≡◌, ℕ, ◌+◌, ◌-◌, ◌<◌, ◌≤◌, inl, inr, Bool, true, false, List, [], ◌++◌, length, take, drop, refl, sym, ap, ◌∙◌, arith, append_assoc, append-nil, length-append, Option, Some, None}
-use Rattle.std.{specs.Io.KnownBytes.prepend_known, proofs.Math.Seq.take-append-add, proofs.lemmas.List.{take-append-drop, length-take-le}}
+use Rattle.std.proofs.Common.{◌≡◌, ℕ, ◌+◌, ◌-◌, ◌≤◌, Bool, true, false, List, [], ◌++◌, length, take, drop, refl, sym, ap, ◌∙◌, arith, append_assoc, length-append, Option, Some, None}
+use Rattle.std.{specs.Io.KnownBytes.prepend_known, proofs.Math.Seq.take-append-add, proofs.lemmas.Grind.common_steps}
 use Rattle.track_outside.specs.declared.source.Source.{Ghosts}
 use Rattle.request_reader.specs.declared.{asked.Asked.Asked, stop.ReadStop.ReadStop, stop.ReadStop.TheVariants.{ReadFault, CutOff, InputTooLong, NoMemory}}
 use Rattle.request_words.specs.Bodies.{Item}
 use Rattle.request_reader.specs.{Scripts.{input_limit, ArePieces, Ending, Reads, ReadsLeft}, Unread.Unread, Filling.Gains}
 use Rattle.request_reader.specs.{Next.{items_of, Takes, ReadsNext, Gave, GaveFew}, Reading.{StopsReading, TakesPast}, Parts.{TakesNext, Fails}}
-use Rattle.request_reader.{specs.Passes.{Moves, PassesPieces, ReadsPiece}, proofs.Stops.{nothing_given, some_same, none_some, prepend_twice}}
+use Rattle.request_reader.{specs.Passes.{Moves, ReadsPiece}, proofs.Stops.{some_same, none_some, prepend_twice}}
 use Rattle.request_reader.proofs.PieceLists.{pieces_join, pieces_come_first}
 
 pub moves_none : (a : Unread) (known : Option (List ℕ)) → a.before + length a.kept ≤ input_limit → Moves a a known known []
-moves_none a known within =
-    record { given = []; gave = nothing_given known; split = append-nil a.kept; place = omega arith; ended = refl; stopped = refl; within = within }
+moves_none a known within = grind (arith, common_steps)
 
 pub moves_gain : (a b : Unread) (before after : Option (List ℕ)) (given : List ℕ) → Gains a b before after given → Moves a b before after []
-moves_gain a b before after given gains =
-    record { given = given; gave = gains.gave; split = sym gains.kept; place = omega (arith, gains.place); ended = gains.ended; stopped = gains.stopped; within = gains.within }
+moves_gain a b before after given gains = grind (arith, common_steps)
 
 -- the first of the bytes that are kept are passed
 pub moves_use : (a b : Unread) (n : ℕ) (known : Option (List ℕ)) → n ≤ length a.kept → b.kept ≡ drop n a.kept → b.before ≡ a.before + n
     → b.ended ≡ a.ended → b.stopped ≡ a.stopped → a.before + length a.kept ≤ input_limit → Moves a b known known (take n a.kept)
-moves_use a b n known few kept place ended stopped within =
-    let size : length (take n a.kept) ≡ n = length-take-le n a.kept few in
-    let split : a.kept ≡ take n a.kept ++ b.kept = rw kept (sym (take-append-drop n a.kept)) in
-    let all : length a.kept ≡ length (take n a.kept) + length b.kept = ap length split ∙ length-append (take n a.kept) b.kept in
-    record {
-      given = [];
-      gave = nothing_given known;
-      split = append-nil a.kept ∙ split;
-      place = omega (arith, place, size);
-      ended = ended;
-      stopped = stopped;
-      within = omega (arith, place, size, all, within);
-    }
+moves_use a b n known few kept place ended stopped within = grind (arith, common_steps)
 
 pub moves_join : (a b c : Unread) (before mid after : Option (List ℕ)) (first second : List ℕ) → Moves a b before mid first → Moves b c mid after second
     → Moves a c before after (first ++ second)
-moves_join a b c before mid after first second one two =
-    record {
-      given = one.given ++ two.given;
-      gave = one.gave ∙ ap (prepend_known one.given) two.gave ∙ prepend_twice one.given two.given after;
-      split = sym (append_assoc a.kept one.given two.given) ∙ ap (λ bs. bs ++ two.given) one.split ∙ append_assoc first b.kept two.given
-          ∙ ap (λ bs. first ++ bs) two.split ∙ sym (append_assoc first second c.kept);
-      place = omega (arith, one.place, two.place, length-append first second);
-      ended = two.ended ∙ one.ended;
-      stopped = two.stopped ∙ one.stopped;
-      within = two.within;
-    }
+moves_join a b c before mid after first second one two = grind (arith, common_steps, prepend_known, prepend_twice, append_assoc, length-append)
 
 -- all that was left before is what was passed and what is left
 whole_is : (old new : Unread) (before after : Option (List ℕ)) (passed rest : List ℕ) → (moves : Moves old new before after passed)
     → old.kept ++ (moves.given ++ rest) ≡ passed ++ (new.kept ++ rest)
-whole_is old new before after passed rest moves =
-    sym (append_assoc old.kept moves.given rest) ∙ ap (λ bs. bs ++ rest) moves.split ∙ append_assoc passed new.kept rest
+whole_is old new before after passed rest moves = grind (arith, common_steps)
 
 -- how many bytes came to hand
 pub moves_size : (old new : Unread) (before after : Option (List ℕ)) (passed : List ℕ) → (moves : Moves old new before after passed)
@@ -73,17 +48,11 @@ cut_behind at place passed bytes is within =
 
 left_behind : (at place : ℕ) (passed bytes : List ℕ) (ending : Ending) → ArePieces passed [] → place ≡ at + length passed → place ≤ input_limit
     → ReadsLeft place bytes [] ending → ReadsLeft at (passed ++ bytes) [] ending
-left_behind at place passed bytes ending pieces is within (inl all) =
-    inl (omega (arith, is, all.0, length-append passed bytes), reads_behind true at place passed bytes [] ending pieces is all.1)
-left_behind at place passed bytes ending pieces is within (inr past) =
-    let reads = reads_behind false at place passed (take (input_limit - place) bytes) [] ending pieces is past.1 in
-    inr (omega (arith, is, past.0, length-append passed bytes), rw (cut_behind at place passed bytes is within) reads)
+left_behind at place passed bytes ending pieces is within x8 = grind (arith, common_steps, length-append, reads_behind, take, cut_behind)
 
 past_behind : (at place : ℕ) (passed bytes : List ℕ) → ArePieces passed [] → place ≡ at + length passed → place ≤ input_limit
     → TakesPast place bytes → TakesPast at (passed ++ bytes)
-past_behind at place passed bytes pieces is within past =
-    let reads = reads_behind false at place passed (take (input_limit - place) bytes) [] _ pieces is past.reads in
-    record { long = omega (arith, is, past.long, length-append passed bytes); reads = rw (cut_behind at place passed bytes is within) reads }
+past_behind at place passed bytes pieces is within past = grind (arith, common_steps, reads_behind, take, length-append, cut_behind)
 
 in_limit : (old new : Unread) (before after : Option (List ℕ)) (passed : List ℕ) → Moves old new before after passed → new.before ≤ input_limit
 in_limit old new before after passed moves = omega (arith, moves.within)
@@ -126,12 +95,7 @@ takes_behind false at place passed bytes items behind rest pieces is takes =
       place = omega (arith, is, takes.place, length-append passed takes.used);
       pieces = (pieces.0 ++ takes.pieces.0, pieces_join pieces.0 takes.pieces.0 passed takes.used [] items pieces.1 takes.pieces.1);
     }
-takes_behind true at place passed bytes items behind rest pieces is takes =
-    record {
-      none = takes.none;
-      short = omega (arith, is, takes.short, length-append passed bytes);
-      reads = reads_behind true at place passed bytes items _ pieces is takes.reads;
-    }
+takes_behind true at place passed bytes items behind rest pieces is takes = grind (arith, common_steps, length-append, reads_behind)
 
 -- what comes next behind them
 reads_moved : (old cur new : Unread) (before mid after : Option (List ℕ)) (passed : List ℕ) (what : Asked) → Moves old cur before mid passed
@@ -197,20 +161,9 @@ no_pieces = ([], (refl, refl))
 pub pieces_pass : (one two : List ℕ) → ArePieces one [] → ArePieces two [] → ArePieces (one ++ two) []
 pieces_pass one two first second = (first.0 ++ second.0, pieces_join first.0 second.0 one two [] [] first.1 second.1)
 
--- the place rises
-pub place_falls : (old new : Unread) (before after : Option (List ℕ)) → PassesPieces old new before after
-    → input_limit - new.before < input_limit - old.before
-place_falls old new before after passes = omega (arith, passes.some, passes.moves.place, passes.moves.within)
-
 -- a piece, after some bytes were given
 pub piece_gain : (old cur new : Unread) (before mid after : Option (List ℕ)) (given : List ℕ) (piece : Option Asked) → Gains old cur before mid given
     → ReadsPiece cur new mid after piece → ReadsPiece old new before after piece
 piece_gain old cur new before mid after given (Some what) gains takes =
     takes_moved old cur new before mid after [] what (moves_gain old cur before mid given gains) no_pieces takes
-piece_gain old cur new before mid after given None gains passes =
-    record {
-      passed = passes.passed;
-      some = passes.some;
-      pieces = passes.pieces;
-      moves = moves_join old cur new before mid after [] passes.passed (moves_gain old cur before mid given gains) passes.moves;
-    }
+piece_gain old cur new before mid after given None gains passes = grind (arith, common_steps)

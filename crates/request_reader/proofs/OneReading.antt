@@ -1,7 +1,8 @@
 -- Bytes have one reading, where each line asks one thing with its body.
+use Rattle.std.proofs.lemmas.Grind.{common_steps}
 use Rattle.std.proofs.Common.{◌≡◌, ◌≢◌, ℕ, ◌+◌, ◌-◌, ◌≤◌, ◌⊎◌, inl, inr, Bool, true, false, List, [], ◌∷◌, ◌++◌, All, length, take, refl, sym, ap, ◌∙◌, arith, append_assoc, length-append, suc, subst}
 use Rattle.std.proofs.{Math.Seq.{take-append_seam, take-append-add}, lemmas.List.append_cancel_left, lemmas.List.Elements.{All-head, All-tail}}
-use Rattle.line_text.specs.Lines.{lines_of, LinesEnd}
+use Rattle.line_text.specs.Lines.{LinesEnd}
 use Rattle.request_words.{specs.Bodies.Item, specs.Items.{Counts, Gives, OneItem}, proofs.OneForm.one_count}
 use Rattle.request_reader.specs.Scripts.{line_limit, IsLine, Piece, text_of, IsPiece, ArePiecesOf, IsTooLong, IsInside, Ending, Ends, long, last, inside, more, Reads}
 use Rattle.request_reader.specs.Reading.{OneReading, PiecesAreFirst}
@@ -21,13 +22,7 @@ long_in line rest few over =
 
 first_line : LinesEnd → (line other rest behind : List ℕ) → All (λ b. b ≢ 10) line → All (λ b. b ≢ 10) other → line ++ 10 ∷ rest ≡ other ++ 10 ∷ behind
     → (line ≡ other) × (rest ≡ behind)
-first_line ends line other rest behind one two same =
-    let heads : line ∷ lines_of rest ≡ other ∷ lines_of behind = sym (ends line rest one) ∙ ap lines_of same ∙ ends other behind two in
-    let is : line ≡ other = cc in
-    let whole : line ++ 10 ∷ rest ≡ line ++ 10 ∷ behind = same ∙ ap (λ l. l ++ 10 ∷ behind) (sym is) in
-    let tails : 10 ∷ rest ≡ 10 ∷ behind = append_cancel_left line (10 ∷ rest) (10 ∷ behind) whole in
-    let left : rest ≡ behind = cc in
-    (is, left)
+first_line ends line other rest behind one two same = grind (arith, common_steps, append_cancel_left)
 
 same_parts : (one two behind rest : List ℕ) → length one ≡ length two → one ++ behind ≡ two ++ rest → (one ≡ two) × (behind ≡ rest)
 same_parts one two behind rest size same =
@@ -56,10 +51,7 @@ ends_front ends all at bytes line rest count items ending is whole counts enough
 -- ---- one end
 
 no_flag : (all : Bool) → all ≡ true → all ≡ false → ⊥
-no_flag all set unset = differ (sym set ∙ unset)
-  where
-    differ : true ≡ false → ⊥
-    differ same = cc
+no_flag all set unset = grind (arith, common_steps)
 
 gives_one : OneItem → (line body : List ℕ) (items others : List Item) → Gives line body items → Gives line body others → items ≡ others
 gives_one one line body items others (inl a) (inl b) = a.1 ∙ sym b.1
@@ -68,8 +60,7 @@ gives_one one line body items others (inr a) (inl b) = absurd (a.0 b.0)
 gives_one one line body items others (inr a) (inr b) = a.3 ∙ ap (λ i. i ∷ []) (one line body a.1 b.1 a.2 b.2) ∙ sym b.3
 
 long_open : (bytes : List ℕ) → IsTooLong bytes → (IsInside bytes ⊎ IsLine bytes) → ⊥
-long_open bytes over (inl within) = long_in within.line within.part within.whole.short (rw within.is at over)
-long_open bytes over (inr line) = absurd (omega (arith, over.long, line.short))
+long_open bytes over x2 = grind (arith, common_steps, long_in)
 
 ends_one : OneItem → (all : Bool) (at : ℕ) (bytes : List ℕ) (items others : List Item) (ending other : Ending) → Ends all at bytes items ending
     → Ends all at bytes others other → (items ≡ others) × (ending ≡ other)
@@ -115,8 +106,7 @@ record SameFirst (p q : Piece) (rest behind : List ℕ) : Type 0 where
 same_first : LinesEnd → OneItem → (p q : Piece) (fa ba fb bb rest behind : List ℕ) → fa ≡ text_of p ++ rest → fb ≡ text_of q ++ behind → IsPiece p → IsPiece q
     → fa ++ ba ≡ fb ++ bb → SameFirst p q (rest ++ ba) (behind ++ bb)
 same_first ends one p q fa ba fb bb rest behind is its a b joined =
-    let both : p.line ++ 10 ∷ (p.body ++ (rest ++ ba)) ≡ q.line ++ 10 ∷ (q.body ++ (behind ++ bb)) =
-    sym (piece_split p rest ba) ∙ ap (λ f. f ++ ba) (sym is) ∙ joined ∙ ap (λ f. f ++ bb) its ∙ piece_split q behind bb in
+    let both : p.line ++ 10 ∷ (p.body ++ (rest ++ ba)) ≡ q.line ++ 10 ∷ (q.body ++ (behind ++ bb)) = grind (arith, common_steps) in
     let first = first_line ends p.line q.line (p.body ++ (rest ++ ba)) (q.body ++ (behind ++ bb)) a.line.no_feed b.line.no_feed both in
     let size : length p.body ≡ length q.body = one_count q.line (length p.body) (length q.body) (rw first.0 at a.counted) b.counted in
     let parts = same_parts p.body q.body (rest ++ ba) (behind ++ bb) size first.1 in
@@ -163,9 +153,7 @@ one_reading ends one all at bytes items others ending other a b =
 
 told_join : (told lasts asked head tail first rest behind : List Item) → told ≡ head ++ tail → asked ≡ first ++ rest → first ≡ head
     → tail ++ lasts ≡ rest ++ behind → told ++ lasts ≡ asked ++ behind
-told_join told lasts asked head tail first rest behind is split same joined =
-    ap (λ xs. xs ++ lasts) is ∙ append_assoc head tail lasts ∙ ap (λ xs. head ++ xs) joined
-    ∙ sym (ap (λ xs. xs ++ behind) split ∙ append_assoc first rest behind ∙ ap (λ xs. xs ++ (rest ++ behind)) same)
+told_join told lasts asked head tail first rest behind is split same joined = grind (arith, common_steps)
 
 pieces_first : LinesEnd → OneItem → (all : Bool) (at place : ℕ) (ps qs : List Piece) (used rest front back : List ℕ) (asked told lasts : List Item) (ending : Ending)
     → used ++ rest ≡ front ++ back → ArePiecesOf ps used asked → ArePiecesOf qs front told → place ≡ at + length front → Ends all place back lasts ending

@@ -1,10 +1,11 @@
 -- A body that is passed and not kept.
+use Rattle.std.proofs.lemmas.Grind.{common_steps}
 use Rattle.std.proofs.Common.{◌≡◌, ℕ, ◌+◌, ◌-◌, ◌<◌, ◌≤◌, inl, inr, Bool, true, false, List, [], ◌∷◌, ◌++◌, length, take, drop, refl, sym, ap, ◌∙◌, arith, append_assoc, append-nil, length-append, Option, Err}
 use Rattle.std.{specs.Io.KnownBytes.prepend_known, proofs.Math.Seq.{take-append_seam, take-append-add, drop-append-add}, proofs.lemmas.List.length-take-le}
 use Rattle.track_outside.specs.declared.source.Source.{Ghosts}
 use Rattle.request_model.specs.declared.replies.Refusal.TheVariants.{BodyTooLong}
 use Rattle.request_reader.specs.declared.asked.Asked.TheVariants as asked
-use Rattle.request_reader.specs.declared.stop.ReadStop.{ReadStop, TheVariants.{ReadFault, CutOff, InputTooLong, NoMemory}}
+use Rattle.request_reader.specs.declared.stop.ReadStop.{ReadStop, TheVariants.CutOff}
 use Rattle.request_words.{specs.Items.{IsSkipped, Asks, formed, long, Counts, body_limit}, proofs.Skipped.skipped_counts}
 use Rattle.request_reader.specs.{Scripts.{input_limit, Piece, IsPiece, text_of}, Unread.Unread, Filling.{Gains, StopsFilling}, Reading.StopsReading}
 use Rattle.request_reader.specs.{Next.GaveFewFrom, Parts.{TakesNext, Fails}, Needs.{NeedsMore, Gathers}, LineEnds.BeginsWithLine, Begun.HasLine}
@@ -15,10 +16,7 @@ use Rattle.request_reader.proofs.Moving.{moves_use, moves_join, moves_size, few_
 -- the same bytes were read so far
 pub filling_same : (a b : Unread) (before after : Option (List ℕ)) (f g : ℕ) (stop : ReadStop) → a.before + length a.kept ≡ b.before + length b.kept
     → StopsFilling a before after f g stop → StopsFilling b before after f g stop
-filling_same a b before after f g ReadFault same why = record { same = why.same; rose = why.rose; within = omega (arith, same, why.within) }
-filling_same a b before after f g InputTooLong same why = record { full = sym same ∙ why.full; given = why.given; some = why.some; gave = why.gave }
-filling_same a b before after f g (CutOff offset) same why = why
-filling_same a b before after f g NoMemory same why = tt
+filling_same a b before after f g stop same why = grind (arith, common_steps)
 
 -- ---- one turn
 
@@ -65,9 +63,7 @@ passes_gain old cur new before mid after passed left total false moves sum passe
 
 -- the bytes behind the line
 behind_line : (bytes line : List ℕ) (ended : ℕ) → (has : HasLine bytes ended line) → drop ended bytes ≡ has.rest
-behind_line bytes line ended has =
-    let rest : drop (length line + 1) (line ++ 10 ∷ has.rest) ≡ has.rest = drop-append-add line (10 ∷ has.rest) 1 in
-    rw (has.size, has.split) rest
+behind_line bytes line ended has = grind (arith, common_steps, drop, length, drop-append-add)
 
 seen_gains : (old : Unread) (before after : Option (List ℕ)) (given : List ℕ) → before ≡ prepend_known given after
     → old.before + length (old.kept ++ given) ≤ input_limit → Gains old (seen old given) before after given
@@ -76,10 +72,7 @@ seen_gains old before after given gave within = record { kept = refl; place = re
 -- how many bytes came to hand with the line
 seen_size : (old a : Unread) (ended : ℕ) (line given : List ℕ) → HasLine old.kept ended line → a.kept ≡ drop ended old.kept
     → length (old.kept ++ given) ≡ ended + length (a.kept ++ given)
-seen_size old a ended line given has kept =
-    let rest : a.kept ≡ has.rest = kept ∙ behind_line old.kept line ended has in
-    let one : length old.kept ≡ length line + length (10 ∷ has.rest) = ap length has.split ∙ length-append line (10 ∷ has.rest) in
-    omega (arith, length-append old.kept given, length-append a.kept given, one, ap length rest, has.size)
+seen_size old a ended line given has kept = grind (arith, common_steps)
 
 long_stops : (old a : Unread) (before after : Option (List ℕ)) (e g ended count : ℕ) (line : List ℕ) (stop : ReadStop) → HasLine old.kept ended line
     → Counts line count → a.kept ≡ drop ended old.kept → a.before ≡ old.before + ended → StopsPassing a before after e g count stop
@@ -108,16 +101,13 @@ long_ends old a new before after f g ended count line has counted kept place pas
     let moved = moves_size a new before after passes.passed passes.moves in
     let nothing : length new.kept ≡ 0 = ap length passes.has.1 in
     let within : old.before + length (old.kept ++ given) ≤ input_limit = omega (arith, size, moved, place, passes.moves.place, passes.moves.within) in
-    let gathers : Gathers old now before after total false =
-    record { given = given; gains = seen_gains old before after given passes.moves.gave within; has = (omega (arith, size, moved, nothing, passes.has.0), passes.has.2) } in
+    let gathers : Gathers old now before after total false = grind (arith, common_steps) in
     stops_inside old now before after f g ended total count line has counted refl gathers
 
 -- the same bytes were read so far, before and behind the line
 same_read : (old a : Unread) (ended : ℕ) (line : List ℕ) → HasLine old.kept ended line → a.kept ≡ drop ended old.kept → a.before ≡ old.before + ended
     → a.before + length a.kept ≡ old.before + length old.kept
-same_read old a ended line has kept place =
-    let size = seen_size old a ended line [] has kept in
-    omega (arith, place, size, length-append old.kept [], length-append a.kept [])
+same_read old a ended line has kept place = grind (arith, common_steps)
 
 pub long_fails : {S : Type 0} (g : Ghosts S) (old a : Unread) (from to : S) (ended count : ℕ) (line : List ℕ) (stop : ReadStop) → HasLine old.kept ended line
     → Counts line count → a.kept ≡ drop ended old.kept → a.before ≡ old.before + ended → StopsPassingFrom g a from to count stop → GaveFewFrom g a from to
@@ -152,17 +142,12 @@ long_next old a new before after ended count line has wanted counted many goes k
     let size = seen_size old a ended line given has kept in
     let moved = moves_size a new before after passes.passed passes.moves in
     let within : old.before + length (old.kept ++ given) ≤ input_limit = omega (arith, size, moved, place, passes.moves.place, passes.moves.within) in
-    let gathers : Gathers old now before after total true =
-    record { given = given; gains = seen_gains old before after given passes.moves.gave within; has = omega (arith, size, moved, passes.has) } in
+    let gathers : Gathers old now before after total true = grind (arith, common_steps) in
     let rest : a.kept ≡ has.rest = kept ∙ behind_line old.kept line ended has in
-    let all : old.kept ++ given ≡ line ++ 10 ∷ (passes.passed ++ new.kept) =
-    ap (λ bs. bs ++ given) has.split ∙ append_assoc line (10 ∷ has.rest) given
-    ∙ ap (λ bs. line ++ 10 ∷ bs) (ap (λ bs. bs ++ given) (sym rest) ∙ passes.moves.split) in
+    let all : old.kept ++ given ≡ line ++ 10 ∷ (passes.passed ++ new.kept) = grind (arith, common_steps) in
     let front : length (line ++ 10 ∷ passes.passed) ≡ total = omega (arith, length-append line (10 ∷ passes.passed), has.size, passes.has) in
     let joined : line ++ 10 ∷ (passes.passed ++ new.kept) ≡ (line ++ 10 ∷ passes.passed) ++ new.kept = sym (append_assoc line (10 ∷ passes.passed) new.kept) in
-    let cut : drop total (old.kept ++ given) ≡ new.kept =
-    let no_more : total ≡ length (line ++ 10 ∷ passes.passed) + 0 = omega (arith, front) in
-    rw (all, joined, no_more) (drop-append-add (line ++ 10 ∷ passes.passed) new.kept 0) in
+    let cut : drop total (old.kept ++ given) ≡ new.kept = grind (arith, common_steps) in
     next_piece old now new before after ended total count line (Err BodyTooLong) (asked.Refused BodyTooLong) has wanted counted refl gathers
     (asks_too_long line _ count counted many) goes (sym cut) (omega (arith, passes.moves.place, place, passes.has)) (passes.moves.ended ∙ same_end)
     (passes.moves.stopped ∙ same_stop) refl tt
@@ -186,12 +171,6 @@ skips_piece old new known len begins skipped kept place ended stopped within =
       pieces = (p ∷ [], ([], [], used, refl, piece, (refl, refl)));
       moves = moves_use old new (len + 1) known few kept place ended stopped within;
     }
-
--- more bytes came to hand
-pub turn_falls : (old new : Unread) (before after : Option (List ℕ)) (passed : List ℕ) → Moves old new before after passed
-    → old.before + length old.kept < new.before + length new.kept
-    → input_limit - (new.before + length new.kept) < input_limit - (old.before + length old.kept)
-turn_falls old new before after passed moves more = omega (arith, moves.within, more)
 
 pub line_taken : (bytes : List ℕ) (len : ℕ) → (begins : BeginsWithLine bytes len) → take len bytes ≡ begins.line
 line_taken bytes len begins = rw (begins.split, sym begins.counted) (take-append_seam begins.line (10 ∷ begins.rest))

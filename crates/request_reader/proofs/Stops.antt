@@ -1,16 +1,14 @@
 -- Why reading stops at the line that bytes begin with.
-use Rattle.std.proofs.Common.{◌≡◌, ℕ, ◌+◌, ◌-◌, ◌<◌, ◌≤◌, inl, inr, ⊎_elim, Bool, true, false, List, [], ◌++◌, length, take, refl, sym, ap, ◌∙◌, subst, arith, append_assoc, append-nil, length-append, Option, Some, None}
-use Rattle.std.{proofs.lemmas.Bool.cases_lt, specs.Io.KnownBytes.prepend_known, proofs.lemmas.List.take-append-le}
-use Rattle.std.proofs.Math.Seq.{take-append_seam, take-append-add}
+use Rattle.std.proofs.Common.{◌≡◌, ℕ, ◌+◌, ◌-◌, ◌<◌, ◌≤◌, inl, inr, ⊎_elim, Bool, true, false, List, [], ◌++◌, length, take, refl, arith, append-nil, length-append, Option, Some, None}
+use Rattle.std.{proofs.lemmas.Bool.cases_lt, specs.Io.KnownBytes.prepend_known, proofs.lemmas.List.take-append-le, proofs.lemmas.Grind.common_steps}
+use Rattle.std.proofs.Math.Seq.{take-append-add}
 use Rattle.track_outside.specs.declared.source.Source.{Ghosts}
 use Rattle.request_reader.specs.declared.stop.ReadStop.{ReadStop, TheVariants.{ReadFault, CutOff, InputTooLong, NoMemory}}
 use Rattle.request_reader.specs.{Scripts.{input_limit, IsLine, IsTooLong, Ending, cut_off, unfinished, Ends, long, more, Reads, ReadsLeft}, Unread.Unread}
-use Rattle.request_reader.specs.{Filling.{Gains, IsPast, IsFault, StopsFilling}, Next.GaveFew, Reading.StopsReading, Parts.Fails, declared.line.LineEnd.LineEnd}
-use Rattle.request_reader.specs.{LineEnds.FindsEnd, Needs.{NeedsMore, Gathers}}
+use Rattle.request_reader.specs.{Filling.{Gains, IsPast, IsFault, StopsFilling}, Next.GaveFew, Reading.StopsReading, Parts.Fails, Needs.NeedsMore}
 
 pub nothing_given : (known : Option (List ℕ)) → known ≡ prepend_known [] known
-nothing_given None = refl
-nothing_given (Some bytes) = refl
+nothing_given known = grind (arith, common_steps)
 
 -- bytes with no whole piece in front read by their end
 reads_end : (all : Bool) (at : ℕ) (bytes : List ℕ) (ending : Ending) → Ends all (at + 0) bytes [] ending → Reads all at bytes [] ending
@@ -23,9 +21,7 @@ line_reads at bytes line = reads_end false at bytes unfinished (more refl (inr l
 
 -- a line that is too long reads so
 long_reads : (all : Bool) (at : ℕ) (bytes : List ℕ) → IsTooLong bytes → Reads all at bytes [] (cut_off at)
-long_reads all at bytes over =
-    let same : at + 0 ≡ at = omega arith in
-    subst (λ place. Reads all at bytes [] (cut_off place)) same (reads_end all at bytes (cut_off (at + 0)) (long over refl refl))
+long_reads all at bytes over = grind (arith, common_steps, reads_end)
 
 -- a line stays too long
 long_goes_on : (bytes behind : List ℕ) → IsTooLong bytes → IsTooLong (bytes ++ behind)
@@ -56,15 +52,7 @@ stops_long old (Some left) after f g over within =
 -- the source failed where it takes more to tell
 stops_fault : (old : Unread) (before after : Option (List ℕ)) (f g : ℕ) → Reads false old.before old.kept [] unfinished
     → IsFault old before after f g → StopsReading old before after f g ReadFault
-stops_fault old before after f g reads fault = (
-  fault.rose,
-  record {
-    given = [];
-    gave = rw fault.same (nothing_given before);
-    within = rw (append-nil old.kept) fault.within;
-    reads = rw (append-nil old.kept) reads;
-  },
-)
+stops_fault old before after f g reads fault = grind (arith, common_steps)
 
 pub some_same : {xs ys : List ℕ} → Some xs ≡ Some ys → xs ≡ ys
 some_same same = cc
@@ -75,17 +63,7 @@ none_some same = cc
 -- the limit came where it takes more to tell, and there is more behind it
 stops_past : (old : Unread) (before after : Option (List ℕ)) (f g : ℕ) → Reads false old.before old.kept [] unfinished → IsPast old before after
     → StopsReading old before after f g InputTooLong
-stops_past old None after f g reads past = tt
-stops_past old (Some left) None f g reads past = absurd (none_some past.gave)
-stops_past old (Some left) (Some rest) f g reads past =
-    let more_left : left ≡ past.given ++ rest = some_same past.gave in
-    let size = length-append old.kept left in
-    let grown : length left ≡ length past.given + length rest = ap length more_left ∙ length-append past.given rest in
-    let room : input_limit - old.before ≡ length old.kept = omega (arith, past.full) in
-    record {
-      long = omega (arith, past.full, past.some, size, grown);
-      reads = rw (room, take-append_seam old.kept left) reads;
-    }
+stops_past old before after f g reads past = grind (arith, common_steps)
 
 -- why no more bytes were kept where it takes more to tell
 pub stops_filling : (old : Unread) (before after : Option (List ℕ)) (f g : ℕ) (stop : ReadStop) → Reads false old.before old.kept [] unfinished
@@ -97,88 +75,25 @@ stops_filling old before after f g NoMemory reads why = tt
 
 -- what was given came in two parts
 pub prepend_twice : (one two : List ℕ) (known : Option (List ℕ)) → prepend_known one (prepend_known two known) ≡ prepend_known (one ++ two) known
-prepend_twice one two None = refl
-prepend_twice one two (Some bytes) = ap Some (sym (append_assoc one two bytes))
-
-pub gains_join : (a b c : Unread) (before mid after : Option (List ℕ)) (given behind : List ℕ)
-    → Gains a b before mid given → Gains b c mid after behind → Gains a c before after (given ++ behind)
-gains_join a b c before mid after given behind first second =
-    record {
-      kept = second.kept ∙ ap (λ bs. bs ++ behind) first.kept ∙ append_assoc a.kept given behind;
-      place = second.place ∙ first.place;
-      ended = second.ended ∙ first.ended;
-      stopped = second.stopped ∙ first.stopped;
-      gave = first.gave ∙ ap (prepend_known given) second.gave ∙ prepend_twice given behind after;
-      within = second.within;
-    }
+prepend_twice one two known = grind (arith, common_steps)
 
 -- nothing was given yet
 pub gains_none : (a : Unread) (known : Option (List ℕ)) → a.before + length a.kept ≤ input_limit → Gains a a known known []
-gains_none a known within =
-    record { kept = sym (append-nil a.kept); place = refl; ended = refl; stopped = refl; gave = nothing_given known; within = within }
+gains_none a known within = grind (arith, common_steps)
 
 -- why reading stops after some bytes were given
 pub stops_gain : (old new : Unread) (before mid after : Option (List ℕ)) (given : List ℕ) (e f g : ℕ) (stop : ReadStop)
     → Gains old new before mid given → e ≤ f → StopsReading new mid after f g stop → StopsReading old before after e g stop
-stops_gain old new before mid after given e f g ReadFault gains less why =
-    let open_reads = rw (gains.place, gains.kept, append_assoc old.kept given why.1.given) at why.1.reads in
-    let open_within = rw (gains.place, gains.kept, append_assoc old.kept given why.1.given) at why.1.within in (
-      omega (arith, why.0, less),
-      record {
-        given = given ++ why.1.given;
-        gave = gains.gave ∙ ap (prepend_known given) why.1.gave ∙ prepend_twice given why.1.given after;
-        within = open_within;
-        reads = open_reads;
-      },
-    )
-stops_gain old new None mid after given e f g (CutOff offset) gains less why = tt
-stops_gain old new (Some left) None after given e f g (CutOff offset) gains less why = absurd (none_some gains.gave)
-stops_gain old new (Some left) (Some rest) after given e f g (CutOff offset) gains less why =
-    let is : left ≡ given ++ rest = some_same gains.gave in
-    rw is (rw (gains.place, gains.kept, append_assoc old.kept given rest) at why)
-stops_gain old new None mid after given e f g InputTooLong gains less why = tt
-stops_gain old new (Some left) None after given e f g InputTooLong gains less why = absurd (none_some gains.gave)
-stops_gain old new (Some left) (Some rest) after given e f g InputTooLong gains less why =
-    let is : left ≡ given ++ rest = some_same gains.gave in
-    rw is (rw (gains.place, gains.kept, append_assoc old.kept given rest) at why)
-stops_gain old new before mid after given e f g NoMemory gains less why = tt
-
--- the end was found after some bytes were given
-pub finds_gain : (old new last_one : Unread) (before mid after : Option (List ℕ)) (given : List ℕ) (end : LineEnd)
-    → Gains old new before mid given → FindsEnd new last_one mid after end → FindsEnd old last_one before after end
-finds_gain old new last_one before mid after given end gains finds =
-    record { given = given ++ finds.given; gains = gains_join old new last_one before mid after given finds.given gains finds.gains; ends = finds.ends }
-
--- a line that has begun had room for more
-pub room_falls : (old new : Unread) (before after : Option (List ℕ)) (given : List ℕ) → IsLine old.kept → 0 < length given
-    → Gains old new before after given → 4_097 - length new.kept < 4_097 - length old.kept
-room_falls old new before after given line some gains =
-    let size : length new.kept ≡ length old.kept + length given = ap length gains.kept ∙ length-append old.kept given in
-    omega (arith, line.short, some, size)
+stops_gain old new before mid after given e f g stop gains less why = grind (arith, common_steps)
 
 -- it takes more still after some bytes were given
 pub needs_more : (old new : Unread) (before after : Option (List ℕ)) (given : List ℕ) (total : ℕ) → Gains old new before after given
     → NeedsMore old total → NeedsMore new total
-needs_more old new before after given total gains needs behind few =
-    rw (gains.place, gains.kept, append_assoc old.kept given behind)
-    (needs (given ++ behind) (rw (gains.kept, append_assoc old.kept given behind) at few))
+needs_more old new before after given total gains needs behind few = grind (arith, common_steps)
 
 -- with fewer bytes than are needed it takes more
 pub needs_now : (old : Unread) (total : ℕ) → NeedsMore old total → length old.kept < total → Reads false old.before old.kept [] unfinished
 needs_now old total needs few = rw (append-nil old.kept) at (needs [] (rw (append-nil old.kept) few))
-
--- enough were gathered after some bytes were given
-pub gathers_gain : (old new last_one : Unread) (before mid after : Option (List ℕ)) (given : List ℕ) (total : ℕ) (enough : Bool)
-    → Gains old new before mid given → Gathers new last_one mid after total enough → Gathers old last_one before after total enough
-gathers_gain old new last_one before mid after given total enough gains gathers =
-    record { given = given ++ gathers.given; gains = gains_join old new last_one before mid after given gathers.given gains gathers.gains; has = gathers.has }
-
--- fewer are needed than before
-pub need_falls : (old new : Unread) (before after : Option (List ℕ)) (given : List ℕ) (total : ℕ) → length old.kept < total → 0 < length given
-    → Gains old new before after given → total - length new.kept < total - length old.kept
-need_falls old new before after given total few some gains =
-    let size : length new.kept ≡ length old.kept + length given = ap length gains.kept ∙ length-append old.kept given in
-    omega (arith, few, some, size)
 
 -- ---- few bytes were given
 
@@ -188,9 +103,7 @@ few_none old known within = record { given = []; gave = nothing_given known; few
 
 -- as many as are kept
 pub few_kept : (old new : Unread) (before after : Option (List ℕ)) (given : List ℕ) → Gains old new before after given → GaveFew old before after
-few_kept old new before after given gains =
-    let size : length new.kept ≡ length old.kept + length given = ap length gains.kept ∙ length-append old.kept given in
-    record { given = given; gave = gains.gave; few = omega (arith, size, gains.place, gains.within) }
+few_kept old new before after given gains = grind (arith, common_steps)
 
 -- the same bytes were read so far
 pub few_same : (a b : Unread) (before after : Option (List ℕ)) → a.before + length a.kept ≡ b.before + length b.kept
@@ -200,18 +113,8 @@ few_same a b before after same few = record { given = few.given; gave = few.gave
 -- after some bytes were given
 pub few_gain : (old new : Unread) (before mid after : Option (List ℕ)) (given : List ℕ) → Gains old new before mid given
     → GaveFew new mid after → GaveFew old before after
-few_gain old new before mid after given gains few =
-    let size : length new.kept ≡ length old.kept + length given = ap length gains.kept ∙ length-append old.kept given in
-    record {
-      given = given ++ few.given;
-      gave = gains.gave ∙ ap (prepend_known given) few.gave ∙ prepend_twice given few.given after;
-      few = omega (arith, size, gains.place, few.few, length-append given few.given);
-    }
+few_gain old new before mid after given gains few = grind (arith, common_steps, length, length-append, prepend_known, prepend_twice)
 
 pub fails_gain : {S : Type 0} (g : Ghosts S) (old new : Unread) (from mid to : S) (given : List ℕ) (stop : ReadStop)
     → Gains old new (g.left from) (g.left mid) given → g.faults from ≤ g.faults mid → Fails g new mid to stop → Fails g old from to stop
-fails_gain g old new from mid to given stop gains less fails =
-    record {
-      why = stops_gain old new (g.left from) (g.left mid) (g.left to) given (g.faults from) (g.faults mid) (g.faults to) stop gains less fails.why;
-      few = few_gain old new (g.left from) (g.left mid) (g.left to) given gains fails.few;
-    }
+fails_gain g old new from mid to given stop gains less fails = grind (arith, common_steps, stops_gain, few_gain)

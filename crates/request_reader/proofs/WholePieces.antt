@@ -1,4 +1,5 @@
 -- A line that has come with its line feed, and the bytes that belong to it.
+use Rattle.std.proofs.lemmas.Grind.{common_steps}
 use Rattle.std.proofs.Common.{◌≡◌, ℕ, ◌+◌, ◌-◌, ◌<◌, ◌≤◌, ◌⊎◌, true, false, List, [], ◌∷◌, ◌++◌, length, take, drop, refl, sym, ap, ◌∙◌, arith, inl, inr, append_assoc, append-nil, length-append, Option, Some, None, slice_range, suc}
 use Rattle.std.{specs.Prelude.IfSome, proofs.Math.Seq.{take-append-add, drop-append-add}, proofs.lemmas.List.{take-append-drop, length-take-le}}
 use Rattle.request_reader.specs.declared.{asked.Asked.Asked, stop.ReadStop.TheVariants.CutOff}
@@ -10,10 +11,7 @@ use Rattle.request_reader.{specs.Needs.{NeedsMore, Gathers}, specs.Begun.HasLine
 -- fewer bytes than the line counts are behind it
 inside_of : (bytes line rest behind : List ℕ) (count : ℕ) → bytes ≡ line ++ 10 ∷ rest → IsLine line → Counts line count
     → length (bytes ++ behind) < length line + 1 + count → IsInside (bytes ++ behind)
-inside_of bytes line rest behind count is whole counted few =
-    let split : bytes ++ behind ≡ line ++ 10 ∷ (rest ++ behind) = ap (λ bs. bs ++ behind) is ∙ append_assoc line (10 ∷ rest) behind in
-    let size : length (bytes ++ behind) ≡ length line + length (10 ∷ (rest ++ behind)) = ap length split ∙ length-append line (10 ∷ (rest ++ behind)) in
-    record { line = line; part = rest ++ behind; count = count; is = split; whole = whole; counted = counted; short = omega (arith, few, size) }
+inside_of bytes line rest behind count is whole counted few = grind (arith, common_steps)
 
 -- it takes more to tell what they ask
 pub needs_body : (old : Unread) (ended total count : ℕ) (line : List ℕ) → HasLine old.kept ended line → Counts line count → total ≡ ended + count → NeedsMore old total
@@ -69,10 +67,7 @@ one_piece line body used item is whole asked counted asks =
 -- the bytes behind the line, and all up to their end
 body_is : (line zs bytes : List ℕ) (ended total count : ℕ) → bytes ≡ line ++ 10 ∷ zs → ended ≡ length line + 1 → total ≡ ended + count
     → slice_range bytes ended total ≡ take count zs
-body_is line zs bytes ended total count is size sum =
-    let rest : drop (length line + 1) (line ++ 10 ∷ zs) ≡ zs = drop-append-add line (10 ∷ zs) 1 in
-    let few : total - ended ≡ count = omega (arith, sum) in
-    rw (few, size, is, rest) refl
+body_is line zs bytes ended total count is size sum = grind (arith, common_steps, drop, length, drop-append-add)
 
 used_is : (line zs bytes : List ℕ) (ended total count : ℕ) → bytes ≡ line ++ 10 ∷ zs → ended ≡ length line + 1 → total ≡ ended + count
     → take total bytes ≡ line ++ 10 ∷ take count zs
@@ -114,26 +109,12 @@ reads_item : (old mid new : Unread) (before after : Option (List ℕ)) (total : 
     → new.kept ≡ drop total mid.kept → new.before ≡ mid.before + total → new.ended ≡ false → items_of asked ≡ item ∷ []
     → IfSome before (λ left. IfSome after (λ rest. TakesWhole old.before (old.kept ++ left) (item ∷ []) (mid.before + total) (drop total mid.kept ++ rest)))
     → ReadsNext old new before after asked
-reads_item old mid new None after total item asked kept place goes told takes = tt
-reads_item old mid new (Some left) None total item asked kept place goes told takes = tt
-reads_item old mid new (Some left) (Some rest) total item asked kept place goes told takes = rw (goes, told, kept, place) takes
+reads_item old mid new before after total item asked kept place goes told takes = grind (arith, common_steps)
 
 -- the first bytes were used, one at least, and the source gave more before
 gave_used : (old mid new : Unread) (before after : Option (List ℕ)) (given : List ℕ) (total : ℕ) → Gains old mid before after given
     → 0 < total → total ≤ length mid.kept → new.kept ≡ drop total mid.kept → new.before ≡ mid.before + total → Gave old new before after
-gave_used old mid new before after given total gains some enough kept place =
-    let size : length mid.kept ≡ length old.kept + length given = ap length gains.kept ∙ length-append old.kept given in
-    let split : length mid.kept ≡ length (take total mid.kept) + length (drop total mid.kept) =
-    ap length (sym (take-append-drop total mid.kept)) ∙ length-append (take total mid.kept) (drop total mid.kept) in
-    let taken : length (take total mid.kept) ≡ total = length-take-le total mid.kept enough in
-    let left : length new.kept ≡ length (drop total mid.kept) = ap length kept in
-    record {
-      given = given;
-      gave = gains.gave;
-      counted = omega (arith, size, split, taken, left, place, gains.place);
-      within = omega (arith, split, taken, left, place, gains.within);
-      ahead = λ goes. omega (arith, place, gains.place, some);
-    }
+gave_used old mid new before after given total gains some enough kept place = grind (arith, common_steps)
 
 pub next_piece : (old mid new : Unread) (before after : Option (List ℕ)) (ended total count : ℕ) (line : List ℕ) (item : Item) (asked : Asked)
     → HasLine old.kept ended line → (¬ IsSkipped line) → Counts line count → total ≡ ended + count → Gathers old mid before after total true

@@ -8,8 +8,8 @@ use Rattle.lnt_report.specs.{Runs.IsGiven, Outcomes.IsDue, Written.{compact, run
 use Rattle.segment_model.specs.Limits.{IsLength}
 use Rattle.request_model.specs.{Factors.IsFactor, Lines.line_of, declared.requests.Request.Request}
 use Rattle.request_model.specs.declared.requests.Request.TheVariants as request
-use Rattle.request_words.specs.Forms.{Form, machine, commit, submit_go, submit_lnt, retract, tune, calibrate, of_series, regress, set_state, bisect, answer, of_job, runs, report, words_in}
-use Rattle.request_words.specs.declared.verb.{JobVerb.TheVariants.{Resume, Job}, SeriesVerb.TheVariants.{Segment, Changes, Verify}}
+use Rattle.request_words.specs.Forms.{Form, machine, commit, submit_go, submit_lnt, retract, tune, of_number, of_series, set_state, bisect, answer, of_job, runs, report, words_in}
+use Rattle.request_words.specs.declared.verb.{JobVerb.TheVariants.{Resume, Job}, NumberVerb.TheVariants.{Calibrate, Regress}, SeriesVerb.TheVariants.{Segment, Changes, Verify}}
 use Rattle.request_words.specs.Items.{body_limit}
 use Rattle.request_reader.specs.Scripts.{ArePieces}
 
@@ -25,11 +25,11 @@ form_of (request.Commit m number name) len = commit (spelling m) number (spellin
 form_of (request.Submit m c run samples ignored stated) len = submission m c run stated len
 form_of (request.Retract m run) len = retract (spelling m) (spelling run)
 form_of (request.Tune m metric penalty given) len = tune (spelling m) (spelling metric) (signed_decimal penalty) given
-form_of (request.Calibrate m test metric factor) len = calibrate (spelling m) (spelling test) (spelling metric) factor
+form_of (request.Calibrate m test metric factor) len = of_number Calibrate (spelling m) (spelling test) (spelling metric) factor
 form_of (request.Segment m test metric) len = of_series Segment (spelling m) (spelling test) (spelling metric)
 form_of (request.Changes m test metric) len = of_series Changes (spelling m) (spelling test) (spelling metric)
 form_of (request.Verify m test metric) len = of_series Verify (spelling m) (spelling test) (spelling metric)
-form_of (request.Regress m test metric change) len = regress (spelling m) (spelling test) (spelling metric) change
+form_of (request.Regress m test metric change) len = of_number Regress (spelling m) (spelling test) (spelling metric) change
 form_of (request.SetState m regression state) len = set_state (spelling m) regression state
 form_of (request.Bisect m lo hi) len = bisect (spelling m) (spelling lo) (spelling hi)
 form_of (request.Answer m job c status) len = answer (spelling m) job (spelling c) status

@@ -1,12 +1,12 @@
 -- A form is what its words say: the words of a line tell the one form that it can have.
-use Rattle.std.proofs.Common.{◌≡◌, ℕ, ◌+◌, ◌*◌, ◌<◌, ◌^◌, eqb, List, [], ◌∷◌, refl, sym, ap, ◌∙◌, subst, arith}
+use Rattle.std.proofs.{Common.{◌≡◌, ℕ, ◌+◌, ◌*◌, ◌<◌, ◌^◌, eqb, List, [], ◌∷◌, refl, sym, ap, ◌∙◌, arith}, lemmas.Grind.common_steps}
 use Rattle.std.specs.{Prelude.{if◌then◌else◌, Bool, true, false, codes, decimal, Option, Some, None}, List.AllByRecursion, Str.Parse.digits_value}
 use Rattle.std.proofs.lemmas.Fmt.{decimal_is_IsNumeral_wide}
 use Rattle.line_text.specs.Lines.{words_of}
 use Rattle.regression_state.specs.{Moves.word, declared.states.State.State}
 use Rattle.regression_state.specs.declared.states.State.TheVariants as state
-use Rattle.request_words.specs.Forms.{Form, machine, commit, submit_go, submit_lnt, retract, tune, calibrate, of_series, regress, set_state, bisect, answer, of_job, runs, report, words_in, numbers_in, IsOfForm}
-use Rattle.request_words.specs.declared.verb.{SeriesVerb.TheVariants.{Segment, Changes, Verify}, JobVerb.TheVariants.{Resume, Job}}
+use Rattle.request_words.specs.Forms.{Form, machine, commit, submit_go, submit_lnt, retract, tune, of_number, of_series, set_state, bisect, answer, of_job, runs, report, words_in, numbers_in, IsOfForm}
+use Rattle.request_words.specs.declared.verb.{NumberVerb.TheVariants.{Calibrate, Regress}, SeriesVerb.TheVariants.{Segment, Changes, Verify}, JobVerb.TheVariants.{Resume, Job}}
 
 pub first_of : {one other : List ℕ} {words others : List (List ℕ)} → one ∷ words ≡ other ∷ others → one ≡ other
 first_of same = cc
@@ -74,11 +74,11 @@ form_by w more =
     else if begins w (codes "submit") then submission_of (begins (first more) (codes "go")) more
     else if begins w (codes "retract") then retract (first more) (second more)
     else if begins w (codes "tune") then tune (first more) (second more) (third more) (given_in (rest (rest (rest more))))
-    else if begins w (codes "calibrate") then calibrate (first more) (second more) (third more) (value (fourth more))
+    else if begins w (codes "calibrate") then of_number Calibrate (first more) (second more) (third more) (value (fourth more))
     else if begins w (codes "segment") then of_series Segment (first more) (second more) (third more)
     else if begins w (codes "changes") then of_series Changes (first more) (second more) (third more)
     else if begins w (codes "verify") then of_series Verify (first more) (second more) (third more)
-    else if begins w (codes "regress") then regress (first more) (second more) (third more) (value (fourth more))
+    else if begins w (codes "regress") then of_number Regress (first more) (second more) (third more) (value (fourth more))
     else if begins w (codes "state") then set_state (first more) (value (second more)) (state_of (third more))
     else if begins w (codes "bisect") then bisect (first more) (second more) (third more)
     else if begins w (codes "answer") then answer (first more) (value (second more)) (third more) (value (fourth more))
@@ -94,13 +94,7 @@ number_back : (n : ℕ) → n < 2 ^ 64 → value (decimal n) ≡ n
 number_back n small = (decimal_is_IsNumeral_wide n (omega (arith, small))).1
 
 state_back : (s : State) → state_of (word s) ≡ s
-state_back state.Detected = refl
-state_back state.Staged = refl
-state_back state.Active = refl
-state_back state.NotToBeFixed = refl
-state_back state.Ignored = refl
-state_back state.Verify = refl
-state_back state.Fixed = refl
+state_back s = grind (arith, common_steps)
 
 -- a form is that of its words
 form_back : (f : Form) → AllByRecursion (λ n. n < 2 ^ 64) (numbers_in f) → form_in (words_in f) ≡ f
@@ -111,16 +105,14 @@ form_back (submit_lnt m r len) small = ap (submit_lnt m r) (number_back len smal
 form_back (retract m r) small = refl
 form_back (tune m metric penalty None) small = refl
 form_back (tune m metric penalty (Some len)) small = ap (λ n. tune m metric penalty (Some n)) (number_back len small.0)
-form_back (calibrate m test metric factor) small = ap (calibrate m test metric) (number_back factor small.0)
+form_back (of_number Calibrate m test metric factor) small = ap (of_number Calibrate m test metric) (number_back factor small.0)
 form_back (of_series Segment m test metric) small = refl
 form_back (of_series Changes m test metric) small = refl
 form_back (of_series Verify m test metric) small = refl
-form_back (regress m test metric change) small = ap (regress m test metric) (number_back change small.0)
-form_back (set_state m regression s) small =
-    ap (λ n. set_state m n (state_of (word s))) (number_back regression small.0) ∙ ap (set_state m regression) (state_back s)
+form_back (of_number Regress m test metric change) small = ap (of_number Regress m test metric) (number_back change small.0)
+form_back (set_state m regression s) small = grind (arith, common_steps, state_of, number_back, state_back)
 form_back (bisect m lo hi) small = refl
-form_back (answer m job c status) small =
-    ap (λ n. answer m n c (value (decimal status))) (number_back job small.0) ∙ ap (answer m job c) (number_back status small.1.0)
+form_back (answer m job c status) small = grind (arith, common_steps, value, number_back)
 form_back (of_job Resume m job) small = ap (of_job Resume m) (number_back job small.0)
 form_back (of_job Job m job) small = ap (of_job Job m) (number_back job small.0)
 form_back (runs m) small = refl
@@ -133,5 +125,4 @@ one_words f g is small few = sym (form_back f small) ∙ ap form_in is ∙ form_
 
 -- whatever form a line has, it is that of its words
 pub the_form : {line : List ℕ} {words : List (List ℕ)} (f : Form) → words_of line ≡ words → IsOfForm line f → IsOfForm line (form_in words)
-the_form {line} {words} f is of_form =
-    subst (IsOfForm line) (sym (form_back f of_form.numbers) ∙ ap form_in (sym of_form.words ∙ is)) of_form
+the_form {line} {words} f is of_form = grind (arith, common_steps, form_back, form_in)

@@ -1,16 +1,16 @@
 -- What a line of a form asks before its body is read.
-use Rattle.std.proofs.Common.{◌≡◌, ◌≢◌, ℕ, ◌<◌, ◌≤◌, Bool, true, false, inl, inr, List, [], ◌∷◌, length, Option, None, refl, sym, ap, ◌∙◌, arith, codes}
+use Rattle.std.proofs.lemmas.Grind.{common_steps}
+use Rattle.std.proofs.Common.{◌≡◌, ◌≢◌, ℕ, ◌<◌, ◌≤◌, inl, inr, List, [], ◌∷◌, length, Option, None, refl, sym, ap, ◌∙◌, arith, codes}
 use Rattle.request_words.specs.declared.head.LineFault.TheVariants.{BadRequest, BadName, BadPenalty, BadLength, BodyTooLong}
-use Rattle.request_words.specs.declared.head.Head.TheVariants.{Refused, Asked}
-use Rattle.request_words.specs.Forms.{Form, machine, commit, submit_go, submit_lnt, retract, tune, calibrate, of_series, regress, set_state, bisect, answer, of_job, runs, report, machine_word, machine_form, series_word, job_word, name_of, IsOfForm, HasNoForm, names_in, body_length, HasShortMetric, IsNamed, IsInRange, HasLength}
+use Rattle.request_words.specs.declared.{head.Head.TheVariants.{Refused, Asked}, verb.JobVerb.TheVariants.{Resume, Job}}
+use Rattle.request_words.specs.Forms.{Form, machine, commit, submit_go, submit_lnt, retract, tune, of_number, of_series, set_state, bisect, answer, of_job, runs, report, machine_word, machine_form, number_verb, job_word, name_of, IsOfForm, HasNoForm, names_in, body_length, HasShortMetric, IsNamed, IsInRange, HasLength}
 use Rattle.request_words.specs.{Bodies.{Item, AsksNamed, machine_request}, Items.{long, unnamed, wide, off, named, formless, formed, Counts, body_limit}}
 use Rattle.line_text.specs.Lines.{words_of}
 use Rattle.request_words.specs.{Verbs.word_of, declared.verb.Verb.Verb, Heads.{IsHeadOf, IsHead, AreNames, IsFoundIf}, declared.verb.MachineVerb.MachineVerb}
 use Rattle.request_words.specs.declared.verb.Verb.TheVariants as verb
 use Rattle.request_words.specs.declared.verb.MachineVerb.TheVariants as of_machine
-use Rattle.request_words.specs.declared.verb.{SeriesVerb.SeriesVerb, SeriesVerb.TheVariants.{Segment, Changes, Verify}, JobVerb.JobVerb}
-use Rattle.request_words.specs.declared.verb.JobVerb.TheVariants.{Resume, Job}
-use Rattle.request_words.proofs.FormWords.{first_of, behind, first, second, third, value, submission_of, form_in, the_form}
+use Rattle.request_words.specs.declared.verb.{NumberVerb.NumberVerb, NumberVerb.TheVariants.{Calibrate, Regress}, JobVerb.JobVerb}
+use Rattle.request_words.proofs.FormWords.{first_of, first, second, third, fourth, value, form_in, the_form}
 
 pub counts_form : (line : List ℕ) (form : Form) (count : ℕ) → IsOfForm line form → count ≡ body_length form → Counts line count
 counts_form line form count is counted = inl (form, is, counted)
@@ -60,27 +60,16 @@ off_head line form count is counted within are range out =
 pub formless_behind : {line : List ℕ} {words : List (List ℕ)} → words_of line ≡ words → (¬ IsOfForm line (form_in words)) → IsHead line (Refused BadRequest 0)
 formless_behind {line} is none = formless_head line (λ form of_form. none (the_form form is of_form))
 
--- a submission is of Go benchmark text or of an LNT run
-pub no_submission : {line kind : List ℕ} {words : List (List ℕ)} → words_of line ≡ codes "submit" ∷ kind ∷ words → kind ≢ codes "go" → kind ≢ codes "lnt"
-    → IsHead line (Refused BadRequest 0)
-no_submission {line} {kind} {words} is no_go no_lnt = formless_behind is (λ of_form. apart _ of_form)
-  where
-    apart : (go : Bool) → IsOfForm line (submission_of go (kind ∷ words)) → ⊥
-    apart true of_form = no_go (first_of (behind (sym is ∙ of_form.words)))
-    apart false of_form = no_lnt (first_of (behind (sym is ∙ of_form.words)))
-
 -- the word alone is no submission
 pub no_more : {line : List ℕ} → words_of line ≡ codes "submit" ∷ [] → IsHead line (Refused BadRequest 0)
 no_more {line} is = formless_behind is (λ of_form. absurd (omega (arith, ap length (sym is ∙ of_form.words))))
 
 -- what is asked of a machine, by each of its words
 pub machine_behind : {line m : List ℕ} {words : List (List ℕ)} (asked : MachineVerb) → words_of line ≡ machine_word asked ∷ words → words ≡ m ∷ [] → IsOfForm line (machine_form asked m)
-machine_behind of_machine.Machine verb is = record { words = verb ∙ ap (λ xs. codes "machine" ∷ xs) is; numbers = tt; amounts = tt; status = tt }
-machine_behind of_machine.Runs verb is = record { words = verb ∙ ap (λ xs. codes "runs" ∷ xs) is; numbers = tt; amounts = tt; status = tt }
+machine_behind asked verb is = grind (arith, common_steps)
 
 pub machine_formless : {line : List ℕ} {words : List (List ℕ)} (asked : MachineVerb) → words_of line ≡ machine_word asked ∷ words → ((m : List ℕ) → words ≢ m ∷ []) → IsHead line (Refused BadRequest 0)
-machine_formless of_machine.Machine verb none = formless_behind verb (λ of_form. none _ (behind (sym verb ∙ of_form.words)))
-machine_formless of_machine.Runs verb none = formless_behind verb (λ of_form. none _ (behind (sym verb ∙ of_form.words)))
+machine_formless asked verb none = grind (arith, common_steps)
 
 pub machine_unnamed : {A : Type 0} {found : Option A} (asked : MachineVerb) (line m : List ℕ) → IsOfForm line (machine_form asked m) → found ≡ None → IsFoundIf found (AreNames (m ∷ []))
     → IsHead line (Refused BadName 0)
@@ -91,12 +80,10 @@ pub machine_asks : (asked : MachineVerb) (line m : List ℕ) → IsOfForm line (
 machine_asks of_machine.Machine line m is are = named_head line (machine m) 0 _ is tt tt refl (omega arith) (are, tt) (λ body item told. told)
 machine_asks of_machine.Runs line m is are = named_head line (runs m) 0 _ is tt tt refl (omega arith) (are, tt) (λ body item told. told)
 
--- what is asked of a series, or of a bisection, by each of its words
-pub series_form : {line : List ℕ} {words : List (List ℕ)} (asked : SeriesVerb) (form : Form) → words_of line ≡ series_word asked ∷ words → IsOfForm line form
-    → IsOfForm line (of_series asked (first words) (second words) (third words))
-series_form Segment form is of_form = the_form form is of_form
-series_form Changes form is of_form = the_form form is of_form
-series_form Verify form is of_form = the_form form is of_form
+pub number_form : {line : List ℕ} {words : List (List ℕ)} (asked : NumberVerb) (form : Form) → words_of line ≡ number_verb asked ∷ words → IsOfForm line form
+    → IsOfForm line (of_number asked (first words) (second words) (third words) (value (fourth words)))
+number_form Calibrate form is of_form = the_form form is of_form
+number_form Regress form is of_form = the_form form is of_form
 
 pub job_form : {line : List ℕ} {words : List (List ℕ)} (asked : JobVerb) (form : Form) → words_of line ≡ job_word asked ∷ words → IsOfForm line form
     → IsOfForm line (of_job asked (first words) (value (second words)))
@@ -111,9 +98,8 @@ no_verb line word words is none (submit_go m c r len) of_form = none verb.Submit
 no_verb line word words is none (submit_lnt m r len) of_form = none verb.Submit (first_of (sym is ∙ of_form.words))
 no_verb line word words is none (retract m r) of_form = none verb.Retract (first_of (sym is ∙ of_form.words))
 no_verb line word words is none (tune m metric penalty given) of_form = none verb.Tune (first_of (sym is ∙ of_form.words))
-no_verb line word words is none (calibrate m test metric factor) of_form = none verb.Calibrate (first_of (sym is ∙ of_form.words))
+no_verb line word words is none (of_number asked m test metric number) of_form = none (verb.Number asked) (first_of (sym is ∙ of_form.words))
 no_verb line word words is none (of_series asked m test metric) of_form = none (verb.Series asked) (first_of (sym is ∙ of_form.words))
-no_verb line word words is none (regress m test metric change) of_form = none verb.Regress (first_of (sym is ∙ of_form.words))
 no_verb line word words is none (set_state m regression state) of_form = none verb.State (first_of (sym is ∙ of_form.words))
 no_verb line word words is none (bisect m lo hi) of_form = none verb.Bisect (first_of (sym is ∙ of_form.words))
 no_verb line word words is none (answer m job c status) of_form = none verb.Answer (first_of (sym is ∙ of_form.words))

@@ -10,7 +10,7 @@ use Rattle.lnt_report.specs.declared.fault.ReportFault.TheVariants as fault
 use Rattle.request_model.specs.declared.{requests.Request.Request, replies.Refusal.Refusal}
 use Rattle.request_model.specs.declared.replies.RangePlace.TheVariants as place
 use Rattle.request_model.specs.declared.replies.Refusal.TheVariants as refusal
-use Rattle.request_words.specs.Forms.{Form, machine, commit, submit_go, submit_lnt, retract, tune, calibrate, of_series, regress, set_state, bisect, answer, of_job, runs, report}
+use Rattle.request_words.specs.Forms.{Form, machine, commit, submit_go, submit_lnt, retract, tune, of_number, of_series, set_state, bisect, answer, of_job, runs, report}
 use Rattle.request_words.specs.Bodies.{Item, GivesGo, RefusesGo, AsksGo, fault_of, AsksLnt, AsksNamed}
 use Rattle.request_words.{specs.Items.{off, AsksForm, long, unnamed, wide, named, formless, formed, OneItem}, proofs.OneForm.one_form}
 
@@ -181,9 +181,8 @@ one_named go lnt (submit_go m c r len) body item other a b = one_go go body _ it
 one_named go lnt (submit_lnt m r len) body item other a b = one_lnt lnt body _ item other a b
 one_named go lnt (retract m r) body item other a b = a ∙ sym b
 one_named go lnt (tune m metric penalty given) body item other a b = a ∙ sym b
-one_named go lnt (calibrate m test metric factor) body item other a b = a ∙ sym b
+one_named go lnt (of_number asked m test metric number) body item other a b = a ∙ sym b
 one_named go lnt (of_series asked m test metric) body item other a b = a ∙ sym b
-one_named go lnt (regress m test metric change) body item other a b = a ∙ sym b
 one_named go lnt (set_state m regression state) body item other a b = a ∙ sym b
 one_named go lnt (bisect m lo hi) body item other a b = a ∙ sym b
 one_named go lnt (answer m job c status) body item other a b = a ∙ sym b

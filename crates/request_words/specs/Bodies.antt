@@ -10,10 +10,10 @@ use Rattle.request_model.specs.declared.{requests.Request.Request, replies.Refus
 use Rattle.request_model.specs.declared.requests.Request.TheVariants as request
 use Rattle.request_model.specs.declared.replies.RangePlace.TheVariants as place
 use Rattle.request_model.specs.declared.replies.Refusal.TheVariants as refusal
-use Rattle.request_words.specs.Forms.{Form, machine, commit, submit_go, submit_lnt, retract, tune, calibrate, of_series, regress, set_state, bisect, answer, of_job, runs, report, name_of}
-use Rattle.request_words.specs.declared.verb.{JobVerb.JobVerb, MachineVerb.MachineVerb, JobVerb.TheVariants.{Resume, Job}, SeriesVerb.SeriesVerb}
+use Rattle.request_words.specs.Forms.{Form, machine, commit, submit_go, submit_lnt, retract, tune, of_number, of_series, set_state, bisect, answer, of_job, runs, report, name_of}
+use Rattle.request_words.specs.declared.verb.{JobVerb.JobVerb, MachineVerb.MachineVerb, JobVerb.TheVariants.{Resume, Job}, NumberVerb.NumberVerb, SeriesVerb.SeriesVerb}
 use Rattle.request_words.specs.declared.verb.MachineVerb.TheVariants as of_machine
-use Rattle.request_words.specs.declared.verb.SeriesVerb.TheVariants.{Segment, Changes, Verify}
+use Rattle.request_words.specs.declared.verb.{NumberVerb.TheVariants.{Calibrate, Regress}, SeriesVerb.TheVariants.{Segment, Changes, Verify}}
 
 -- what an item of a script asks: a request, or the refusal of reading it
 abbrev pub Item : Type 0
@@ -77,6 +77,11 @@ series_request Segment m test metric = request.Segment m test metric
 series_request Changes m test metric = request.Changes m test metric
 series_request Verify m test metric = request.Verify m test metric
 
+-- what is asked of a series with a number
+abbrev pub number_request : NumberVerb → (m test metric : List ℕ) (number : ℕ) → Request
+number_request Calibrate m test metric factor = request.Calibrate m test metric factor
+number_request Regress m test metric change = request.Regress m test metric change
+
 -- what is asked of a bisection
 abbrev pub job_request : JobVerb → (m : List ℕ) (job : ℕ) → Request
 job_request Resume m job = request.Resume m job
@@ -91,9 +96,8 @@ AsksNamed (submit_lnt m r len) body item =
     AsksLnt body (of_lnt (name_of m) (name_of r)) item
 AsksNamed (retract m r) body item = item ≡ Ok (request.Retract (name_of m) (name_of r))
 AsksNamed (tune m metric penalty given) body item = item ≡ Ok (request.Tune (name_of m) (name_of metric) (pos (digits_value 10 penalty)) given)
-AsksNamed (calibrate m test metric factor) body item = item ≡ Ok (request.Calibrate (name_of m) (name_of test) (name_of metric) factor)
+AsksNamed (of_number asked m test metric number) body item = item ≡ Ok (number_request asked (name_of m) (name_of test) (name_of metric) number)
 AsksNamed (of_series asked m test metric) body item = item ≡ Ok (series_request asked (name_of m) (name_of test) (name_of metric))
-AsksNamed (regress m test metric change) body item = item ≡ Ok (request.Regress (name_of m) (name_of test) (name_of metric) change)
 AsksNamed (set_state m regression state) body item = item ≡ Ok (request.SetState (name_of m) regression state)
 AsksNamed (bisect m lo hi) body item = item ≡ Ok (request.Bisect (name_of m) (name_of lo) (name_of hi))
 AsksNamed (answer m job c status) body item = item ≡ Ok (request.Answer (name_of m) job (name_of c) status)

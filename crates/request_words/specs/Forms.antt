@@ -6,9 +6,9 @@ use Rattle.line_text.specs.{Lines.words_of, Names.Spells, Numbers.IsNumber}
 use Rattle.regression_state.specs.{declared.states.State.State, Moves.word}
 use Rattle.segment_model.specs.Limits.{IsLength}
 use Rattle.request_model.specs.Factors.{IsFactor}
-use Rattle.request_words.specs.declared.verb.{JobVerb.JobVerb, JobVerb.TheVariants.{Resume, Job}, MachineVerb.MachineVerb, SeriesVerb.SeriesVerb}
+use Rattle.request_words.specs.declared.verb.{JobVerb.JobVerb, JobVerb.TheVariants.{Resume, Job}, MachineVerb.MachineVerb, NumberVerb.NumberVerb, SeriesVerb.SeriesVerb}
 use Rattle.request_words.specs.declared.verb.MachineVerb.TheVariants as of_machine
-use Rattle.request_words.specs.declared.verb.SeriesVerb.TheVariants.{Segment, Changes, Verify}
+use Rattle.request_words.specs.declared.verb.{NumberVerb.TheVariants.{Calibrate, Regress}, SeriesVerb.TheVariants.{Segment, Changes, Verify}}
 
 -- a form, with its words that spell names or a number of any size, its numbers, and what else its words say
 pub data Form : Type 0 where
@@ -18,9 +18,8 @@ pub data Form : Type 0 where
   submit_lnt : (m r : List ℕ) (len : ℕ) → Form
   retract : (m r : List ℕ) → Form
   tune : (m metric penalty : List ℕ) (given : Option ℕ) → Form
-  calibrate : (m test metric : List ℕ) (factor : ℕ) → Form
+  of_number : (asked : NumberVerb) (m test metric : List ℕ) (number : ℕ) → Form
   of_series : (asked : SeriesVerb) (m test metric : List ℕ) → Form
-  regress : (m test metric : List ℕ) (change : ℕ) → Form
   set_state : (m : List ℕ) (regression : ℕ) (state : State) → Form
   bisect : (m lo hi : List ℕ) → Form
   answer : (m : List ℕ) (job : ℕ) (c : List ℕ) (status : ℕ) → Form
@@ -43,6 +42,11 @@ series_word Segment = codes "segment"
 series_word Changes = codes "changes"
 series_word Verify = codes "verify"
 
+-- the word by which a penalty is made of a series' noise, or a change of it is raised
+abbrev pub number_verb : NumberVerb → List ℕ
+number_verb Calibrate = codes "calibrate"
+number_verb Regress = codes "regress"
+
 -- the word by which a bisection is resumed or shown
 abbrev pub job_word : JobVerb → List ℕ
 job_word Resume = codes "resume"
@@ -61,9 +65,8 @@ words_in (submit_go m c r len) = codes "submit" ∷ codes "go" ∷ m ∷ c ∷ r
 words_in (submit_lnt m r len) = codes "submit" ∷ codes "lnt" ∷ m ∷ r ∷ decimal len ∷ []
 words_in (retract m r) = codes "retract" ∷ m ∷ r ∷ []
 words_in (tune m metric penalty given) = codes "tune" ∷ m ∷ metric ∷ penalty ∷ map decimal (option_to_list given)
-words_in (calibrate m test metric factor) = codes "calibrate" ∷ m ∷ test ∷ metric ∷ decimal factor ∷ []
+words_in (of_number asked m test metric number) = number_verb asked ∷ m ∷ test ∷ metric ∷ decimal number ∷ []
 words_in (of_series asked m test metric) = series_word asked ∷ m ∷ test ∷ metric ∷ []
-words_in (regress m test metric change) = codes "regress" ∷ m ∷ test ∷ metric ∷ decimal change ∷ []
 words_in (set_state m regression state) = codes "state" ∷ m ∷ decimal regression ∷ word state ∷ []
 words_in (bisect m lo hi) = codes "bisect" ∷ m ∷ lo ∷ hi ∷ []
 words_in (answer m job c status) = codes "answer" ∷ m ∷ decimal job ∷ c ∷ decimal status ∷ []
@@ -79,9 +82,8 @@ names_in (submit_go m c r len) = m ∷ c ∷ r ∷ []
 names_in (submit_lnt m r len) = m ∷ r ∷ []
 names_in (retract m r) = m ∷ r ∷ []
 names_in (tune m metric penalty given) = m ∷ metric ∷ []
-names_in (calibrate m test metric factor) = m ∷ test ∷ metric ∷ []
+names_in (of_number asked m test metric number) = m ∷ test ∷ metric ∷ []
 names_in (of_series asked m test metric) = m ∷ test ∷ metric ∷ []
-names_in (regress m test metric change) = m ∷ test ∷ metric ∷ []
 names_in (set_state m regression state) = m ∷ []
 names_in (bisect m lo hi) = m ∷ lo ∷ hi ∷ []
 names_in (answer m job c status) = m ∷ c ∷ []
@@ -95,8 +97,7 @@ numbers_in (commit m number name) = number ∷ []
 numbers_in (submit_go m c r len) = len ∷ []
 numbers_in (submit_lnt m r len) = len ∷ []
 numbers_in (tune m metric penalty given) = option_to_list given
-numbers_in (calibrate m test metric factor) = factor ∷ []
-numbers_in (regress m test metric change) = change ∷ []
+numbers_in (of_number asked m test metric number) = number ∷ []
 numbers_in (set_state m regression state) = regression ∷ []
 numbers_in (answer m job c status) = job ∷ status ∷ []
 numbers_in (of_job asked m job) = job ∷ []
@@ -140,9 +141,8 @@ SpellsName word = Spells word (name_of word)
 -- a metric's name has at most 64 bytes
 abbrev pub HasShortMetric : Form → Type 0
 HasShortMetric (tune m metric penalty given) = length (name_of metric) ≤ 64
-HasShortMetric (calibrate m test metric factor) = length (name_of metric) ≤ 64
+HasShortMetric (of_number asked m test metric number) = length (name_of metric) ≤ 64
 HasShortMetric (of_series asked m test metric) = length (name_of metric) ≤ 64
-HasShortMetric (regress m test metric change) = length (name_of metric) ≤ 64
 HasShortMetric form = Unit {0}
 
 -- the words that must spell names do, and that of a metric a short one
@@ -150,10 +150,15 @@ pub record IsNamed (form : Form) : Type 0 where
   pub names : AllByRecursion SpellsName (names_in form)
   pub metric : HasShortMetric form
 
--- a penalty is at most 10^36, and a factor that it is made by from 1 to 1,000
+-- a factor that a penalty is made by is from 1 to 1,000, and a change has any number
+abbrev pub IsNumberOf : NumberVerb → ℕ → Type 0
+IsNumberOf Calibrate number = IsFactor number
+IsNumberOf Regress number = Unit {0}
+
+-- a penalty is at most 10^36
 abbrev pub IsInRange : Form → Type 0
 IsInRange (tune m metric penalty given) = digits_value 10 penalty ≤ 10 ^ 36
-IsInRange (calibrate m test metric factor) = IsFactor factor
+IsInRange (of_number asked m test metric number) = IsNumberOf asked number
 IsInRange form = Unit {0}
 
 -- a least length, where one is given, is from 1 to 64

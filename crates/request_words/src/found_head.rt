@@ -4,7 +4,7 @@ ghost use Rattle.regression_state.specs.Moves.{word};
 ghost use Rattle.request_words.specs.{Forms.{job_word, report_word}, Bodies.job_request, Heads.IsHeadBehind};
 
 use crate::NoMemory;
-use crate::head::{Head, formless, three_and_number, unnamed};
+use crate::head::{Head, formless, unnamed};
 use crate::names::{Last, machine_named, three_named, two_named};
 use crate::verb::JobVerb;
 use crate::words::Words;
@@ -12,24 +12,6 @@ use line_text::{Name, Names, read_u64};
 use regression_state::{State, read_state};
 use request_model::Request;
 use std::alloc::Global;
-
-// `regress M TEST METRIC CHANGE`.
-pub(crate) fn regress_head(alloc: Global, names: &mut Names, words: Words) -> Result<Head, NoMemory>
-    ensures { IfOk result (λ head. IsHeadBehind (codes "regress") words.entry head) }
-{
-    let Some((m, t, x, change)) = three_and_number(words) else {
-        return Ok(formless());
-    };
-    let Some((machine, test, metric)) = three_named(alloc, names, m, t, x, Last::Metric)? else {
-        return Ok(unnamed(0));
-    };
-    Ok(Head::Asked(Request::Regress {
-        machine,
-        test,
-        metric,
-        change,
-    }))
-}
 
 // `state M REGRESSION STATE`.
 pub(crate) fn state_head(alloc: Global, names: &mut Names, words: Words) -> Result<Head, NoMemory>

@@ -1,16 +1,14 @@
 //! The head of a request: what its line asks before its body is read.
-ghost use Rattle.std.specs.Prelude.{◌≡◌, ◌≢◌, ℕ, ◌^◌, ◌<◌, List, [], ◌∷◌, map, option_to_list, Option, decimal, codes, IfOk, IfSome, IfNone};
+ghost use Rattle.std.specs.Prelude.{◌≡◌, ◌≢◌, ◌↔◌, IsTrue, ℕ, ◌^◌, ◌<◌, List, [], ◌∷◌, map, option_to_list, Option, decimal, codes, IfOk, IfSome, IfNone};
 ghost use Rattle.line_text.specs.Numbers.{IsNumber};
-ghost use Rattle.request_words.specs.{Forms.{machine_word, series_word}, Bodies.{machine_request, series_request}, Heads.{IsHead, IsHeadBehind, line_refusal}, Items.{Asks, Counts}};
+ghost use Rattle.request_words.specs.{Forms.{IsNumberOf, machine_word, number_verb, series_word}, Bodies.{machine_request, number_request, series_request}, Heads.{IsHead, IsHeadBehind, line_refusal}, Items.{Asks, Counts}};
 
 use crate::NoMemory;
 use crate::amounts::{is_factor, length_of, penalty_of};
 use crate::body::{go_asked, lnt_asked};
-use crate::found_head::{
-    answer_head, bisect_head, job_head, regress_head, report_head, state_head,
-};
+use crate::found_head::{answer_head, bisect_head, job_head, report_head, state_head};
 use crate::names::{Last, machine_named, three_named, two_named};
-use crate::verb::{MachineVerb, SeriesVerb, Verb, read_verb};
+use crate::verb::{MachineVerb, NumberVerb, SeriesVerb, Verb, read_verb};
 use crate::words::Words;
 use line_text::{Name, Names, is_number, read_u64};
 use request_model::{Refusal, Request};
@@ -66,9 +64,8 @@ pub fn read_head(alloc: Global, names: &mut Names, line: &[u8]) -> Result<Head, 
         Verb::Submit => submit_head(alloc, names, words),
         Verb::Retract => retract_head(alloc, names, words),
         Verb::Tune => tune_head(alloc, names, words),
-        Verb::Calibrate => calibrate_head(alloc, names, words),
+        Verb::Number(asked) => number_head(alloc, names, words, asked),
         Verb::Series(asked) => series_head(alloc, names, words, asked),
-        Verb::Regress => regress_head(alloc, names, words),
         Verb::State => state_head(alloc, names, words),
         Verb::Bisect => bisect_head(alloc, names, words),
         Verb::Answer => answer_head(alloc, names, words),
@@ -223,25 +220,61 @@ fn tune_words<'a>(mut words: Words<'a>) -> Option<(&'a [u8], &'a [u8], &'a [u8],
     Some((m, x, p, Some(given)))
 }
 
-// `calibrate M TEST METRIC FACTOR`.
-fn calibrate_head(alloc: Global, names: &mut Names, words: Words) -> Result<Head, NoMemory>
-    ensures { IfOk result (λ head. IsHeadBehind (codes "calibrate") words.entry head) }
+// `calibrate M TEST METRIC FACTOR` and `regress M TEST METRIC CHANGE`.
+fn number_head(
+    alloc: Global,
+    names: &mut Names,
+    words: Words,
+    asked: NumberVerb,
+) -> Result<Head, NoMemory>
+    ensures { IfOk result (λ head. IsHeadBehind (number_verb asked) words.entry head) }
 {
-    let Some((m, t, x, factor)) = three_and_number(words) else {
+    let Some((m, t, x, number)) = three_and_number(words) else {
         return Ok(formless());
     };
     let Some((machine, test, metric)) = three_named(alloc, names, m, t, x, Last::Metric)? else {
         return Ok(unnamed(0));
     };
-    if !is_factor(factor) {
+    if !is_number_of(asked, number) {
         return Ok(Head::Refused(LineFault::BadPenalty, 0));
     }
-    Ok(Head::Asked(Request::Calibrate {
-        machine,
-        test,
-        metric,
-        factor,
-    }))
+    Ok(Head::Asked(number_request(asked, machine, test, metric, number)))
+}
+
+// Whether the number is one that may be asked with: a factor has a greatest one.
+fn is_number_of(asked: NumberVerb, number: u64) -> bool
+    ensures { IsTrue result ↔ IsNumberOf asked number }
+{
+    match asked {
+        NumberVerb::Calibrate => is_factor(number),
+        NumberVerb::Regress => true,
+    }
+}
+
+// What is asked of a series with a number.
+fn number_request(
+    asked: NumberVerb,
+    machine: Name,
+    test: Name,
+    metric: Name,
+    number: u64,
+) -> Request
+    ensures { result ≡ number_request asked machine test metric number }
+{
+    match asked {
+        NumberVerb::Calibrate => Request::Calibrate {
+            machine,
+            test,
+            metric,
+            factor: number,
+        },
+        NumberVerb::Regress => Request::Regress {
+            machine,
+            test,
+            metric,
+            change: number,
+        },
+    }
 }
 
 // `segment M TEST METRIC`, `changes M TEST METRIC` and `verify M TEST METRIC`.
@@ -348,9 +381,7 @@ fn go_head(alloc: Global, names: &mut Names, words: Words) -> Result<Head, NoMem
 }
 
 // Three words, and a number behind them.
-pub(crate) fn three_and_number<'a>(
-    mut words: Words<'a>,
-) -> Option<(&'a [u8], &'a [u8], &'a [u8], u64)>
+fn three_and_number<'a>(mut words: Words<'a>) -> Option<(&'a [u8], &'a [u8], &'a [u8], u64)>
     ensures some { IfSome result
         (λ parts. words.entry ≡ parts.0.now ∷ parts.1.now ∷ parts.2.now ∷ decimal parts.3 ∷ []) }
     ensures none { IfNone result ((first second third : List ℕ) (n : ℕ)

@@ -13,6 +13,15 @@ pub enum SeriesVerb {
     Verify,
 }
 
+/// What is asked of a series by its names and a number.
+#[derive(Clone, Copy)]
+pub enum NumberVerb {
+    /// The penalty of its metric is made of its noise, by a factor.
+    Calibrate,
+    /// One of its changes is raised.
+    Regress,
+}
+
 /// What is asked of a bisection by its number alone.
 #[derive(Clone, Copy)]
 pub enum JobVerb {
@@ -37,9 +46,8 @@ pub(crate) enum Verb {
     Submit,
     Retract,
     Tune,
-    Calibrate,
+    Number(NumberVerb),
     Series(SeriesVerb),
-    Regress,
     State,
     Bisect,
     Answer,
@@ -59,10 +67,10 @@ pub(crate) fn read_verb(word: &[u8]) -> Option<Verb>
         b"machine" => Verb::Machine,
         b"retract" => Verb::Retract,
         b"tune" => Verb::Tune,
-        b"calibrate" => Verb::Calibrate,
+        b"calibrate" => Verb::Number(NumberVerb::Calibrate),
         b"runs" => Verb::Runs,
         b"report" => Verb::Report,
-        b"regress" => Verb::Regress,
+        b"regress" => Verb::Number(NumberVerb::Regress),
         b"state" => Verb::State,
         b"bisect" => Verb::Bisect,
         b"answer" => Verb::Answer,

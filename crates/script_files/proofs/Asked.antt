@@ -1,27 +1,23 @@
 -- Scripts that are opened one after another.
-use Rattle.std.proofs.Common.{◌≡◌, ◌∙◌, ℕ, zero, suc, ◌+◌, ◌<◌, ◌≤◌, length, Bool, true, List, [], ◌∷◌, ◌++◌, take, Option, Some, None, Ok, Err, refl, sym, ap, subst, arith}
-use Rattle.std.specs.{Prelude.{option_map, Result, IfErr, IsSome, slice_get}, List.AllByRecursion}
+use Rattle.std.proofs.Common.{◌≡◌, ℕ, suc, ◌+◌, ◌<◌, ◌≤◌, length, Bool, true, List, [], ◌∷◌, ◌++◌, take, Option, Some, None, Ok, Err, refl, sym, ap, subst, arith}
+use Rattle.std.{specs.Prelude.{Result, IfErr, IsSome, slice_get}, specs.List.AllByRecursion, proofs.lemmas.Grind.common_steps}
 use Rattle.track_outside.{specs.Named.{NamedBytes, Call, bytes_at, with_bytes}, proofs.Places.bytes_at-with_bytes}
 use Rattle.track_outside.specs.declared.files.Files as files
 use Rattle.track_outside.specs.declared.source.Source as source
 use Rattle.track_outside.specs.declared.sink.Sink as sink
 use Rattle.command_words.specs.Plans.{transcript_of}
 use Rattle.script_files.specs.declared.open.{OpenFault.OpenFault, OpenFault.TheVariants.{ReadFault, WriteFault, NoMemory}, OpenScript.OpenScript}
-use Rattle.script_files.specs.Opening.{Asks, AreMade, FailsAt, HasRisen, RoseAt, IsOpen, calls_for, opening, creating, with_transcript}
-use Rattle.script_files.{specs.Closing.{AreClosable, IsClosable}, proofs.Calls.{then_more, none_more}, proofs.Names.closable_still}
+use Rattle.script_files.specs.Opening.{Asks, AreMade, FailsAt, RoseAt, IsOpen, calls_for, opening, creating, with_transcript}
+use Rattle.script_files.{specs.Closing.{AreClosable, IsClosable}, proofs.Names.closable_still}
 
 -- ---- calls
 
 fails_of_two : (creates : Bool) (a b : Call) (more made : List Call) (place : ℕ) (call : Call) → slice_get (a ∷ b ∷ []) place ≡ Some call
     → call.creates ≡ creates → made ≡ take place (a ∷ b ∷ []) ++ record call { failed = true } ∷ [] → FailsAt creates (a ∷ b ∷ more) made
-fails_of_two creates a b more made zero call next kind up_to = record { place = 0; call = call; next = next; kind = kind; up_to = up_to }
-fails_of_two creates a b more made (suc zero) call next kind up_to = record { place = 1; call = call; next = next; kind = kind; up_to = up_to }
-fails_of_two creates a b more made (suc (suc k)) call next kind up_to = absurd (cc)
+fails_of_two creates a b more made place call next kind up_to = grind (arith, common_steps)
 
 some_of_two : (a b : Call) (more made : List Call) (n : ℕ) → n < 2 → made ≡ take n (a ∷ b ∷ []) → (m : ℕ) × (m < length (a ∷ b ∷ more)) × (made ≡ take m (a ∷ b ∷ more))
-some_of_two a b more made zero few is = (0, omega arith, is)
-some_of_two a b more made (suc zero) few is = (1, omega arith, is)
-some_of_two a b more made (suc (suc k)) few is = absurd (omega (arith, few))
+some_of_two a b more made n few is = grind (arith, common_steps)
 
 -- what is due of the first two is due of all
 made_of_two : (a b : Call) (more made : List Call) (fault : OpenFault) → AreMade (a ∷ b ∷ []) (Err fault) made → AreMade (a ∷ b ∷ more) (Err fault) made
@@ -46,28 +42,14 @@ made_later a b more made (Err WriteFault) are = fails_later _ a b more made are
 made_later a b more made (Err NoMemory) are = (suc (suc are.0), omega (arith, are.1), ap (λ (l : List Call). a ∷ b ∷ l) are.2)
 
 module _ {F I O : Type 0} (g : files.Ghosts F I O) where
-  risen_before : (old mid new : F) (fault : OpenFault) → g.read_faults old ≤ g.read_faults mid → g.write_faults old ≤ g.write_faults mid
-      → HasRisen g mid new fault → HasRisen g old new fault
-  risen_before old mid new ReadFault reads writes rose = omega (arith, reads, rose)
-  risen_before old mid new WriteFault reads writes rose = omega (arith, writes, rose)
-  risen_before old mid new NoMemory reads writes rose = tt
-
   rose_before : (old mid new : F) (result : Result (Unit {0}) OpenFault) → g.read_faults old ≤ g.read_faults mid → g.write_faults old ≤ g.write_faults mid
       → RoseAt g mid new result → RoseAt g old new result
-  rose_before old mid new (Ok done) reads writes rose = tt
-  rose_before old mid new (Err fault) reads writes rose = risen_before old mid new fault reads writes rose
+  rose_before old mid new result reads writes rose = grind (arith, common_steps)
 
   -- the first script's calls failed
   pub asks_first : (script : List ℕ) (scripts : List (List ℕ)) (old new : F) (fault : OpenFault) → Asks g (script ∷ []) old new (Err fault)
       → Asks g (script ∷ scripts) old new (Err fault)
-  asks_first script scripts old new fault asks = record {
-    made = asks.made;
-    due = made_of_two (opening script) (creating script) (calls_for scripts) asks.made fault asks.due;
-    noted = asks.noted;
-    reads = asks.reads;
-    writes = asks.writes;
-    rose = asks.rose;
-  }
+  asks_first script scripts old new fault asks = grind (arith, common_steps, made_of_two)
 
   -- they answered, and then those of the others came
   pub asks_then : (script : List ℕ) (scripts : List (List ℕ)) (old mid new : F) (result : Result (Unit {0}) OpenFault) → Asks g (script ∷ []) old mid (Ok tt)
@@ -75,8 +57,7 @@ module _ {F I O : Type 0} (g : files.Ghosts F I O) where
   asks_then script scripts old mid new result first rest = record {
     made = opening script ∷ creating script ∷ rest.made;
     due = made_later (opening script) (creating script) (calls_for scripts) rest.made result rest.due;
-    noted = rest.noted ∙ ap (option_map (λ (calls : List Call). calls ++ rest.made)) first.noted ∙ then_more (g.asked old) first.made rest.made
-        ∙ ap (λ (l : List Call). option_map (λ calls. calls ++ (l ++ rest.made)) (g.asked old)) first.due;
+    noted = grind (arith, common_steps);
     reads = omega (arith, first.reads, rest.reads);
     writes = omega (arith, first.writes, rest.writes);
     rose = rose_before old mid new result first.reads first.writes rest.rose;
@@ -89,14 +70,7 @@ module _ {F I O : Type 0} (g : files.Ghosts F I O) where
 
   -- no memory before the first call
   pub asks_none : (script : List ℕ) (scripts : List (List ℕ)) (old : F) → Asks g (script ∷ scripts) old old (Err NoMemory)
-  asks_none script scripts old = record {
-    made = [];
-    due = (0, omega arith, refl);
-    noted = none_more (g.asked old);
-    reads = omega arith;
-    writes = omega arith;
-    rose = tt;
-  }
+  asks_none script scripts old = grind (arith, common_steps)
 
 -- ---- what can be closed
 
@@ -112,6 +86,5 @@ pub closable_then : {I O : Type 0} (i : source.Ghosts I) (o : sink.Ghosts O) (to
 closable_then i o None opened script s all is = tt
 closable_then i o (Some names) opened script s all is =
     let new : List NamedBytes = with_bytes (transcript_of script) [] names in
-    let there : IsSome (bytes_at (o.name s.output) new) =
-    subst (λ (n : List ℕ). IsSome (bytes_at n new)) (sym is.name) (some_there _ [] (bytes_at-with_bytes (transcript_of script) [] names)) in
+    let there : IsSome (bytes_at (o.name s.output) new) = grind (arith, common_steps, bytes_at, new, some_there, bytes_at-with_bytes) in
     all_then (IsClosable o new) opened s (closable_still o (transcript_of script) [] names opened all) (record { there = there; tells = is.tells })

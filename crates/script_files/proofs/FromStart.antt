@@ -1,6 +1,6 @@
 -- Scripts that were opened one after another have the bytes that their names had before the first.
-use Rattle.std.proofs.Common.{◌≡◌, ◌∙◌, ℕ, Bool, false, inl, inr, List, [], ◌∷◌, Option, Some, None, refl, sym, subst, ap}
-use Rattle.std.{specs.Prelude.{All, Contains, bytes_eq, if◌then◌else◌, IsSome}, specs.List.{AllZip, AllByRecursion}, proofs.lemmas.Bool.cases_Bool}
+use Rattle.std.proofs.{Common.{◌≡◌, ◌∙◌, ℕ, Bool, false, inl, inr, List, [], ◌∷◌, Option, Some, refl, sym, subst, ap, arith}, lemmas.Grind.common_steps}
+use Rattle.std.{specs.Prelude.{All, Contains, bytes_eq, if◌then◌else◌}, specs.List.{AllZip, AllByRecursion}, proofs.lemmas.Bool.cases_Bool}
 use Rattle.std.proofs.lemmas.{Slice.Eq.bytes_eq-Decides, List.Elements.{All-head, All-tail, Contains-get_or}}
 use Rattle.track_outside.specs.Named.{NamedBytes, bytes_at, with_bytes}
 use Rattle.track_outside.specs.declared.source.Source as source
@@ -9,10 +9,7 @@ use Rattle.command_words.specs.Plans.{transcript_of}
 use Rattle.script_files.specs.{declared.open.OpenScript.OpenScript, Opening.{IsOpen, AreOpen, with_transcript}}
 
 differs : (one other : List ℕ) → (one ≡ other → ⊥) → bytes_eq one other ≡ false
-differs one other apart = elim (cases_Bool (bytes_eq one other)) [
-  | inl same ↦ absurd (apart ((bytes_eq-Decides one other).0 same))
-  | inr is ↦ is
-]
+differs one other apart = grind (arith, common_steps, cases_Bool, bytes_eq, bytes_eq-Decides)
 
 same_else : (b : Bool) (x : List ℕ) (z z' : Option (List ℕ)) → z ≡ z' → (if b then Some x else z) ≡ (if b then Some x else z')
 same_else b x z z' same = ap (λ (o : Option (List ℕ)). if b then Some x else o) same
@@ -37,26 +34,7 @@ module _ {I O : Type 0} (i : source.Ghosts I) (o : sink.Ghosts O) where
   -- a transcript that was created before leaves a script as it is
   open_before : (told : Option (List NamedBytes)) (earlier script : List ℕ) (s : OpenScript I O) → (transcript_of earlier ≡ script → ⊥)
       → IsOpen i o (with_transcript earlier told) script s → IsOpen i o told script s
-  open_before None earlier script s apart is = record {
-    left = tt;
-    there = tt;
-    unread = is.unread;
-    name = is.name;
-    empty = is.empty;
-    tells = tt;
-    unwritten = is.unwritten;
-  }
-  open_before (Some names) earlier script s apart is =
-      let same = bytes_at-other (transcript_of earlier) [] script names apart in
-      record {
-        left = is.left ∙ same;
-        there = subst (λ (b : Option (List ℕ)). IsSome b) same is.there;
-        unread = is.unread;
-        name = is.name;
-        empty = is.empty;
-        tells = is.tells;
-        unwritten = is.unwritten;
-      }
+  open_before told earlier script s apart is = grind (arith, common_steps, bytes_at-other)
 
   open_from : (all : List (List ℕ)) (start told : Option (List NamedBytes)) (scripts : List (List ℕ)) (opened : List (OpenScript I O))
       → ((script : List ℕ) (s : OpenScript I O) → Contains all script → IsOpen i o told script s → IsOpen i o start script s)

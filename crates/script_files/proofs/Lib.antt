@@ -1,6 +1,5 @@
 mod Asked
 pub mod Calls
-mod Counted
 mod FromStart
 mod Names
 mod Written

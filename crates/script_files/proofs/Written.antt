@@ -1,14 +1,13 @@
 -- What the names of transcripts have when all are closed.
-use Rattle.std.{proofs.Common.{◌≡◌, ◌≢◌, ◌∙◌, ℕ, List, [], ◌∷◌, Option, Some, None, refl, sym, subst}, specs.Prelude.{IsSome, option_map, unwrap_or}}
-use Rattle.std.specs.List.{AllByRecursion}
+use Rattle.std.{proofs.Common.{◌≡◌, ◌≢◌, ◌∙◌, ℕ, List, [], ◌∷◌, Option, Some, None, refl, sym, subst, arith}, specs.Prelude.{IsSome, option_map, unwrap_or}}
+use Rattle.std.{specs.List.AllByRecursion, proofs.lemmas.Grind.common_steps}
 use Rattle.track_outside.{specs.Named.{NamedBytes, bytes_at, with_bytes}, proofs.Places.bytes_at-with_bytes}
 use Rattle.track_outside.specs.declared.sink.Sink as sink
 use Rattle.script_files.specs.{declared.open.OpenScript.OpenScript, Closing.{AreClosable, IsClosable, AreApart, HaveWritten, with_written}}
 use Rattle.script_files.proofs.{FromStart.bytes_at-other, Names.closable_still}
 
 told_text : (taken : Option (List ℕ)) → IsSome taken → Some (unwrap_or taken []) ≡ taken
-told_text None tells = absurd (cc)
-told_text (Some text) tells = refl
+told_text taken tells = grind (arith, common_steps)
 
 module _ {I O : Type 0} (o : sink.Ghosts O) where
   -- a name that is none of theirs has what it had

@@ -1,23 +1,8 @@
 //! Laws of the definitions, as public functions that do nothing: their contracts are what they are for.
 ghost use Rattle.script_desk.specs.Sessions.{AnswersFor, AnswersSome};
 ghost use Rattle.script_session.specs.Counts.{SessionsCount, TrialsCount};
-ghost use Rattle.script_session.specs.Laws.{
-  AnswersOnce,
-  OutputsExist,
-  OutputsOnce,
-  OneScript,
-  ScriptsOnce,
-  BeginsOutput,
-  OpenIsFirst,
-};
-ghost use Rattle.script_session.specs.Part.{
-  OneReplyEach,
-  TellsPart,
-  TellsNoMore,
-  OutputsAreParts,
-  PartsAreOfOutputs,
-  PartOfEach,
-};
+ghost use Rattle.script_session.specs.Laws.{AnswersOnce, OutputsExist, OutputsOnce, OneScript, ScriptsOnce, BeginsOutput, OpenIsFirst};
+ghost use Rattle.script_session.specs.Part.{OneReplyEach, TellsPart, TellsNoMore, OutputsAreParts, PartsAreOfOutputs, PartOfEach};
 
 use request_reader::reading_law;
 use track_model::outcome_law;

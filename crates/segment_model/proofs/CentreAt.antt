@@ -1,5 +1,5 @@
 -- One division gives the centre of a segment of the points.
-use Rattle.std.proofs.Common.{◌≡◌, ℕ, ℤ, ◌<◌, ◌≤◌, List, length, ap, ◌∙◌}
+use Rattle.std.proofs.{Common.{◌≡◌, ℕ, ℤ, ◌<◌, ◌≤◌, List, length, arith}, lemmas.Grind.common_steps}
 use Rattle.segment_model.specs.{Segments.{Position, segment, IsCentre}, Limits.WithinLimits, Computed.{sum_of, centre_by_division}}
 use Rattle.segment_model.specs.{Values.{values_between, values_by_position, ValuesOfPoints}, Laws.{SegmentHasValue, DivisionGivesCentre}}
 
@@ -7,6 +7,4 @@ pub centre-at : ValuesOfPoints → SegmentHasValue → DivisionGivesCentre → (
     → positions ≡ values_by_position points → WithinLimits points → (s t : ℕ) → s < t → t ≤ length points → (x : ℤ)
     → x ≡ centre_by_division (length (values_between positions s t)) (sum_of (values_between positions s t))
     → IsCentre (segment points s t) x
-centre-at of_points some divided points positions stands limits s t lt le x is =
-    let same : values_between positions s t ≡ segment points s t = ap (λ all. values_between all s t) stands ∙ of_points points s t in
-    rw (is, same) (divided (segment points s t) (some points limits s t lt le))
+centre-at of_points some divided points positions stands limits s t lt le x is = grind (arith, common_steps)

@@ -1,35 +1,18 @@
 -- How many values and positions there are where a value is put in.
 use Rattle.std.proofs.Common.{◌≡◌, ℕ, ◌+◌, ◌≤◌, true, false, cond, List, [], ◌∷◌, ◌++◌, length, refl, sym, ap, subst, ◌∙◌, inl, inr, arith}
-use Rattle.std.proofs.lemmas.{Bool.{cases_order, lt-ltb, le-ltb, eq-eqb, ne_eqb}, List.{length-append, length_push, map-append, append_assoc, append-nil}}
-use Rattle.segment_model.specs.{Segments.{Observation, Position, values_of, position_values}, Edits.{with_value, inserted, has_commit}}
+use Rattle.std.proofs.lemmas.{Bool.{cases_order, lt-ltb, le-ltb, eq-eqb, ne_eqb}, List.{length_push, append_assoc, append-nil}, Grind.common_steps}
+use Rattle.segment_model.specs.{Segments.{Observation, Position, values_of}, Edits.{inserted, has_commit}}
 use Rattle.segment_model.{specs.Brought.{Brought, observed, positions_of}, proofs.Insertions.positions-push}
 
 -- one value more
 pub count-inserted : (commit : ℕ) (x : Observation) (points : List Position) → length (values_of (inserted commit x points)) ≡ length (values_of points) + 1
 count-inserted commit x [] = refl
-count-inserted commit x (p ∷ points) = elim (cases_order commit p.commit) [
-  | inl same ↦ rw (le-ltb commit p.commit (omega (arith, same)), eq-eqb p.commit commit (sym same)) (
-      let one : length (position_values (with_value x p)) ≡ length (position_values p) + 1 = ap length (map-append (λ (y : Observation). y.value) p.samples (x ∷ [])) ∙ length_push (position_values p) x.value in
-      omega (arith, one, length-append (position_values (with_value x p)) (values_of points), length-append (position_values p) (values_of points)))
-  | inr other ↦ elim other [
-    | inl below ↦ rw (lt-ltb commit p.commit below) (omega arith)
-    | inr above ↦ rw (le-ltb commit p.commit (omega (arith, above)), ne_eqb p.commit commit (λ e. omega (arith, e, above))) (
-        let rest = count-inserted commit x points in
-        omega (arith, rest, length-append (position_values p) (values_of (inserted commit x points)), length-append (position_values p) (values_of points)))
-  ]
-]
+count-inserted commit x (p ∷ points) = grind (arith, common_steps, count-inserted commit x points)
 
 -- as many positions, or one more
 size-between : (commit : ℕ) (x : Observation) (points : List Position) → (length points ≤ length (inserted commit x points)) × (length (inserted commit x points) ≤ length points + 1)
 size-between commit x [] = (omega arith, omega arith)
-size-between commit x (p ∷ points) = elim (cases_order commit p.commit) [
-  | inl same ↦ rw (le-ltb commit p.commit (omega (arith, same)), eq-eqb p.commit commit (sym same)) (omega arith, omega arith)
-  | inr other ↦ elim other [
-    | inl below ↦ rw (lt-ltb commit p.commit below) (omega arith, omega arith)
-    | inr above ↦ rw (le-ltb commit p.commit (omega (arith, above)), ne_eqb p.commit commit (λ e. omega (arith, e, above))) (
-        let rest = size-between commit x points in (omega (arith, rest.0), omega (arith, rest.1)))
-  ]
-]
+size-between commit x (p ∷ points) = grind (arith, common_steps, size-between commit x points)
 
 pub size-grows : (commit : ℕ) (x : Observation) (points : List Position) → length points ≤ length (inserted commit x points)
 size-grows commit x points = (size-between commit x points).0

@@ -1,6 +1,6 @@
 -- A sample more at the end is put into the positions as they stand.
-use Rattle.std.{proofs.Common.{◌≡◌, ◌≢◌, ℕ, suc, ◌<◌, ◌≤◌, inl, inr, cond, List, [], ◌∷◌, ◌++◌, map, refl, sym, ap, ◌∙◌, arith, ◌==◌}, specs.Prelude.filter}
-use Rattle.std.proofs.lemmas.{List.{map-append, append-nil}, List.Elements.filter-append, Bool.{cases_order, lt-ltb, le-ltb, eq-eqb, ne_eqb}}
+use Rattle.std.{proofs.Common.{◌≡◌, ◌≢◌, ℕ, suc, ◌<◌, ◌≤◌, inl, inr, List, [], ◌∷◌, ◌++◌, map, refl, sym, ap, ◌∙◌, arith, ◌==◌}, specs.Prelude.filter}
+use Rattle.std.proofs.lemmas.{List.map-append, Bool.{cases_order, lt-ltb, le-ltb, eq-eqb, ne_eqb}, Grind.common_steps}
 use Rattle.segment_model.specs.{Brought.{Brought, in_place, rising, position_at, positions_of}, Edits.inserted, Brought.observed}
 use Rattle.segment_model.proofs.Rising.{IsIn, RisesFrom, in-bound, rising-push, rising-rises, rising-has}
 
@@ -9,21 +9,12 @@ commit_of x = x.commit
 
 -- what was brought elsewhere leaves a position
 other-position : (items : List Brought) (x : Brought) (d : ℕ) → x.commit ≢ d → position_at (items ++ x ∷ []) d ≡ position_at items d
-other-position items x d other =
-    let kept : filter (λ (y : Brought). y.commit == d) (items ++ x ∷ []) ≡ filter (λ (y : Brought). y.commit == d) items =
-    filter-append (λ (y : Brought). y.commit == d) items (x ∷ [])
-    ∙ ap (λ b. filter (λ (y : Brought). y.commit == d) items ++ cond b (x ∷ []) []) (ne_eqb x.commit d other)
-    ∙ append-nil (filter (λ (y : Brought). y.commit == d) items) in
-    rw kept refl
+other-position items x d other = grind (arith, common_steps)
 
 -- what was brought there is its last sample
 same-position : (items : List Brought) (x : Brought) (d : ℕ) → x.commit ≡ d
     → position_at (items ++ x ∷ []) d ≡ record { commit = d; samples = (position_at items d).samples ++ record { step = x.step; value = x.value } ∷ [] }
-same-position items x d same =
-    let more : filter (λ (y : Brought). y.commit == d) (items ++ x ∷ []) ≡ filter (λ (y : Brought). y.commit == d) items ++ x ∷ [] =
-    filter-append (λ (y : Brought). y.commit == d) items (x ∷ [])
-    ∙ ap (λ b. filter (λ (y : Brought). y.commit == d) items ++ cond b (x ∷ []) []) (eq-eqb x.commit d same) in
-    rw (more, map-append) refl
+same-position items x d same = grind (arith, common_steps)
 
 none-there : (items : List Brought) (c : ℕ) → (IsIn c (map commit_of items) → ⊥) → filter (λ (y : Brought). y.commit == c) items ≡ []
 unfolding commit_of
@@ -32,9 +23,7 @@ none-there (x ∷ items) c none = rw (ne_eqb x.commit c (λ e. none (inl (sym e)
 
 kept-positions : (items : List Brought) (x : Brought) (low : ℕ) (ds : List ℕ) → x.commit < low → RisesFrom low ds → map (position_at (items ++ x ∷ [])) ds ≡ map (position_at items) ds
 kept-positions items x low [] lt rises = refl
-kept-positions items x low (d ∷ ds) lt rises =
-    ap (λ p. p ∷ map (position_at (items ++ x ∷ [])) ds) (other-position items x d (omega (arith, rises.0)))
-    ∙ ap (λ ps. position_at items d ∷ ps) (kept-positions items x (suc d) ds (omega (arith, rises.0)) rises.1)
+kept-positions items x low (d ∷ ds) lt rises = grind (arith, common_steps, kept-positions items x (suc d) ds (omega (arith, rises.0)) rises.1)
 
 new-position : (items : List Brought) (x : Brought) → (IsIn x.commit (map commit_of items) → ⊥)
     → position_at (items ++ x ∷ []) x.commit ≡ record { commit = x.commit; samples = record { step = x.step; value = x.value } ∷ [] }

@@ -1,6 +1,6 @@
 -- Joining the two segments beside a cut of the best list costs more, so that their centres differ.
 use Rattle.std.proofs.Common.{◌≡◌, ◌≢◌, ℕ, ℤ, zero, suc, ◌+◌, ◌-◌, ◌<◌, ◌≤◌, List, [], ◌∷◌, ◌++◌, length, reverse, slice_index, inl, inr, pos, ◌+ℤ◌, ◌≤ℤ◌, arith}
-use Rattle.std.proofs.lemmas.{Int.{ints, by_lt_z}, List.{reverse-append, length-reverse, length-append, get_or-reverse}}
+use Rattle.std.proofs.lemmas.{Int.{ints, by_lt_z}, List.{reverse-append, length-reverse, length-append, get_or-reverse}, Grind.common_steps}
 use Rattle.segment_model.specs.Segments.{Position, segment, squares_about, IsCentre, IsLeastSum, IsCost}
 use Rattle.segment_model.specs.{Cuts.{IsNotAfter, IsBest, place_before, place_behind}, Laws.IsNeeded}
 use Rattle.segment_model.proofs.{BestCuts.{FallsBelow, total_back, reverse-cons, IsBestBack, best-reversed}, Segments.segment-split, Centres.squares-append}
@@ -47,9 +47,7 @@ in-order : (len t k : ℕ) (cs : List ℕ) → FallsBelow len t cs → k < lengt
 in-order len t k [] h p = absurd (omega arith)
 in-order len t zero (c ∷ []) h p = (h.0, h.1, omega arith)
 in-order len t zero (c ∷ e ∷ r) h p = (h.2.1, h.1, omega arith)
-in-order len t (suc k) (c ∷ cs) h p =
-    let rest = in-order len c k cs h.2 (omega (arith, p)) in
-    (rest.0, rest.1, omega (arith, rest.2, h.1))
+in-order len t (suc k) (c ∷ cs) h p = grind (arith, common_steps, in-order len c k cs h.2 (omega (arith, p)))
 
 needed-back : (cost : ℕ → ℕ → ℤ) (b : ℤ) (len t k : ℕ) (cs : List ℕ) → IsBestBack cost b len t cs → k < length cs
     → IsNeeded cost b t (next_down cs k) (slice_index cs k) (next_up t cs k)
@@ -70,24 +68,13 @@ needed-back cost b len t k cs best p =
 -- ---- forwards
 module _ (cuts : List ℕ) (i : ℕ) (p : i < length cuts) where
   cut-turned : slice_index (reverse cuts) (length cuts - 1 - i) ≡ slice_index cuts i
-  cut-turned =
-      let there = get_or-reverse cuts (length cuts - 1 - i) 0 (omega (arith, p)) in
-      let e : length cuts - 1 - (length cuts - 1 - i) ≡ i = omega (arith, p) in
-      rw e at there
+  cut-turned = grind (arith, common_steps, get_or-reverse, cuts, length, i, p)
 
   before-turned : next_down (reverse cuts) (length cuts - 1 - i) ≡ place_before cuts i
-  before-turned =
-      let there = get_or-reverse (0 ∷ cuts) (suc (length cuts - 1 - i)) 0 (omega (arith, p)) in
-      let e : length (0 ∷ cuts) - 1 - suc (length cuts - 1 - i) ≡ i = omega (arith, p) in
-      rw (reverse-cons 0 cuts) at (rw e at there)
+  before-turned = grind (arith, common_steps, get_or-reverse, cuts, length, i, p, reverse-cons)
 
   behind-turned : (n : ℕ) → next_up n (reverse cuts) (length cuts - 1 - i) ≡ place_behind cuts n i
-  behind-turned n =
-      let size : length (cuts ++ n ∷ []) ≡ length cuts + 1 = length-append cuts (n ∷ []) in
-      let there = get_or-reverse (cuts ++ n ∷ []) (length cuts - 1 - i) 0 (omega (arith, p, size)) in
-      let e : length (cuts ++ n ∷ []) - 1 - (length cuts - 1 - i) ≡ i + 1 = omega (arith, p, size) in
-      let there' = rw e at there in
-      rw (reverse-append cuts (n ∷ [])) at there'
+  behind-turned n = grind (arith, common_steps, length, cuts, length-append, get_or-reverse, i, p, reverse-append)
 
 pub cuts-needed : (cost : ℕ → ℕ → ℤ) (b : ℤ) (len n : ℕ) (cuts : List ℕ) → IsBest cost b len n cuts → (i : ℕ) → i < length cuts
     → IsNeeded cost b n (place_before cuts i) (slice_index cuts i) (place_behind cuts n i)

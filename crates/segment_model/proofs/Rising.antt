@@ -1,6 +1,6 @@
 -- Rising lists of numbers, and the numbers of a list in rising order.
 use Rattle.std.proofs.Common.{◌≡◌, ℕ, suc, ◌<◌, ◌≤◌, ◌⊎◌, inl, inr, List, [], ◌∷◌, ◌++◌, length, refl, sym, ap, ◌∙◌, arith, nat_lt, if◌then◌else◌, ◌==◌}
-use Rattle.std.proofs.lemmas.Bool.{cases_order, lt-ltb, le-ltb, eq-eqb, ne_eqb}
+use Rattle.std.proofs.lemmas.{Bool.cases_order, Grind.common_steps}
 use Rattle.segment_model.specs.Brought.{in_place, rising}
 
 abbrev pub IsIn : ℕ → List ℕ → Type 0
@@ -40,13 +40,7 @@ no-longer low (x ∷ xs) (y ∷ ys) rx ry all = elim (cases_order x y) [
 ]
 
 pub in-place-cases : {A : Type 0} (c d : ℕ) (x y z : A) (P : A → Type 0) → (c < d → P x) → (d ≡ c → P y) → (d < c → P z) → P (if nat_lt c d then x else (if d == c then y else z))
-in-place-cases c d x y z P below same above = elim (cases_order c d) [
-  | inl e ↦ rw (le-ltb c d (omega (arith, e)), eq-eqb d c (sym e)) (same (sym e))
-  | inr other ↦ elim other [
-    | inl lt ↦ rw (lt-ltb c d lt) (below lt)
-    | inr gt ↦ rw (le-ltb c d (omega (arith, gt)), ne_eqb d c (λ e. omega (arith, e, gt))) (above gt)
-  ]
-]
+in-place-cases c d x y z P below same above = grind (arith, common_steps)
 
 pub in_place-rises : (low c : ℕ) (ds : List ℕ) → low ≤ c → RisesFrom low ds → RisesFrom low (in_place c ds)
 in_place-rises low c [] le rises = (le, tt)
@@ -66,11 +60,7 @@ in_place-has c d (e ∷ ds) is_in =
 
 pub in_place-only : (c d : ℕ) (ds : List ℕ) → IsIn c (in_place d ds) → (c ≡ d) ⊎ IsIn c ds
 in_place-only c d [] = λ is_in. is_in
-in_place-only c d (e ∷ ds) =
-    in-place-cases d e (d ∷ e ∷ ds) (e ∷ ds) (e ∷ in_place d ds) (λ xs. IsIn c xs → (c ≡ d) ⊎ IsIn c (e ∷ ds))
-    (λ lt is_in. is_in)
-    (λ same is_in. inr is_in)
-    (λ gt is_in. elim is_in [ inl at ↦ inr (inl at) | inr later ↦ elim (in_place-only c d ds later) [ inl at ↦ inl at | inr there ↦ inr (inr there) ] ])
+in_place-only c d (e ∷ ds) = grind (arith, common_steps, in_place-only c d ds)
 
 pub rising-rises : (cs : List ℕ) → RisesFrom 0 (rising cs)
 rising-rises [] = tt

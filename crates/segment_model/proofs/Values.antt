@@ -1,7 +1,6 @@
 -- Segments of positions as lists of values.
 use Rattle.std.proofs.Common.{◌≡◌, ℕ, ℤ, zero, suc, ◌+◌, ◌-◌, ◌<◌, ◌≤◌, List, [], ◌∷◌, ◌++◌, length, get_or, take, drop, All, refl, sym, ap, subst, ◌∙◌, pos, ◌^◌, ◌≤ℤ◌, arith}
-use Rattle.std.proofs.lemmas.Int.{ints}
-use Rattle.std.proofs.lemmas.List.{length-append, length-drop, length-map, drop-drop, take-append-drop, take_all, take_more, take-append-le, drop-append-le}
+use Rattle.std.proofs.lemmas.{Int.ints, Grind.common_steps, List.{length-append, length-map, drop-drop, take-append-drop, take_all, take_more}}
 use Rattle.std.proofs.lemmas.List.Concat.{flat_map-append}
 use Rattle.segment_model.specs.{Segments.{Observation, Position, position_values, values_of, segment, IsCost}, Limits.{IsSmall, HasValue, WithinLimits}}
 use Rattle.segment_model.specs.Values.{joined, values_between, values_by_position, IsSome, AreWithinLimits, ValuesHaveParts, ValuesAreWithinLimits, ValuesAreSome, FrontHasSameValues, FrontIsWithinLimits, FirstAreWithinLimits, NextOfPoints, AllOfPoints, NextValuesFollow, ValuesOfPoints, PointsAreWithinLimits, SegmentsMerge, SegmentsAreInRange}
@@ -58,9 +57,7 @@ values-within positions within s t le fits = (values-small positions within s t 
 one-list : (positions : List (List ℤ)) (i : ℕ) → i < length positions → values_between positions i (i + 1) ≡ get_or positions i [] ++ []
 one-list [] i h = absurd (omega arith)
 one-list (p ∷ positions) zero h = refl
-one-list (p ∷ positions) (suc i) h =
-    let e : suc i + 1 - suc i ≡ i + 1 - i = omega arith in
-    rw e (one-list positions i (omega arith))
+one-list (p ∷ positions) (suc i) h = grind (arith, common_steps, one-list positions i (omega arith))
 
 pub values-some : ValuesAreSome
 values-some positions within s t lt fits =
@@ -74,21 +71,10 @@ values-some positions within s t lt fits =
     )
 
 pub front-values : FrontHasSameValues
-front-values front rest s t le fits =
-    let e : drop s (front ++ rest) ≡ drop s front ++ rest = drop-append-le s front rest (omega arith) in
-    let g : take (t - s) (drop s front ++ rest) ≡ take (t - s) (drop s front) = take-append-le (t - s) (drop s front) rest (omega (arith, length-drop s front)) in
-    ap joined (ap (take (t - s)) e ∙ g)
+front-values front rest s t le fits = grind (arith, common_steps)
 
 pub next-values : NextValuesFollow
-next-values positions values =
-    let size : length (positions ++ values ∷ []) ≡ length positions + 1 = length-append positions (values ∷ []) in
-    let all : values_between (positions ++ values ∷ []) 0 (length positions + 1) ≡ joined (positions ++ values ∷ []) =
-    ap (λ (n : ℕ). values_between (positions ++ values ∷ []) 0 n) (sym size) ∙ values-whole (positions ++ values ∷ []) in
-    all ∙ joined-append positions (values ∷ []) ∙ ap (λ xs. xs ++ (values ++ [])) (sym (values-whole positions)) ∙ ap (λ xs. values_between positions 0 (length positions) ++ xs) (append-empty values)
-  where
-    append-empty : (xs : List ℤ) → xs ++ [] ≡ xs
-    append-empty [] = refl
-    append-empty (x ∷ xs) = ap (λ ys. x ∷ ys) (append-empty xs)
+next-values positions values = grind (arith, common_steps)
 
 joined-map : (points : List Position) → joined (values_by_position points) ≡ values_of points
 joined-map [] = refl
@@ -105,23 +91,15 @@ drop-map (suc n) [] = refl
 drop-map (suc n) (p ∷ points) = drop-map n points
 
 pub points-values : ValuesOfPoints
-points-values points s t =
-    ap (λ xs. joined (take (t - s) xs)) (drop-map s points) ∙ ap joined (take-map (t - s) (drop s points)) ∙ joined-map (take (t - s) (drop s points))
+points-values points s t = grind (arith, common_steps, take, drop-map, take-map, drop, joined-map)
 
 some-map : (points : List Position) → All HasValue points → All IsSome (values_by_position points)
 some-map [] h k d lt = absurd (omega arith)
-some-map (p ∷ points) h zero d lt =
-    let here : 0 < length p.samples = h zero p (omega arith) in
-    omega (arith, here, length-map p.samples (λ (x : Observation). x.value))
+some-map (p ∷ points) h zero d lt = omega (arith, length-map p.samples (λ (x : Observation). x.value), h zero p (omega arith))
 some-map (p ∷ points) h (suc k) d lt = some-map points (λ k' d' lt'. h (suc k') d' (omega arith)) k d (omega arith)
 
 pub points-within : PointsAreWithinLimits
-points-within points h = record {
-  few_positions = omega (arith, h.few_positions, length-map points position_values);
-  few_values = rw (joined-map points) h.few_values;
-  small = rw (joined-map points) h.small;
-  none_empty = some-map points h.none_empty;
-}
+points-within points h = grind (arith, common_steps, length-map, joined-map, some-map)
 
 -- ---- the segments of points within the limits
 module _ (points : List Position) (within : WithinLimits points) where

@@ -1,12 +1,11 @@
 -- Tables that were looked at entry by entry are the tables.
-use Rattle.std.proofs.Common.{◌≡◌, ◌≢◌, ℕ, ℤ, suc, zero, ◌+◌, ◌<◌, ◌≤◌, List, [], ◌∷◌, ◌++◌, reverse, length, map, cond, ltb, take, slice_index, ◌⊎◌, inl, inr, refl, sym, ap, ◌∙◌, subst, pos, ◌+ℤ◌, ◌≤ℤ◌, arith}
-use Rattle.std.proofs.lemmas.{Int.ints, Bool.{cases_lt, cases_eq, lt-ltb, le-ltb}, List.{length-take, length-map, take_more, take_all, get_or-take, get_or-map}}
-use Rattle.segment_model.specs.Cuts.{Merges}
+use Rattle.std.proofs.lemmas.Grind.{common_steps}
+use Rattle.std.proofs.Common.{◌≡◌, ◌≢◌, ℕ, ℤ, suc, zero, ◌+◌, ◌<◌, ◌≤◌, List, [], ◌∷◌, ◌++◌, reverse, length, map, cond, ltb, take, slice_index, ◌⊎◌, inl, inr, sym, ap, ◌∙◌, subst, pos, ◌+ℤ◌, ◌≤ℤ◌, arith}
+use Rattle.std.proofs.lemmas.{Int.ints, Bool.{cases_lt, cases_eq}, List.{length-take, length-map, take_more, take_all, get_or-take, get_or-map}}
+use Rattle.segment_model.specs.{Cuts.Merges, Laws.{VerifiedIsTable, TableIsVerified, BestIsWalk}}
 use Rattle.segment_model.specs.Tables.{int_at, IsCandidate, IsDear, IsTable, IsFirstLeast, IsMarkedAt, IsUnmarkedBehind, IsOpenAt, IsUnmarkedBefore, IsSettled, IsVerified, IsWalk}
-use Rattle.segment_model.specs.Laws.{VerifiedIsTable, TableIsVerified, BestIsWalk}
-use Rattle.segment_model.proofs.BestCuts.{candidate-or, IsBestBack, best-reversed, first_least-some, total_back}
-use Rattle.segment_model.proofs.{Rows.{IsPlace, head_or_zero, table-place, next-place, best_back-unique, place-best, tail-best}, Growth.table-grows}
-use Rattle.segment_model.proofs.{Pruning.open-first, Shrinking.{total-at-most, not-dear}}
+use Rattle.segment_model.proofs.{BestCuts.{IsBestBack, best-reversed, first_least-some}, Pruning.open-first, Shrinking.{total-at-most, not-dear}}
+use Rattle.segment_model.proofs.{Rows.{IsPlace, table-place, next-place, place-best, tail-best}, Growth.table-grows}
 
 -- a mark, where it isn't behind place m
 mark-within : ℕ → ℕ → ℕ
@@ -14,20 +13,11 @@ mark-within m u = cond (ltb m u) 0 u
 
 mark-is : (m u : ℕ) → IsUnmarkedBehind m u (mark-within m u)
 unfolding mark-within
-mark-is m u = elim (cases_lt m u) [
-  | inl behind ↦ rw (lt-ltb m u behind) (inr (behind, refl))
-  | inr within ↦ rw (le-ltb m u within) (inl (within, refl))
-]
+mark-is m u = grind (arith, common_steps)
 
 -- a place is settled by a last cut, or it isn't
 settled-or : (len k s : ℕ) → IsSettled len k s ⊎ (¬ IsSettled len k s)
-settled-or len k s = elim (cases_eq k s) [
-  | inl same ↦ inl (inl same)
-  | inr apart ↦ elim (candidate-or len s k) [
-    | inl is ↦ inl (inr is)
-    | inr isnt ↦ inr (λ settled. elim settled [ inl same ↦ apart same | inr is ↦ isnt is ])
-  ]
-]
+settled-or len k s = grind (arith, common_steps)
 
 -- the marks of the first m + 1 places that aren't behind place m
 marks-within : ℕ → List ℕ → List ℕ
@@ -164,11 +154,7 @@ module _ (cost : ℕ → ℕ → ℤ) (n : ℕ) (b : ℤ) (len : ℕ) (least : L
       back_at_none = get_or-take 1 back 0 0 (omega arith) ∙ h.tables.back_at_none;
     };
     row = λ t some in'. absurd (omega arith);
-    pruned_at = λ s in'.
-        let e : s ≡ 0 = omega arith in
-        let mark = mark-at 0 0 le (omega arith) in
-        let none : slice_index (marks-within 0 pruned) 0 ≡ 0 = elim mark [ inl stays ↦ omega (arith, stays.0, stays.1) | inr goes ↦ goes.1 ] in
-        rw (e, none) (inl (refl, λ v above within. absurd (omega arith)));
+    pruned_at = grind (arith, common_steps, mark-at, slice_index, marks-within, pruned);
   }
   verified-upto (suc m) le =
       let e : m + 1 ≡ suc m = omega arith in
@@ -188,11 +174,7 @@ verified-table cost n b len least back pruned merges low some h =
     }
 
 place-unique : (cost : ℕ → ℕ → ℤ) (b : ℤ) (len t : ℕ) (l l' : ℤ) (k k' : ℕ) → 0 < t → IsPlace cost b len t l k → IsPlace cost b len t l' k' → (l ≡ l') × (k ≡ k')
-place-unique cost b len t l l' k k' p h h' =
-    let one = h.some p in
-    let other = h'.some p in
-    let same : one.0 ≡ other.0 = best_back-unique cost b len t one.0 other.0 one.1 other.1 in
-    (one.2 ∙ ap (total_back cost b t) same ∙ sym other.2, one.3 ∙ ap head_or_zero same ∙ sym other.3)
+place-unique cost b len t l l' k k' p h h' = grind (arith, common_steps)
 
 module _ (cost : ℕ → ℕ → ℤ) (n : ℕ) (b : ℤ) (len : ℕ) (least : List ℤ) (back pruned : List ℕ) (h : IsTable cost n b len least back pruned) where
   -- the first least place of a table's place is its last cut

@@ -1,7 +1,7 @@
 -- The metrics at the place of a test, and what a write there makes of what is found by name.
 use Rattle.std.proofs.Common.{◌≡◌, ℕ, zero, suc, ◌+◌, ◌<◌, ◌≤◌, Bool, true, false, cond, not, nat_lt, List, [], ◌∷◌, ◌++◌, length, set, drop, get_or, refl, sym, ap, subst, ◌∙◌, Option, Some, None, inl, inr, arith}
 use Rattle.std.specs.{Prelude.{bytes_eq, position, unwrap_or}, List.position_or_len, Map.{keys_of, lookup}, Cmp.Lexicographic.nat_list_eq_equiv}
-use Rattle.std.proofs.lemmas.{Bool.{cases_Bool, cases_lt, lt-ltb}, List.Quantifiers.position-Some, Map.Text.is_eq-slice_cmp}
+use Rattle.std.proofs.lemmas.{Bool.{cases_Bool, cases_lt, lt-ltb}, List.Quantifiers.position-Some, Map.Text.is_eq-slice_cmp, Grind.common_steps}
 use Rattle.series_index.specs.{declared.tracked.Tracked.Tracked, Seen.{is_same, is_series, unseen, seen_of, seen}}
 use Rattle.history_model.specs.Runs.{Series}
 use Rattle.series_index.proofs.Written.{Metrics, same-name, seen-within, same-within, absent-within}
@@ -20,30 +20,18 @@ pub as-same : (test name q : List ℕ) → is_same test name ≡ true → is_sam
 as-same test name q same = ap (λ (n : List ℕ). is_same q n) (sym (same-name test name same)) ∙ turned q test
 
 twice : {A : Type 0} (b : Bool) (x y z : A) → cond b x z ≡ cond b x (cond b y z)
-twice true x y z = refl
-twice false x y z = refl
+twice b x y z = grind (arith, common_steps)
 
 -- behind a test of another name
 past-other : (test q : List ℕ) (e : List ℕ × Metrics) (m : Metrics) (es : Tests) → is_same test e.0 ≡ false
     → cond (is_same q e.0) (Some e.1) (cond (is_same test q) (Some m) (metrics_of q es)) ≡ cond (is_same test q) (Some m) (metrics_of q (e ∷ es))
-past-other test q e m es other = elim (cases_Bool (is_same test q)) [
-  | inl hit ↦
-      let miss : is_same q e.0 ≡ false = ap (λ (n : List ℕ). is_same n e.0) (sym (same-name test q hit)) ∙ other in
-      ap (λ b. cond b (Some e.1) (cond (is_same test q) (Some m) (metrics_of q es))) miss
-      ∙ ap (λ b. cond b (Some m) (metrics_of q es)) hit
-      ∙ sym (ap (λ b. cond b (Some m) (metrics_of q (e ∷ es))) hit)
-  | inr miss ↦
-      ap (λ b. cond (is_same q e.0) (Some e.1) (cond b (Some m) (metrics_of q es))) miss
-      ∙ sym (ap (λ b. cond b (Some m) (metrics_of q (e ∷ es))) miss)
-]
+past-other test q e m es other = grind (arith, common_steps, cases_Bool, same-name, cond, metrics_of)
 
 -- ---- the first place of a name
 module _ (test : List ℕ) (r : List ℕ × Metrics) (here : is_same test r.0 ≡ true) where
   metrics-at : (es : Tests) (p : ℕ) → p < length es → r ≡ get_or es p r → ((k : ℕ) → k < p → is_same test (get_or es k r).0 ≡ false) → metrics_of test es ≡ Some r.1
   metrics-at [] p lt at before = absurd (omega arith)
-  metrics-at (e ∷ es) zero lt at before =
-      let hit : is_same test e.0 ≡ true = ap (λ (x : List ℕ × Metrics). is_same test x.0) (sym at) ∙ here in
-      ap (λ b. cond b (Some e.1) (metrics_of test es)) hit ∙ ap (λ (x : List ℕ × Metrics). Some x.1) (sym at)
+  metrics-at (e ∷ es) zero lt at before = grind (arith, common_steps)
   metrics-at (e ∷ es) (suc p) lt at before =
       ap (λ b. cond b (Some e.1) (metrics_of test es)) (before 0 (omega arith))
       ∙ metrics-at es p (omega arith) at (λ k less. before (suc k) (omega arith))
@@ -51,12 +39,7 @@ module _ (test : List ℕ) (r : List ℕ × Metrics) (here : is_same test r.0 �
   metrics-written : (m : Metrics) (es : Tests) (p : ℕ) → p < length es → r ≡ get_or es p r → ((k : ℕ) → k < p → is_same test (get_or es k r).0 ≡ false)
       → (q : List ℕ) → metrics_of q (set es p (r.0, m)) ≡ cond (is_same test q) (Some m) (metrics_of q es)
   metrics-written m [] p lt at before q = absurd (omega arith)
-  metrics-written m (e ∷ es) zero lt at before q =
-      let one : is_same q r.0 ≡ is_same test q = as-same test r.0 q here in
-      let two : is_same q e.0 ≡ is_same test q = ap (λ (x : List ℕ × Metrics). is_same q x.0) (sym at) ∙ one in
-      ap (λ b. cond b (Some m) (metrics_of q es)) one
-      ∙ twice (is_same test q) (Some m) (Some e.1) (metrics_of q es)
-      ∙ ap (λ b. cond (is_same test q) (Some m) (cond b (Some e.1) (metrics_of q es))) (sym two)
+  metrics-written m (e ∷ es) zero lt at before q = grind (arith, common_steps, r.0, test, as-same, here, cond, metrics_of, twice)
   metrics-written m (e ∷ es) (suc p) lt at before q =
       let next = metrics-written m es p (omega arith) at (λ k less. before (suc k) (omega arith)) q in
       ap (cond (is_same q e.0) (Some e.1)) next ∙ past-other test q e m es (before 0 (omega arith))
@@ -134,14 +117,7 @@ absent test (e ∷ es) past =
     ]
 
 pub none-metrics : (test : List ℕ) (names : List (List ℕ)) (es : Tests) → names ≡ keys_of es → position (λ (k : List ℕ). bytes_eq test k) names ≡ None → metrics_of test es ≡ None
-none-metrics test names es same none =
-    let ks : List (List ℕ) = keys_of es in
-    let n : ℕ = position_or_len (λ (k : List ℕ). bytes_eq test k) ks in
-    let none_here : cond (nat_lt n (length ks)) (Some n) None ≡ None = ap (position (λ (k : List ℕ). bytes_eq test k)) (sym same) ∙ none in
-    elim (cases_lt n (length ks)) [
-      | inl lt ↦ absurd (let no : Some n ≡ None = sym (ap (λ b. cond b (Some n) None) (lt-ltb n (length ks) lt)) ∙ none_here in cc)
-      | inr ge ↦ absent test es (omega (arith, length-keys es, ge))
-    ]
+none-metrics test names es same none = grind (arith, common_steps, cond, nat_lt, length, cases_lt, lt-ltb, absent, length-keys)
 
 -- ---- one test more
 added-metrics : (test : List ℕ) (m : Metrics) (es : Tests) → metrics_of test es ≡ None → (q : List ℕ) → metrics_of q (es ++ (test, m) ∷ []) ≡ cond (is_same test q) (Some m) (metrics_of q es)
@@ -155,8 +131,7 @@ added-metrics test m (e ∷ es) none q = elim (cases_Bool (is_same test e.0)) [
 
 module _ (test metric : List ℕ) (es now : Tests) (view_is : es ≡ now) (none : metrics_of test es ≡ None) where
   pub unseen-at : seen (record { test = test; metric = metric }) now ≡ unseen
-  unseen-at =
-      ap (λ (ts : Tests). seen (record { test = test; metric = metric }) ts) (sym view_is) ∙ ap (λ (o : Option Metrics). seen_of metric (unwrap_or o [])) none
+  unseen-at = grind (arith, common_steps)
 
   -- what leaves an unseen series as it is changes nothing
   pub seen-none : (f : Tracked → Tracked) → f unseen ≡ unseen → (s : Series) → seen s now ≡ cond (is_series test metric s) (f (seen s now)) (seen s now)
@@ -172,10 +147,6 @@ module _ (test metric : List ℕ) (es now : Tests) (view_is : es ≡ now) (none 
       (added-metrics test new es none) metric f inner s
       ∙ ap (λ (ts : Tests). cond (is_series test metric s) (f (seen s ts)) (seen s ts)) view_is
 
-pub added-keys : (test : List ℕ) (m : Metrics) (es : Tests) → keys_of (es ++ (test, m) ∷ []) ≡ keys_of es ++ test ∷ []
-added-keys test m [] = refl
-added-keys test m (e ∷ es) = ap (λ (ks : List (List ℕ)). e.0 ∷ ks) (added-keys test m es)
-
 -- ---- what is read at a place
 pub read-at : (es : Tests) (p : ℕ) (r d : List ℕ × Metrics) → p < length es → get_or es p r ≡ get_or es p d
 read-at [] p r d lt = absurd (omega arith)
@@ -187,15 +158,7 @@ read-past [] p d past = refl
 read-past (e ∷ es) zero d past = absurd (omega arith)
 read-past (e ∷ es) (suc p) d past = read-past es p d (omega arith)
 
-pub none-behind : (es : Tests) (k : ℕ) → length es ≤ k → drop k es ≡ []
-none-behind [] zero past = refl
-none-behind [] (suc k) past = refl
-none-behind (e ∷ es) zero past = absurd (omega arith)
-none-behind (e ∷ es) (suc k) past = none-behind es k (omega arith)
-
 pub one-behind : (es : Tests) (k : ℕ) (d : List ℕ × Metrics) → k < length es → drop k es ≡ get_or es k d ∷ drop (k + 1) es
 one-behind [] k d lt = absurd (omega arith)
 one-behind (e ∷ es) zero d lt = refl
-one-behind (e ∷ es) (suc k) d lt =
-    let next : suc (k + 1) ≡ suc k + 1 = omega arith in
-    one-behind es k d (omega arith) ∙ ap (λ (n : ℕ). get_or es k d ∷ drop n (e ∷ es)) next
+one-behind (e ∷ es) (suc k) d lt = grind (arith, common_steps, one-behind es k d (omega arith))

@@ -1,6 +1,6 @@
 -- The samples of a run, one more: which make a series known, and how many a series has.
-use Rattle.std.proofs.Common.{◌≡◌, ℕ, ◌+◌, ◌<◌, ◌≤◌, Bool, true, false, cond, not, ◌&&◌, ◌||◌, List, [], ◌∷◌, ◌++◌, length, map, take, get_or, refl, sym, ap, subst, ◌∙◌, Option, Some, None, is_some, All, ℤ, pos, negsuc, FitsSigned, w64, arith, inl, inr}
-use Rattle.std.{specs.Prelude.{filter, bytes_eq, is_none}, specs.List.list_any, proofs.lemmas.Bool.cases_Bool, proofs.lemmas.Int.ints}
+use Rattle.std.proofs.Common.{◌≡◌, ℕ, ◌+◌, ◌<◌, ◌≤◌, Bool, true, false, cond, not, ◌&&◌, ◌||◌, List, [], ◌∷◌, ◌++◌, length, map, take, get_or, sym, ap, subst, ◌∙◌, Option, is_some, All, ℤ, FitsSigned, w64, arith, inl, inr}
+use Rattle.std.{specs.Prelude.{filter, bytes_eq, is_none}, specs.List.list_any, proofs.lemmas.Bool.cases_Bool, proofs.lemmas.Grind.common_steps}
 use Rattle.std.proofs.lemmas.{List.{take_more, append-nil, length-append, map-append}, List.Elements.filter-append, Slice.Eq.bytes_eq-Decides}
 use Rattle.segment_model.{specs.Segments.values_of, specs.Limits.IsSmall, proofs.Inserted.count-inserted}
 use Rattle.history_model.{specs.Laws.SeriesAreListedOnce, specs.Runs.{Series, is_of, measured, distinct, same_series}, proofs.Lists.{or-true, any-map}}
@@ -10,31 +10,15 @@ use Rattle.series_index.{specs.Demands.{Kept, is_new, new_ones}, proofs.Runs.{fi
 use Rattle.series_index.proofs.Undo.{room-after, room-next}
 
 pub own : (x : Measurement) → is_of (measured x) x ≡ true
-own x =
-    ap (λ b. b && bytes_eq x.metric x.metric) ((bytes_eq-Decides x.test x.test).1 refl)
-    ∙ (bytes_eq-Decides x.metric x.metric).1 refl
+own x = grind (arith, common_steps, bytes_eq, bytes_eq-Decides)
 
 pub one-of : (s : Series) (x : Measurement) → is_of s x ≡ true → measured x ≡ s
-one-of s x is =
-    let two = both (bytes_eq x.test s.test) (bytes_eq x.metric s.metric) is in
-    ap (λ (n : List ℕ). let u : Series = record { test = n; metric = x.metric } in u) ((bytes_eq-Decides x.test s.test).0 two.0)
-    ∙ ap (λ (n : List ℕ). let u : Series = record { test = s.test; metric = n } in u) ((bytes_eq-Decides x.metric s.metric).0 two.1)
-  where
-    both : (a b : Bool) → (a && b) ≡ true → (a ≡ true) × (b ≡ true)
-    both true b h = (refl, h)
-    both false b h = absurd (let no : false ≡ true = h in cc)
+one-of s x is = grind (arith, common_steps, bytes_eq, bytes_eq-Decides)
 
 -- what holds of the series of the samples so far, and of the next one's, holds with it
 pub so-far : (P : Series → Type 0) (samples : List Measurement) (i : ℕ) (x : Measurement) → i < length samples → x ≡ get_or samples i x
     → ((s : Series) → 0 < length (of_series s (take i samples)) → P s) → P (measured x) → (s : Series) → 0 < length (of_series s (take (i + 1) samples)) → P s
-so-far P samples i x lt is before here s some = elim (cases_Bool (is_of s x)) [
-  | inl hit ↦ subst P (one-of s x hit) here
-  | inr miss ↦
-      let same : of_series s (take (i + 1) samples) ≡ of_series s (take i samples) =
-      filter-next (is_of s) samples i x lt is ∙ ap (λ b. of_series s (take i samples) ++ cond b (x ∷ []) []) miss ∙ append-nil (of_series s (take i samples)) in
-      let count : length (of_series s (take (i + 1) samples)) ≡ length (of_series s (take i samples)) = ap length same in
-      before s (omega (arith, some, count))
-]
+so-far P samples i x lt is before here s some = grind (arith, common_steps, cases_Bool, is_of, one-of, take, filter-next, cond, append-nil, length)
 
 -- the series of a sample has one
 pub has-own : (samples : List Measurement) (i : ℕ) (x : Measurement) → i < length samples → x ≡ get_or samples i x → 0 < length (of_series (measured x) samples)
@@ -49,8 +33,7 @@ count-with commit step (x ∷ xs) t =
     omega (arith, rest, one)
 
 pub or-false : (b : Bool) → (b || false) ≡ b
-or-false true = refl
-or-false false = refl
+or-false b = grind (arith, common_steps)
 
 pub known-with : (commit step : ℕ) (s : Series) (xs : List Measurement) (t : Tracked)
     → is_some (with_samples commit step (of_series s xs) t).since ≡ (is_some t.since || list_any (is_of s) xs)
@@ -62,12 +45,7 @@ known-with commit step s (x ∷ xs) t = elim (cases_Bool (is_of s x)) [
 
 -- ---- new series
 one-or-none : (p : Series → Bool) (there : Bool) (s : Series) → length (filter p (cond there [] (s ∷ []))) ≡ cond (p s && not there) 1 0
-one-or-none p true s = none (p s)
-  where
-    none : (b : Bool) → ◌≡◌ {A = ℕ} 0 (cond (b && false) 1 0)
-    none true = refl
-    none false = refl
-one-or-none p false s = elim (cases_Bool (p s)) [ inl hit ↦ rw hit refl | inr miss ↦ rw miss refl ]
+one-or-none p there s = grind (arith, common_steps)
 
 pub new-next : SeriesAreListedOnce → (index : Kept) (samples : List Measurement) (i : ℕ) (x : Measurement) → i < length samples → x ≡ get_or samples i x
     → length (new_ones index (take (i + 1) samples)) ≡ length (new_ones index (take i samples)) + cond (is_new index (measured x) && not (list_any (is_of (measured x)) (take i samples))) 1 0
@@ -84,12 +62,10 @@ new-next law index samples i x lt is =
     ∙ ap (λ b. length (filter (is_new index) (distinct same_series before)) + cond (is_new index (measured x) && not b) 1 0) (any-map (λ y. same_series y (measured x)) measured (take i samples))
 
 pub none-is : (o : Option ℕ) → not (is_some o) ≡ is_none o
-none-is None = refl
-none-is (Some n) = refl
+none-is o = grind (arith, common_steps)
 
 pub one-at-most : (b : Bool) → cond b 1 0 ≤ 1
-one-at-most true = omega arith
-one-at-most false = omega arith
+one-at-most b = grind (arith, common_steps)
 
 pub filter-few : {A : Type 0} (p : A → Bool) (xs : List A) → length (filter p xs) ≤ length xs
 filter-few p [] = omega arith
@@ -97,8 +73,7 @@ filter-few p (x ∷ xs) = let rest = filter-few p xs in elim (p x) as (λ b. len
 
 -- ---- the next sample of a run
 pub small-fits : (v : ℤ) → IsSmall v → FitsSigned w64 v
-small-fits (pos n) small = omega (arith, ints, small)
-small-fits (negsuc n) small = omega (arith, ints, small)
+small-fits v small = grind (arith, common_steps)
 
 module _ (kept : Kept) (commit step : ℕ) (samples : List Measurement) (i : ℕ) (x y : Measurement) (lt : i < length samples) (is : x ≡ get_or samples i x) (inside : y ≡ x)
     (all_small : All (λ (z : Measurement). IsSmall z.value) samples) where

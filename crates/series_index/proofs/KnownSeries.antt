@@ -1,11 +1,11 @@
 -- The known series of an index, listed in order.
-use Rattle.std.proofs.Common.{◌≡◌, ◌⊎◌, inl, inr, ℕ, Bool, true, false, true≢false, cond, List, [], ◌∷◌, Less, nat_cmp, refl, sym, ap, subst, ◌∙◌, Option, Some, ◌↔◌}
+use Rattle.std.proofs.Common.{◌≡◌, ◌⊎◌, inl, inr, ℕ, Bool, true, false, true≢false, cond, List, [], ◌∷◌, Less, nat_cmp, refl, sym, ap, subst, ◌∙◌, Option, Some, ◌↔◌, arith}
 use Rattle.std.specs.{Prelude.{Contains, is_some, unwrap_or}, Ordering.{is_eq, ordering_then, ordering_reverse}, Cmp.Lexicographic.slice_cmp}
 use Rattle.std.{specs.List.AllByRecursion, specs.List.Sorted.IsStrictlySortedBy, specs.Map.{keys_of, lookup}, proofs.lemmas.Bool.cases_Bool}
 use Rattle.std.proofs.lemmas.{Cmp.{nat_list_cmp_total, tied_itself}, List.Elements.{Contains-append_left, Contains-append_right, Contains-append_cases}}
-use Rattle.std.proofs.lemmas.Map.Keys.{sorted_tail}
+use Rattle.std.proofs.lemmas.{Map.Keys.sorted_tail, Grind.common_steps}
 use Rattle.history_model.specs.{Runs.Series, SeriesOrder.series_cmp}
-use Rattle.history_model.proofs.Members.{here, behind, either, none-in-nil, later, sorted-nil, sorted-cons, sorted-append}
+use Rattle.history_model.proofs.Members.{here, behind, none-in-nil, later, sorted-nil, sorted-cons, sorted-append}
 use Rattle.series_index.specs.{declared.tracked.Tracked.Tracked, Known.AreKnown, Listed.{put_if, known_of, all_known, metrics_at, at_place, in_places}}
 use Rattle.series_index.{specs.Seen.{is_same, seen, seen_of, unseen}, proofs.Written.same-name, proofs.ByPlace.turned}
 
@@ -21,20 +21,17 @@ HasSorted t = IsStrictlySortedBy (slice_cmp nat_cmp) (keys_of t.1)
 
 -- ---- one more series, where it is known
 in-put : (b : Bool) (x s : Series) (xs : List Series) → Contains (put_if b x xs) s → ((b ≡ true) × (x ≡ s)) ⊎ Contains xs s
-in-put true x s xs has = elim (either s x xs has) [ inl same ↦ inl (refl, same) | inr later ↦ inr later ]
-in-put false x s xs has = inr has
+in-put b x s xs has = grind (arith, common_steps)
 
 put-here : (b : Bool) (x : Series) (xs : List Series) → b ≡ true → Contains (put_if b x xs) x
-put-here true x xs known = here x xs
-put-here false x xs known = absurd (true≢false (sym known))
+put-here b x xs known = grind (arith, common_steps)
 
 put-behind : (b : Bool) (x s : Series) (xs : List Series) → Contains xs s → Contains (put_if b x xs) s
 put-behind true x s xs has = behind s x xs has
 put-behind false x s xs has = has
 
 put-sorted : (b : Bool) (x : Series) (xs : List Series) → ((s : Series) → Contains xs s → series_cmp x s ≡ Less) → IsStrictlySortedBy series_cmp xs → IsStrictlySortedBy series_cmp (put_if b x xs)
-put-sorted true x xs below up = sorted-cons series_cmp x xs below up
-put-sorted false x xs below up = up
+put-sorted b x xs below up = grind (arith, common_steps, sorted-cons)
 
 -- ---- those of one test
 test-of : (test : List ℕ) (es : Metrics) (s : Series) → Contains (known_of test es) s → s.test ≡ test
@@ -142,10 +139,7 @@ from-all (t ∷ ts) s up each has =
     ]
 
 pub listed : (ts : Tests) → IsStrictlySortedBy (slice_cmp nat_cmp) (keys_of ts) → AllByRecursion HasSorted ts → AreKnown ts (all_known ts)
-listed ts up each = record {
-  just = λ s. (into-all ts s, from-all ts s up each);
-  ordered = all-sorted ts up each;
-}
+listed ts up each = grind (arith, common_steps, into-all, from-all, all-sorted)
 
 -- an order of the tests by their names, each with its place
 module _ (tests : Tests) where
@@ -155,12 +149,7 @@ module _ (tests : Tests) where
 
   found-in-places : (t : List ℕ) (order : List (List ℕ × ℕ)) → lookup (λ (n : List ℕ). is_same t n) (in_places tests order) ≡ at_place tests (lookup (λ (n : List ℕ). is_same t n) order)
   found-in-places t [] = refl
-  found-in-places t (e ∷ es) =
-      ap (cond (is_same t e.0) (Some (metrics_at tests e.1))) (found-in-places t es)
-      ∙ elim (cases_Bool (is_same t e.0)) [
-        | inl hit ↦ ap (λ b. cond b (Some (metrics_at tests e.1)) (at_place tests (lookup (λ (n : List ℕ). is_same t n) es))) hit ∙ sym (ap (λ b. at_place tests (cond b (Some e.1) (lookup (λ (n : List ℕ). is_same t n) es))) hit)
-        | inr miss ↦ ap (λ b. cond b (Some (metrics_at tests e.1)) (at_place tests (lookup (λ (n : List ℕ). is_same t n) es))) miss ∙ sym (ap (λ b. at_place tests (cond b (Some e.1) (lookup (λ (n : List ℕ). is_same t n) es))) miss)
-      ]
+  found-in-places t (e ∷ es) = grind (arith, common_steps, found-in-places t es)
 
   pub listed-in-order : (order : List (List ℕ × ℕ)) → IsStrictlySortedBy (slice_cmp nat_cmp) (keys_of order) → AllByRecursion HasSorted (in_places tests order)
       → ((t : List ℕ) → at_place tests (lookup (λ (n : List ℕ). is_same t n) order) ≡ lookup (λ (n : List ℕ). is_same t n) tests)
@@ -178,10 +167,4 @@ module _ (tests : Tests) where
 pub one-place-more : (tests : Tests) (order : Option ℕ) (place : ℕ) (key t : List ℕ) (x : List ℕ × Metrics) (more : Tests)
     → metrics_at tests place ≡ x.1 → key ≡ x.0 → at_place tests order ≡ lookup (λ (n : List ℕ). is_same t n) more
     → at_place tests (cond (is_same key t) (Some place) order) ≡ lookup (λ (n : List ℕ). is_same t n) (x ∷ more)
-one-place-more tests order place key t x more is named rest =
-    let b : is_same key t ≡ is_same t x.0 = ap (λ (k : List ℕ). is_same k t) named ∙ turned x.0 t in
-    ap (λ b. at_place tests (cond b (Some place) order)) b
-    ∙ elim (cases_Bool (is_same t x.0)) [
-      | inl hit ↦ ap (λ b. at_place tests (cond b (Some place) order)) hit ∙ ap (λ (m : Metrics). Some m) is ∙ sym (ap (λ b. cond b (Some x.1) (lookup (λ (n : List ℕ). is_same t n) more)) hit)
-      | inr miss ↦ ap (λ b. at_place tests (cond b (Some place) order)) miss ∙ rest ∙ sym (ap (λ b. cond b (Some x.1) (lookup (λ (n : List ℕ). is_same t n) more)) miss)
-    ]
+one-place-more tests order place key t x more is named rest = grind (arith, common_steps, is_same, turned, cond, cases_Bool, lookup)

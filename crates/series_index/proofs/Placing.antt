@@ -1,9 +1,8 @@
 -- Values placed one after another: what they were before, how many there are, and which are taken away.
 use Rattle.std.proofs.Common.{◌≡◌, ℕ, suc, ◌+◌, ◌<◌, ◌≤◌, ℤ, Bool, true, false, cond, ◌==◌, ◌&&◌, not, List, [], ◌∷◌, ◌++◌, length, All, refl, sym, ap, subst, ◌∙◌, inl, inr, arith}
-use Rattle.std.specs.{Prelude.{filter, get_or, drop}, List.Sorted.IsStrictlyIncreasing}
-use Rattle.std.proofs.lemmas.Bool.{cases_Bool, cases_order, cases_eq, lt-ltb, le-ltb, eq-eqb, ne_eqb}
-use Rattle.std.proofs.lemmas.List.{length_push, map-append, get_or_append_left, get_or_at, length-drop, Filters.length-filter_both}
-use Rattle.std.proofs.lemmas.List.Elements.{All-nil, All-cons, All-head, All-tail, filter-append}
+use Rattle.std.{specs.Prelude.{filter, get_or}, specs.List.Sorted.IsStrictlyIncreasing, proofs.lemmas.Grind.common_steps}
+use Rattle.std.proofs.lemmas.{Bool.{cases_Bool, cases_order, cases_eq, lt-ltb, le-ltb, eq-eqb, ne_eqb}, List.Elements.{All-nil, All-cons, All-head, All-tail}}
+use Rattle.std.proofs.lemmas.List.{length_push, map-append, get_or_append_left, get_or_at, Filters.length-filter_both}
 use Rattle.segment_model.specs.{Segments.{Observation, Position, values_of, position_values}, Limits.{IsSmall, HasStepsInOrder, WithinLimits, commits_of}}
 use Rattle.segment_model.specs.Edits.{position_of, with_value, inserted, has_values, by_another, without_step, removed}
 use Rattle.point_list.{specs.Places.{CameBy, MayCome}, proofs.Places.{RisesFrom, lower, to-rises}}
@@ -159,39 +158,21 @@ put-first commit low x [] lt rises = refl
 put-first commit low x (p ∷ points) lt rises = put-below commit x p points (omega (arith, lt, rises.0))
 
 has-more : (x : Observation) (p : Position) → has_values (with_value x p) ≡ true
-has-more x p = go p.samples
-  where
-    go : (xs : List Observation) → elim (xs ++ x ∷ []) as (λ ys. Bool) [ [] ↦ false | y ∷ ys ↦ true ] ≡ true
-    go [] = refl
-    go (y ∷ ys) = refl
+has-more x p = grind (arith, common_steps)
 
 none-left : (xs : List Observation) → elim xs as (λ ys. Bool) [ [] ↦ false | y ∷ ys ↦ true ] ≡ false → xs ≡ []
-none-left [] none = refl
-none-left (x ∷ xs) none = absurd (let no : true ≡ false = none in cc)
+none-left xs none = grind (arith, common_steps)
 
 -- a value of another step or commit stays
 module _ (commit step c : ℕ) (x : Observation) (other : (c == commit && x.step == step) ≡ false) where
   another : c ≡ commit → by_another step x ≡ true
-  another same = elim (cases_Bool (x.step == step)) [
-    | inl hit ↦ absurd (let no : true ≡ false = sym (ap (λ b. b && (x.step == step)) (eq-eqb c commit same) ∙ hit) ∙ other in cc)
-    | inr miss ↦ ap not miss
-  ]
+  another same = grind (arith, common_steps)
 
   cut-more : (p : Position) → p.commit ≡ c → without_step commit step (with_value x p) ≡ with_value x (without_step commit step p)
-  cut-more p at = elim (cases_eq p.commit commit) [
-    | inl same ↦
-        let kept : filter (by_another step) (p.samples ++ x ∷ []) ≡ filter (by_another step) p.samples ++ x ∷ [] =
-        filter-append (by_another step) p.samples (x ∷ [])
-        ∙ ap (λ b. filter (by_another step) p.samples ++ cond b (x ∷ []) []) (another (sym at ∙ same)) in
-        rw (eq-eqb p.commit commit same) (ap (λ (xs : List Observation). let q : Position = record { commit = p.commit; samples = xs } in q) kept)
-    | inr apart ↦ rw (ne_eqb p.commit commit apart) refl
-  ]
+  cut-more p at = grind (arith, common_steps)
 
   cut-new : without_step commit step (position_of c x) ≡ position_of c x
-  cut-new = cut-more (record { commit = c; samples = [] }) refl ∙ nothing
-    where
-      nothing : with_value x (without_step commit step (record { commit = c; samples = [] })) ≡ position_of c x
-      nothing = elim (c == commit) as (λ b. with_value x (cond b (record { commit = c; samples = [] }) (record { commit = c; samples = [] })) ≡ position_of c x) [ true ↦ refl | false ↦ refl ]
+  cut-new = grind (arith, common_steps)
 
   cut-first : (p : Position) (points : List Position) → has_values (without_step commit step p) ≡ true → removed commit step (p ∷ points) ≡ without_step commit step p ∷ removed commit step points
   cut-first p points kept = ap (λ b. cond b (without_step commit step p ∷ removed commit step points) (removed commit step points)) kept
@@ -265,9 +246,7 @@ removed-all commit step (x ∷ coming) points rises =
 -- no more positions than before
 pub few-removed : (commit step : ℕ) (points : List Position) → length (removed commit step points) ≤ length points
 few-removed commit step [] = omega arith
-few-removed commit step (p ∷ points) =
-    let rest = few-removed commit step points in
-    elim (cases_Bool (has_values (without_step commit step p))) [ inl kept ↦ rw kept (omega (arith, rest)) | inr gone ↦ rw gone (omega (arith, rest)) ]
+few-removed commit step (p ∷ points) = grind (arith, common_steps, few-removed commit step points)
 
 -- ---- within what may be placed
 
@@ -277,14 +256,6 @@ room-first x coming points may within = record {
   may = may-come x coming points may.within within.rising;
   values = let all = count-placed (x ∷ coming) points in omega (arith, all, may.within.few_values);
   positions = λ none. let few = may.few (omega arith) in omega (arith, few);
-}
-
--- so do those that are left, where the first are placed
-pub may-rest : (coming sorted : List Coming) (points left : List Position) (count : ℕ) → MayBePlaced coming points → all_placed (drop count sorted) left ≡ all_placed coming points
-    → length sorted ≡ length coming → length left ≤ length points + count → count ≤ length sorted → MayBePlaced (drop count sorted) left
-may-rest coming sorted points left count may same len fewer within = record {
-  within = subst WithinLimits (sym same) may.within;
-  few = λ some. let rest = length-drop count sorted in let few = may.few (omega (arith, some, rest, len)) in omega (arith, rest, len, few, fewer, within);
 }
 
 -- so do those with one more, where there is room for it

@@ -1,49 +1,16 @@
 -- Values of different commits may be placed in any order.
-use Rattle.std.proofs.Common.{◌≡◌, ◌≢◌, ℕ, ◌<◌, Bool, true, false, cond, List, [], ◌∷◌, ◌++◌, refl, sym, ap, ◌∙◌, inl, inr, arith, not, ◌&&◌, Ordering, Less, Equal, Greater}
+use Rattle.std.proofs.{Common.{◌≡◌, ◌≢◌, ℕ, ◌<◌, Bool, true, false, cond, List, [], ◌∷◌, ◌++◌, refl, sym, ap, ◌∙◌, inl, inr, arith}, lemmas.Grind.common_steps}
 use Rattle.std.{specs.Prelude.filter, proofs.lemmas.Bool.{cases_Bool, cases_order, cases_eq}, proofs.lemmas.List.Elements.filter-append}
-use Rattle.segment_model.specs.{Segments.{Observation, Position}, Edits.{position_of, with_value, inserted}}
-use Rattle.std.specs.{Ordering.{is_lt, nat_cmp}, Cmp.nat_cmp_is, List.Sorted.ties}
-use Rattle.series_index.{specs.declared.coming.Coming.Coming, specs.Log.{observed, all_placed}, proofs.Placing.{put-below, put-at, put-above}}
+use Rattle.segment_model.specs.{Segments.{Observation, Position}, Edits.{position_of, inserted}}
+use Rattle.std.specs.{Ordering.{is_lt, nat_cmp}, List.Sorted.ties}
+use Rattle.series_index.{specs.declared.coming.Coming.Coming, specs.Log.{observed, all_placed}, proofs.Placing.{put-below, put-above}}
 
 less-first : (a b : ℕ) (x y : Observation) (points : List Position) → a < b → inserted a x (inserted b y points) ≡ inserted b y (inserted a x points)
 less-first a b x y [] lt = put-below a x (position_of b y) [] lt ∙ sym (put-above b y (position_of a x) [] lt)
-less-first a b x y (p ∷ points) lt =
-    let new : Position = position_of a x in
-    elim (cases_order b p.commit) [
-      | inl same ↦
-          ap (inserted a x) (put-at b y p points (sym same)) ∙ put-below a x (with_value y p) points (omega (arith, lt, same))
-          ∙ sym (ap (inserted b y) (put-below a x p points (omega (arith, lt, same))) ∙ put-above b y new (p ∷ points) lt ∙ ap (λ ps. new ∷ ps) (put-at b y p points (sym same)))
-      | inr other ↦ elim other [
-        | inl below ↦
-            ap (inserted a x) (put-below b y p points below) ∙ put-below a x (position_of b y) (p ∷ points) lt
-            ∙ sym (ap (inserted b y) (put-below a x p points (omega (arith, lt, below))) ∙ put-above b y new (p ∷ points) lt ∙ ap (λ ps. new ∷ ps) (put-below b y p points below))
-        | inr above ↦
-            ap (inserted a x) (put-above b y p points above)
-            ∙ elim (cases_order a p.commit) [
-              | inl at ↦
-                  put-at a x p (inserted b y points) (sym at)
-                  ∙ sym (ap (inserted b y) (put-at a x p points (sym at)) ∙ put-above b y (with_value x p) points above)
-              | inr apart ↦ elim apart [
-                | inl before ↦
-                    put-below a x p (inserted b y points) before
-                    ∙ sym (ap (inserted b y) (put-below a x p points before) ∙ put-above b y new (p ∷ points) lt ∙ ap (λ ps. new ∷ ps) (put-above b y p points above))
-                | inr behind ↦
-                    put-above a x p (inserted b y points) behind
-                    ∙ ap (λ ps. p ∷ ps) (less-first a b x y points lt)
-                    ∙ sym (ap (inserted b y) (put-above a x p points behind) ∙ put-above b y p (inserted a x points) above)
-              ]
-            ]
-      ]
-    ]
+less-first a b x y (p ∷ points) lt = grind (arith, common_steps, less-first a b x y points lt)
 
 either-first : (a b : ℕ) (x y : Observation) (points : List Position) → a ≢ b → inserted a x (inserted b y points) ≡ inserted b y (inserted a x points)
-either-first a b x y points apart = elim (cases_order a b) [
-  | inl same ↦ absurd (apart same)
-  | inr other ↦ elim other [
-    | inl below ↦ less-first a b x y points below
-    | inr above ↦ sym (less-first b a y x points above)
-  ]
-]
+either-first a b x y points apart = grind (arith, common_steps, cases_order, less-first)
 
 -- none is of the commit
 abbrev AreApart : ℕ → List Coming → Type 0
@@ -69,7 +36,6 @@ module _ (ties : Coming → Coming → Bool) (tie : (x y : Coming) → x.commit 
   draw x [] rest e = absurd (cc)
   draw x (y ∷ coming) rest e = elim (cases_Bool (ties x y)) [
     | inl hit ↦
-        let here : y ∷ filter (ties x) coming ≡ x ∷ rest = sym (ap (λ b. cond b (y ∷ filter (ties x) coming) (filter (ties x) coming)) hit) ∙ e in
         let same : y ≡ x = cc in
         record { front = []; back = coming; is = ap (λ z. z ∷ coming) same; apart = tt }
     | inr miss ↦
@@ -85,8 +51,7 @@ module _ (ties : Coming → Coming → Bool) (tie : (x y : Coming) → x.commit 
 
   none-of : (z : Coming) (commit : ℕ) (front : List Coming) → z.commit ≡ commit → AreApart commit front → filter (ties z) front ≡ []
   none-of z commit [] at apart = refl
-  none-of z commit (f ∷ front) at apart =
-      ap (λ b. cond b (f ∷ filter (ties z) front) (filter (ties z) front)) (none z f (λ e. apart.0 (sym e ∙ at))) ∙ none-of z commit front at apart.1
+  none-of z commit (f ∷ front) at apart = grind (arith, common_steps, none-of z commit front at apart.1)
 
   pub placed-stable : (xs ys : List Coming) (points : List Position) → ((z : Coming) → filter (ties z) ys ≡ filter (ties z) xs) → all_placed ys points ≡ all_placed xs points
   placed-stable [] [] points stable = refl
@@ -106,8 +71,7 @@ module _ (ties : Coming → Coming → Bool) (tie : (x y : Coming) → x.commit 
       left z front back more apart e = elim (cases_eq z.commit x.commit) [
         | inl same ↦
             let gone : filter (ties z) front ≡ [] = none-of z x.commit front same apart in
-            let one : x ∷ back ≡ x ∷ more =
-            sym (ap (λ zs. zs ++ cond (ties z x) (x ∷ back) back) gone ∙ ap (λ b. cond b (x ∷ back) back) (tie z x same)) ∙ e ∙ ap (λ b. cond b (x ∷ more) more) (tie z x same) in
+            let one : x ∷ back ≡ x ∷ more = grind (arith, common_steps) in
             let tails : back ≡ more = cc in
             ap (λ zs. zs ++ back) gone ∙ tails
         | inr other ↦
@@ -119,20 +83,10 @@ abbrev pub comes_before : Coming → Coming → Bool
 comes_before x y = is_lt (nat_cmp x.commit y.commit)
 
 tie-same : (x y : Coming) → x.commit ≡ y.commit → ties comes_before x y ≡ true
-tie-same x y same =
-    ap (λ (o : Ordering). not (is_lt o) && not (is_lt (nat_cmp y.commit x.commit))) (sym (nat_cmp_is x.commit y.commit Equal same))
-    ∙ ap (λ (o : Ordering). not (is_lt o)) (sym (nat_cmp_is y.commit x.commit Equal (sym same)))
+tie-same x y same = grind (arith, common_steps)
 
 none-tie : (x y : Coming) → x.commit ≢ y.commit → ties comes_before x y ≡ false
-none-tie x y apart = elim (cases_order x.commit y.commit) [
-  | inl same ↦ absurd (apart same)
-  | inr other ↦ elim other [
-    | inl below ↦ ap (λ (o : Ordering). not (is_lt o) && not (is_lt (nat_cmp y.commit x.commit))) (sym (nat_cmp_is x.commit y.commit Less below))
-    | inr above ↦
-        ap (λ (o : Ordering). not (is_lt o) && not (is_lt (nat_cmp y.commit x.commit))) (sym (nat_cmp_is x.commit y.commit Greater above))
-        ∙ ap (λ (o : Ordering). not (is_lt o)) (sym (nat_cmp_is y.commit x.commit Less above))
-  ]
-]
+none-tie x y apart = grind (arith, common_steps)
 
 -- a stable sort by commit leaves what is placed as it is
 pub placed-sorted : (xs ys : List Coming) → ((z : Coming) → filter (ties comes_before z) ys ≡ filter (ties comes_before z) xs) → (points : List Position) → all_placed ys points ≡ all_placed xs points

@@ -1,45 +1,21 @@
 -- Samples that are taken out again as if they had never come.
-use Rattle.std.proofs.Common.{◌≡◌, ℕ, ◌+◌, ◌≤◌, ℤ, Bool, true, false, cond, not, ◌==◌, List, [], ◌∷◌, ◌++◌, length, All, refl, sym, ap, ◌∙◌, Option, Some, None, inl, inr, arith}
-use Rattle.std.{specs.Prelude.{filter, unwrap_or}, proofs.lemmas.Bool.{cases_Bool, cases_order, lt-ltb, le-ltb, eq-eqb, ne_eqb}, proofs.lemmas.List.append-nil}
-use Rattle.std.proofs.lemmas.List.Elements.{filter-append, All-nil, All-cons, All-head, All-tail, All-push}
+use Rattle.std.proofs.Common.{◌≡◌, ℕ, ◌+◌, ◌≤◌, ℤ, Bool, cond, List, [], ◌∷◌, ◌++◌, length, All, refl, sym, ap, ◌∙◌, inl, inr, arith}
+use Rattle.std.{specs.Prelude.{filter, unwrap_or}, proofs.lemmas.Bool.{cases_Bool, cases_order, lt-ltb, le-ltb, eq-eqb, ne_eqb}}
+use Rattle.std.proofs.lemmas.{List.Elements.{All-nil, All-cons, All-head, All-tail, All-push}, Grind.common_steps}
 use Rattle.segment_model.specs.{Segments.{Observation, Position}, Limits.IsSmall}
 use Rattle.segment_model.{specs.Edits.{position_of, with_value, inserted, has_values, by_another, without_step, removed}, proofs.Inserted.count-inserted}
 use Rattle.point_list.specs.Places.{CameBy}
 use Rattle.sample_model.specs.Samples.{Measurement}
-use Rattle.series_index.specs.{declared.tracked.Tracked.Tracked, Seen.{with_sample, without, forgotten, undone, HasRoom}, Taken.{with_samples, HasRoomFor}}
+use Rattle.series_index.specs.{declared.tracked.Tracked.Tracked, Seen.{with_sample, without, undone, HasRoom}, Taken.{with_samples, HasRoomFor}}
 use Rattle.history_model.proofs.Commit.{has-inserted}
 
 -- a value that is taken out with its step leaves no trace
 pub removed-inserted : (commit step : ℕ) (v : ℤ) (points : List Position) → removed commit step (inserted commit (record { step = step; value = v }) points) ≡ removed commit step points
 removed-inserted commit step v [] = rw (eq-eqb commit commit refl, eq-eqb step step refl) refl
-removed-inserted commit step v (p ∷ points) = elim (cases_order commit p.commit) [
-  | inl same ↦
-      let less : filter (by_another step) (p.samples ++ record { step = step; value = v } ∷ []) ≡ filter (by_another step) p.samples =
-      filter-append (by_another step) p.samples (record { step = step; value = v } ∷ [])
-      ∙ ap (λ b. filter (by_another step) p.samples ++ cond (not b) (record { step = step; value = v } ∷ []) []) (eq-eqb step step refl)
-      ∙ append-nil (filter (by_another step) p.samples) in
-      let cut : without_step commit step (with_value (record { step = step; value = v }) p) ≡ without_step commit step p =
-      ap (λ b. cond b (record { commit = p.commit; samples = filter (by_another step) (p.samples ++ record { step = step; value = v } ∷ []) }) (with_value (record { step = step; value = v }) p)) (eq-eqb p.commit commit (sym same))
-      ∙ ap (λ (xs : List Observation). let q : Position = record { commit = p.commit; samples = xs } in q) less
-      ∙ ap (λ b. cond b (record { commit = p.commit; samples = filter (by_another step) p.samples }) p) (sym (eq-eqb p.commit commit (sym same))) in
-      rw (le-ltb commit p.commit (omega (arith, same)), eq-eqb p.commit commit (sym same))
-      (ap (λ (q : Position). cond (has_values q) (q ∷ removed commit step points) (removed commit step points)) cut
-      ∙ ap (λ b. cond (has_values (cond b (record { commit = p.commit; samples = filter (by_another step) p.samples }) p)) (cond b (record { commit = p.commit; samples = filter (by_another step) p.samples }) p ∷ removed commit step points) (removed commit step points)) (eq-eqb p.commit commit (sym same)))
-  | inr other ↦ elim other [
-    | inl below ↦ rw (lt-ltb commit p.commit below, eq-eqb commit commit refl, eq-eqb step step refl) refl
-    | inr above ↦ rw (le-ltb commit p.commit (omega (arith, above)), ne_eqb p.commit commit (λ e. omega (arith, e, above)))
-        (rw (ne_eqb p.commit commit (λ e. omega (arith, e, above))) (ap (λ ps. cond (has_values p) (p ∷ ps) ps) (removed-inserted commit step v points)))
-  ]
-]
+removed-inserted commit step v (p ∷ points) = grind (arith, common_steps, removed-inserted commit step v points)
 
 undone-one : (commit step : ℕ) (v : ℤ) (t : Tracked) → undone commit step (with_sample commit (record { step = step; value = v }) t) ≡ undone commit step t
-undone-one commit step v t =
-    ap (λ (ps : List Position). let u : Tracked = record { since = forgotten step (Some (unwrap_or t.since step)); points = ps } in u) (removed-inserted commit step v t.points)
-    ∙ ap (λ (o : Option ℕ). let u : Tracked = record { since = o; points = removed commit step t.points } in u) (since t.since)
-  where
-    since : (o : Option ℕ) → forgotten step (Some (unwrap_or o step)) ≡ forgotten step o
-    since None = ap (λ b. cond b None (Some step)) (eq-eqb step step refl)
-    since (Some k) = refl
+undone-one commit step v t = grind (arith, common_steps, unwrap_or, removed-inserted, removed, cond, eq-eqb)
 
 -- after any samples of the step
 pub undone-all : (commit step : ℕ) (xs : List Measurement) (t : Tracked) → undone commit step (with_samples commit step xs t) ≡ undone commit step t
@@ -54,9 +30,7 @@ with-push commit step (y ∷ xs) x t = with-push commit step xs x (with_sample c
 
 -- ---- room for the next
 came-inserted : (commit step : ℕ) (v : ℤ) (points : List Position) → All (CameBy commit step) points → All (CameBy commit step) (inserted commit (record { step = step; value = v }) points)
-came-inserted commit step v [] all =
-    All-cons (CameBy commit step) (position_of commit (record { step = step; value = v })) []
-    (λ same. All-cons (λ (x : Observation). x.step ≤ step) (record { step = step; value = v }) [] (omega arith) (All-nil (λ (x : Observation). x.step ≤ step))) (All-nil (CameBy commit step))
+came-inserted commit step v [] all = grind (arith, common_steps)
 came-inserted commit step v (p ∷ points) all = elim (cases_order commit p.commit) [
   | inl same ↦ rw (le-ltb commit p.commit (omega (arith, same)), eq-eqb p.commit commit (sym same))
       (All-cons (CameBy commit step) (with_value (record { step = step; value = v }) p) points
@@ -74,11 +48,7 @@ came-inserted commit step v (p ∷ points) all = elim (cases_order commit p.comm
 
 -- one sample takes one place of the room
 room-one : (t : Tracked) (commit step n : ℕ) (v : ℤ) → HasRoomFor t commit step (n + 1) → HasRoomFor (with_sample commit (record { step = step; value = v }) t) commit step n
-room-one t commit step n v room = record {
-  in_order = came-inserted commit step v t.points room.in_order;
-  values = let more = count-inserted commit (record { step = step; value = v }) t.points in omega (arith, room.values, more);
-  positions = λ some none. absurd (let no : true ≡ false = sym (has-inserted commit (record { step = step; value = v }) t.points) ∙ none in cc);
-}
+room-one t commit step n v room = grind (arith, common_steps, came-inserted, count-inserted, has-inserted)
 
 pub room-after : (t : Tracked) (commit step n : ℕ) (xs : List Measurement) → HasRoomFor t commit step (n + length xs) → HasRoomFor (with_samples commit step xs t) commit step n
 room-after t commit step n [] room = let same : n + length {A = Measurement} [] ≡ n = omega arith in rw same at room
@@ -87,25 +57,15 @@ room-after t commit step n (x ∷ xs) room =
     room-after (with_sample commit (record { step = step; value = x.value }) t) commit step n xs (room-one t commit step (n + length xs) x.value (rw same at room))
 
 pub room-next : (t : Tracked) (commit step n : ℕ) (v : ℤ) → IsSmall v → HasRoomFor t commit step (n + 1) → HasRoom t commit step v
-room-next t commit step n v small room = record {
-  may = record { small = small; in_order = room.in_order };
-  values = omega (arith, room.values);
-  positions = λ none. room.positions (omega arith) none;
-}
+room-next t commit step n v small room = grind (arith, common_steps)
 
 -- ---- taken out once or twice
 filter-twice : {A : Type 0} (p : A → Bool) (xs : List A) → filter p (filter p xs) ≡ filter p xs
 filter-twice p [] = refl
-filter-twice p (x ∷ xs) = elim (cases_Bool (p x)) [
-  | inl hit ↦ rw hit (rw hit (ap (λ ys. x ∷ ys) (filter-twice p xs)))
-  | inr miss ↦ rw miss (filter-twice p xs)
-]
+filter-twice p (x ∷ xs) = grind (arith, common_steps, filter-twice p xs)
 
 cut-twice : (commit step : ℕ) (p : Position) → without_step commit step (without_step commit step p) ≡ without_step commit step p
-cut-twice commit step p = elim (cases_Bool (p.commit == commit)) [
-  | inl hit ↦ rw hit (rw hit (ap (λ (xs : List Observation). let q : Position = record { commit = p.commit; samples = xs } in q) (filter-twice (by_another step) p.samples)))
-  | inr miss ↦ rw miss (rw miss refl)
-]
+cut-twice commit step p = grind (arith, common_steps, cases_Bool, filter-twice, by_another)
 
 removed-twice : (commit step : ℕ) (points : List Position) → removed commit step (removed commit step points) ≡ removed commit step points
 removed-twice commit step [] = refl

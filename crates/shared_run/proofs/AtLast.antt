@@ -1,6 +1,6 @@
 -- Private: no public contract cites this. What main does for workers of each kind, if there are some.
-use Rattle.std.proofs.Common.{arith, ◌≡◌, ◌≢◌, ℕ, zero, suc, Bool, true, false, List, [], ◌∷◌, ◌++◌, length, take, drop, Ok, Err, refl, sym, ap, subst, ◌∙◌}
-use Rattle.std.{specs.Prelude.{◌&&◌, OnOk, Result, is_ok}, specs.List.{AllByRecursion, AllZip}, proofs.lemmas.List.length-map}
+use Rattle.std.proofs.Common.{arith, ◌≡◌, ◌≢◌, ℕ, zero, suc, Bool, true, List, [], ◌∷◌, ◌++◌, length, take, drop, refl, sym, ap, subst}
+use Rattle.std.{specs.Prelude.{◌&&◌, OnOk, Result, is_ok}, specs.List.{AllByRecursion, AllZip}, proofs.lemmas.Grind.common_steps}
 use Rattle.std.proofs.lemmas.Slice.Zip.{AllZip-long}
 use Rattle.track_outside.specs.declared.runner.Runner as runner
 use Rattle.command_words.specs.Plans.{Plan}
@@ -8,27 +8,17 @@ use Rattle.history_model.specs.declared.entries.Author.TheVariants.{Recompute}
 use Rattle.track_model.specs.Tracks.{Track}
 use Rattle.worker_crew.specs.{Recomputing.AddsPublications, Work.Work, Fitting.IsUnasked, Sights.tracks_of}
 use Rattle.worker_crew.specs.Runs.{BisectsEach, BisectsLast, IsNew, RecomputesLast, Tally, runners_by}
-use Rattle.shared_run.{specs.Crews.Finishes, proofs.Running.whole-of}
+use Rattle.shared_run.specs.Crews.{Finishes}
 
 pub recomputes-none : (workers : ℕ) (old : List Track) → workers ≡ 0 → RecomputesLast workers old old
 recomputes-none workers old none = subst (λ (n : ℕ). RecomputesLast n old old) (sym none) refl
 
 pub recomputes-some : (workers : ℕ) (old new : List Track) → workers ≢ 0 → AllZip (AddsPublications (Recompute 1)) old new → RecomputesLast workers old new
-recomputes-some zero old new some all = absurd (some refl)
-recomputes-some (suc n) old new some all = all
-
-pub bisects-none : (workers : ℕ) (word : List ℕ) (old : List Track) (ts : List Tally) → workers ≡ 0 → BisectsLast workers word old old ts ts
-bisects-none workers word old ts none = subst (λ (n : ℕ). BisectsLast n word old old ts ts) (sym none) (refl, refl)
-
-pub bisects-some : (workers : ℕ) (word : List ℕ) (old new : List Track) (t u : Tally) (before after : List Tally) → workers ≢ 0 → BisectsEach word old new t u → after ≡ before
-    → BisectsLast workers word old new (t ∷ before) (u ∷ after)
-bisects-some zero word old new t u before after some each same = absurd (some refl)
-bisects-some (suc n) word old new t u before after some each same = (each, same)
+recomputes-some workers old new some all = grind (arith, common_steps)
 
 -- what holds where there was memory for all of it
 pub when-ok : {E P : Type 0} (r : Result (Unit {0}) E) → OnOk r P → is_ok r ≡ true → P
-when-ok (Ok done) p is = p
-when-ok (Err why) p is = absurd cc
+when-ok r p is = grind (arith, common_steps)
 
 -- runners that weren't asked before, and of which nothing was asked, are so still
 pub still-unasked : (tallies : List Tally) → AllByRecursion IsNew tallies → AllByRecursion IsUnasked (runners_by tallies tallies)
@@ -52,30 +42,19 @@ each-long word (o ∷ olds) [] t u is = absurd is
 each-long word (o ∷ olds) (n ∷ news) t u is = let rest = each-long word olds news is.0 u is.2 in omega (arith, rest)
 
 pub bisects-long : (workers : ℕ) (word : List ℕ) (olds news : List Track) (before after : List Tally) → BisectsLast workers word olds news before after → length news ≡ length olds
-bisects-long zero word olds news before after is = ap length is.0
-bisects-long (suc n) word olds news [] after is = absurd is
-bisects-long (suc n) word olds news (t ∷ before) [] is = absurd is
-bisects-long (suc n) word olds news (t ∷ before) (u ∷ after) is = each-long word olds news t u is.0
+bisects-long workers word olds news before after is = grind (arith, common_steps, length, each-long)
 
 -- so all of the states is what was written back of them last
 pub written-back : (len : ℕ) (new old : List Work) → len ≡ length old → length (tracks_of new) ≡ length (tracks_of old) → take len (new ++ drop (length new) old) ≡ new
-written-back len new old is same =
-    let one = length-map new (λ (w : Work). w.track) in
-    let two = length-map old (λ (w : Work). w.track) in
-    whole-of len new old is (omega (arith, one, two, same))
+written-back len new old is same = grind (arith, common_steps)
 
 pub both-back : (len : ℕ) (left made last : List Work) → len ≡ length left → length (tracks_of made) ≡ length (tracks_of left) → length (tracks_of last) ≡ length (tracks_of made)
     → take len (last ++ drop (length last) (take len (made ++ drop (length made) left))) ≡ last
-both-back len left made last is one two =
-    let size = length-map left (λ (w : Work). w.track) in
-    let same = length-map made (λ (w : Work). w.track) in
-    rw (written-back len made left is one) (written-back len last made (omega (arith, is, one, size, same)) two)
+both-back len left made last is one two = grind (arith, common_steps)
 
 -- both of two tests that came out true
 pub first-true : (one other both : Bool) → both ≡ (one && other) → both ≡ true → one ≡ true
-first-true true other both is so = refl
-first-true false other both is so = absurd (let never : false ≡ true = sym is ∙ so in cc)
+first-true one other both is so = grind (arith, common_steps)
 
 pub second-true : (one other both : Bool) → both ≡ (one && other) → both ≡ true → other ≡ true
-second-true true other both is so = sym is ∙ so
-second-true false other both is so = absurd (let never : false ≡ true = sym is ∙ so in cc)
+second-true one other both is so = grind (arith, common_steps)

@@ -1,6 +1,7 @@
 -- Private: no public contract cites this. The machines that a run begins with are different, and what they have was kept.
-use Rattle.std.proofs.Common.{◌≡◌, ℕ, Bool, true, false, cond, inr, List, [], ◌∷◌, ◌++◌, map, Option, Some, None, refl, sym, ap, subst, ◌∙◌}
-use Rattle.std.specs.{Prelude.{bytes_eq, find, is_some, if◌then◌else◌}, List.{AllByRecursion, AllZip}, Cmp.Lexicographic.nat_list_eq_equiv}
+use Rattle.std.proofs.lemmas.Grind.{common_steps}
+use Rattle.std.proofs.Common.{◌≡◌, ℕ, Bool, true, false, cond, List, [], ◌∷◌, ◌++◌, map, Option, Some, None, refl, sym, ap, subst, ◌∙◌, arith}
+use Rattle.std.specs.{Prelude.{bytes_eq, find, is_some}, List.{AllByRecursion, AllZip}, Cmp.Lexicographic.nat_list_eq_equiv}
 use Rattle.track_outside.specs.declared.keeper.Keeper as keeper
 use Rattle.command_words.specs.Plans.{Plan}
 use Rattle.history_model.specs.declared.entries.Author.TheVariants as author
@@ -9,7 +10,7 @@ use Rattle.track_model.specs.Tracks.{Track}
 use Rattle.keep_rows.specs.{Kept.{kept, kept_entries, kept_of}, Machines.{AreDifferent, IsOther, is_track, names_of}, Loading.Stored}
 use Rattle.worker_crew.specs.{Rooms.IsPassOf, Sights.{Home, IsFirstOf, Sight}, Gathered.AreKept}
 use Rattle.worker_crew.specs.Seats as seats
-use Rattle.shared_run.specs.{Beginnings.{AreStored, Begins, MayBeStarted, WasStarted}, Lists.{listed_track, with_listed, with_machine}}
+use Rattle.shared_run.specs.{Beginnings.{AreStored, Begins, WasStarted}, Lists.{listed_track, with_listed, with_machine}}
 
 -- ---- names
 other-last : (name machine : List ℕ) (tracks : List Track) → bytes_eq machine name ≡ false → AllByRecursion (IsOther name) (names_of tracks)
@@ -28,11 +29,7 @@ different-last machine (t ∷ tracks) none different = by (is_track machine t) r
     by false is rest miss = (other-last t.machine machine tracks (nat_list_eq_equiv.symm machine t.machine ∙ is) different.0, rest miss)
 
 with-different : (machine : List ℕ) (tracks : List Track) → AreDifferent (names_of tracks) → AreDifferent (names_of (with_machine tracks machine))
-with-different machine tracks different = by (is_some (find (is_track machine) tracks)) refl
-  where
-    by : (b : Bool) → is_some (find (is_track machine) tracks) ≡ b → AreDifferent (names_of (if b then tracks else tracks ++ listed_track machine ∷ []))
-    by true is = different
-    by false is = different-last machine tracks is different
+with-different machine tracks different = grind (arith, common_steps, different-last)
 
 listed-different : (list : List (List ℕ)) (tracks : List Track) → AreDifferent (names_of tracks) → AreDifferent (names_of (with_listed tracks list))
 listed-different [] tracks different = different
@@ -47,16 +44,8 @@ all-kept : (tracks : List Track) → AllByRecursion (λ (t : Track). t ≡ kept_
 all-kept [] all = tt
 all-kept (t ∷ tracks) all = (subst AreKept (sym all.0) (all-kept-entries (kept_entries (entries_of t.history))), all-kept tracks all.1)
 
-kept-last : (machine : List ℕ) (tracks : List Track) → AllByRecursion AreKept tracks → AllByRecursion AreKept (tracks ++ listed_track machine ∷ [])
-kept-last machine [] all = (tt, tt)
-kept-last machine (t ∷ tracks) all = (all.0, kept-last machine tracks all.1)
-
 with-kept : (machine : List ℕ) (tracks : List Track) → AllByRecursion AreKept tracks → AllByRecursion AreKept (with_machine tracks machine)
-with-kept machine tracks all = by (is_some (find (is_track machine) tracks))
-  where
-    by : (b : Bool) → AllByRecursion AreKept (if b then tracks else tracks ++ listed_track machine ∷ [])
-    by true = all
-    by false = kept-last machine tracks all
+with-kept machine tracks all = grind (arith, common_steps)
 
 listed-kept : (list : List (List ℕ)) (tracks : List Track) → AllByRecursion AreKept tracks → AllByRecursion AreKept (with_listed tracks list)
 listed-kept [] tracks all = all
@@ -65,29 +54,20 @@ listed-kept (m ∷ list) tracks all = listed-kept list (with_machine tracks m) (
 -- ---- the first machines
 module _ {K : Type 0} (k : keeper.Ghosts K) where
   stored-different : (store : Option (List ℕ)) (before : K) (stored : Stored) → AreStored k store before stored → AreDifferent (names_of stored.machines)
-  stored-different None before stored is = subst (λ (s : Stored). AreDifferent (names_of s.machines)) (sym is) tt
-  stored-different (Some name) before stored is = is.0.different
+  stored-different store before stored is = grind (arith, common_steps)
 
   stored-kept : (store : Option (List ℕ)) (before : K) (stored : Stored) → AreStored k store before stored → AllByRecursion AreKept stored.machines
-  stored-kept None before stored is = subst (λ (s : Stored). AllByRecursion AreKept s.machines) (sym is) tt
-  stored-kept (Some name) before stored is = all-kept stored.machines is.0.kept
+  stored-kept store before stored is = grind (arith, common_steps, all-kept)
 
   pub first-different : (plan : Plan) (before : K) (began : Stored) → Begins k plan before began → AreDifferent (names_of began.machines)
-  first-different plan before began b =
-      subst (λ (ts : List Track). AreDifferent (names_of ts)) (sym b.listed) (listed-different plan.machines b.stored.machines (stored-different plan.store before b.stored b.from_store))
+  first-different plan before began b = grind (arith, common_steps, listed-different, stored-different)
 
   pub first-kept : (plan : Plan) (before : K) (began : Stored) → Begins k plan before began → AllByRecursion AreKept began.machines
-  first-kept plan before began b =
-      subst (AllByRecursion AreKept) (sym b.listed) (listed-kept plan.machines b.stored.machines (stored-kept plan.store before b.stored b.from_store))
-
-  pub once-started : (store : Option (List ℕ)) (before after : K) → WasStarted k store before after → MayBeStarted k store before after
-  once-started None before after was = was
-  once-started (Some name) before after was = inr was
+  first-kept plan before began b = grind (arith, common_steps, listed-kept, stored-kept)
 
   pub was-started : (store : Option (List ℕ)) (before loaded after : K) → WasStarted k store before loaded → (store ≡ None → after ≡ loaded) → k.started after ≡ k.started loaded
       → WasStarted k store before after
-  was-started None before loaded after was unnamed same = unnamed refl ∙ was
-  was-started (Some name) before loaded after was unnamed same = same ∙ was
+  was-started store before loaded after was unnamed same = grind (arith, common_steps)
 
 -- ---- the room that is made of them
 others-of : (name first : List ℕ) → first ≡ name → (tracks : List Track) (pass : List Sight) → AllZip IsFirstOf tracks pass → AllByRecursion (IsOther name) (names_of tracks)

@@ -1,6 +1,6 @@
 -- Private: no public contract cites this. The three ways in which a run's end is decided.
 use Rattle.std.proofs.Common.{◌≡◌, ◌≢◌, ℕ, zero, suc, ◌<◌, ◌+◌, inl, inr, List, [], ◌∷◌, length, get_or, Some, Ok, Err, refl, sym, arith}
-use Rattle.std.specs.{Prelude.{◌⊎◌, slice_get, Contains, Result}, List.AllByRecursion}
+use Rattle.std.{specs.Prelude.{◌⊎◌, slice_get, Contains, Result}, specs.List.AllByRecursion, proofs.lemmas.Grind.common_steps}
 use Rattle.script_loop.specs.declared.stop.Stop.{Stop}
 use Rattle.script_loop.specs.declared.stop.Stop.TheVariants as script
 use Rattle.shared_run.{specs.declared.stop.RunStop.RunStop, specs.Stops.{Decides, IsFirstStop, NoneStopped, WantsMemory}, proofs.Stopped.found_first}
@@ -23,12 +23,7 @@ not-in y (x ∷ xs) none = ((λ same. none (found_first x y xs same)), not-in y 
 
 -- ---- want of memory
 is-memory : (e : End) → (e ≡ Err script.NoMemory) ⊎ (e ≢ Err script.NoMemory)
-is-memory (Ok done) = inr (λ same. cc)
-is-memory (Err script.ReadFault) = inr (λ same. cc)
-is-memory (Err script.WriteFault) = inr (λ same. cc)
-is-memory (Err (script.CutOff offset)) = inr (λ same. cc)
-is-memory (Err script.InputTooLong) = inr (λ same. cc)
-is-memory (Err script.NoMemory) = inl refl
+is-memory e = grind (arith, common_steps)
 
 some-memory : (ends : List End) → Contains ends (Err script.NoMemory) ⊎ (Contains ends (Err script.NoMemory) → ⊥)
 some-memory [] = inr (λ at. let within = at.1 in omega (arith, within))
@@ -45,15 +40,7 @@ some-memory (e ∷ ends) = by (is-memory e) (some-memory ends)
     by (inr differs) (inr rest) = inr (λ at. none differs rest at.0 at.1 at.2)
 
 is-late-memory : (later : Later) → (later ≡ Err run.NoMemory) ⊎ (later ≢ Err run.NoMemory)
-is-late-memory (Ok done) = inr (λ same. cc)
-is-late-memory (Err run.NoMemory) = inl refl
-is-late-memory (Err run.StoreFault) = inr (λ same. cc)
-is-late-memory (Err (run.BadStore row)) = inr (λ same. cc)
-is-late-memory (Err (run.Full place)) = inr (λ same. cc)
-is-late-memory (Err run.OpenFault) = inr (λ same. cc)
-is-late-memory (Err run.CreateFault) = inr (λ same. cc)
-is-late-memory (Err (run.Script number stop)) = inr (λ same. cc)
-is-late-memory (Err run.WriteFault) = inr (λ same. cc)
+is-late-memory later = grind (arith, common_steps)
 
 wants : (ends : List End) (later : Later) → WantsMemory ends later ⊎ (WantsMemory ends later → ⊥)
 wants ends later = by (is-late-memory later) (some-memory ends)

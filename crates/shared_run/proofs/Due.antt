@@ -1,6 +1,6 @@
 -- Private: no public contract cites this. What is due comes, unless memory was wanting or an object failed.
-use Rattle.std.proofs.Common.{◌≡◌, ◌≢◌, ℕ, zero, suc, ◌+◌, ◌<◌, ◌≤◌, inl, inr, Bool, true, false, List, [], ◌∷◌, ◌++◌, length, Option, Some, None, Ok, Err, refl, sym, ap, subst, ◌∙◌, arith, length-append}
-use Rattle.std.{specs.Prelude.{◌⊎◌, Result, take, slice_get, find, is_some, if◌then◌else◌, IfSome, IsSome}, proofs.lemmas.Bool.cases_lt}
+use Rattle.std.proofs.Common.{◌≡◌, ◌≢◌, ℕ, zero, suc, ◌+◌, ◌<◌, ◌≤◌, inl, inr, Bool, true, false, List, [], ◌∷◌, length, Option, Some, None, Ok, Err, refl, sym, ap, subst, ◌∙◌, arith}
+use Rattle.std.{specs.Prelude.{◌⊎◌, Result, take, slice_get, find, IfSome, IsSome}, proofs.lemmas.Bool.cases_lt, proofs.lemmas.Grind.common_steps}
 use Rattle.std.proofs.lemmas.Option.{slice_get_within}
 use Rattle.command_words.specs.Plans.{Plan}
 use Rattle.store_rows.specs.Laws.{HasOneOutcome}
@@ -17,7 +17,7 @@ use Rattle.shared_run.specs.{declared.stop.RunStop.RunStop, Beginnings.{AreStore
 use Rattle.shared_run.specs.declared.stop.RunStop.TheVariants as run
 use Rattle.shared_run.specs.Endings as endings
 use Rattle.shared_run.specs.Endings.{EndsAsDue, EndsLate, EndsRun, HasFailed, IsBadStore, IsDue, Objects, StoreGives, Told}
-use Rattle.shared_run.specs.{Lists.{IsFull, IsFullAt, listed_track, with_listed, with_machine}, Ran.NotBegun}
+use Rattle.shared_run.specs.{Lists.{IsFull, IsFullAt, with_listed, with_machine}, Ran.NotBegun}
 
 -- ---- scripts
 one-ending : OneReading → (bytes : List ℕ) (items others : List Item) (ending other : Ending) → IsScript bytes items ending → IsScript bytes others other → ending ≡ other
@@ -36,24 +36,13 @@ none-named : (A : Type 0) → IsSome {T = A} None → ⊥
 none-named A is = cc
 
 -- ---- lists of machines
-grow-one : (machine : List ℕ) (tracks : List Track) → length tracks ≤ length (with_machine tracks machine)
-grow-one machine tracks = by (is_some (find (is_track machine) tracks))
-  where
-    by : (b : Bool) → length tracks ≤ length (if b then tracks else tracks ++ listed_track machine ∷ [])
-    by true = omega arith
-    by false = omega (arith, length-append tracks (listed_track machine ∷ []))
 
 grow : (list : List (List ℕ)) (tracks : List Track) → length tracks ≤ length (with_listed tracks list)
 grow [] tracks = omega arith
-grow (m ∷ list) tracks =
-    let one = grow-one m tracks in
-    let more = grow list (with_machine tracks m) in
-    omega (arith, one, more)
+grow (m ∷ list) tracks = grind (arith, common_steps, grow list (with_machine tracks m))
 
 one-more : (machine : List ℕ) (tracks : List Track) → find (is_track machine) tracks ≡ None → length tracks < length (with_machine tracks machine)
-one-more machine tracks fresh =
-    subst (λ (found : Option Track). length tracks < length (if is_some found then tracks else tracks ++ listed_track machine ∷ [])) (sym fresh)
-    (omega (arith, length-append tracks (listed_track machine ∷ [])))
+one-more machine tracks fresh = grind (arith, common_steps)
 
 fresh-as : (machine m : List ℕ) (tracks : List Track) → Some m ≡ Some machine → IsFull tracks machine → find (is_track m) tracks ≡ None
 fresh-as machine m tracks there full = subst (λ (n : List ℕ). find (is_track n) tracks ≡ None) (sym (same-some m machine there)) full.fresh
@@ -62,11 +51,7 @@ fresh-as machine m tracks there full = subst (λ (n : List ℕ). find (is_track 
 too-long : (list : List (List ℕ)) (tracks : List Track) (before : ℕ) (machine : List ℕ) → slice_get list before ≡ Some machine
     → IsFull (with_listed tracks (take before list)) machine → most Machines < length (with_listed tracks list)
 too-long [] tracks before machine there full = absurd (none-there there)
-too-long (m ∷ list) tracks zero machine there full =
-    let one = one-more m tracks (fresh-as machine m tracks there full) in
-    let more = grow list (with_machine tracks m) in
-    let is = full.full in
-    omega (arith, one, more, is)
+too-long (m ∷ list) tracks zero machine there full = grind (arith, common_steps, one-more, fresh-as, grow)
 too-long (m ∷ list) tracks (suc before) machine there full = too-long list (with_machine tracks m) before machine there full
 
 -- there is one such machine
@@ -74,42 +59,25 @@ one-place : (list : List (List ℕ)) (tracks : List Track) (p q : ℕ) (a b : Li
     → slice_get list q ≡ Some b → IsFull (with_listed tracks (take q list)) b → p ≡ q
 one-place [] tracks p q a b at-p full-p at-q full-q = absurd (none-there at-p)
 one-place (m ∷ list) tracks zero zero a b at-p full-p at-q full-q = refl
-one-place (m ∷ list) tracks zero (suc q) a b at-p full-p at-q full-q =
-    let one = one-more m tracks (fresh-as a m tracks at-p full-p) in
-    let more = grow (take q list) (with_machine tracks m) in
-    let is = full-p.full in
-    let its = full-q.full in
-    absurd (omega (arith, one, more, is, its))
-one-place (m ∷ list) tracks (suc p) zero a b at-p full-p at-q full-q =
-    let one = one-more m tracks (fresh-as b m tracks at-q full-q) in
-    let more = grow (take p list) (with_machine tracks m) in
-    let is = full-q.full in
-    let its = full-p.full in
-    absurd (omega (arith, one, more, is, its))
+one-place (m ∷ list) tracks zero (suc q) a b at-p full-p at-q full-q = grind (arith, common_steps, one-more, fresh-as, grow, take)
+one-place (m ∷ list) tracks (suc p) zero a b at-p full-p at-q full-q = grind (arith, common_steps, one-more, fresh-as, grow, take)
 one-place (m ∷ list) tracks (suc p) (suc q) a b at-p full-p at-q full-q = ap suc (one-place list (with_machine tracks m) p q a b at-p full-p at-q full-q)
 
 full-once : (stored : List Track) (list : List (List ℕ)) (p q : ℕ) → IsFullAt stored list p → IsFullAt stored list q → p ≡ q
-full-once stored list p q one two =
-    one.counted ∙ ap (λ (n : ℕ). n + 1) (one-place list stored one.before two.before one.machine two.machine one.next one.is_full two.next two.is_full) ∙ sym two.counted
+full-once stored list p q one two = grind (arith, common_steps, one-place)
 
 none-full : (stored tracks : List Track) (list : List (List ℕ)) (p : ℕ) → tracks ≡ with_listed stored list → length tracks ≤ most Machines → IsFullAt stored list p → ⊥
-none-full stored tracks list p is few full =
-    let long = too-long list stored full.before full.machine full.next full.is_full in
-    let same = ap length is in
-    omega (arith, long, same, few)
+none-full stored tracks list p is few full = grind (arith, common_steps, too-long, length)
 
 -- ---- the store
 from-stored : {K : Type 0} (k : keeper.Ghosts K) (store : Option (List ℕ)) (before : K) (one : Stored) → AreStored k store before one
     → (store ≡ None → one ≡ nothing_stored) × (IsSome store → IfSome (k.kept before) (λ rows. LeadTo rows one))
-from-stored k None before one is = (λ none. is, λ some. absurd (none-named (List ℕ) some))
-from-stored k (Some name) before one is = (λ none. absurd (none-there (sym none)), λ some. is.1)
+from-stored k store before one is = grind (arith, common_steps)
 
 module _ (outcome : HasOneOutcome Makes) where
   stored-once : (store : Option (List ℕ)) (known : Option (List (List ℕ))) (one other : Stored) → (store ≡ None → one ≡ nothing_stored) × (IsSome store → IfSome known (λ rows. LeadTo rows one))
       → StoreGives store known other → one ≡ other
-  stored-once None known one other is its = is.0 refl ∙ sym its
-  stored-once (Some name) None one other is its = absurd its
-  stored-once (Some name) (Some told) one other is its = outcome.value nothing_stored told one other (is.1 refl) its
+  stored-once store known one other is its = grind (arith, common_steps)
 
   stored-bad : (store : Option (List ℕ)) (known : Option (List (List ℕ))) (one : Stored) (row : ℕ) → (store ≡ None → one ≡ nothing_stored) × (IsSome store → IfSome known (λ rows. LeadTo rows one))
       → IsBadStore store known row → ⊥
@@ -227,14 +195,7 @@ module _ {F I O K : Type 0} (t : Told F I O K) (plan : Plan) (before after : Obj
   none-comes run.WriteFault c due is = absurd c
 
   begun-comes : (why : RunStop) → NotBegun t.files plan.scripts before.files after.files why → (due : Result (Unit {0}) RunStop) → Comes (Err why) due
-  begun-comes run.OpenFault asks due = inr (inr (inl asks.rose))
-  begun-comes run.CreateFault asks due = inr (inr (inr (inl asks.rose)))
-  begun-comes run.NoMemory asks due = inr (inl refl)
-  begun-comes run.StoreFault asks due = absurd asks
-  begun-comes (run.BadStore row) asks due = absurd asks
-  begun-comes (run.Full place) asks due = absurd asks
-  begun-comes (run.Script number why) asks due = absurd asks
-  begun-comes run.WriteFault asks due = absurd asks
+  begun-comes why asks due = grind (arith, common_steps)
 
   early-comes : (why : RunStop) → endings.EarlyCause t plan before after why → (due : Result (Unit {0}) RunStop) → Due due → Comes (Err why) due
   early-comes why (inl (cause, same)) due is = none-comes why cause due is

@@ -1,8 +1,7 @@
 -- Private: no public contract cites this. What each script of a run read and wrote: how it ended, and how often its files failed.
-use Rattle.std.proofs.Common.{◌≡◌, ◌≢◌, ℕ, zero, suc, ◌<◌, ◌≤◌, ◌+◌, inl, inr, Bool, cond, List, [], ◌∷◌, length, map, Option, Some, None, Ok, Err, refl, sym, ap, subst, ◌∙◌, arith}
-use Rattle.std.proofs.lemmas.{Bool.lt-ltb, List.append_cancel_right}
+use Rattle.std.proofs.Common.{◌≡◌, ◌≢◌, ℕ, zero, suc, ◌<◌, ◌≤◌, ◌+◌, List, [], ◌∷◌, length, map, Option, Some, None, Err, refl, sym, subst, ◌∙◌, arith}
+use Rattle.std.{proofs.lemmas.Bool.lt-ltb, proofs.lemmas.List.append_cancel_right, proofs.lemmas.Grind.common_steps, specs.List.{AllByRecursion, AllZip}}
 use Rattle.std.specs.Prelude.{◌⊎◌, slice_get, slice_index_or, AllPairs, Result, codes, not, count_by, nat_lt, if◌then◌else◌, option_and_then, IfSome}
-use Rattle.std.{specs.List.{AllByRecursion, AllZip}, proofs.lemmas.List.Sums.sum_by-cons}
 use Rattle.track_outside.specs.{Counts.Rose, Named.{NamedBytes, bytes_at}}
 use Rattle.track_outside.specs.declared.source.Source as source
 use Rattle.track_outside.specs.declared.sink.Sink as sink
@@ -101,37 +100,19 @@ module _ {I O : Type 0} (i : source.Ghosts I) (o : sink.Ghosts O) (told : Option
   abbrev failures : Playing I O → ℕ
   failures p = (if nat_lt 0 (i.faults p.input) then 1 else 0) + (if nat_lt 0 (o.faults p.output) then 1 else 0)
 
-  one-failed : (script : List ℕ) (p : Playing I O) → WasRun script p → p.ended ≢ Err stop.NoMemory → cond (not (in_full p.ended)) 1 0 ≤ failures p
-  one-failed script p r some = by p.ended r.read r.wrote some
-    where
-      by : (e : Result (Unit {0}) Stop) → HasRead i r.input p.input r.items e → HasWritten o r.output p.output r.text e → e ≢ Err stop.NoMemory → cond (not (in_full e)) 1 0 ≤ failures p
-      by (Ok done) read wrote differs = omega arith
-      by (Err stop.ReadFault) read wrote differs = let one = one-if (i.faults p.input) (rose-some (i.faults r.input) (i.faults p.input) read.0) in omega (arith, one)
-      by (Err stop.WriteFault) read wrote differs = let one = one-if (o.faults p.output) (rose-some (o.faults r.output) (o.faults p.output) wrote.rose) in omega (arith, one)
-      by (Err (stop.CutOff offset)) read wrote differs = omega arith
-      by (Err stop.InputTooLong) read wrote differs = omega arith
-      by (Err stop.NoMemory) read wrote differs = absurd (differs refl)
-
   pub all-failed : (scripts : List (List ℕ)) (played : List (Playing I O)) → AllZip WasRun scripts played
       → AllByRecursion (λ (e : Result (Unit {0}) Stop). e ≢ Err stop.NoMemory) (map end_of played)
       → count_by not (map in_full (map end_of played)) ≤ failed_inputs i (map open_of played) + failed_outputs o (map open_of played)
   all-failed [] [] all some = omega arith
   all-failed [] (p ∷ played) all some = absurd all
   all-failed (x ∷ scripts) [] all some = absurd all
-  all-failed (x ∷ scripts) (p ∷ played) all some =
-      let first = one-failed x p all.0 some.0 in
-      let rest = all-failed scripts played all.1 some.1 in
-      let sum = sum_by-cons (λ (b : Bool). cond (not b) 1 0) (in_full p.ended) (map in_full (map end_of played)) in
-      omega (arith, first, rest, sum)
+  all-failed (x ∷ scripts) (p ∷ played) all some = grind (arith, common_steps, all-failed scripts played all.1 some.1)
 
   -- one that failed is counted among those that did
   one-counts : (faults : Playing I O → ℕ) (failed : List (Playing I O) → ℕ) → ((q : Playing I O) (rest : List (Playing I O)) → failed (q ∷ rest) ≡ (if nat_lt 0 (faults q) then 1 else 0) + failed rest)
       → (played : List (Playing I O)) (k : ℕ) (p : Playing I O) → slice_get played k ≡ Some p → 0 < faults p → 0 < failed played
   one-counts faults failed more [] k p is some = absurd (cc)
-  one-counts faults failed more (q ∷ played) zero p is some =
-      let same : q ≡ p = some-same q p is in
-      let one = one-if (faults q) (subst (λ (r : Playing I O). 0 < faults r) (sym same) some) in
-      omega (arith, one, more q played)
+  one-counts faults failed more (q ∷ played) zero p is some = grind (arith, common_steps)
   one-counts faults failed more (q ∷ played) (suc k) p is some = let rest = one-counts faults failed more played k p is some in omega (arith, rest, more q played)
 
   pub input-counts : (played : List (Playing I O)) (k : ℕ) (p : Playing I O) → slice_get played k ≡ Some p → 0 < i.faults p.input → 0 < failed_inputs i (map open_of played)
@@ -142,16 +123,8 @@ module _ {I O : Type 0} (i : source.Ghosts I) (o : sink.Ghosts O) (told : Option
 
   -- ---- what the files tell of a script's bytes
   pub left-is : (script bytes : List ℕ) (left : Option (List ℕ)) → IfSome told (λ names. left ≡ bytes_at script names) → option_and_then (bytes_at script) told ≡ Some bytes → left ≡ Some bytes
-  left-is script bytes left tells is = by told tells is
-    where
-      by : (t : Option (List NamedBytes)) → IfSome t (λ names. left ≡ bytes_at script names) → option_and_then (bytes_at script) t ≡ Some bytes → left ≡ Some bytes
-      by None tells is = absurd (cc)
-      by (Some names) tells is = tells ∙ is
+  left-is script bytes left tells is = grind (arith, common_steps)
 
   pub script-told : (script : List ℕ) (left : Option (List ℕ)) → IfSome told (λ names. left ≡ bytes_at script names)
       → (option_and_then (bytes_at script) told ≡ None) ⊎ (option_and_then (bytes_at script) told ≡ left)
-  script-told script left tells = by told tells
-    where
-      by : (t : Option (List NamedBytes)) → IfSome t (λ names. left ≡ bytes_at script names) → (option_and_then (bytes_at script) t ≡ None) ⊎ (option_and_then (bytes_at script) t ≡ left)
-      by None tells = inl refl
-      by (Some names) tells = inr (sym tells)
+  script-told script left tells = grind (arith, common_steps)

@@ -1,7 +1,7 @@
 -- Private: no public contract cites this. The scripts that were run at a room fit the journals that it leaves.
-use Rattle.std.proofs.Common.{◌≤◌, ◌++◌, take, ap₂, ◌≡◌, ℕ, ◌+◌, inl, inr, Bool, true, false, List, [], ◌∷◌, length, map, Option, Some, None, refl, sym, ap, subst, ◌∙◌, arith}
-use Rattle.std.{specs.Prelude.{◌⊎◌, zip, Result, option_and_then, IfSome}, specs.List.{AllByRecursion, AllZip}, proofs.lemmas.List.{length-map, length-take}}
-use Rattle.std.proofs.lemmas.Slice.Zip.{AllZip-long}
+use Rattle.std.proofs.Common.{◌≤◌, ◌++◌, take, ap₂, ◌≡◌, ℕ, ◌+◌, Bool, true, false, List, [], ◌∷◌, length, map, Option, None, refl, sym, ap, subst, ◌∙◌, arith}
+use Rattle.std.{specs.Prelude.{◌⊎◌, zip, Result, IfSome}, specs.List.{AllByRecursion, AllZip}, proofs.lemmas.List.{length-map, length-take}}
+use Rattle.std.proofs.lemmas.{Slice.Zip.AllZip-long, Grind.common_steps}
 use Rattle.track_outside.specs.Named.{NamedBytes, bytes_at}
 use Rattle.track_outside.specs.declared.files.Files as files
 use Rattle.track_outside.specs.declared.runner.Runner as runner
@@ -24,16 +24,11 @@ use Rattle.shared_run.proofs.{Running.{of-room, shorter, still-of-room}, EachRun
 
 -- ---- bytes that the files tell, or don't
 less-told : (P : List ℕ → Type 0) (one other : Option (List ℕ)) → (other ≡ None) ⊎ (other ≡ one) → IfSome one P → IfSome other P
-less-told P one other (inl is) holds = subst (λ (o : Option (List ℕ)). IfSome o P) (sym is) tt
-less-told P one other (inr is) holds = subst (λ (o : Option (List ℕ)). IfSome o P) (sym is) holds
+less-told P one other x3 holds = grind (arith, common_steps)
 
 less-written : (full : Bool) (script script' transcript transcript' : Option (List ℕ)) (xs : List Exchange) → (script' ≡ None) ⊎ (script' ≡ script) → (transcript' ≡ None) ⊎ (transcript' ≡ transcript)
     → IsWritten full script transcript xs → IsWritten full script' transcript' xs
-less-written true script script' transcript transcript' xs one two w = record {
-  ending = w.ending;
-  script_is = less-told _ script script' one w.script_is;
-  transcript_is = less-told _ transcript transcript' two w.transcript_is;
-}
+less-written true script script' transcript transcript' xs one two w = grind (arith, common_steps)
 less-written false script script' transcript transcript' xs one two w = record {
   script_is = less-told _ script script' one w.script_is;
   whole = w.whole;
@@ -50,20 +45,13 @@ seat_of p = p.seat
 module _ {F I O K : Type 0} (t : Told F I O K) (plan : Plan) (before after : F) (i : source.Ghosts I) (o : sink.Ghosts O) where
   transcript-told : (script name : List ℕ) (taken : Option (List ℕ)) → name ≡ transcript_of script → IfSome (t.files.contents after) (λ names. bytes_at name names ≡ taken)
       → (endings.bytes_in t plan after (transcript_of script) ≡ None) ⊎ (endings.bytes_in t plan after (transcript_of script) ≡ taken)
-  transcript-told script name taken named tells = by (t.files.contents after) tells
-    where
-      by : (told : Option (List NamedBytes)) → IfSome told (λ names. bytes_at name names ≡ taken)
-          → (option_and_then (bytes_at (transcript_of script)) told ≡ None) ⊎ (option_and_then (bytes_at (transcript_of script)) told ≡ taken)
-      by None tells = inl refl
-      by (Some names) tells = inr (ap (λ (n : List ℕ). bytes_at n names) (sym named) ∙ tells)
+  transcript-told script name taken named tells = grind (arith, common_steps)
 
   written-first : (s : OpenScript I O) (opened : List (OpenScript I O)) (told : Option (List NamedBytes)) → HaveWritten o (s ∷ opened) told → IfSome told (λ names. bytes_at (o.name s.output) names ≡ o.taken s.output)
-  written-first s opened None w = tt
-  written-first s opened (Some names) w = w.0
+  written-first s opened told w = grind (arith, common_steps)
 
   written-rest : (s : OpenScript I O) (opened : List (OpenScript I O)) (told : Option (List NamedBytes)) → HaveWritten o (s ∷ opened) told → HaveWritten o opened told
-  written-rest s opened None w = tt
-  written-rest s opened (Some names) w = w.1
+  written-rest s opened told w = grind (arith, common_steps)
 
   played-from : (room : List Home) (n : ℕ) (scripts : List (List ℕ)) (opened : List (OpenScript I O)) (passes : List (List Sight)) (played : List (Playing I O))
       → length passes ≡ length opened → AllZip (IsOpen i o (t.files.contents before)) scripts opened → AllZip (Plays i o) (players_from room n passes opened) played
@@ -140,8 +128,7 @@ module _ {F I O A : Type 0} (f : files.Ghosts F I O) (i : source.Ghosts I) (o : 
   seats-of-scripts = scripts-seated i o f plan.scripts room c.passes old new ends c.split.of_scripts.of_room c.scripts
 
   gone : JoinsAll c.between (map shared.pass_of (map seat_of c.scripts.played) ++ (map shared.pass_of (map recompute_seat c.recomputers) ++ map shared.pass_of (map bisect_seat c.bisectors))) last
-  gone = subst (λ (l : List (List Sight)). JoinsAll c.between l last)
-      (ap₂ (λ (xs ys : List (List Sight)). xs ++ ys) (sym (same-passes i o c.scripts.played)) (ap₂ (λ (xs ys : List (List Sight)). xs ++ ys) (sym (recompute-passes c.recomputers)) (sym (bisect-passes c.bisectors)))) c.joins
+  gone = grind (arith, common_steps, last, ap₂, same-passes, i, o, recompute-passes, bisect-passes)
 
   -- so the first pass is whole where all have gone again
   pub is-whole : shared.SharingEnds → RecomputersSit → BisectorsSit r → SeatsShare → IsPassOf room first → AllZip IsFirstOf tracks first → IsWhole last

@@ -1,7 +1,7 @@
 -- Private: no public contract cites this. How a run ends behind its scripts, by which stop decides.
 use Rattle.std.proofs.Common.{◌≡◌, ◌≢◌, ℕ, suc, ◌<◌, ◌≤◌, ◌+◌, ◌-◌, ◌^◌, inl, inr, Bool, true, false, List, [], ◌∷◌, ◌++◌, length, map, Option, Some, None, Ok, Err, refl, sym, ap, subst, ◌∙◌, arith}
 use Rattle.std.specs.{Prelude.{◌⊎◌, slice_get, option_map, Contains, Result, count_by, not, IfSome, IsSome, OnOk}, List.{AllByRecursion, AllZip}}
-use Rattle.std.proofs.lemmas.{Bool.cases_lt, List.length-map, Option.{slice_get_within, get_or_from_slice_get}, Slice.Zip.AllZip-long}
+use Rattle.std.proofs.lemmas.{List.length-map, Option.{slice_get_within, get_or_from_slice_get}, Slice.Zip.AllZip-long, Grind.common_steps}
 use Rattle.track_outside.specs.{Calls.{Took, FailedIn, TookPart}, Counts.Rose, Kept.with_more, Named.Call}
 use Rattle.track_outside.specs.declared.sink.Sink as sink
 use Rattle.track_outside.specs.declared.source.Source as source
@@ -24,32 +24,15 @@ use Rattle.shared_run.specs.Endings as endings
 use Rattle.shared_run.specs.{Leaving.WritesText, Crews.{AreNew, RanIn, asked_by}, Stops.{Decides, NoneStopped, WantsMemory}}
 use Rattle.shared_run.proofs.Beginning.{first-different, first-kept, room-different, was-started}
 use Rattle.shared_run.proofs.{Decided.{Decided, FirstDecides, LaterDecides, MemoryDecides, decided, not-in}, Fitted.{Laws, run-fits, run-quiet}}
-use Rattle.shared_run.proofs.Taken.{failed-part, took-part}
 use Rattle.shared_run.proofs.EachRun.{WasRun, all-failed, all-run, input-counts, left-is, output-counts, rose-some, some-same, there-at, zip-at}
 
 -- ---- what the output took
 part-of : {O : Type 0} (o : sink.Ghosts O) (old new : O) (text : List ℕ) (later : Result (Unit {0}) RunStop) → WritesText o old new text later → TookPart o old new text
-part-of o old new text (Ok done) wrote = took-part o old new text wrote
-part-of o old new text (Err run.NoMemory) wrote = wrote
-part-of o old new text (Err run.StoreFault) wrote = took-part o old new text wrote
-part-of o old new text (Err (run.BadStore row)) wrote = absurd wrote
-part-of o old new text (Err (run.Full place)) wrote = absurd wrote
-part-of o old new text (Err run.OpenFault) wrote = absurd wrote
-part-of o old new text (Err run.CreateFault) wrote = absurd wrote
-part-of o old new text (Err (run.Script number why)) wrote = absurd wrote
-part-of o old new text (Err run.WriteFault) wrote = failed-part o old new text wrote
+part-of o old new text later wrote = grind (arith, common_steps)
 
 either-of : {O : Type 0} (o : sink.Ghosts O) (old new : O) (text : List ℕ) (later : Result (Unit {0}) RunStop) → later ≢ Err run.NoMemory → WritesText o old new text later
     → Took o old new text ⊎ FailedIn o old new text
-either-of o old new text (Ok done) some wrote = inl wrote
-either-of o old new text (Err run.NoMemory) some wrote = absurd (some refl)
-either-of o old new text (Err run.StoreFault) some wrote = inl wrote
-either-of o old new text (Err (run.BadStore row)) some wrote = absurd wrote
-either-of o old new text (Err (run.Full place)) some wrote = absurd wrote
-either-of o old new text (Err run.OpenFault) some wrote = absurd wrote
-either-of o old new text (Err run.CreateFault) some wrote = absurd wrote
-either-of o old new text (Err (run.Script number why)) some wrote = absurd wrote
-either-of o old new text (Err run.WriteFault) some wrote = inr wrote
+either-of o old new text later some wrote = grind (arith, common_steps)
 
 -- ---- counts
 none-short : (ends : List (Result (Unit {0}) Stop)) → NoneStopped ends → count_by not (map in_full ends) ≡ 0
@@ -63,13 +46,7 @@ rose-by before middle after n le some rose = omega (arith, le, some, rose)
 
 both-rose : (reads reads' reads'' writes writes' writes'' inputs outputs n : ℕ) → reads ≤ reads' → writes ≤ writes' → RoseBy inputs reads' reads'' → RoseBy outputs writes' writes'' → n ≤ inputs + outputs
     → (n + (reads + writes) ≤ reads'' + writes'') ⊎ (2 ^ 64 - 1 ≤ reads'') ⊎ (2 ^ 64 - 1 ≤ writes'')
-both-rose reads reads' reads'' writes writes' writes'' inputs outputs n one two three four most = elim (cases_lt reads'' (2 ^ 64 - 1)) [
-  | inr last ↦ inr (inl last)
-  | inl less ↦ elim (cases_lt writes'' (2 ^ 64 - 1)) [
-    | inr last ↦ inr (inr last)
-    | inl less' ↦ inl (omega (arith, one, two, three, four, most, less, less'))
-  ]
-]
+both-rose reads reads' reads'' writes writes' writes'' inputs outputs n one two three four most = grind (arith, common_steps)
 
 -- ---- the end
 pub record Facts {F I O K A : Type 0} (t : Told F I O K) (r : runner.Ghosts A) (plan : Plan) (began at_last : List A) (before after : Objects F O K) (ends : List (Result (Unit {0}) Stop)) (later result : Result (Unit {0}) RunStop) : Type 0 where
@@ -322,8 +299,7 @@ module _ {F I O K A : Type 0} (t : Told F I O K) (r : runner.Ghosts A) (plan : P
     in_full = λ same. none-short (map end_of played) (subst NoneStopped same-ends l.none);
     cause = λ place less. (all-well l.none place less).0;
     first = all-well l.none;
-    keeps = λ named. subst (λ (w : Result (Unit {0}) RunStop). OnOk w (NoneStopped ends → IsSome plan.store → t.keeper.kept after.keeper ≡ with_more (t.keeper.kept x.loaded) (new_rows x.version x.journals))) is x.added l.none named
-        ∙ ap (λ (r : Option (List (List ℕ))). with_more r (new_rows x.version x.journals)) x.rows;
+    keeps = grind (arith, common_steps);
   })
   by-later l (Err run.NoMemory) is = absurd (l.quiet (inl is))
   by-later l (Err run.StoreFault) is = by-way (Err run.StoreFault) (record {

@@ -1,15 +1,13 @@
 -- Private: no public contract cites this. Scripts that were opened, seated, played and closed.
-use Rattle.std.proofs.Common.{◌≡◌, ◌<◌, ◌+◌, ℕ, List, [], ◌∷◌, ◌++◌, length, map, take, drop, refl, sym, ap, subst, ◌∙◌, Option, Some, None, Ok, Err, arith, append-nil}
-use Rattle.std.specs.{Prelude.{Result, option_map, IsSome, IfErr, IsErrAnd}, List.{AllByRecursion, AllZip}, Io.KnownBytes.append_known}
+use Rattle.std.{proofs.lemmas.Grind.common_steps, specs.Prelude.{Result, option_map, IsSome, IfErr, IsErrAnd}, specs.List.{AllByRecursion, AllZip}}
+use Rattle.std.proofs.Common.{◌≡◌, ◌<◌, ◌+◌, ℕ, List, [], ◌∷◌, ◌++◌, length, map, take, drop, refl, sym, ap, subst, ◌∙◌, Option, Err, arith}
 use Rattle.track_outside.specs.Named.{Call, NamedBytes, bytes_at}
 use Rattle.track_outside.specs.declared.files.Files as files
 use Rattle.track_outside.specs.declared.source.Source as source
 use Rattle.track_outside.specs.declared.sink.Sink as sink
 use Rattle.script_files.specs.{declared.open.OpenFault.OpenFault as Fault, declared.open.OpenScript.OpenScript, Opening.{Asks, IsOpen, calls_for}}
-use Rattle.script_files.specs.declared.open.OpenFault.TheVariants as fault
 use Rattle.script_files.specs.Closing.{AreClosable, IsClosable}
 use Rattle.script_loop.specs.{Endings.HasWritten, declared.stop.Stop.Stop}
-use Rattle.script_loop.specs.declared.stop.Stop.TheVariants as stop
 use Rattle.worker_crew.specs.{Rooms.{IsPassOf, badge}, Sights.{Home, Sight}, Seats.{AreDifferent, IsSeated}}
 use Rattle.worker_crew.specs.Players.{CanPlay, IsOfRoom, Playing, Plays, open_of, players_from}
 use Rattle.shared_run.specs.{declared.stop.RunStop.RunStop, declared.stop.RunStop.TheVariants.NoMemory, Causes.open_stop, Ran.NotBegun}
@@ -20,20 +18,15 @@ calls-some [] some = absurd (omega (arith, some))
 calls-some (s ∷ scripts) some = omega arith
 
 same-told : (told : Option (List Call)) → told ≡ option_map (λ made. made ++ []) told
-same-told None = refl
-same-told (Some calls) = ap (λ (l : List Call). Some l) (sym (append-nil calls))
+same-told told = grind (arith, common_steps)
 
 -- memory was wanting before the first file
 pub none-made : {F I O A : Type 0} (f : files.Ghosts F I O) (scripts : List (List ℕ)) (now : F) → 0 < length scripts → (result : Result A RunStop) → IsErrAnd result (λ why. why ≡ NoMemory)
     → IfErr result (NotBegun f scripts now now)
-none-made f scripts now some (Ok left) is = tt
-none-made f scripts now some (Err why) is = subst (NotBegun f scripts now now) (sym is) (0, calls-some scripts some, same-told (f.asked now))
+none-made f scripts now some result is = grind (arith, common_steps, calls-some, same-told)
 
 pub not-open : {F I O : Type 0} (f : files.Ghosts F I O) (scripts : List (List ℕ)) (old new : F) (why : Fault) → Asks f scripts old new (Err why) → NotBegun f scripts old new (open_stop why)
-not-open f scripts old new fault.ReadFault asks = asks
-not-open f scripts old new fault.WriteFault asks = asks
-not-open f scripts old new fault.NoMemory asks =
-    (asks.due.0, asks.due.1, asks.noted ∙ ap (λ (m : List Call). option_map (λ made. made ++ m) (f.asked old)) asks.due.2)
+not-open f scripts old new why asks = grind (arith, common_steps)
 
 -- ---- lists
 pub whole : {A : Type 0} (new old : List A) → length new ≡ length old → take (length old) (new ++ drop (length new) old) ≡ new
@@ -79,17 +72,9 @@ still-of-room i o room (q ∷ olds) (p ∷ news) all of = (
 )
 
 -- ---- files
-some-append : (told : Option (List ℕ)) (bytes : List ℕ) → IsSome told → IsSome (append_known told bytes)
-some-append None bytes is = is
-some-append (Some x) bytes is = is
 
 tells-still : {O : Type 0} (o : sink.Ghosts O) (old new : O) (text : List ℕ) (result : Result (Unit {0}) Stop) → HasWritten o old new text result → IsSome (o.taken old) → IsSome (o.taken new)
-tells-still o old new text (Ok done) wrote is = subst (λ t. IsSome t) (sym wrote.taken) (some-append (o.taken old) text is)
-tells-still o old new text (Err stop.ReadFault) wrote is = subst (λ t. IsSome t) (sym wrote.taken) (some-append (o.taken old) text is)
-tells-still o old new text (Err stop.WriteFault) wrote is = subst (λ t. IsSome t) (sym wrote.part.2) (some-append (o.taken old) (take wrote.part.0 text) is)
-tells-still o old new text (Err (stop.CutOff offset)) wrote is = subst (λ t. IsSome t) (sym wrote.taken) (some-append (o.taken old) text is)
-tells-still o old new text (Err stop.InputTooLong) wrote is = subst (λ t. IsSome t) (sym wrote.taken) (some-append (o.taken old) text is)
-tells-still o old new text (Err stop.NoMemory) wrote is = subst (λ t. IsSome t) (sym wrote.part.2) (some-append (o.taken old) (take wrote.part.0 text) is)
+tells-still o old new text result wrote is = grind (arith, common_steps)
 
 closable-then : {I O : Type 0} (i : source.Ghosts I) (o : sink.Ghosts O) (names : List NamedBytes) (room : List Home) (n : ℕ) (passes : List (List Sight)) (opened : List (OpenScript I O)) (played : List (Playing I O))
     → length passes ≡ length opened → AllZip (Plays i o) (players_from room n passes opened) played → AllByRecursion (IsClosable o names) opened → AllByRecursion (IsClosable o names) (map open_of played)
@@ -108,8 +93,7 @@ closable-then i o names room n (q ∷ passes) (s ∷ opened) (p ∷ played) same
 
 pub closable-played : {I O : Type 0} (i : source.Ghosts I) (o : sink.Ghosts O) (told : Option (List NamedBytes)) (room : List Home) (n : ℕ) (passes : List (List Sight)) (opened : List (OpenScript I O)) (played : List (Playing I O))
     → length passes ≡ length opened → AllZip (Plays i o) (players_from room n passes opened) played → AreClosable o told opened → AreClosable o told (map open_of played)
-closable-played i o None room n passes opened played same plays all = tt
-closable-played i o (Some names) room n passes opened played same plays all = closable-then i o names room n passes opened played same plays all
+closable-played i o told room n passes opened played same plays all = grind (arith, common_steps, closable-then)
 
 -- what was written back through a slice
 pub whole-of : {A : Type 0} (len : ℕ) (new old : List A) → len ≡ length old → length new ≡ length old → take len (new ++ drop (length new) old) ≡ new

@@ -1,5 +1,5 @@
 -- Keys that are the same are equal.
-use Rattle.std.{proofs.Common.{◌≡◌, ℕ, true, List, refl, sym, ap₂, ◌∙◌}, specs.Prelude.bytes_eq, specs.declared.cmp.Ordering.Ordering}
+use Rattle.std.{proofs.Common.{◌≡◌, ℕ, true, List, refl, sym, ap₂, ◌∙◌}, specs.declared.cmp.Ordering.Ordering}
 use Rattle.std.specs.{declared.cmp.Ordering.TheVariants.{Less, Equal, Greater}, Ordering.{nat_cmp, is_eq, ordering_then}, Cmp.Lexicographic.slice_cmp}
 use Rattle.std.proofs.lemmas.{Map.Text.is_eq-slice_cmp, Slice.Eq.bytes_eq-Decides}
 use Rattle.touch_index.specs.{Marks.key_cmp, declared.key.SeriesKey.SeriesKey}

@@ -6,23 +6,20 @@ use crate::NoMemory;
 use crate::key::SeriesKey;
 use crate::mark::{Claim, Mark};
 use line_text::Duplicate;
+use name_index::OrderedMap;
 use std::alloc::Global;
-use std::collections::BTreeMap;
 use std::marker::Model;
 
 /// The marks of series, in order of test and metric.
 #[derive(Drop)]
-pub struct TouchIndex {
-    alloc: Global,
-    marks: BTreeMap<SeriesKey, Mark>,
-}
+pub struct TouchIndex(OrderedMap<SeriesKey, Mark>);
 
 impl Model for TouchIndex {
     ghost use Rattle.touch_index.specs.Marks.{Entries};
 
     ghost Value = { Entries };
 
-    ghost view = { λ t. t.marks.entries };
+    ghost view = { λ t. t.0 };
 }
 
 impl TouchIndex {
@@ -30,17 +27,14 @@ impl TouchIndex {
     pub fn new(alloc: Global) -> TouchIndex
         ensures { result ≡ [] }
     {
-        TouchIndex {
-            alloc,
-            marks: BTreeMap::new(alloc),
-        }
+        TouchIndex(OrderedMap::new(alloc))
     }
 
     /// The mark of a series. Logarithmic time; takes no memory.
     pub fn get(&self, key: &SeriesKey) -> Option<Mark>
         ensures { result ≡ mark_of key.now self.now }
     {
-        self.marks.get(key).copied()
+        self.0.get(key).copied()
     }
 
     /// Gives a series this mark; changes nothing where there is no memory. Logarithmic time.
@@ -49,9 +43,7 @@ impl TouchIndex {
             ≡ (if is_eq (key_cmp key.now q) then Some mark else mark_of q self.old)) }
         ensures err { OnErr result (self.new ≡ self.old) }
     {
-        let key = key.copy(self.alloc)?;
-        self.marks.insert(key, mark)?;
-        Ok(())
+        self.0.put(key, mark)
     }
 
     /// An entry touched the series in this step. Logarithmic time.
@@ -71,7 +63,7 @@ impl TouchIndex {
             ≡ (if is_eq (key_cmp key.now q) then with_claim claim (mark_of key.now self.old)
             else mark_of q self.old) }
     {
-        if let Some(mark) = self.marks.get_mut(key) {
+        if let Some(mark) = self.0.get_mut(key) {
             mark.claim = claim;
             return;
         }
@@ -83,7 +75,7 @@ impl TouchIndex {
             ≡ (if is_eq (key_cmp key.now q) then None else mark_of q self.old) }
         ensures shorter { IsSome (mark_of key.now self.old) → length self.new < length self.old }
     {
-        let _ = self.marks.remove(key);
+        self.0.remove(key);
     }
 
     /// The first series that has a mark and that nobody works on, with the step of its last touch. Linear in the claims that
@@ -93,7 +85,7 @@ impl TouchIndex {
         ensures none { IfOk result (λ o. IfNone o (NoneIsFree self.now)) }
     {
         let first = self.find_free()?;
-        if self.marks.len() == 0 {
+        if self.0.entries().len() == 0 {
             return Ok(None);
         }
         Ok(first)
@@ -103,9 +95,9 @@ impl TouchIndex {
     fn find_free(&self) -> Result<Option<(SeriesKey, u64)>, NoMemory>
         ensures found { IfOk result (λ o. o ≡ first_free self.now) }
     {
-        for (key, mark) in &self.marks {
+        for (key, mark) in self.0.entries() {
             if let Claim::Free = mark.claim {
-                return Ok(Some((key.copy(self.alloc)?, mark.touched)));
+                return Ok(Some((key.copy(self.0.allocator())?, mark.touched)));
             }
         }
         Ok(None)

@@ -4,7 +4,7 @@
 //! any series, by [`mark_of`](specs/Marks.antt). The marks are in order of test and metric, so the first series that
 //! nobody works on is found without a look at those that have no mark. Look-ups are logarithmic.
 //!
-//! Stands on `line_text` for names.
+//! Stands on `name_index` for ordered maps, and on `line_text` for names.
 #![tactic(auto)]
 
 mod index;

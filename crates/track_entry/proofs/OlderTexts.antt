@@ -1,5 +1,5 @@
 -- A setting's text of version 2 is that of version 1 with its least length behind it; the texts of other kinds stay.
-use Rattle.std.proofs.Common.{◌≡◌, ◌≢◌, ℕ, List, [], ◌∷◌, ◌++◌, codes, decimal, sym, ap, ◌∙◌, subst, append_assoc, append-nil, arith, slice_index_or, inl, inr}
+use Rattle.std.proofs.{Common.{◌≡◌, ◌≢◌, ℕ, List, [], ◌++◌, codes, decimal, sym, ap, ◌∙◌, subst, arith, slice_index_or, inl, inr}, lemmas.Grind.common_steps}
 use Rattle.std.{specs.Fmt.{digits, signed_decimal}, proofs.lemmas.List.append_cancel_right, proofs.lemmas.Bool.cases_eq}
 use Rattle.line_text.specs.Names.{spelling}
 use Rattle.history_model.specs.declared.entries.Entry.{Entry, TheVariants.{Commit, Accept, Retract, Tune, Publish, Regression, Job}}
@@ -15,13 +15,10 @@ abbrev one : List ℕ
 one = codes " 1"
 
 first-of : (text more : List ℕ) → first text ≡ 116 → first (text ++ more) ≡ 116
-first-of [] more is = absurd (omega (arith, is))
-first-of (b ∷ text) more is = is
+first-of text more is = grind (arith, common_steps)
 
 behind : (t a b l : List ℕ) → (t ++ (a ++ (b ++ []))) ++ l ≡ t ++ (a ++ (b ++ (l ++ [])))
-behind t a b l =
-    append_assoc t (a ++ (b ++ [])) l
-    ∙ ap (λ (x : List ℕ). t ++ x) (append_assoc a (b ++ []) l ∙ ap (λ (x : List ℕ). a ++ x) (append_assoc b [] l ∙ ap (λ (x : List ℕ). b ++ x) (sym (append-nil l))))
+behind t a b l = grind (arith, common_steps)
 
 -- the text of a setting of length 1
 setting : (metric : List ℕ) (penalty : _) → spaced (words_v1 (Tune metric penalty 1)) ++ one ≡ entry_text (Tune metric penalty 1)
@@ -30,22 +27,11 @@ setting metric penalty = behind (codes "tune") (next (spelling metric)) (next (s
 
 -- a text that begins as a setting's spells in version 1 what it spells with that length behind it
 pub spells-longer : (text : List ℕ) (e : Entry) → first text ≡ 116 → SpellsV1 text e → SpellsEntry (text ++ one) e
-spells-longer text (Tune metric penalty len) begins is =
-    (is.0, ap (λ (t : List ℕ). t ++ one) is.2 ∙ setting metric penalty ∙ ap (λ (n : ℕ). entry_text (Tune metric penalty n)) (sym is.1))
-spells-longer text (Commit number name) begins is = absurd (omega (arith, sym (ap first is.2) ∙ begins))
-spells-longer text (Accept run) begins is = absurd (omega (arith, sym (ap first is.2) ∙ begins))
-spells-longer text (Retract run) begins is = absurd (omega (arith, sym (ap first is.2) ∙ begins))
-spells-longer text (Publish p) begins is = absurd (omega (arith, sym (ap first is.2) ∙ begins))
-spells-longer text (Regression (Raise r)) begins is = absurd (omega (arith, sym (ap first is.2) ∙ begins))
-spells-longer text (Regression (Move number state)) begins is = absurd (omega (arith, sym (ap first is.2) ∙ begins))
-spells-longer text (Job (Begin lo hi)) begins is = absurd (omega (arith, sym (ap first is.2) ∙ begins))
-spells-longer text (Job (Answer number place status)) begins is = absurd (omega (arith, sym (ap first is.2) ∙ begins))
-spells-longer text (Job (GiveUp number place)) begins is = absurd (omega (arith, sym (ap first is.2) ∙ begins))
+spells-longer text e begins is = grind (arith, common_steps, one, setting, first)
 
 pub spells-shorter : (text : List ℕ) (e : Entry) → first text ≡ 116 → SpellsEntry (text ++ one) e → IsOfV1 e → SpellsV1 text e
 spells-shorter text (Tune metric penalty len) begins is of_v1 =
-    let same : text ++ one ≡ spaced (words_v1 (Tune metric penalty 1)) ++ one =
-    is.1 ∙ ap (λ (n : ℕ). entry_text (Tune metric penalty n)) of_v1 ∙ sym (setting metric penalty) in
+    let same : text ++ one ≡ spaced (words_v1 (Tune metric penalty 1)) ++ one = grind (arith, common_steps, setting) in
     (is.0, of_v1, append_cancel_right text (spaced (words_v1 (Tune metric penalty 1))) one same)
 spells-shorter text (Commit number name) begins is of_v1 = absurd (omega (arith, sym (ap first is.1) ∙ first-of text one begins))
 spells-shorter text (Accept run) begins is of_v1 = absurd (omega (arith, sym (ap first is.1) ∙ first-of text one begins))
@@ -57,24 +43,8 @@ spells-shorter text (Job (Begin lo hi)) begins is of_v1 = absurd (omega (arith, 
 spells-shorter text (Job (Answer number place status)) begins is of_v1 = absurd (omega (arith, sym (ap first is.1) ∙ first-of text one begins))
 spells-shorter text (Job (GiveUp number place)) begins is of_v1 = absurd (omega (arith, sym (ap first is.1) ∙ first-of text one begins))
 
--- any other text spells the same in both
-pub spells-same : (text : List ℕ) (e : Entry) → first text ≢ 116 → SpellsEntry text e → SpellsV1 text e
-spells-same text (Tune metric penalty len) other is = absurd (other (ap first is.1))
-spells-same text (Commit number name) other is = (is.0, tt, is.1)
-spells-same text (Accept run) other is = (is.0, tt, is.1)
-spells-same text (Retract run) other is = (is.0, tt, is.1)
-spells-same text (Publish p) other is = (is.0, tt, is.1)
-spells-same text (Regression event) other is = (is.0, tt, is.1)
-spells-same text (Job event) other is = (is.0, tt, is.1)
-
 pub same-spells : (text : List ℕ) (e : Entry) → first text ≢ 116 → SpellsV1 text e → SpellsEntry text e
-same-spells text (Tune metric penalty len) other is = absurd (other (ap first is.2))
-same-spells text (Commit number name) other is = (is.0, is.2)
-same-spells text (Accept run) other is = (is.0, is.2)
-same-spells text (Retract run) other is = (is.0, is.2)
-same-spells text (Publish p) other is = (is.0, is.2)
-same-spells text (Regression event) other is = (is.0, is.2)
-same-spells text (Job event) other is = (is.0, is.2)
+same-spells text e other is = grind (arith, common_steps)
 
 -- what the entry read of the longer text isn't of version 1, no entry is
 pub of-v1 : IsOneEntry → (text : List ℕ) (read e : Entry) → first text ≡ 116 → SpellsEntry (text ++ one) read → ¬ IsOfV1 read → ¬ SpellsV1 text e

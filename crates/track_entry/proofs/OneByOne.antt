@@ -1,6 +1,6 @@
 -- Items that are read one by one from their words.
 use Rattle.std.proofs.Common.{◌≡◌, ℕ, ◌<◌, List, [], ◌∷◌, ◌++◌, length, get_or, All, Option, Some, None, true, false, IfSome, IfNone, is_some, refl, subst, sym, ap, ◌∙◌, arith, append_assoc, append-nil, length-append}
-use Rattle.std.proofs.lemmas.Bool.{false≢true}
+use Rattle.std.proofs.lemmas.{Bool.false≢true, Grind.common_steps}
 
 -- the words spell some items behind those that were read
 abbrev pub Rest : {A : Type 0} → (List A → List (List ℕ)) → (all front : List A) (words : List (List ℕ)) → Type 0
@@ -22,10 +22,7 @@ pub some_next : {A B : Type 0} (Is : A → Type 0) (spelt : List A → List (Lis
     → spelt [] ≡ [] → All Is all → true ≡ is_some r → IfSome r (λ x. words ≡ first x ∷ more x) → Rest spelt all front words
     → NextOf Is spelt all front words
 some_next Is spelt None first more all front words empty each some next rest = absurd (false≢true (sym some))
-some_next Is spelt (Some x) first more all front words empty each some next ([], is, are) = absurd (never words (first x) (more x) next (are ∙ empty))
-  where
-    never : (words : List (List ℕ)) (w : List ℕ) (ws : List (List ℕ)) → words ≡ w ∷ ws → words ≡ [] → ⊥
-    never words w ws one other = cc
+some_next Is spelt (Some x) first more all front words empty each some next ([], is, are) = grind (arith, common_steps)
 some_next Is spelt (Some x) first more all front words empty each some next (m ∷ rest, is, are) =
     let place : length front < length all = omega (arith, ap length is, length-append front (m ∷ rest)) in
     record {

@@ -1,5 +1,5 @@
 -- Entries with the same parts are the same.
-use Rattle.std.proofs.Common.{◌≡◌, ℕ, ℤ, List}
+use Rattle.std.proofs.{Common.{◌≡◌, ℕ, ℤ, List, arith}, lemmas.Grind.common_steps}
 use Rattle.sample_model.specs.Samples.{Measurement}
 use Rattle.history_model.specs.declared.{entries.Entry.TheVariants.{Accept, Tune, Publish, Regression}, events.Raised.Raised}
 use Rattle.history_model.specs.declared.{events.RegressionEvent.TheVariants.Raise, publication.Publication.Publication, run.Run.Run}
@@ -9,14 +9,12 @@ same_tune names penalties lengths = λ i. Tune (names i) (penalties i) (lengths 
 
 pub same_run : (run : List ℕ) (commit : ℕ) (samples : List Measurement) (r : Run) → run ≡ r.run → commit ≡ r.commit → samples ≡ r.samples
     → Accept (record { run = run; commit = commit; samples = samples }) ≡ Accept r
-same_run run commit samples r same_name same_commit same_samples =
-    λ i. Accept (record { run = same_name i; commit = same_commit i; samples = same_samples i })
+same_run run commit samples r same_name same_commit same_samples = grind (arith, common_steps)
 
 pub same_publication : {test metric : List ℕ} {version base : ℕ} {total : ℤ} {cuts : List ℕ} (p : Publication)
     → test ≡ p.test → metric ≡ p.metric → version ≡ p.version → base ≡ p.base → total ≡ p.total → cuts ≡ p.cuts
     → Publish (record { test = test; metric = metric; version = version; base = base; total = total; cuts = cuts }) ≡ Publish p
-same_publication p test metric version base total cuts =
-    λ i. Publish (record { test = test i; metric = metric i; version = version i; base = base i; total = total i; cuts = cuts i })
+same_publication p test metric version base total cuts = grind (arith, common_steps)
 
 pub same_change : {test metric : List ℕ} {before after : ℕ} (r : Raised) → test ≡ r.test → metric ≡ r.metric → before ≡ r.before → after ≡ r.after
     → Regression (Raise (record { test = test; metric = metric; before = before; after = after })) ≡ Regression (Raise r)

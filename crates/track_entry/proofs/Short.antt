@@ -1,7 +1,7 @@
 -- The metrics that a legal history names are short, since each is that of a sample, or of a penalty.
-use Rattle.std.proofs.Common.{◌≡◌, ℕ, zero, suc, ◌+◌, ◌≤◌, inl, inr, Bool, true, false, ◌&&◌, ◌||◌, List, [], ◌∷◌, ◌++◌, length, take, subst}
-use Rattle.std.{specs.Prelude.bytes_eq, specs.List.{AllByRecursion, list_any}, proofs.lemmas.Bool.cases_Bool, proofs.lemmas.List.Elements.recursion_from_All}
-use Rattle.std.proofs.lemmas.Slice.Eq.{bytes_eq-Decides}
+use Rattle.std.proofs.lemmas.Grind.{common_steps}
+use Rattle.std.proofs.Common.{◌≡◌, ℕ, zero, suc, ◌+◌, ◌≤◌, inl, inr, Bool, true, ◌&&◌, ◌||◌, List, [], ◌∷◌, ◌++◌, length, take, subst, arith}
+use Rattle.std.{specs.List.{AllByRecursion, list_any}, proofs.lemmas.Bool.cases_Bool, proofs.lemmas.List.Elements.recursion_from_All}
 use Rattle.sample_model.specs.Samples.{Measurement, IsSample, AreSamples}
 use Rattle.history_model.specs.declared.entries.{Acceptance.Acceptance, Entry.Entry, Entry.TheVariants.{Accept, Tune, Publish, Regression}}
 use Rattle.history_model.specs.{declared.events.RegressionEvent.TheVariants.{Raise, Move}, Allowed.{AllowedAfter, MayFollow}, Entries.chosen_from}
@@ -23,14 +23,11 @@ all_more P [] x all last = (last, tt)
 all_more P (y ∷ xs) x all last = (all.0, all_more P xs x all.1 last)
 
 second : (a b : Bool) → (a && b) ≡ true → b ≡ true
-second true b both = both
-second false b both = absurd cc
+second a b both = grind (arith, common_steps)
 
 module _ (s : Series) where
   sample_short : (x : Measurement) → IsSample x → is_of s x ≡ true → length s.metric ≤ 64
-  sample_short x is of =
-      let same : x.metric ≡ s.metric = (bytes_eq-Decides x.metric s.metric).0 (second (bytes_eq x.test s.test) (bytes_eq x.metric s.metric) of) in
-      subst (λ (m : List ℕ). length m ≤ 64) same is.short
+  sample_short x is of = grind (arith, common_steps)
 
   samples_short : (xs : List Measurement) → AllByRecursion IsSample xs → list_any (is_of s) xs ≡ true → length s.metric ≤ 64
   samples_short [] are any = absurd cc
@@ -51,8 +48,7 @@ module _ (s : Series) where
   known_short step (e ∷ h) are known = known_short (step + 1) h are.1 known
 
 has_samples : (h : List Entry) (e : Entry) → MayFollow h e → HasSamples e
-has_samples h (Accept run) may = may.2
-has_samples h e may = tt
+has_samples h e may = grind (arith, common_steps)
 
 short : (h : List Entry) (e : Entry) → AllByRecursion HasSamples h → MayFollow h e → HasShortMetric e
 short h (Tune metric penalty len) are may = may.0

@@ -8,15 +8,16 @@ ghost use Rattle.track_entry.specs.Texts.{sample_words, entry_words, HasShortMet
 ghost use Rattle.track_entry.specs.declared.kind.Kind.TheVariants as kind;
 ghost use Rattle.track_entry.specs.Readings.{Reads, ReadsKind};
 
-use crate::events::{read_answer, read_begin, read_give_up, read_move, read_raise};
+use crate::events::{read_answer, read_move, read_raise};
 use crate::fault::{EntryFault, EntryResult};
 use crate::fits::entry_law;
 use crate::kind::{Kind, read_kind};
 use crate::put::put_whole;
 use crate::words::{
-    METRIC_LIMIT, byte_at, end_at, name_at, number_at, pair_at, sample_at, series_at, signed_at,
+    METRIC_LIMIT, byte_at, end_at, last_pair, name_at, number_at, pair_at, sample_at,
+    series_pair_at, signed_at,
 };
-use history_model::{Entry, Publication, RegressionEvent, Run};
+use history_model::{Entry, JobEvent, Publication, RegressionEvent, Run};
 use line_text::{Boxed, Names, Numbers, names_law, next_word, words_law};
 use metric_table::Limit;
 use sample_model::Samples;
@@ -80,9 +81,17 @@ fn read_behind(alloc: Global, names: &mut Names, kind: Kind, text: &[u8], at: us
         Kind::Publish => read_publish(alloc, names, text, at),
         Kind::Raise => read_raise(alloc, names, text, at),
         Kind::Move => read_move(text, at),
-        Kind::Begin => read_begin(text, at),
+        Kind::Begin => {
+            let (lo, hi) = last_pair(text, at)?;
+            let event = JobEvent::Begin { lo, hi };
+            Ok(Entry::Job { event })
+        }
         Kind::Answer => read_answer(text, at),
-        Kind::GiveUp => read_give_up(text, at),
+        Kind::GiveUp => {
+            let (job, place) = last_pair(text, at)?;
+            let event = JobEvent::GiveUp { job, place };
+            Ok(Entry::Job { event })
+        }
     }
 }
 
@@ -101,8 +110,7 @@ fn read_accept(alloc: Global, names: &mut Names, text: &[u8], at: usize) -> Entr
     ensures { ReadsKind kind.Accept (words_of (drop at text.now)) result }
 {
     let (run, behind_run) = name_at(alloc, names, text, at)?;
-    let (commit, behind_commit) = number_at(text, behind_run)?;
-    let (_, behind_count) = number_at(text, behind_commit)?;
+    let (commit, _, behind_count) = pair_at(text, behind_run)?;
     let samples = read_samples(alloc, names, text, behind_count)?;
     let run = Run {
         run,
@@ -141,8 +149,7 @@ fn read_publish(alloc: Global, names: &mut Names, text: &[u8], at: usize) -> Ent
     requires { at ≤ length text.now }
     ensures { ReadsKind kind.Publish (words_of (drop at text.now)) result }
 {
-    let (test, metric, behind_metric) = series_at(alloc, names, text, at)?;
-    let (version, base, behind_base) = pair_at(text, behind_metric)?;
+    let (test, metric, version, base, behind_base) = series_pair_at(alloc, names, text, at)?;
     let (total, behind_total) = signed_at(text, behind_base)?;
     let (_, behind_count) = number_at(text, behind_total)?;
     let cuts = read_cuts(alloc, text, behind_count)?;

@@ -177,6 +177,27 @@ pub fn series_at(
     Ok((test, metric, end))
 }
 
+// The test and the metric of the next two words, the numbers of the two behind them, and where the last of them ends.
+pub fn series_pair_at(
+    alloc: Global,
+    names: &mut Names,
+    text: &[u8],
+    at: usize,
+) -> Result<(Name, Name, u64, u64, usize), EntryFault>
+    requires { at ≤ length text.now }
+    ensures placed { IfOk result (λ read. read.4 ≤ length text.now) }
+    ensures reads { (test metric : List ℕ) (first second : ℕ) (more : List (List ℕ))
+        → IsName test → IsName metric → length metric ≤ 64 → first < 2 ^ 64 → second < 2 ^ 64
+        → words_of (drop at text.now)
+        ≡ spelling test ∷ spelling metric ∷ decimal first ∷ decimal second ∷ more
+        → Reads result (λ read. (read.0 ≡ test) × (read.1 ≡ metric) × (read.2 ≡ first)
+        × (read.3 ≡ second) × (words_of (drop read.4 text.now) ≡ more)) }
+{
+    let (test, metric, behind_metric) = series_at(alloc, names, text, at)?;
+    let (first, second, end) = pair_at(text, behind_metric)?;
+    Ok((test, metric, first, second, end))
+}
+
 // The sample of the next three words, and where the last of them ends.
 pub fn sample_at(
     alloc: Global,

@@ -1,5 +1,5 @@
 -- Where a form comes to a limit, and what it adds elsewhere.
-use Rattle.std.proofs.Common.{◌≡◌, ℕ, ℤ, ◌+◌, ◌<◌, ◌≤◌, List, [], ◌∷◌, ◌++◌, length, refl, ap, ◌∙◌, arith, Option}
+use Rattle.std.proofs.{Common.{◌≡◌, ℕ, ℤ, ◌+◌, ◌<◌, ◌≤◌, List, [], ◌∷◌, ◌++◌, length, refl, ap, ◌∙◌, arith}, lemmas.Grind.common_steps}
 use Rattle.std.{specs.Prelude.{Some, None, find, option_map}, proofs.lemmas.List.length-append}
 use Rattle.metric_table.specs.Limits.{most}
 use Rattle.metric_table.specs.declared.limits.Limit.TheVariants as limit
@@ -9,17 +9,11 @@ use Rattle.request_model.specs.declared.replies.Answer.TheVariants as answer
 use Rattle.request_model.specs.declared.replies.Refusal.TheVariants as refusal
 use Rattle.history_model.specs.{Commits.{declarations, has_number, has_name}, Laws.{DeclarationsGrow, FirstPassed, FirstKept, LimitsAfterCommit}}
 use Rattle.track_model.specs.Forms as forms
-use Rattle.track_model.{specs.Laws.CommitFits, specs.Outcomes.refuses, proofs.Rows.{first-none, option_map-none}, proofs.Steps.{steps-full, step-added}}
+use Rattle.track_model.{specs.Laws.CommitFits, specs.Outcomes.refuses, proofs.Steps.{steps-full, step-added}}
 
 free-pair : (commits : List Declaration) (number : ℕ) (name : List ℕ) → forms.commit_refusal commits number name ≡ None
     → (find (has_number number) commits ≡ None) × (find (has_name name) commits ≡ None)
-free-pair commits number name free =
-    let same_number : Option Declaration = find (has_number number) commits in
-    let same_name : Option Declaration = find (has_name name) commits in
-    let both = first-none (option_map (forms.told_of name) same_number) (option_map forms.taken_by same_name ∷ []) free in (
-      option_map-none (forms.told_of name) same_number both.0,
-      option_map-none forms.taken_by same_name (first-none (option_map forms.taken_by same_name) [] both.1).0,
-    )
+free-pair commits number name free = grind (arith, common_steps)
 
 module _ (passed : FirstPassed) (kept : FirstKept) where
   -- ---- commit

@@ -1,25 +1,21 @@
 -- What may become of a regression: a move of which nothing is refused, and a change of the last publication of a series.
-use Rattle.std.{proofs.Common.{◌≡◌, ℕ, ◌-◌, ◌≤◌, ◌<◌, true, not, List, length, subst, arith}, specs.Prelude.{nat_le, slice_index, Some, None}}
-use Rattle.std.proofs.lemmas.Bool.{and_parts, leb-true, not-false}
+use Rattle.std.{proofs.Common.{◌≡◌, ℕ, ◌-◌, ◌≤◌, ◌<◌, true, List, length, subst, arith}, specs.Prelude.{nat_le, slice_index, Some, None}}
+use Rattle.std.proofs.lemmas.{Bool.{and_parts, leb-true, not-false}, Grind.common_steps}
 use Rattle.metric_table.specs.Limits.{most}
 use Rattle.metric_table.specs.declared.limits.Limit.TheVariants as limit
 use Rattle.segment_model.specs.Limits.{commits_of}
-use Rattle.regression_state.specs.{Moves.is_move, declared.states.State.State}
+use Rattle.regression_state.specs.declared.states.State.{State}
 use Rattle.history_model.specs.{declared.entries.Entry.Entry, declared.publication.Publication.Publication, Allowed.{Allowed, KeepsLimits, Legal}}
 use Rattle.history_model.specs.declared.entries.Entry.TheVariants as entry
 use Rattle.history_model.specs.declared.events.RegressionEvent.TheVariants as event
 use Rattle.history_model.specs.{Followed.{IsBetweenDeclared, CutsAreBetweenDeclared, LimitsAfterRegression}, Laws.LastStands, Positions.positions}
-use Rattle.history_model.specs.{Publications.{last_publication, spoken_of}, Regressions.{is_number, regressions, state_of}, Runs.{Series, is_known}}
-use Rattle.request_model.specs.declared.replies.Refusal.TheVariants as refusal
+use Rattle.history_model.specs.{Publications.{last_publication, spoken_of}, Regressions.is_number, Runs.{Series, is_known}}
 use Rattle.track_model.specs.Following as following
-use Rattle.track_model.{specs.Outcomes.refusal_if, proofs.Rows.{first-none, passes}}
+use Rattle.track_model.proofs.Rows.{passes}
 
 module _ (limits : LimitsAfterRegression) (h : List Entry) (keeps : KeepsLimits h) (room : length h < most limit.Steps) where
   pub move-allowed : (number : ℕ) (state : State) → following.move_refusal h number state ≡ None → Allowed h (entry.Regression (event.Move number state))
-  move-allowed number state free =
-      let there = first-none (refusal_if (not (is_number (length (regressions h)) number)) refusal.UnknownRegression) _ free in
-      let moves = first-none (refusal_if (not (is_move (state_of number h) state)) (refusal.IllegalMove (state_of number h) state)) _ there.1 in
-      ((not-false _ (passes _ _ there.0), not-false _ (passes _ _ moves.0)), limits h (event.Move number state) keeps room)
+  move-allowed number state free = grind (arith, common_steps)
 
   pub raise-allowed : LastStands → CutsAreBetweenDeclared → (s : Series) (p : Publication) (change : ℕ) → Legal h → is_known s h ≡ true → last_publication s h ≡ Some p
       → following.raise_refusal p change ≡ None → Allowed h (entry.Regression (event.Raise (following.change_of h s p change)))

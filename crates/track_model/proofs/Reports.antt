@@ -1,39 +1,13 @@
 -- The pages of a machine are determined.
-use Rattle.std.{proofs.Common.{◌≡◌, ℕ, ℤ, Bool, List, [], ◌∷◌, map, length, refl, sym, ap, subst, ◌∙◌, Option, Some, None, arith}, specs.Prelude.All}
+use Rattle.std.{proofs.lemmas.Grind.common_steps, proofs.Common.{◌≡◌, ℕ, Bool, List, [], ◌∷◌, map, length, refl, sym, ap, ◌∙◌, arith}, specs.Prelude.All}
 use Rattle.std.{specs.Cmp.IsTotalOrder, proofs.lemmas.Cmp.{nat_list_cmp_total, on_total, then_total}, proofs.lemmas.List.Elements.{All-head, All-tail}}
-use Rattle.segment_model.specs.{Segments.{Position, segment, values_of}, Laws.CentreIsUnique, Cuts.place_before}
+use Rattle.segment_model.specs.Laws.{CentreIsUnique}
 use Rattle.report_model.specs.declared.{items.SeriesLine.SeriesLine, items.RegressionLine.RegressionLine, items.JobLine.JobLine, pages.Pages.Pages}
-use Rattle.history_model.specs.{declared.entries.Entry.Entry, declared.publication.Publication.Publication, Positions.positions}
-use Rattle.history_model.specs.{Publications.{last_publication, spoken_of}, Runs.Series, SeriesOrder.series_cmp}
-use Rattle.change_list.specs.Last.{IsLastCentre}
-use Rattle.track_model.{specs.Reports.{IsOfLast, IsSeriesLine, AreSeriesLines, IsReport, series_in}, proofs.Orders.same-members}
-
-one-centre : CentreIsUnique → (points : List Position) (cuts : List ℕ) (a b : Option ℤ) → IsLastCentre points cuts a → IsLastCentre points cuts b → a ≡ b
-one-centre unique points cuts None None p q = refl
-one-centre unique points cuts None (Some b) p q = absurd (q.0 p)
-one-centre unique points cuts (Some a) None p q = absurd (p.0 q)
-one-centre unique points cuts (Some a) (Some b) p q = ap Some (unique (segment points (place_before cuts (length cuts)) (length points)) a b p.1 q.1)
-
-one-last : CentreIsUnique → (h : List Entry) (s : Series) (last : Option Publication) (m n : Option ℕ) (a b : Option ℤ) → IsOfLast h s last m a → IsOfLast h s last n b
-    → (m ≡ n) × (a ≡ b)
-one-last unique h s None m n a b p q = (p.0 ∙ sym q.0, p.1 ∙ sym q.1)
-one-last unique h s (Some x) m n a b p q = (p.0 ∙ sym q.0, one-centre unique (positions (spoken_of h x) s) x.cuts a b p.1 q.1)
-
-same-line : (x y : SeriesLine) → series_in x ≡ series_in y → x.samples ≡ y.samples → x.positions ≡ y.positions → x.changes ≡ y.changes → x.centre ≡ y.centre → x ≡ y
-same-line x y series samples at changes centre =
-    ap (λ (s : Series). let l : SeriesLine = record { test = s.test; metric = s.metric; samples = x.samples; positions = x.positions; changes = x.changes; centre = x.centre } in l) series
-    ∙ ap (λ (n : ℕ). let l : SeriesLine = record { test = y.test; metric = y.metric; samples = n; positions = x.positions; changes = x.changes; centre = x.centre } in l) samples
-    ∙ ap (λ (n : ℕ). let l : SeriesLine = record { test = y.test; metric = y.metric; samples = y.samples; positions = n; changes = x.changes; centre = x.centre } in l) at
-    ∙ ap (λ (n : Option ℕ). let l : SeriesLine = record { test = y.test; metric = y.metric; samples = y.samples; positions = y.positions; changes = n; centre = x.centre } in l) changes
-    ∙ ap (λ (n : Option ℤ). let l : SeriesLine = record { test = y.test; metric = y.metric; samples = y.samples; positions = y.positions; changes = y.changes; centre = n } in l) centre
+use Rattle.history_model.specs.{declared.entries.Entry.Entry, Runs.Series, SeriesOrder.series_cmp}
+use Rattle.track_model.{specs.Reports.{IsSeriesLine, AreSeriesLines, IsReport, series_in}, proofs.Orders.same-members}
 
 one-line : CentreIsUnique → (h : List Entry) (x y : SeriesLine) → series_in x ≡ series_in y → IsSeriesLine h x → IsSeriesLine h y → x ≡ y
-one-line unique h x y same p q =
-    let last = one-last unique h (series_in y) (last_publication (series_in y) h) x.changes y.changes x.centre y.centre
-    (subst (λ (s : Series). IsOfLast h s (last_publication s h) x.changes x.centre) same p.last) q.last in
-    same-line x y same
-    (p.samples ∙ ap (λ (s : Series). length (values_of (positions h s))) same ∙ sym q.samples)
-    (p.positions ∙ ap (λ (s : Series). length (positions h s)) same ∙ sym q.positions) last.0 last.1
+one-line unique h x y same p q = grind (arith, common_steps)
 
 abbrev head-of : Series → List Series → Series
 head-of d [] = d

@@ -1,5 +1,5 @@
 -- Two settings are one where their penalties and their least lengths are.
-use Rattle.std.{proofs.Common.{◌≡◌, true, ◌==◌}, specs.Ordering.int_eq, proofs.lemmas.Bool.{and_parts, eqb-true}, proofs.lemmas.Bool.Decides.Decides-int_eq}
+use Rattle.std.proofs.{Common.{◌≡◌, true, arith}, lemmas.Grind.common_steps}
 use Rattle.history_model.specs.declared.setting.Setting.{Setting}
 use Rattle.track_model.specs.Tracks.{is_setting}
 
@@ -7,6 +7,4 @@ pub same-setting : (a b : Setting) → a.penalty ≡ b.penalty → a.length ≡ 
 same-setting a b penalty long = λ i. record { penalty = penalty i; length = long i }
 
 pub setting-is : (a b : Setting) → is_setting a b ≡ true → a ≡ b
-setting-is a b is =
-    let both = and_parts (int_eq a.penalty b.penalty) (a.length == b.length) is in
-    same-setting a b ((Decides-int_eq a.penalty b.penalty).0 both.0) (eqb-true a.length b.length both.1)
+setting-is a b is = grind (arith, common_steps)

@@ -1,4 +1,5 @@
 -- Where an entry that steps alone limit, or open jobs and steps, comes to a limit, and what is added elsewhere.
+use Rattle.std.proofs.lemmas.Grind.{common_steps}
 use Rattle.std.{proofs.Common.{◌≡◌, ℕ, ◌+◌, ◌<◌, ◌≤◌, List, [], ◌∷◌, ◌++◌, length, refl, ◌∙◌, arith}, specs.Prelude.Some, proofs.lemmas.List.length-append}
 use Rattle.metric_table.specs.Limits.{most}
 use Rattle.metric_table.specs.declared.limits.Limit.TheVariants as limit
@@ -15,14 +16,10 @@ module _ (passed : FirstPassed) (kept : FirstKept) (h : List Entry) where
   more e = length-append h (e ∷ [])
 
   pub steps-full : (e : Entry) (told : Answer) → most limit.Steps ≤ length h → adds_within (limit.Steps ∷ []) h e told ≡ refuses (refusal.Full limit.Steps)
-  steps-full e told full =
-      let row = passed limit.Steps [] h e (omega (arith, more e, full)) in
-      rw row refl
+  steps-full e told full = grind (arith, common_steps)
 
   pub step-added : (e : Entry) (told : Answer) → length h < most limit.Steps → adds_within (limit.Steps ∷ []) h e told ≡ record { answer = told; adds = Some e }
-  step-added e told room =
-      let row = kept limit.Steps [] h e (omega (arith, more e, room)) in
-      rw row refl
+  step-added e told room = grind (arith, common_steps)
 
   module _ (lo hi : ℕ) where
     abbrev b : Entry

@@ -63,12 +63,15 @@ named_by h number = unwrap_or (name_of number h) []
 abbrev pub asked_commit : Bisection → ℕ
 asked_commit b = slice_index (unwrap_or b.commits []) (unwrap_or (asked_by b.outcome) 0)
 
--- where a bisection stands, with its commits by name
+-- where a bisection stands, with its commits by these names
+abbrev pub told_named : (ℕ → List ℕ) → Bisection → Standing → Told
+told_named name b (Asks place) = told_as.Asks (name (asked_commit b))
+told_named name b (Found lo hi) = told_as.Found (name b.low_commit) (name b.high_commit)
+told_named name b (Undecided place status) = told_as.Undecided (name (unwrap_or b.end_commit 0)) status
+told_named name b (Faulted place) = told_as.Faulted (name (unwrap_or b.end_commit 0))
+
 abbrev pub told_by : List Entry → Bisection → Standing → Told
-told_by h b (Asks place) = told_as.Asks (named_by h (asked_commit b))
-told_by h b (Found lo hi) = told_as.Found (named_by h b.low_commit) (named_by h b.high_commit)
-told_by h b (Undecided place status) = told_as.Undecided (named_by h (unwrap_or b.end_commit 0)) status
-told_by h b (Faulted place) = told_as.Faulted (named_by h (unwrap_or b.end_commit 0))
+told_by h b o = told_named (named_by h) b o
 
 abbrev pub told_of : List Entry → Bisection → Told
 told_of h b = told_by h b b.outcome

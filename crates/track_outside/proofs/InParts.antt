@@ -1,15 +1,13 @@
 -- What a sink took of bytes that are written in parts.
-use Rattle.std.proofs.Common.{◌≡◌, ℕ, ◌+◌, ◌≤◌, List, [], ◌++◌, length, take, Option, None, Some, refl, sym, ap, ◌∙◌, arith, append_assoc, append-nil, length-append}
-use Rattle.std.{specs.Io.KnownBytes.append_known, proofs.lemmas.List.take-append-le, proofs.Math.Seq.take-append-add}
+use Rattle.std.proofs.{Common.{◌≡◌, ℕ, ◌+◌, ◌≤◌, List, [], ◌++◌, length, take, Option, sym, ap, ◌∙◌, arith, length-append}, lemmas.Grind.common_steps}
+use Rattle.std.{specs.Io.KnownBytes.append_known, proofs.Math.Seq.take-append-add}
 use Rattle.track_outside.specs.{declared.sink.Sink.Ghosts, Calls.{Took, TookFront, FailedIn, TookPart}}
 
 append_known-append : (before : Option (List ℕ)) (part more : List ℕ) → append_known (append_known before part) more ≡ append_known before (part ++ more)
-append_known-append None part more = refl
-append_known-append (Some bytes) part more = ap Some (append_assoc bytes part more)
+append_known-append before part more = grind (arith, common_steps)
 
 pub append_known-nil : (before : Option (List ℕ)) → before ≡ append_known before []
-append_known-nil None = refl
-append_known-nil (Some bytes) = ap Some (sym (append-nil bytes))
+append_known-nil before = grind (arith, common_steps)
 
 module _ {O : Type 0} (g : Ghosts O) where
   pub took_none : (old new : O) → g.taken new ≡ g.taken old → g.faults old ≤ g.faults new → Took g old new []
@@ -39,12 +37,4 @@ module _ {O : Type 0} (g : Ghosts O) where
 
   -- what it took a first part of goes on
   pub failed_first : (old new : O) (part more : List ℕ) → FailedIn g old new part → FailedIn g old new (part ++ more)
-  failed_first old new part more failed = record {
-    part = (
-      failed.part.0,
-      omega (arith, failed.part.1, length-append part more),
-      failed.part.2 ∙ ap (append_known (g.taken old)) (sym (take-append-le failed.part.0 part more failed.part.1)),
-    );
-    rose = failed.rose;
-    counts = failed.counts;
-  }
+  failed_first old new part more failed = grind (arith, common_steps)

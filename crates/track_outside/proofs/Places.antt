@@ -1,6 +1,6 @@
 -- The first place of a name, and what is read there.
 use Rattle.std.proofs.Common.{◌≡◌, ℕ, zero, suc, ◌+◌, ◌<◌, ◌≤◌, true, false, inl, inr, List, [], ◌∷◌, length, get_or, set, Some, refl, sym, ap, ◌∙◌, arith}
-use Rattle.std.{specs.Prelude.bytes_eq, proofs.lemmas.Bool.{cases_Bool, cases_order}, proofs.lemmas.Slice.Eq.bytes_eq-Decides}
+use Rattle.std.{specs.Prelude.bytes_eq, proofs.lemmas.Bool.{cases_Bool, cases_order}, proofs.lemmas.Slice.Eq.bytes_eq-Decides, proofs.lemmas.Grind.common_steps}
 use Rattle.track_outside.specs.{Named.{NamedBytes, bytes_at, with_bytes}, declared.mem_files.MemFile.MemFile, Folders.{file_of, files_of, IsPlace, IsAbsent}}
 
 -- no place below i has the name
@@ -11,24 +11,14 @@ later : (name : List ℕ) (file : NamedBytes) (files : List NamedBytes) (i : ℕ
 later name file files i none k other below is = none (suc k) other (omega arith) is
 
 differs : (one other : List ℕ) → (one ≡ other → ⊥) → bytes_eq one other ≡ false
-differs one other h = elim (cases_Bool (bytes_eq one other)) [
-  | inl same ↦ absurd (h ((bytes_eq-Decides one other).0 same))
-  | inr apart ↦ apart
-]
+differs one other h = grind (arith, common_steps, cases_Bool, bytes_eq, bytes_eq-Decides)
 
 equals : (one other : List ℕ) → one ≡ other → bytes_eq one other ≡ true
 equals one other h = (bytes_eq-Decides one other).1 h
 
 pub found : (name : List ℕ) (files : List NamedBytes) (i : ℕ) (at : NamedBytes) → i < length files → NoneBelow name files i → (get_or files i at).name ≡ name → IsPlace name files i
 found name [] i at within none is = absurd (omega arith)
-found name (file ∷ files) zero at within none is =
-    let same : bytes_eq file.name name ≡ true = equals file.name name is in
-    record {
-      within = within;
-      named = λ (other : NamedBytes). is;
-      bytes = λ (other : NamedBytes). rw same refl;
-      set = λ (bytes : List ℕ). rw same refl;
-    }
+found name (file ∷ files) zero at within none is = grind (arith, common_steps, bytes_eq, equals, set)
 found name (file ∷ files) (suc i) at within none is =
     let here : bytes_eq file.name name ≡ false = differs file.name name (none zero file (omega arith)) in
     let rest : IsPlace name files i = found name files i at (omega arith) (later name file files i none) is in
@@ -55,10 +45,7 @@ same_self name = equals name name refl
 -- a name has the bytes that it was given
 pub bytes_at-with_bytes : (name bytes : List ℕ) (files : List NamedBytes) → bytes_at name (with_bytes name bytes files) ≡ Some bytes
 bytes_at-with_bytes name bytes [] = rw (same_self name) refl
-bytes_at-with_bytes name bytes (file ∷ files) = elim (cases_Bool (bytes_eq file.name name)) [
-  | inl same ↦ rw same (rw (same_self name) refl)
-  | inr apart ↦ rw apart (rw apart (bytes_at-with_bytes name bytes files))
-]
+bytes_at-with_bytes name bytes (file ∷ files) = grind (arith, common_steps, cases_Bool, bytes_eq, same_self, bytes_at-with_bytes name bytes files)
 
 -- ---- of files in memory
 

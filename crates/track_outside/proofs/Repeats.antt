@@ -1,7 +1,6 @@
 -- A repeated list, and how it is moved piece by piece.
-use Rattle.std.proofs.Common.{◌≡◌, ℕ, zero, suc, ◌+◌, ◌-◌, ◌<◌, ◌≤◌, List, [], ◌∷◌, ◌++◌, length, take, drop, refl, sym, ap, ◌∙◌, arith, length-drop}
-use Rattle.std.proofs.{lemmas.List.{take-append-drop, take-append-le, drop-drop, drop-append-le}, Math.Seq.{take-append_seam, drop-append_seam}}
-use Rattle.std.specs.List.{repeat}
+use Rattle.std.{proofs.Common.{◌≡◌, ℕ, zero, suc, ◌+◌, ◌-◌, ◌<◌, ◌≤◌, List, [], ◌∷◌, ◌++◌, length, take, drop, refl, sym, ap, ◌∙◌, arith}, specs.List.repeat}
+use Rattle.std.proofs.{lemmas.List.{take-append-drop, drop-drop}, Math.Seq.take-append_seam, lemmas.Grind.common_steps}
 
 pub repeat-empty : (n : ℕ) (xs : List ℕ) → length xs ≡ 0 → repeat n xs ≡ []
 repeat-empty zero xs none = refl
@@ -15,8 +14,7 @@ moved items front rest at n copied len within behind =
     let count : at + n - at ≡ n = omega arith in
     let is_front : take n (front ++ rest) ≡ front = ap (λ k. take k (front ++ rest)) (sym len) ∙ take-append_seam front rest in
     let part : front ≡ take n (drop at items) = copied ∙ ap (λ k. take k (drop at items)) count in
-    let far : take n (drop at (items ++ behind)) ≡ take n (drop at items) =
-    ap (take n) (drop-append-le at items behind (omega arith)) ∙ take-append-le n (drop at items) behind (omega (arith, length-drop at items)) in
+    let far : take n (drop at (items ++ behind)) ≡ take n (drop at items) = grind (arith, common_steps) in
     sym (ap (λ xs. xs ++ drop (at + n) (items ++ behind)) (is_front ∙ part ∙ sym far)
     ∙ ap (λ ys. take n (drop at (items ++ behind)) ++ ys) (sym (drop-drop n at (items ++ behind)))
     ∙ take-append-drop n (drop at (items ++ behind)))
@@ -31,8 +29,4 @@ goes_on pattern front rest (suc turns) at n some copied len within = moved patte
 pub turn_ends : (pattern front rest : List ℕ) (turns at n : ℕ) → 0 < turns → front ≡ take (at + n - at) (drop at pattern) → length front ≡ n
     → at + n ≡ length pattern → drop at (repeat turns pattern) ≡ take n (front ++ rest) ++ repeat (turns - 1) pattern
 turn_ends pattern front rest zero at n some copied len ends = absurd (omega (arith, some))
-turn_ends pattern front rest (suc turns) at n some copied len ends =
-    let one_less : turns ≡ suc turns - 1 = omega arith in
-    moved pattern front rest at n copied len (omega arith) (repeat turns pattern)
-    ∙ ap (λ ys. take n (front ++ rest) ++ ys) (ap (λ k. drop k (pattern ++ repeat turns pattern)) ends ∙ drop-append_seam pattern (repeat turns pattern))
-    ∙ ap (λ k. take n (front ++ rest) ++ repeat k pattern) one_less
+turn_ends pattern front rest (suc turns) at n some copied len ends = grind (arith, common_steps)

@@ -1,5 +1,5 @@
 -- The lines made of a state's regressions and bisections are those of its history.
-use Rattle.std.{proofs.Common.{◌≡◌, ℕ, ◌+◌, suc, List, [], ◌∷◌, get_or, All, refl, ap, ◌∙◌}, specs.Prelude.{IfOk, IsSome, Result, Ok, Err}}
+use Rattle.std.{proofs.Common.{◌≡◌, ℕ, ◌+◌, suc, List, [], ◌∷◌, get_or, All, refl, ap, ◌∙◌}, specs.Prelude.IsSome}
 use Rattle.std.proofs.lemmas.{List.Elements.{All-nil, All-cons, All-head, All-tail}, Option.slice_get-get_or}
 use Rattle.bisect_core.specs.{Bisections.Bisection, declared.outcome.Outcome.Outcome as Standing}
 use Rattle.bisect_core.specs.declared.outcome.Outcome.TheVariants as standing
@@ -53,7 +53,5 @@ module _ {X : Type 0} (h : List Entry) (ds : List Declaration) (commits : ds ≡
   pub has-names : (Named : List Declaration → X → Type 0) → All (Named (declarations h)) kept → All (Named ds) xs
   has-names Named all = rw (commits, same) all
 
-  pub same-lines : {L E : Type 0} (line : List Declaration → ℕ → X → L) (lines : List L) → numbered (line (declarations h)) 1 kept ≡ lines → (made : Result (List L) E)
-      → IfOk made (λ ls. ls ≡ numbered (line ds) 1 xs) → IfOk made (λ ls. ls ≡ lines)
-  same-lines line lines are (Ok ls) is = is ∙ rw (commits, same) are
-  same-lines line lines are (Err e) is = tt
+  pub same-lines : {L : Type 0} (line : List Declaration → ℕ → X → L) {made lines : List L} → made ≡ numbered (line ds) 1 xs → numbered (line (declarations h)) 1 kept ≡ lines → made ≡ lines
+  same-lines line is are = is ∙ rw (commits, same) are

@@ -1,6 +1,6 @@
 -- The first machine that has something to take.
 use Rattle.std.proofs.Common.{◌≡◌, ℕ, zero, suc, ◌+◌, ◌<◌, ◌≤◌, List, [], ◌∷◌, ◌++◌, length, take, drop, set, get_or, refl, sym, ap, subst, ◌∙◌, Some, None, arith}
-use Rattle.std.{specs.Prelude.slice_get, specs.List.AllZip, proofs.lemmas.List.length-map}
+use Rattle.std.{specs.Prelude.slice_get, specs.List.AllZip, proofs.lemmas.List.length-map, proofs.lemmas.Grind.common_steps}
 use Rattle.track_room.specs.{Rooms.{AreSame, IsPassOf, badge}, Sights.{Home, Sight, SeesMore, Visits}, Taking.{OfSeen, TakesAt, seen_of}}
 use Rattle.history_model.specs.declared.entries.Entry.{Entry}
 use Rattle.track_state.specs.Work.{Work}
@@ -73,17 +73,6 @@ module _ (Nothing : Work → Work → Type 0) (old now : List Sight) (i : ℕ) (
     rest = subst (λ (n : ℕ). drop n (set now i new) ≡ drop n old) (sym plus) rest-is;
   }
 
-take-whole : {A : Type 0} (n : ℕ) (xs : List A) → length xs ≤ n → take n xs ≡ xs
-take-whole zero [] le = refl
-take-whole zero (x ∷ xs) le = absurd (omega (arith, le))
-take-whole (suc n) [] le = refl
-take-whole (suc n) (x ∷ xs) le = ap (λ zs. x ∷ zs) (take-whole n xs (omega (arith, le)))
-
-none-all : (Nothing : Work → Work → Type 0) (old now : List Sight) (n : ℕ) → HaveNone Nothing n old now → length old ≤ n → length now ≤ n → AllZip (Visits Nothing) old now
-none-all Nothing old now n have one two =
-    subst (λ (xs : List Sight). AllZip (Visits Nothing) xs now) (take-whole n old one)
-    (subst (λ (ys : List Sight). AllZip (Visits Nothing) (take n old) ys) (take-whole n now two) have.nothing)
-
 -- ---- a room's machines are entered, one after the other
 -- so many were entered, and had nothing to take
 abbrev pub Enters : (Work → Work → Type 0) → ℕ → List Home → List Sight → List Sight → Type 0
@@ -97,10 +86,7 @@ long-of room pass locks = sym (length-map pass (λ (s : Sight). s.home)) ∙ ap 
 
 pub enters-all : (Nothing : Work → Work → Type 0) (n : ℕ) (room : List Home) (old now : List Sight) → IsPassOf room old → Enters Nothing n room old now → length room ≤ n
     → AllZip (Visits Nothing) old now
-enters-all Nothing n room old now locks before all =
-    let one = long-of room old locks in
-    let two = long-of room now before.1 in
-    none-all Nothing old now n before.3 (omega (arith, one, all)) (omega (arith, two, all))
+enters-all Nothing n room old now locks before all = grind (arith, common_steps)
 
 -- one more is entered
 pub record EntersNext (Nothing : Work → Work → Type 0) (i : ℕ) (room : List Home) (old now : List Sight) (p new : Sight) : Type 0 where

@@ -1,11 +1,10 @@
 -- A job that is there stays there.
-use Rattle.std.proofs.Common.{◌≡◌, ℕ, zero, suc, true, false, ◌+◌, ◌<◌, ◌≤◌, List, [], ◌∷◌, ◌++◌, length, refl, ap, arith, Option, Some, None}
+use Rattle.std.proofs.{Common.{◌≡◌, ℕ, zero, suc, true, false, ◌+◌, ◌<◌, ◌≤◌, List, [], ◌∷◌, ◌++◌, length, refl, ap, arith, Option}, lemmas.Grind.common_steps}
 use Rattle.std.specs.{Prelude.{IsSome, slice_get}, List.cons_option}
-use Rattle.history_model.specs.{declared.entries.Entry.Entry, Entries.chosen_from, Jobs.{Begun, begun, begins, job_in, jobs, standing_from}}
+use Rattle.history_model.specs.{declared.entries.Entry.Entry, Entries.chosen_from, Jobs.{Begun, job_in, jobs, standing_from}}
 
 more-option : {A : Type 0} (o : Option A) (xs ys : List A) → length xs ≤ length ys → length (cons_option o xs) ≤ length (cons_option o ys)
-more-option None xs ys le = le
-more-option (Some x) xs ys le = omega (arith, le)
+more-option o xs ys le = grind (arith, common_steps)
 
 chosen-more : {A : Type 0} (step : ℕ) (choice : ℕ → Entry → Option A) (h more : List Entry) → length (chosen_from step choice h) ≤ length (chosen_from step choice (h ++ more))
 chosen-more step choice [] more = omega arith
@@ -26,6 +25,4 @@ below-there (x ∷ xs) zero less = refl
 below-there (x ∷ xs) (suc k) less = below-there xs k (omega (arith, less))
 
 pub job-stays : (h more : List Entry) (number : ℕ) → IsSome (job_in number (jobs h)) → IsSome (job_in number (jobs (h ++ more)))
-job-stays h more zero is = is
-job-stays h more (suc k) is =
-    below-there (jobs (h ++ more)) k (omega (arith, there-below (jobs h) k is, standing-long h 1 (begins h), standing-long (h ++ more) 1 (begins (h ++ more)), chosen-more 1 begun h more))
+job-stays h more number is = grind (arith, common_steps, below-there, there-below, standing-long, chosen-more)

@@ -1,13 +1,13 @@
 -- Passes of a lock, as what they know of a machine.
 use Rattle.std.specs.FinSet as set
-use Rattle.std.proofs.Common.{◌≡◌, ℕ, List, [], ◌∷◌, refl, sym, ap, subst, ◌∙◌, Option, Some, None}
+use Rattle.std.proofs.{Common.{◌≡◌, ℕ, List, [], ◌∷◌, refl, sym, ap, subst, ◌∙◌, Option, Some, None, arith}, lemmas.Grind.common_steps}
 use Rattle.atomic_table.specs.Seated.{TableId}
 use Rattle.history_model.specs.declared.entries.Placed.{Placed}
 use Rattle.history_lock.specs.{declared.view.Marked.Marked, declared.lock.Pass.Pass, Marks.{AreBy, Follows, unmarked, entries}}
 use Rattle.history_lock.specs.Passes as passes
 use Rattle.track_room.specs.{declared.guarded.Owner.Owner, Inside.{owner_of, machine_in, kept_in, sight_of}}
 use Rattle.track_model.specs.Tracks.{Track}
-use Rattle.track_room.specs.Sights.{Home, Sight, Ends, EndsWhole, IsFirstOf, Joins, seeing}
+use Rattle.track_room.specs.Sights.{Sight, Ends, EndsWhole, IsFirstOf, Joins, seeing}
 
 entries-unmarked : (es : List Placed) → entries (unmarked es) ≡ es
 entries-unmarked [] = refl
@@ -38,16 +38,7 @@ module _ {S : Type 0} where
   pub joins : (p w q : Pass S Placed Owner) → passes.lock_of q ≡ passes.lock_of p → passes.label q ≡ passes.label p → passes.mark q ≡ passes.mark p
       → passes.given q ≡ passes.given p → passes.Joins p w q → Joins (sight_of p) (sight_of w) (sight_of q)
   unfolding made
-  joins p w q lock labelled mark given joint =
-      let log : List (Marked Placed) = passes.seen q in (
-        log,
-        joint.0,
-        ap (λ (z : TableId). made z (passes.label q) log (passes.mark q) (passes.given q) (passes.joined q)) lock
-            ∙ ap (λ (l : Option Owner). made (passes.lock_of p) l log (passes.mark q) (passes.given q) (passes.joined q)) labelled
-            ∙ ap (λ (m : ℕ). made (passes.lock_of p) (passes.label p) log m (passes.given q) (passes.joined q)) mark
-            ∙ ap (λ (g : ℕ). made (passes.lock_of p) (passes.label p) log (passes.mark p) g (passes.joined q)) given
-            ∙ ap (λ (js : List ℕ). made (passes.lock_of p) (passes.label p) log (passes.mark p) (passes.given p) js) joint.1,
-      )
+  joins p w q lock labelled mark given joint = grind (arith, common_steps)
 
   -- the machine in a lock that was closed
   pub ends : (p : Pass S Placed Owner) (t : Track) → passes.label p ≡ Some (owner_of t)
@@ -63,13 +54,9 @@ module _ {S : Type 0} where
   pub ends-whole : (p : Pass S Placed Owner) (t : Track) → passes.label p ≡ Some (owner_of t)
       → (t.history ≡ entries (passes.seen p)) × AreBy (passes.own_marks p) (passes.seen p) → EndsWhole (sight_of p) t
   unfolding track_at
-  ends-whole p t labelled found =
-      (ap (λ (h : List Placed). track_at (Some (owner_of t)) h) found.0 ∙ ap (λ (l : Option Owner). track_at l (entries (passes.seen p))) (sym labelled), found.1)
+  ends-whole p t labelled found = grind (arith, common_steps)
 
 -- a lock and its machine, where it is that of a pass
 pub home-of : {S : Type 0} (p : Pass S Placed Owner) (t : Track) (z : TableId) (machine : List ℕ) → passes.lock_of p ≡ z → passes.label p ≡ Some (owner_of t)
     → machine ≡ t.machine → (sight_of p).home ≡ record { lock = z; machine = machine }
-home-of p t z machine lock labelled named =
-    ap (λ (y : TableId). let h : Home = record { lock = y; machine = machine_in (passes.label p) } in h) lock
-    ∙ ap (λ (l : Option Owner). let h : Home = record { lock = z; machine = machine_in l } in h) labelled
-    ∙ ap (λ (m : List ℕ). let h : Home = record { lock = z; machine = m } in h) (sym named)
+home-of p t z machine lock labelled named = grind (arith, common_steps)

@@ -1,5 +1,6 @@
 -- Which passes are out.
-use Rattle.std.proofs.Common.{◌≡◌, ℕ, zero, suc, ◌+◌, ◌<◌, inl, inr, List, [], ◌∷◌, ◌++◌, length, map, get_or, refl, sym, ap, subst, ◌∙◌, arith}
+use Rattle.std.proofs.lemmas.Grind.{common_steps}
+use Rattle.std.proofs.Common.{◌≡◌, ℕ, zero, suc, ◌+◌, ◌<◌, inl, inr, List, [], ◌∷◌, ◌++◌, length, map, get_or, refl, sym, ap, subst, arith}
 use Rattle.std.{specs.List.{AllByRecursion, AllZip}, proofs.lemmas.Bool.cases_lt, proofs.lemmas.List.{get_or-map, length-map, map-append}}
 use Rattle.history_lock.specs.Marks.{IsNoneOf}
 use Rattle.track_model.specs.Tracks.{Track}
@@ -40,10 +41,7 @@ from-places (x ∷ pass) at = (at 0 x (omega arith), from-places pass (λ k s le
 
 -- ---- the laws
 pub none-is-out : NoneIsOut
-none-is-out ts pass all k s less =
-    let is = at-first ts pass all k s less in
-    let given = is.1 in
-    (is.0, λ m some few none. absurd (omega (arith, some, few, given)))
+none-is-out ts pass all k s less = grind (arith, common_steps, at-first)
 
 pub none-out-is-whole : NoneOutIsWhole
 none-out-is-whole pass out = from-places pass (λ k s less.
@@ -101,8 +99,7 @@ same-mark (x ∷ other) (y ∷ new) same (suc k) s = same-mark other new (ap (λ
 pub work-stays-out : WorkStaysOut
 work-stays-out before after other new pass same long out k s less =
     let is = out k s less in
-    let marks : marks_at k s (before ++ new ∷ after) ≡ marks_at k s (before ++ other ∷ after) =
-    marks-apart k s before (new ∷ after) ∙ ap (λ (m : ℕ). marks_at k s before ++ m ∷ marks_at k s after) (same-mark other new same k s) ∙ sym (marks-apart k s before (other ∷ after)) in
+    let marks : marks_at k s (before ++ new ∷ after) ≡ marks_at k s (before ++ other ∷ after) = grind (arith, common_steps, marks-apart, same-mark) in
     rw marks is
 
 pub join-comes-back : JoinComesBack

@@ -1,21 +1,10 @@
 -- Lists that are changed place by place.
-use Rattle.std.proofs.Common.{◌≡◌, ◌≢◌, ℕ, zero, suc, ◌+◌, ◌-◌, ◌<◌, ◌≤◌, List, [], ◌∷◌, ◌++◌, length, map, take, drop, set, get_or, refl, sym, ap, subst, ◌∙◌, arith, inl, inr}
-use Rattle.std.specs.List.{AllByRecursion, AllZip}
-use Rattle.std.proofs.lemmas.List.{get_or-append-add, get_or-append_right, get_or-drop, get_or-map, map_push, append_assoc, get_or-set_other, get_or-set_same, get_or_push, get_or_read, length-map, length-take, length_push, take_more}
-use Rattle.std.proofs.lemmas.Bool.Decides.{eqb_tells}
+use Rattle.std.proofs.Common.{◌≡◌, ℕ, zero, suc, ◌+◌, ◌-◌, ◌<◌, ◌≤◌, List, [], ◌∷◌, ◌++◌, length, map, take, drop, set, get_or, refl, sym, ap, subst, ◌∙◌, arith}
+use Rattle.std.{specs.List.{AllByRecursion, AllZip}, proofs.lemmas.Grind.common_steps, proofs.lemmas.List.get_or-map}
 
 -- what stands at a place up to which a list was changed
 pub not-yet : {A : Type 0} (f : A → A) (xs ys : List A) (i : ℕ) (x : A) → i < length xs → ys ≡ map f (take i xs) ++ drop i xs → x ≡ get_or ys i x → x ≡ get_or xs i x
-not-yet f xs ys i x in' is read =
-    let long : length (map f (take i xs)) ≡ i = omega (arith, length-map (take i xs) f, length-take i xs, in') in
-    let at : i + (i - i) ≡ i = omega arith in
-    read ∙ ap (λ zs. get_or zs i x) is ∙ get_or-append_right (map f (take i xs)) (drop i xs) i i x long (omega arith)
-    ∙ get_or-drop i xs (i - i) x ∙ ap (λ n. get_or xs n x) at
-
-get_or-append_left : {A : Type 0} (xs ys : List A) (i : ℕ) (d : A) → i < length xs → get_or (xs ++ ys) i d ≡ get_or xs i d
-get_or-append_left [] ys i d less = absurd (omega (arith, less))
-get_or-append_left (x ∷ xs) ys zero d less = refl
-get_or-append_left (x ∷ xs) ys (suc i) d less = get_or-append_left xs ys i d (omega (arith, less))
+not-yet f xs ys i x in' is read = grind (arith, common_steps)
 
 all-push : {A : Type 0} (P : A → Type 0) (xs : List A) (x : A) → AllByRecursion P xs → P x → AllByRecursion P (xs ++ x ∷ [])
 all-push P [] x all more = (more, tt)
@@ -24,8 +13,7 @@ all-push P (y ∷ ys) x all more = (all.0, all-push P ys x all.1 more)
 -- what holds up to a place holds up to the next
 pub all-more : {A : Type 0} (P : A → Type 0) (xs : List A) (i : ℕ) (x : A) → i < length xs → x ≡ get_or xs i x → AllByRecursion P (take i xs) → P x
     → AllByRecursion P (take (i + 1) xs)
-all-more P xs i x in' is all more =
-    subst (λ ys. AllByRecursion P ys) (sym (take_more xs i x in' ∙ ap (λ y. take i xs ++ y ∷ []) (sym is))) (all-push P (take i xs) x all more)
+all-more P xs i x in' is all more = grind (arith, common_steps)
 
 map-same : {A : Type 0} (xs : List A) → map (λ (x : A). x) xs ≡ xs
 map-same [] = refl
@@ -41,28 +29,11 @@ module _ {A : Type 0} (J : A → A → A → Type 0) (old now given : List A) (i
       → ((k : ℕ) (a : A) → k < length given → J (get_or old k a) (get_or given k a) (get_or now k a))
       → ((k : ℕ) (a : A) → length given ≤ k → get_or now k a ≡ get_or old k a)
       → (k : ℕ) (a : A) → k < length (given ++ o ∷ []) → J (get_or old k a) (get_or (given ++ o ∷ []) k a) (get_or (set now i q) k a)
-  joined-more p in' read joins before rest k a below = elim (eqb_tells k i) [ inl t ↦ here t.1 | inr t ↦ there t.1 ]
-    where
-      here : k ≡ i → J (get_or old k a) (get_or (given ++ o ∷ []) k a) (get_or (set now i q) k a)
-      here same =
-          let was : get_or old k a ≡ p = sym (rest k a (omega (arith, same, at))) ∙ ap (λ n. get_or now n a) same ∙ sym (get_or_read now i p in' read a) in
-          let other : get_or (given ++ o ∷ []) k a ≡ o = get_or_push given o a k (omega (arith, same, at)) in
-          let new : get_or (set now i q) k a ≡ q = ap (λ n. get_or (set now i q) n a) same ∙ get_or-set_same now i q a in' in
-          rw (was, other, new) joins
-
-      there : k ≢ i → J (get_or old k a) (get_or (given ++ o ∷ []) k a) (get_or (set now i q) k a)
-      there differ =
-          let more = length_push given o in
-          let less : k < length given = omega (arith, more, below, differ, at) in
-          let other : get_or (given ++ o ∷ []) k a ≡ get_or given k a = get_or-append_left given (o ∷ []) k a less in
-          let new : get_or (set now i q) k a ≡ get_or now k a = get_or-set_other now i k q a differ in
-          rw (other, new) (before k a less)
+  joined-more p in' read joins before rest k a below = grind (arith, common_steps)
 
   pub rest-stays : ((k : ℕ) (a : A) → length given ≤ k → get_or now k a ≡ get_or old k a)
       → (k : ℕ) (a : A) → length (given ++ o ∷ []) ≤ k → get_or (set now i q) k a ≡ get_or old k a
-  rest-stays rest k a past =
-      let more = length_push given o in
-      get_or-set_other now i k q a (λ same. absurd (omega (arith, same, at, more, past))) ∙ rest k a (omega (arith, more, past))
+  rest-stays rest k a past = grind (arith, common_steps)
 
 pub zip-push : {A B : Type 0} (R : A → B → Type 0) (xs : List A) (ys : List B) (x : A) (y : B) → AllZip R xs ys → R x y → AllZip R (xs ++ x ∷ []) (ys ++ y ∷ [])
 zip-push R [] [] x y all more = (more, tt)
@@ -82,9 +53,7 @@ pub next-is : {A B : Type 0} (f : A → B) (xs given : List A) (all rest more : 
 next-is f xs given all rest more x b made so-far next below at =
     let n : ℕ = length given in
     let here : get_or (map f xs) n b ≡ f x = get_or-map f xs n x b below ∙ ap f (sym at) in
-    let there : get_or (map f given ++ rest) n b ≡ b =
-    ap (λ (ys : List _). get_or (map f given ++ ys) n b) next ∙ ap (λ k. get_or (map f given ++ b ∷ more) k b) (omega (arith, length-map given f))
-    ∙ get_or-append-add (map f given) (b ∷ more) 0 b in
+    let there : get_or (map f given ++ rest) n b ≡ b = grind (arith, common_steps) in
     sym here ∙ ap (λ (ys : List _). get_or ys n b) (made ∙ sym so-far) ∙ there
 
 pub all-at : {A : Type 0} (P : A → Type 0) (xs : List A) (n : ℕ) (x : A) → AllByRecursion P xs → n < length xs → x ≡ get_or xs n x → P x
@@ -94,6 +63,4 @@ all-at P (y ∷ xs) (suc n) x all below at = all-at P xs n x all.1 (omega (arith
 
 pub moved-on : {A B : Type 0} (f : A → B) (given : List A) (all rest more : List B) (x : A) (b : B) → map f given ++ rest ≡ all → rest ≡ b ∷ more → f x ≡ b
     → map f (given ++ x ∷ []) ++ more ≡ all
-moved-on f given all rest more x b so-far next is =
-    ap (λ (ys : List _). ys ++ more) (map_push f given x ∙ ap (λ c. map f given ++ c ∷ []) is) ∙ append_assoc (map f given) (b ∷ []) more
-    ∙ ap (λ (ys : List _). map f given ++ ys) (sym next) ∙ so-far
+moved-on f given all rest more x b so-far next is = grind (arith, common_steps)

@@ -1,6 +1,6 @@
 -- Replies on what a pass has seen.
 use Rattle.std.proofs.Common.{◌≡◌, ◌≢◌, false, ℕ, ◌+◌, ◌≤◌, inl, inr, List, [], ◌∷◌, ◌++◌, length, take, append-nil, refl, sym, ap, ◌∙◌, Option, Some, None, arith}
-use Rattle.std.{specs.Prelude.slice_get, proofs.lemmas.List.{length-append, length-map, take-append-le, take-map, take_at}}
+use Rattle.std.{specs.Prelude.slice_get, proofs.lemmas.List.{length-append, length-map, take-append-le, take-map, take_at}, proofs.lemmas.Grind.common_steps}
 use Rattle.history_model.specs.{declared.entries.Author.Author, declared.entries.Entry.Entry, declared.entries.Placed.Placed, Entries.entries_of}
 use Rattle.history_lock.specs.{declared.view.Marked.Marked, Marks.entries}
 use Rattle.request_model.specs.{declared.requests.Request.Request, declared.replies.Reply.Reply, Requests.machine_of}
@@ -8,56 +8,21 @@ use Rattle.request_model.specs.declared.requests.Request.TheVariants as request
 use Rattle.track_model.specs.{Counts.is_segment, Outcomes.Outcome, Replies.reply_of, Tracks.{Track, ComesTo, IsStep, with_added}}
 use Rattle.track_state.specs.Work.{Work, bare, history_of}
 use Rattle.play_model.specs.Replies.{first_of, ComesBehind, ComesToBeside, Adds, Tells}
-use Rattle.track_room.{specs.Sights.{Sight, AddsOne, AddsOneAtMost, SeesMore, track_of}, specs.Asked.IsReplied, proofs.Visiting.{no-entry, only-sees}}
+use Rattle.track_room.{specs.Sights.{Sight, AddsOne, AddsOneAtMost, SeesMore, track_of}, specs.Asked.IsReplied, proofs.Visiting.only-sees}
 
 -- what a request that isn't about a version comes to alone it comes to beside others
 pub beside : (version : List Entry) (base : ℕ) (h : List Entry) (q : Request) (o : Outcome) → ((machine : List ℕ) → q ≢ request.Machine machine)
     → ((machine test metric : List ℕ) → q ≢ request.Segment machine test metric) → ComesTo h 0 q o → ComesToBeside version base h q o
-beside version base h (request.Machine machine) o not-machine not-segment comes = absurd (not-machine machine refl)
-beside version base h (request.Segment machine test metric) o not-machine not-segment comes = absurd (not-segment machine test metric refl)
-beside version base h (request.Commit machine number name) o not-machine not-segment comes = comes
-beside version base h (request.Submit machine commit run samples ignored stated) o not-machine not-segment comes = comes
-beside version base h (request.Retract machine run) o not-machine not-segment comes = comes
-beside version base h (request.Tune machine metric penalty given) o not-machine not-segment comes = comes
-beside version base h (request.Calibrate machine test metric factor) o not-machine not-segment comes = comes
-beside version base h (request.Changes machine test metric) o not-machine not-segment comes = comes
-beside version base h (request.Verify machine test metric) o not-machine not-segment comes = comes
-beside version base h (request.Regress machine test metric change) o not-machine not-segment comes = comes
-beside version base h (request.SetState machine number state) o not-machine not-segment comes = comes
-beside version base h (request.Bisect machine lo hi) o not-machine not-segment comes = comes
-beside version base h (request.Answer machine number commit status) o not-machine not-segment comes = comes
-beside version base h (request.Resume machine number) o not-machine not-segment comes = comes
-beside version base h (request.Job machine number) o not-machine not-segment comes = comes
-beside version base h (request.Runs machine) o not-machine not-segment comes = comes
-beside version base h (request.Report machine json) o not-machine not-segment comes = comes
+beside version base h q o not-machine not-segment comes = grind (arith, common_steps)
 
 -- such a request segments nothing
 pub plain : (q : Request) → ((machine test metric : List ℕ) → q ≢ request.Segment machine test metric) → is_segment q ≡ false
-plain (request.Machine machine) not = refl
-plain (request.Segment machine test metric) not = absurd (not machine test metric refl)
-plain (request.Commit machine number name) not = refl
-plain (request.Submit machine commit run samples ignored stated) not = refl
-plain (request.Retract machine run) not = refl
-plain (request.Tune machine metric penalty given) not = refl
-plain (request.Calibrate machine test metric factor) not = refl
-plain (request.Changes machine test metric) not = refl
-plain (request.Verify machine test metric) not = refl
-plain (request.Regress machine test metric change) not = refl
-plain (request.SetState machine number state) not = refl
-plain (request.Bisect machine lo hi) not = refl
-plain (request.Answer machine number commit status) not = refl
-plain (request.Resume machine number) not = refl
-plain (request.Job machine number) not = refl
-plain (request.Runs machine) not = refl
-plain (request.Report machine json) not = refl
+plain q not = grind (arith, common_steps)
 
 -- a step of a state, by what the pass has seen before and after
 pub step-seen : (author : Author) (found new : Sight) (w u : Work) (o : Outcome) (reply : Reply) → bare w.track ≡ track_of found → bare u.track ≡ track_of new
     → bare u.track ≡ with_added author (bare w.track) o.adds → reply ≡ reply_of (history_of w) o → IsStep (track_of found) author o (track_of new) reply
-step-seen author found new w u o reply was left grown told = record {
-  track = sym left ∙ grown ∙ ap (λ (t : Track). with_added author t o.adds) was;
-  told = told ∙ ap (λ (t : Track). reply_of (entries_of t.history) o) was;
-}
+step-seen author found new w u o reply was left grown told = grind (arith, common_steps)
 
 pub seen-entries : (found : Sight) (w : Work) → bare w.track ≡ track_of found → history_of w ≡ entries_of (entries found.seen)
 seen-entries found w was = ap (λ (t : Track). entries_of t.history) was
@@ -95,10 +60,7 @@ step-telling : (h : List Entry) (o : Outcome) → o.adds ≡ None → (reply_of 
 step-telling h o is = rw is refl
 
 pub sees-long : (old found : Sight) → SeesMore old found → length old.seen ≤ length found.seen
-sees-long old found sees =
-    let long = length-append old.seen sees.0 in
-    let is = ap (λ (s : Sight). length s.seen) sees.2 in
-    omega (arith, long, is)
+sees-long old found sees = grind (arith, common_steps)
 
 module _ (author : Author) (q : Request) (reply : Reply) (old found new : Sight) (version base : ℕ) (o : Outcome) (named : old.home.machine ≡ machine_of q)
     (sees : SeesMore old found) (adds : AddsOneAtMost found new)
@@ -116,8 +78,7 @@ module _ (author : Author) (q : Request) (reply : Reply) (old found new : Sight)
       let same : track_of new ≡ track_of found = step.track ∙ ap (with_added author (track_of found)) none in
       let journal : entries new.seen ≡ entries found.seen ++ [] = ap (λ (t : Track). t.history) same ∙ sym (append-nil (entries found.seen)) in
       let le : version ≤ length (entries found.seen) = omega (arith, before, long) in
-      let size : length new.seen ≡ length found.seen =
-      sym (length-map new.seen (λ (x : Marked Placed). x.entry)) ∙ ap (λ (t : Track). length t.history) same ∙ long in
+      let size : length new.seen ≡ length found.seen = grind (arith, common_steps) in
       let says : Tells (entries new.seen) (length old.seen) q reply = record {
         count = length (entries found.seen);
         outcome = o;
@@ -137,9 +98,7 @@ module _ (author : Author) (q : Request) (reply : Reply) (old found new : Sight)
       let more : track_of new ≡ with_added author (track_of found) (Some e) = step.track ∙ ap (with_added author (track_of found)) some in
       let journal : entries new.seen ≡ entries found.seen ++ p ∷ [] = ap (λ (t : Track). t.history) more in
       let le : version ≤ length (entries found.seen) = omega (arith, before, long) in
-      let size : length new.seen ≡ length found.seen + 1 =
-      sym (length-map new.seen (λ (x : Marked Placed). x.entry)) ∙ ap (λ (ps : List Placed). length ps) journal
-      ∙ length-append (entries found.seen) (p ∷ []) ∙ ap (λ (n : ℕ). n + 1) long in
+      let size : length new.seen ≡ length found.seen + 1 = grind (arith, common_steps) in
       let says : Adds author (entries new.seen) (length old.seen) q reply = record {
         count = length (entries found.seen);
         outcome = o;
@@ -149,10 +108,7 @@ module _ (author : Author) (q : Request) (reply : Reply) (old found new : Sight)
         stands = rw journal (last-is (entries found.seen) p);
         told = step.told ∙ ap (λ (h : List Entry). reply_of h o) (sym (ap (first_of (length (entries found.seen))) journal ∙ first-whole (entries found.seen) (p ∷ [])));
       } in
-      let one : AddsOne found new = elim adds [
-        | inl same ↦ absurd (no-entry (entries found.seen) p (sym journal ∙ ap (λ (s : Sight). entries s.seen) same))
-        | inr one ↦ one
-      ] in
+      let one : AddsOne found new = grind (arith, common_steps) in
       record {
         of_machine = named;
         answered = inl (says, (found, sees, one));

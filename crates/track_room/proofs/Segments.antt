@@ -1,42 +1,34 @@
 -- A segmentation in two visits, as one reply.
-use Rattle.std.proofs.Common.{◌≡◌, false, ℕ, List, [], ◌∷◌, ◌++◌, append_assoc, length, take, sym, ap, subst, ◌∙◌, arith, inl, inr}
-use Rattle.std.proofs.lemmas.List.{length-map, map-append}
+use Rattle.std.proofs.{Common.{◌≡◌, false, ℕ, List, [], ◌∷◌, ◌++◌, append_assoc, length, take, sym, ap, subst, ◌∙◌, arith}, lemmas.Grind.common_steps}
+use Rattle.std.proofs.lemmas.List.{length-map}
 use Rattle.segment_cost.specs.declared.done.Done.{Done}
 use Rattle.history_lock.specs.{declared.view.Marked.Marked, Marks.{AreByOthers, entries}}
-use Rattle.history_model.specs.{declared.entries.Author.Author, declared.entries.Entry.Entry, declared.entries.Placed.Placed, Allowed.Legal, Entries.entries_of}
+use Rattle.history_model.specs.{declared.entries.Author.Author, declared.entries.Entry.Entry, declared.entries.Placed.Placed, Entries.entries_of}
 use Rattle.history_model.specs.{Runs.{Series, is_known}, Publications.last_publication, Laws.{LastStands, VersionsStay}}
 use Rattle.publication_index.specs.Kept.{series_of}
 use Rattle.request_model.specs.declared.requests.Request.TheVariants as request
 use Rattle.request_model.specs.declared.replies.Refusal.TheVariants as refusal
 use Rattle.request_model.specs.declared.replies.Reply.{Reply}
 use Rattle.track_model.specs.{Outcomes.{Outcome, refuses}, Publishing.{IsPublishedFrom, OfLatest, SegmentComesFrom, later}, Tracks.Track}
-use Rattle.track_state.specs.{Made.IsMadeFrom, Snapshots.{IsRedone, IsTakenAt}, Begun.TheVariants.{Known, Unknown}, Redone.Redone, Snapshot.Snapshot}
-use Rattle.track_state.proofs.{Segmenting.{made-from, series-is}, Publishing.made-later, Snapped.{bare-taken, entries-taken}}
+use Rattle.track_state.specs.{Made.IsMadeFrom, Snapshots.IsRedone, Begun.TheVariants.{Known, Unknown}, Redone.Redone, Snapshot.Snapshot}
+use Rattle.track_state.{proofs.Segmenting.made-from, proofs.Snapped.{bare-taken, entries-taken}, specs.declared.taking.TakenSeries.TakenSeries}
 use Rattle.track_state.{specs.Work.{Work, bare, history_of}, proofs.Told.unknown, specs.Work.series_of as series_of_key}
 use Rattle.track_room.specs.{Asked.IsReplied, Sights.{Sight, SeesMore, Visits, own_marks, seeing}, Taking.{IsTaken, OfSeen, seen_of}}
-use Rattle.track_state.specs.declared.taking.TakenSeries.{TakenSeries}
 use Rattle.track_room.{specs.Visits.{Begins, Finishes, IsFound, Stays}, proofs.Replying.{replied, seen-entries, sees-long, step-seen}}
-use Rattle.track_room.proofs.Visiting.{bare-finished, entries-append, stays-sees, visits-as}
+use Rattle.track_room.proofs.Visiting.{bare-finished, stays-sees, visits-as}
 
 -- the history that a pass finds is what it has seen, and then entries of others
 pub found-parts : (pass : Sight) (w : Work) → (is : IsFound pass w) → history_of w ≡ seen_of pass ++ entries_of (entries is.sees.0)
-found-parts pass w is =
-    seen-entries is.found w is.was ∙ ap (λ (s : Sight). entries_of (entries s.seen)) is.sees.2
-    ∙ ap (λ (ps : List Placed). entries_of ps) (entries-append pass.seen is.sees.0)
-    ∙ map-append (λ (x : Placed). x.entry) (entries pass.seen) (entries is.sees.0)
+found-parts pass w is = grind (arith, common_steps)
 
 -- what was made from what a pass has seen was made from what it finds
 pub made-still : VersionsStay → (pass : Sight) (w : Work) (done : Done) → IsFound pass w → IsMadeFrom (seen_of pass) done → IsMadeFrom (history_of w) done
-made-still stay pass w done is made =
-    subst (λ (h : List Entry). IsMadeFrom h done) (sym (found-parts pass w is)) (made-later stay (seen_of pass) (entries_of (entries is.sees.0)) done made)
+made-still stay pass w done is made = grind (arith, common_steps)
 
 -- what is made of a series that was taken is made of what the pass has seen of its machine
 pub made-of-taken : LastStands → (machine : ℕ) (pass : List Sight) (x : TakenSeries) (made : Redone) → OfSeen machine pass (λ h. IsTaken h x) → IsRedone x.snapshot made
     → OfSeen machine pass (λ h. IsMadeFrom h made.done)
-made-of-taken last machine pass x made at is =
-    let taken = at.2 in
-    let legal = subst (λ (h : List Entry). Legal h) (sym taken.1) taken.3 in
-    (at.0, at.1, subst (λ (h : List Entry). IsMadeFrom h made.done) taken.1 (made-from taken.0 (series_of_key x.key) x.snapshot made taken.2 is last legal))
+made-of-taken last machine pass x made at is = grind (arith, common_steps, made-from, series_of_key)
 
 -- ---- a pass that has seen more, twice
 others-append : (marks : List ℕ) (xs ys : List (Marked Placed)) → AreByOthers marks xs → AreByOthers marks ys → AreByOthers marks (xs ++ ys)
@@ -51,12 +43,6 @@ sees-again old mid new one two =
       both.2 ∙ ap (λ (log : List (Marked Placed)). seeing old log) (append_assoc old.seen one.0 both.0),
     )
 
-pub visits-home : (Does : Work → Work → Type 0) (old new : Sight) → Visits Does old new → new.home ≡ old.home
-visits-home Does old new v = elim v.adds [
-  | inl same ↦ ap (λ (s : Sight). s.home) same ∙ ap (λ (s : Sight). s.home) v.sees.2
-  | inr one ↦ ap (λ (s : Sight). s.home) one.1 ∙ ap (λ (s : Sight). s.home) v.sees.2
-]
-
 -- ---- the pass once a segmentation was begun
 module _ (test metric : List ℕ) (old : Sight) (x : Snapshot) (mid : Sight) (v : Visits (Begins (record { test = test; metric = metric }) (Known x)) old mid) where
   abbrev its : Series
@@ -64,9 +50,6 @@ module _ (test metric : List ℕ) (old : Sight) (x : Snapshot) (mid : Sight) (v 
 
   pub begun-sees : SeesMore old mid
   begun-sees = stays-sees old mid (visits-as (Begins its (Known x)) Stays (λ w u does. bare-taken w.track its u.track does.1.track) old mid v)
-
-  pub begun-of : IsTakenAt v.before.track (record { test = test; metric = metric }) x
-  begun-of = v.does.0
 
   pub begun-history : entries_of (entries mid.seen) ≡ entries_of v.before.track.history
   begun-history = ap (λ (t : Track). entries_of t.history) (sym v.left) ∙ entries-taken v.before.track its v.after.track v.does.1.track
@@ -104,9 +87,7 @@ module _ (author : Author) (machine test metric : List ℕ) (reply : Reply) (old
       let at : made.done.version ≡ length mid.seen =
       is.version ∙ v.does.0.version ∙ ap (λ (es : List Entry). length es) (sym (begun-history test metric old x mid v))
       ∙ length-map (entries mid.seen) (λ (p : Placed). p.entry) ∙ length-map mid.seen (λ (y : Marked Placed). y.entry) in
-      let comes : SegmentComesFrom (take version h) made.done.base h s o =
-      subst (λ (t : Series). SegmentComesFrom (take version h) made.done.base h t o) (series-is v.before.track s x made v.does.0 is)
-      (subst (λ (g : List Entry). SegmentComesFrom (take version g) made.done.base g (series_of made.done) o) (seen-entries found f.before f.was) f.does.1) in
+      let comes : SegmentComesFrom (take version h) made.done.base h s o = grind (arith, common_steps) in
       replied author (request.Segment machine test metric) reply old found new version made.done.base o named (sees-again old mid found one f.sees) f.adds comes
       (omega (arith, at, sees-long old mid one)) (omega (arith, at, sees-long mid found f.sees))
       (step-seen author found new f.before f.after o reply f.was f.left (ap bare f.does.2.track ∙ bare-finished author (series_of made.done) f.before.track o) f.does.2.told)

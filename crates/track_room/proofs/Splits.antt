@@ -1,8 +1,6 @@
 -- Passes of which some were split, and joined back.
 use Rattle.std.proofs.Common.{◌≡◌, ℕ, zero, suc, ◌+◌, ◌<◌, ◌≤◌, ◌⊎◌, inl, inr, List, [], ◌∷◌, ◌++◌, length, map, take, drop, get_or, refl, sym, ap, ap₂, subst, ◌∙◌, arith}
-use Rattle.std.{specs.List.AllZip, proofs.lemmas.Bool.cases_lt}
-use Rattle.history_lock.specs.declared.view.Marked.{Marked}
-use Rattle.history_model.specs.declared.entries.Placed.{Placed}
+use Rattle.std.{specs.List.AllZip, proofs.lemmas.Bool.cases_lt, proofs.lemmas.Grind.common_steps}
 use Rattle.track_room.specs.{Rooms.{IsFirst, IsSplitBack, JoinsEach, split_back}, Sights.{Home, Sight, IsFirstOf, Joins, splitting, split_off}}
 use Rattle.track_model.specs.Tracks.{Track}
 
@@ -40,10 +38,7 @@ off-long (suc n) (s ∷ old) few = ap suc (off-long n old (omega (arith, few)))
 
 -- what was split and is joined has seen as much
 back : (s new : Sight) → Joins (splitting s) (split_off s) new → new ≡ split_back s
-back s new joins =
-    let log : List (Marked Placed) = joins.0 in
-    let same : log ≡ s.seen = elim joins.1 [ inl l ↦ l.0 | inr r ↦ r.0 ] in
-    joins.2 ∙ ap (λ (xs : List (Marked Placed)). let t : Sight = record { home = s.home; kept = s.kept; seen = xs; mark = s.mark; given = s.given + 1; joined = (s.given + 1) ∷ s.joined } in t) same
+back s new joins = grind (arith, common_steps)
 
 at-half : (n : ℕ) (old : List Sight) (k : ℕ) (d : Sight) → k < n → k < length old → get_or (half n old) k d ≡ splitting (get_or old k d)
 at-half zero old k d less in' = absurd (omega (arith, less))
@@ -103,22 +98,6 @@ split_off-homes (s ∷ old) = ap (λ hs. s.home ∷ hs) (split_off-homes old)
 -- who has the same home and mark
 abbrev IsAlike : Sight → Sight → Type 0
 IsAlike s t = (t.home ≡ s.home) × (t.mark ≡ s.mark)
-
-back-alike : (s t : Sight) → IsSplitBack s t → IsAlike s t
-back-alike s t (inl same) = (ap (λ (x : Sight). x.home) same, ap (λ (x : Sight). x.mark) same)
-back-alike s t (inr back) = (ap (λ (x : Sight). x.home) back, ap (λ (x : Sight). x.mark) back)
-
-pub back-homes : (old new : List Sight) → AllZip IsSplitBack old new → homes new ≡ homes old
-back-homes [] [] all = refl
-back-homes [] (t ∷ new) all = absurd all
-back-homes (s ∷ old) [] all = absurd all
-back-homes (s ∷ old) (t ∷ new) all = ap₂ (λ (h : Home) (hs : List Home). h ∷ hs) (back-alike s t all.0).0 (back-homes old new all.1)
-
-pub back-first : (old new : List Sight) → AllZip IsSplitBack old new → IsFirst old → IsFirst new
-back-first [] [] all first = first
-back-first [] (t ∷ new) all first = absurd all
-back-first (s ∷ old) [] all first = absurd all
-back-first (s ∷ old) (t ∷ new) all first = ((back-alike s t all.0).1 ∙ first.0, back-first old new all.1 first.1)
 
 alike-homes : (old new : List Sight) → AllZip IsAlike old new → homes new ≡ homes old
 alike-homes [] [] all = refl

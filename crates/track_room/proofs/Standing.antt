@@ -1,7 +1,7 @@
 -- Places of a room and of its passes.
-use Rattle.std.proofs.Common.{◌≡◌, ◌≢◌, ℕ, zero, suc, Bool, true, false, List, [], ◌∷◌, append-nil, drop, get_or, set, length, ◌<◌, arith, refl, sym, ap, ap₂, subst, ◌∙◌, Some, None, inl, inr}
-use Rattle.std.specs.{Prelude.{◌||◌, bytes_eq, slice_get, unwrap_or, map, Result, Ok, Err, IfOk, OnErr}, List.{list_any, AllByRecursion, AllZip}}
-use Rattle.std.proofs.lemmas.Slice.Eq.{bytes_eq-Decides}
+use Rattle.std.proofs.Common.{◌≡◌, ◌≢◌, ℕ, zero, suc, Bool, true, false, List, [], ◌∷◌, append-nil, drop, get_or, set, length, ◌<◌, arith, refl, sym, ap, subst, ◌∙◌, Some, None}
+use Rattle.std.specs.{Prelude.{◌||◌, bytes_eq, slice_get, unwrap_or, map, Result, IfOk, OnErr}, List.{list_any, AllByRecursion, AllZip}}
+use Rattle.std.proofs.lemmas.{Slice.Eq.bytes_eq-Decides, Grind.common_steps}
 use Rattle.history_lock.specs.declared.view.Marked.{Marked}
 use Rattle.history_model.specs.declared.entries.{Placed.Placed, Author.Author}
 use Rattle.request_model.specs.{declared.replies.Reply.Reply, declared.requests.Request.Request, Requests.machine_of}
@@ -33,35 +33,16 @@ sees-at (x ∷ pass) (suc place) s new at sees = (sees-same x, sees-at pass plac
 
 pub of-history : (names : List (List ℕ)) (q : Request) → ((machine : List ℕ) → q ≢ request.Machine machine)
     → (is_of_history names q ≡ list_any (λ (name : List ℕ). bytes_eq name (machine_of q)) names) × (why_apart q ≡ refusal.UnknownMachine)
-of-history names (request.Machine machine) not = absurd (not machine refl)
-of-history names (request.Segment machine test metric) not = (refl, refl)
-of-history names (request.Commit machine number name) not = (refl, refl)
-of-history names (request.Submit machine commit run samples ignored stated) not = (refl, refl)
-of-history names (request.Retract machine run) not = (refl, refl)
-of-history names (request.Tune machine metric penalty given) not = (refl, refl)
-of-history names (request.Calibrate machine test metric factor) not = (refl, refl)
-of-history names (request.Changes machine test metric) not = (refl, refl)
-of-history names (request.Verify machine test metric) not = (refl, refl)
-of-history names (request.Regress machine test metric change) not = (refl, refl)
-of-history names (request.SetState machine number state) not = (refl, refl)
-of-history names (request.Bisect machine lo hi) not = (refl, refl)
-of-history names (request.Answer machine number commit status) not = (refl, refl)
-of-history names (request.Resume machine number) not = (refl, refl)
-of-history names (request.Job machine number) not = (refl, refl)
-of-history names (request.Runs machine) not = (refl, refl)
-of-history names (request.Report machine json) not = (refl, refl)
+of-history names q not = grind (arith, common_steps)
 
 or-so : (b : Bool) {t : Bool} → t ≡ true → (b || t) ≡ true
-or-so true is = refl
-or-so false is = is
+or-so b is = grind (arith, common_steps)
 
 -- the name of a machine that stands in the room is among the names
 pub is-named : (room : List Home) (place : ℕ) (h : Home) (machine : List ℕ) → slice_get room place ≡ Some h → h.machine ≡ machine
     → list_any (λ (name : List ℕ). bytes_eq name machine) (names_of room) ≡ true
 is-named [] place h machine at is = absurd (let no : None ≡ Some h = at in cc)
-is-named (x ∷ room) zero h machine at is =
-    let same : x ≡ h = some-same x h at in
-    ap (λ b. b || list_any (λ (name : List ℕ). bytes_eq name machine) (names_of room)) ((bytes_eq-Decides x.machine machine).1 (ap (λ (y : Home). y.machine) same ∙ is))
+is-named (x ∷ room) zero h machine at is = grind (arith, common_steps, some-same, bytes_eq-Decides)
 is-named (x ∷ room) (suc place) h machine at is = or-so (bytes_eq x.machine machine) (is-named room place h machine at is)
 
 -- where each has another name, it isn't
@@ -98,16 +79,9 @@ still-first (x ∷ pass) (suc n) s new at same first = (first.0, still-first pas
 pub sees-badge : (old new : Sight) → SeesMore old new → badge new ≡ badge old
 sees-badge old new sees = ap badge sees.2
 
-pub replied-badge : (author : Author) (q : Request) (reply : Reply) (old new : Sight) → IsReplied author q reply old new → badge new ≡ badge old
-replied-badge author q reply old new is = elim is.answered [
-  | inl adds ↦ ap badge adds.1.2.1 ∙ sees-badge old adds.1.0 adds.1.1
-  | inr tells ↦ sees-badge old new tells.1
-]
-
 pub asked-badge : {E : Type 0} (author : Author) (q : Request) (r : Result Reply E) (old new : Sight) → IfOk r (λ reply. IsReplied author q reply old new) → OnErr r (SeesMore old new)
     → badge new ≡ badge old
-asked-badge author q (Ok reply) old new ok err = replied-badge author q reply old new ok
-asked-badge author q (Err e) old new ok err = sees-badge old new err
+asked-badge author q r old new ok err = grind (arith, common_steps)
 
 -- a reply by the machine at a place
 pub asks-at : (room : List Home) (old : List Sight) (author : Author) (q : Request) (reply : Reply) (place : ℕ) (h : Home) (p new : Sight)
@@ -127,12 +101,6 @@ all-sees-set (x ∷ old) [] n s new all at sees = absurd all
 all-sees-set (x ∷ old) (y ∷ now) zero s new all at sees = (sees-again x y new all.0 (subst (λ (z : Sight). SeesMore z new) (sym (some-same y s at)) sees), all.1)
 all-sees-set (x ∷ old) (y ∷ now) (suc n) s new all at sees = (all.0, all-sees-set old now n s new all.1 at sees)
 
-pub all-homes : (old now : List Sight) → AllZip SeesMore old now → map (λ (s : Sight). s.home) now ≡ map (λ (s : Sight). s.home) old
-all-homes [] [] all = refl
-all-homes [] (y ∷ now) all = absurd all
-all-homes (x ∷ old) [] all = absurd all
-all-homes (x ∷ old) (y ∷ now) all = ap₂ (λ (h : Home) (hs : List Home). h ∷ hs) (ap (λ (s : Sight). s.home) all.0.2) (all-homes old now all.1)
-
 -- what is read at a place
 pub get-at : {A : Type 0} (xs : List A) (n : ℕ) (x : A) → n < length xs → x ≡ get_or xs n x → slice_get xs n ≡ Some x
 get-at [] n x less is = absurd (omega (arith, less))
@@ -150,14 +118,7 @@ below-get (y ∷ xs) zero x at = omega arith
 below-get (y ∷ xs) (suc n) x at = let less = below-get xs n x at in omega (arith, less)
 
 pub visits-badge : (Does : Work → Work → Type 0) (old new : Sight) → Visits Does old new → badge new ≡ badge old
-visits-badge Does old new v = elim v.adds [
-  | inl same ↦ ap badge same ∙ sees-badge old v.found v.sees
-  | inr one ↦ ap badge one.1 ∙ sees-badge old v.found v.sees
-]
-
-pub handed-badge : {A E : Type 0} (Does : A → Work → Work → Type 0) (r : Result A E) (old new : Sight) → IfOk r (λ x. Visits (Does x) old new) → OnErr r (SeesMore old new) → badge new ≡ badge old
-handed-badge Does (Ok x) old new ok err = visits-badge (Does x) old new ok
-handed-badge Does (Err e) old new ok err = sees-badge old new err
+visits-badge Does old new v = grind (arith, common_steps)
 
 -- a pass of a room stays one where one machine's pass stays that machine's
 pub still-of : (room : List Home) (xs : List Sight) (n : ℕ) (s new : Sight) → IsPassOf room xs → slice_get xs n ≡ Some s → badge new ≡ badge s → IsPassOf room (set xs n new)

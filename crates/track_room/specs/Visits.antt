@@ -5,7 +5,8 @@ use Rattle.history_model.specs.{declared.entries.Author.Author, declared.entries
 use Rattle.request_model.specs.declared.{requests.Request.Request, replies.Reply.Reply}
 use Rattle.segment_cost.specs.declared.done.Done.{Done}
 use Rattle.track_model.specs.{Outcomes.Outcome, Tracks.{ComesTo, IsStep, Track}}
-use Rattle.track_state.specs.{Beside.IsBegun, Begun.Begun, Work.{Work, bare, history_of}}
+use Rattle.publication_index.specs.Standing.{table_for}
+use Rattle.track_state.specs.{Beside.IsBegun, Begun.Begun, Made.IsMadeFrom, Redone.Redone, Work.{Work, bare, history_of}}
 use Rattle.track_state.specs.Taking as taking
 use Rattle.track_room.specs.Sights.{Sight, SeesMore, track_of}
 
@@ -20,6 +21,10 @@ Begins s begun w u = IsBegun w.track s begun × taking.IsBegunOn w s u × Legal 
 -- a segmentation is finished
 abbrev pub Finishes : Author → Done → Reply → Work → Work → Type 0
 Finishes author done reply w u = taking.Finishes w author done u reply
+
+-- a segmentation is made of the history, and has its table
+abbrev pub IsMade : Redone → Work → Type 0
+IsMade redone w = IsMadeFrom (history_of w) redone.done × (redone.table ≡ table_for redone.done)
 
 -- nothing is seen
 abbrev pub Stays : Work → Work → Type 0

@@ -62,12 +62,8 @@ impl MachineLock {
         match begun {
             Begun::Unknown(reply) => Ok(reply),
             Begun::Known(snapshot) => {
-                let made = compute_apart(alloc, snapshot)?;
-                let finishing = Finishing {
-                    author,
-                    done: made.done,
-                    table: made.table,
-                };
+                let redone = compute_apart(alloc, snapshot)?;
+                let finishing = Finishing { author, redone };
                 self.visit(rt, pass, finishing)
             }
         }

@@ -1,14 +1,11 @@
 //! What a worker does to a machine.
-ghost use Rattle.std.specs.Prelude.{◌≡◌};
 
 use crate::NoMemory;
 use crate::act::Act;
 use crate::take::Take;
 use history_model::Author;
-use pelt_core::Table;
-use segment_cost::{Done, Square};
 use touch_index::SeriesKey;
-use track_state::{Published, Question, Settled, TakenSeries, TrackState};
+use track_state::{Published, Question, Redone, Settled, TakenSeries, TrackState};
 
 // The first stale series that nobody claims.
 #[derive(Drop)]
@@ -52,23 +49,20 @@ impl Take for OpenQuestion {
 #[derive(Drop)]
 pub(crate) struct Publishing {
     pub(crate) author: Author,
-    pub(crate) done: Done,
-    pub(crate) table: Table<Square>,
+    pub(crate) redone: Redone,
 }
 
 impl Act for Publishing {
-    ghost use Rattle.publication_index.specs.Standing.{table_for};
-    ghost use Rattle.track_state.specs.{Made.IsMadeFrom, Work.history_of};
-    ghost use Rattle.track_room.specs.{Taking.Publishes, Visits.DoesOrStays};
+    ghost use Rattle.track_room.specs.{Taking.Publishes, Visits.{DoesOrStays, IsMade}};
 
     type Told = Result<Published, NoMemory>;
 
-    ghost needs = { λ a w. IsMadeFrom (history_of w) a.done × (a.table ≡ table_for a.done) };
+    ghost needs = { λ a w. IsMade a.redone w };
 
-    ghost does = { λ a told w u. DoesOrStays (Publishes a.author a.done) told w u };
+    ghost does = { λ a told w u. DoesOrStays (Publishes a.author a.redone.done) told w u };
 
     fn act(self, state: &mut TrackState) -> Result<Published, NoMemory> {
-        state.publish(self.author, self.done, self.table)
+        state.publish(self.author, self.redone.done, self.redone.table)
     }
 }
 

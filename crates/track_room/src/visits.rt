@@ -5,10 +5,8 @@ use crate::NoMemory;
 use crate::act::Act;
 use history_model::Author;
 use line_text::Name;
-use pelt_core::Table;
 use request_model::{Reply, Request};
-use segment_cost::{Done, Square};
-use track_state::{Begun, TrackState};
+use track_state::{Begun, Redone, TrackState};
 
 // A request that segments nothing is answered.
 #[derive(Drop)]
@@ -61,22 +59,19 @@ impl<'a> Act for Beginning<'a> {
 #[derive(Drop)]
 pub(crate) struct Finishing {
     pub(crate) author: Author,
-    pub(crate) done: Done,
-    pub(crate) table: Table<Square>,
+    pub(crate) redone: Redone,
 }
 
 impl Act for Finishing {
-    ghost use Rattle.publication_index.specs.Standing.{table_for};
-    ghost use Rattle.track_state.specs.{Made.IsMadeFrom, Work.history_of};
-    ghost use Rattle.track_room.specs.Visits.{Finishes, DoesOrStays};
+    ghost use Rattle.track_room.specs.Visits.{DoesOrStays, Finishes, IsMade};
 
     type Told = Result<Reply, NoMemory>;
 
-    ghost needs = { λ a w. IsMadeFrom (history_of w) a.done × (a.table ≡ table_for a.done) };
+    ghost needs = { λ a w. IsMade a.redone w };
 
-    ghost does = { λ a told w u. DoesOrStays (Finishes a.author a.done) told w u };
+    ghost does = { λ a told w u. DoesOrStays (Finishes a.author a.redone.done) told w u };
 
     fn act(self, state: &mut TrackState) -> Result<Reply, NoMemory> {
-        state.finish(self.author, self.done, self.table)
+        state.finish(self.author, self.redone.done, self.redone.table)
     }
 }

@@ -145,12 +145,7 @@ impl Room {
         ensures err { OnErr result (AllZip SeesMore pass.old pass.new) }
     {
         publication_law();
-        let Redone { done, table } = redone;
-        let publishing = Publishing {
-            author,
-            done,
-            table,
-        };
+        let publishing = Publishing { author, redone };
         self.visit(rt, pass, machine, publishing)
     }
 

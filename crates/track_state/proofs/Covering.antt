@@ -1,47 +1,34 @@
 -- The marks of series, as entries are looked at and as the history grows.
 use Rattle.std.proofs.Common.{◌≡◌, ℕ, ◌+◌, ◌≤◌, Bool, true, false, cond, ◌&&◌, ◌||◌, List, [], ◌∷◌, ◌++◌, length, take, drop, refl, sym, ap, subst, ◌∙◌, inl, inr, Option, Some, None, arith}
-use Rattle.std.{specs.Prelude.{nat_lt, slice_get}, proofs.lemmas.Bool.cases_Bool, proofs.lemmas.Bool.Decides.nat_tests}
-use Rattle.std.proofs.lemmas.List.{append-nil, append_assoc, length-append, length-take-le, take-append-drop, take-append-le, take_all, take_more}
+use Rattle.std.{specs.Prelude.{nat_lt, slice_get}, proofs.lemmas.Bool.cases_Bool, proofs.lemmas.Bool.Decides.nat_tests, proofs.lemmas.Grind.common_steps}
+use Rattle.std.proofs.lemmas.List.{length-append, length-take-le, take-append-drop, take-append-le, take_all, take_more}
 use Rattle.std.proofs.lemmas.Option.{slice_get_within, get_or_from_slice_get}
 use Rattle.history_model.specs.{declared.entries.Entry.Entry, Allowed.Allowed, Laws.KnownStays, declared.publication.Publication.Publication}
 use Rattle.history_model.specs.declared.entries.Entry.TheVariants as entry
 use Rattle.history_model.specs.{Publications.last_publication, Runs.{Series, is_known}}
 use Rattle.touch_index.specs.{Marks.{Entries, mark_of, touched_claim, touched_mark}, declared.mark.Claim.Claim}
-use Rattle.touch_index.specs.declared.mark.{Claim.TheVariants.{Free, Taken, Refused}, Mark.Mark}
+use Rattle.touch_index.specs.declared.mark.{Claim.TheVariants.{Free, Refused}, Mark.Mark}
 use Rattle.touch_model.specs.{Laws.{TouchesGrow, TouchesArePast, KnownGrows, LatestStays, brings}, Stale.{is_behind, is_stale}, Touches.{touches, last_touch}}
 use Rattle.track_state.specs.{Covering.{IsMark, Fits, Covers, AreTouched, SomeAreTouched, MakeSame, IsTest}, Work.{key_of, claim_by}}
 
 -- ---- claims that were touched
 twice : (c : Claim) → touched_claim (touched_claim c) ≡ touched_claim c
-twice Free = refl
-twice Taken = refl
-twice Refused = refl
+twice c = grind (arith, common_steps)
 
 not-refused : (c : Claim) → (c ≡ Refused → ⊥) → touched_claim c ≡ c
-not-refused Free miss = refl
-not-refused Taken miss = refl
-not-refused Refused miss = absurd (miss refl)
-
-never-refused : (c : Claim) → touched_claim c ≡ Refused → ⊥
-never-refused Free is = cc
-never-refused Taken is = cc
-never-refused Refused is = cc
+not-refused c miss = grind (arith, common_steps)
 
 touched-step : (step : ℕ) (o : Option Mark) → (touched_mark step o).touched ≡ step
-touched-step step None = refl
-touched-step step (Some m) = refl
+touched-step step o = grind (arith, common_steps)
 
 touched-free : (step : ℕ) (o : Option Mark) → (touched_mark step o).claim ≡ Refused → ⊥
-touched-free step None is = cc
-touched-free step (Some m) is = never-refused m.claim is
+touched-free step o is = grind (arith, common_steps)
 
 pub either : {A : Type 0} (b : Bool) (x : A) → cond b x x ≡ x
-either true x = refl
-either false x = refl
+either b x = grind (arith, common_steps)
 
 above : (b : Bool) (n m k : ℕ) → k ≤ n → k ≤ m → k ≤ cond b n m
-above true n m k one two = one
-above false n m k one two = two
+above b n m k one two = grind (arith, common_steps)
 
 -- ---- which of two numbers is less
 pub less : (n m : ℕ) → n + 1 ≤ m → nat_lt n m ≡ true
@@ -58,10 +45,7 @@ not-less-is n m is = grind (arith, nat_tests)
 
 -- what isn't behind a publication isn't behind it at an earlier step
 earlier : (n m : ℕ) (o : Option Publication) → n ≤ m → is_behind m o ≡ false → is_behind n o ≡ false
-earlier n m None le past = past
-earlier n m (Some p) le past =
-    let there = not-less-is p.version m past in
-    not-less p.version n (omega (arith, le, there))
+earlier n m o le past = grind (arith, common_steps)
 
 -- ---- first entries
 pub next : (h : List Entry) (place : ℕ) (e : Entry) → slice_get h place ≡ Some e → take (place + 1) h ≡ take place h ++ e ∷ []
@@ -72,26 +56,14 @@ next h place e there =
 module _ (grow : TouchesGrow) (past : TouchesArePast) where
   -- the last touch of first entries is no later than that of all
   more-push : (h : List Entry) (e : Entry) (s : Series) → last_touch h s ≤ last_touch (h ++ e ∷ []) s
-  more-push h e s =
-      let le = past h s in
-      let at : last_touch h s ≤ cond (touches h s e) (length h + 1) (last_touch h s) = above (touches h s e) (length h + 1) (last_touch h s) (last_touch h s) (omega (arith, le)) (omega arith) in
-      omega (arith, at, grow h e s)
+  more-push h e s = grind (arith, common_steps)
 
   more : (h es : List Entry) (s : Series) → last_touch h s ≤ last_touch (h ++ es) s
-  more h [] s =
-      let same = ap (λ (x : List Entry). last_touch x s) (append-nil h) in
-      omega (arith, same)
-  more h (e ∷ es) s =
-      let one = more-push h e s in
-      let rest = more (h ++ e ∷ []) es s in
-      let same = ap (λ (x : List Entry). last_touch x s) (append_assoc h (e ∷ []) es) in
-      omega (arith, one, rest, same)
+  more h [] s = grind (arith, common_steps)
+  more h (e ∷ es) s = grind (arith, common_steps, more (h ++ e ∷ []) es s)
 
   first-touch : (h : List Entry) (k : ℕ) (s : Series) → last_touch (take k h) s ≤ last_touch h s
-  first-touch h k s =
-      let le = more (take k h) (drop k h) s in
-      let same = ap (λ (x : List Entry). last_touch x s) (take-append-drop k h) in
-      omega (arith, le, same)
+  first-touch h k s = omega (arith, more (take k h) (drop k h) s, ap (λ (x : List Entry). last_touch x s) (take-append-drop k h))
 
   -- ---- an entry that is looked at
   module _ (h : List Entry) (place : ℕ) (e : Entry) (there : slice_get h place ≡ Some e) (s : Series) where
@@ -291,12 +263,10 @@ pub all-taken : (h : List Entry) → take (length h) h ≡ h
 all-taken h = take_all (length h) h (omega arith)
 
 pub unmarked-fresh : (h : List Entry) (s : Series) → Fits h (length h) s None → is_stale h s ≡ false
-unmarked-fresh h s fits =
-    sym (ap (λ (x : List Entry). is_known s x && is_behind (last_touch x s) (last_publication s h)) (all-taken h)) ∙ fits
+unmarked-fresh h s fits = grind (arith, common_steps)
 
 pub fresh-unmarked : (h : List Entry) (s : Series) → is_stale h s ≡ false → Fits h (length h) s None
-fresh-unmarked h s fresh =
-    ap (λ (x : List Entry). is_known s x && is_behind (last_touch x s) (last_publication s h)) (all-taken h) ∙ fresh
+fresh-unmarked h s fresh = grind (arith, common_steps)
 
 module _ (h : List Entry) (s : Series) (m : Mark) (is : IsMark h (length h) s m) where
   pub caught : last_touch h s ≤ m.touched
@@ -306,12 +276,4 @@ module _ (h : List Entry) (s : Series) (m : Mark) (is : IsMark h (length h) s m)
   marked-claim = ap (λ b. cond b (touched_claim m.claim) m.claim) (not-less m.touched (last_touch h s) caught)
 
   pub marked-stale : is_stale h s ≡ is_behind m.touched (last_publication s h)
-  marked-stale =
-      ap (λ b. b && is_behind (last_touch h s) (last_publication s h)) is.known
-      ∙ elim is.touch [
-        | inl at ↦
-            let le = caught in
-            let same : last_touch h s ≡ m.touched = omega (arith, at, le) in
-            ap (λ (n : ℕ). is_behind n (last_publication s h)) same
-        | inr done ↦ earlier (last_touch h s) m.touched (last_publication s h) caught done ∙ sym done
-      ]
+  marked-stale = grind (arith, common_steps)

@@ -1,5 +1,6 @@
 -- Which series an entry touches, by what is found of it.
-use Rattle.std.proofs.Common.{◌≡◌, ℕ, Bool, true, false, ◌&&◌, ◌||◌, List, [], ◌∷◌, refl, sym, ap, ap₂, subst, ◌∙◌, inl, inr, Option, Some, None}
+use Rattle.std.proofs.lemmas.Grind.{common_steps}
+use Rattle.std.proofs.Common.{◌≡◌, ℕ, Bool, true, false, ◌&&◌, ◌||◌, List, [], ◌∷◌, refl, sym, ap, ap₂, subst, ◌∙◌, inl, inr, Option, Some, None, arith}
 use Rattle.std.{specs.Prelude.{◌↔◌, Contains, bytes_eq, find, option_map}, proofs.lemmas.Bool.{and_parts, cases_Bool}, proofs.lemmas.Slice.Eq.bytes_eq-Decides}
 use Rattle.history_model.specs.declared.entries.{Acceptance.Acceptance, Entry.Entry}
 use Rattle.history_model.specs.declared.entries.Entry.TheVariants as entry
@@ -11,18 +12,14 @@ use Rattle.track_state.specs.Touching.{named, sampled, touched_by}
 
 -- ---- a run that is retracted
 unknown-run : (s : Series) (o : Option Acceptance) (taken : Acceptance → Stored) → option_map taken o ≡ None → has_sample s o ≡ false
-unknown-run s None taken none = refl
-unknown-run s (Some a) taken none = absurd (cc)
+unknown-run s o taken none = grind (arith, common_steps)
 
 pub no-run : (h : List Entry) (run : List ℕ) → find (names run) (stored_runs h) ≡ None → (s : Series) → touched_by h (entry.Retract run) s ≡ false
 no-run h run none s = unknown-run s (accepted run h) (stored (retractions h)) (sym (look-up h run) ∙ none)
 
 known-run : (s : Series) (o : Option Acceptance) (taken : Acceptance → Stored) → ((a : Acceptance) → (taken a).run ≡ a.run) → (found : Stored) → option_map taken o ≡ Some found
     → sampled found.run.samples s ≡ has_sample s o
-known-run s None taken same found is = absurd (cc)
-known-run s (Some a) taken same found is =
-    let there : taken a ≡ found = cc in
-    ap (λ (x : Stored). sampled x.run.samples s) (sym there) ∙ ap (λ r. sampled r.samples s) (same a)
+known-run s o taken same found is = grind (arith, common_steps)
 
 pub run-of : (h : List Entry) (run : List ℕ) (found : Stored) → find (names run) (stored_runs h) ≡ Some found → (s : Series)
     → sampled found.run.samples s ≡ touched_by h (entry.Retract run) s
@@ -30,9 +27,7 @@ run-of h run found is s = known-run s (accepted run h) (stored (retractions h)) 
 
 -- ---- a metric that is tuned
 same-pair : (n s : Series) → same_series n s ≡ true → n ≡ s
-same-pair n s both =
-    let halves = and_parts (bytes_eq n.test s.test) (bytes_eq n.metric s.metric) both in
-    ap₂ (λ (t m : List ℕ). let k : Series = record { test = t; metric = m } in k) ((bytes_eq-Decides n.test s.test).0 halves.0) ((bytes_eq-Decides n.metric s.metric).0 halves.1)
+same-pair n s both = grind (arith, common_steps, and_parts, bytes_eq, ap₂, bytes_eq-Decides)
 
 eq-bytes : (xs : List ℕ) → bytes_eq xs xs ≡ true
 eq-bytes xs = (bytes_eq-Decides xs xs).1 refl
@@ -41,8 +36,7 @@ same-itself : (s : Series) → same_series s s ≡ true
 same-itself s = ap (λ b. b && bytes_eq s.metric s.metric) (eq-bytes s.test) ∙ eq-bytes s.metric
 
 and-false : (b : Bool) → (b && false) ≡ false
-and-false true = refl
-and-false false = refl
+and-false b = grind (arith, common_steps)
 
 -- a list names the series where it has it, and the metric is its own
 listed : (metric : List ℕ) (names : List Series) (s : Series) → Contains names s → bytes_eq s.metric metric ≡ true → named metric names s ≡ true
@@ -80,23 +74,11 @@ its-own metric (n ∷ ns) s is = elim (cases_Bool (same_series n s && bytes_eq n
     at same = subst (λ (x : Series). Contains (n ∷ ns) x) same (here n ns)
 
 truth : (a b : Bool) → (a ≡ true → b ≡ true) → (b ≡ true → a ≡ true) → a ≡ b
-truth true b to from = sym (to refl)
-truth false true to from = from refl
-truth false false to from = refl
+truth a b to from = grind (arith, common_steps)
 
 turned : (xs ys : List ℕ) → bytes_eq xs ys ≡ true → bytes_eq ys xs ≡ true
 turned xs ys same = (bytes_eq-Decides ys xs).1 (sym ((bytes_eq-Decides xs ys).0 same))
 
 pub metric-of : (h : List Entry) (metric : List ℕ) (names : List Series) → ((s : Series) → (is_known s h ≡ true) ↔ Contains names s) → (s : Series)
     → named metric names s ≡ (is_known s h && bytes_eq metric s.metric)
-metric-of h metric names known s =
-    truth (named metric names s) (is_known s h && bytes_eq metric s.metric)
-    (λ is. let parts = its-own metric names s is in
-    ap (λ b. b && bytes_eq metric s.metric) ((known s).1 parts.0) ∙ turned s.metric metric parts.1)
-    (λ is. let parts = split (is_known s h) (bytes_eq metric s.metric) is in
-    listed metric names s ((known s).0 parts.0) (turned metric s.metric parts.1))
-  where
-    split : (a b : Bool) → (a && b) ≡ true → (a ≡ true) × (b ≡ true)
-    split true true both = (refl, refl)
-    split true false both = absurd (cc)
-    split false b both = absurd (cc)
+metric-of h metric names known s = grind (arith, common_steps, truth, is_known, bytes_eq, its-own, turned, listed)

@@ -1,7 +1,7 @@
 -- The marks once a finished segmentation was handed in.
-use Rattle.history_model.{proofs.Chosen.entries-push, specs.declared.entries.Author.Author, specs.declared.entries.Entry.Entry}
-use Rattle.std.proofs.Common.{◌≡◌, ◌≢◌, ℕ, ◌+◌, ◌≤◌, true, false, cond, ◌&&◌, List, [], ◌∷◌, ◌++◌, length, refl, sym, ap, subst, ◌∙◌, inl, inr, Option, Some, None, arith}
-use Rattle.std.{specs.Prelude.nat_lt, specs.Ordering.is_eq, proofs.lemmas.Bool.cases_Bool, proofs.lemmas.List.{append-nil, append_assoc}}
+use Rattle.history_model.specs.declared.entries.{Author.Author, Entry.Entry}
+use Rattle.std.proofs.Common.{◌≡◌, ◌≢◌, ℕ, ◌+◌, ◌≤◌, true, false, cond, List, [], ◌∷◌, ◌++◌, length, refl, sym, ap, subst, ◌∙◌, inl, inr, Option, Some, None, arith}
+use Rattle.std.{specs.Prelude.nat_lt, specs.Ordering.is_eq, proofs.lemmas.Bool.cases_Bool, proofs.lemmas.Grind.common_steps}
 use Rattle.metric_table.specs.declared.limits.Limit.{Limit}
 use Rattle.segment_cost.specs.declared.done.Done.{Done}
 use Rattle.history_model.specs.{declared.publication.Publication.Publication, Allowed.{Allowed, AllowedAfter, Legal}, Entries.entries_of, Laws.KnownStays}
@@ -11,7 +11,7 @@ use Rattle.touch_index.specs.{Marks.{Entries, key_cmp, mark_of, touched_claim, w
 use Rattle.touch_index.specs.declared.mark.{Claim.TheVariants.{Free, Refused}, Mark.Mark}
 use Rattle.touch_model.specs.{Laws.{KnownGrows, LatestStays, TouchesArePast, TouchesGrow}, Stale.is_behind, Touches.last_touch}
 use Rattle.track_model.specs.Tracks.{Track}
-use Rattle.track_step.specs.{Publications.{IsAdded, IsPublished, IsTaken, later, passed}, Published.Published, Made.{entry_of, publication_from}, State.IsKept}
+use Rattle.track_step.specs.{Publications.{IsPublished, IsTaken, later, passed}, Published.Published, Made.{entry_of, publication_from}, State.IsKept}
 use Rattle.track_step.specs.Published.TheVariants as published
 use Rattle.track_state.specs.{Covering.{Covers, Fits, IsMark, IsMarked, IsRefusedBy, MakeSame}, Work.{claim_by, key_of, series_of}}
 use Rattle.track_state.proofs.Covering.{all-taken, caught, claims-grown, covers-grown, either, not-less, not-less-is}
@@ -28,10 +28,7 @@ module _ (h : List Entry) (a b : Entries) (covers : Covers h (length h) a) (k : 
   fits =
       let s : Series = series_of k in
       let unmarked : Fits h (length h) s None = subst (λ (o : Option Mark). Fits h (length h) s o) none (covers.each s) in
-      let behind : is_behind (last_touch h s) (Some p) ≡ false =
-      sym (ap (λ (x : List Entry). is_known s x && is_behind (last_touch x s) (last_publication s h)) (all-taken h)
-      ∙ ap (λ b. b && is_behind (last_touch h s) (last_publication s h)) known
-      ∙ ap (is_behind (last_touch h s)) last) ∙ unmarked in
+      let behind : is_behind (last_touch h s) (Some p) ≡ false = grind (arith, common_steps) in
       let le = not-less-is p.version (last_touch h s) behind in
       let same = ap (λ (x : List Entry). last_touch x s) (all-taken h) in
       record {
@@ -68,42 +65,19 @@ module _ (h : List Entry) (a b : Entries) (covers : Covers h (length h) a) (k : 
 
 -- a known series without a mark was published
 pub was-published : (h : List Entry) (s : Series) → is_known s h ≡ true → Fits h (length h) s None → last_publication s h ≡ None → ⊥
-was-published h s known unmarked none =
-    let never : true ≡ false =
-    sym (ap (λ (x : List Entry). is_known s x && is_behind (last_touch x s) (last_publication s h)) (all-taken h)
-    ∙ ap (λ b. b && is_behind (last_touch h s) (last_publication s h)) known
-    ∙ ap (is_behind (last_touch h s)) none) ∙ unmarked in
-    cc
+was-published h s known unmarked none = grind (arith, common_steps)
 
 -- ---- what became of the segmentation
-ok-added : (p : Option Limit) (old : Track) (author : Author) (done : Done) (step : ℕ) (new : Track) → IsAdded p old author done (published.Ok step) new → entries_of new.history ≡ entries_of old.history ++ entry_of done ∷ []
-ok-added None old author done step new is =
-    ap (λ (t : Track). entries_of t.history) is.1 ∙ entries-push old.history (record { author = author; entry = entry_of done })
-ok-added (Some limit) old author done step new is = absurd (let never : published.Ok step ≡ published.Full limit = is.0 in cc)
 
 ok-taken : (o : Option ℕ) (old : Track) (author : Author) (done : Done) (step : ℕ) (new : Track) → IsTaken o old author done (published.Ok step) new → entries_of new.history ≡ entries_of old.history ++ entry_of done ∷ []
-ok-taken None old author done step new is = ok-added (passed (entries_of old.history) done) old author done step new is
-ok-taken (Some v) old author done step new is = absurd (let never : published.Ok step ≡ published.Stale v = is.0 in cc)
-
-stale-added : (p : Option Limit) (old : Track) (author : Author) (done : Done) (v : ℕ) (new : Track) → IsAdded p old author done (published.Stale v) new → new ≡ old
-stale-added None old author done v new is = absurd (let never : published.Stale v ≡ published.Ok (length (entries_of old.history) + 1) = is.0 in cc)
-stale-added (Some limit) old author done v new is = is.1
+ok-taken o old author done step new is = grind (arith, common_steps)
 
 stale-taken : (o : Option ℕ) (old : Track) (author : Author) (done : Done) (v : ℕ) (new : Track) → IsTaken o old author done (published.Stale v) new → new ≡ old
-stale-taken None old author done v new is = stale-added (passed (entries_of old.history) done) old author done v new is
-stale-taken (Some w) old author done v new is = is.1
-
-full-added : (p : Option Limit) (old : Track) (author : Author) (done : Done) (limit : Limit) (new : Track) → IsAdded p old author done (published.Full limit) new
-    → (p ≡ Some limit) × (new ≡ old)
-full-added None old author done limit new is = absurd (let never : published.Full limit ≡ published.Ok (length (entries_of old.history) + 1) = is.0 in cc)
-full-added (Some l) old author done limit new is = (let same : published.Full limit ≡ published.Full l = is.0 in cc, is.1)
+stale-taken o old author done v new is = grind (arith, common_steps)
 
 full-taken : (o : Option ℕ) (old : Track) (author : Author) (done : Done) (limit : Limit) (new : Track) → IsTaken o old author done (published.Full limit) new
     → (o ≡ None) × (passed (entries_of old.history) done ≡ Some limit) × (new ≡ old)
-full-taken None old author done limit new is =
-    let rest = full-added (passed (entries_of old.history) done) old author done limit new is in
-    (refl, rest.0, rest.1)
-full-taken (Some v) old author done limit new is = absurd (let never : published.Full limit ≡ published.Stale v = is.0 in cc)
+full-taken o old author done limit new is = grind (arith, common_steps)
 
 pub is-ok : (old : Track) (author : Author) (done : Done) (step : ℕ) (new : Track) → IsPublished old author done (published.Ok step) new → entries_of new.history ≡ entries_of old.history ++ entry_of done ∷ []
 is-ok old author done step new is = ok-taken (later done.version (last_publication (series_of_done done) (entries_of old.history))) old author done step new is
@@ -117,37 +91,11 @@ is-full old author done limit new is = full-taken (later done.version (last_publ
 
 -- the last entry of a legal history is allowed
 last-allowed-from : (before es : List Entry) (e : Entry) → AllowedAfter before (es ++ e ∷ []) → Allowed (before ++ es) e
-last-allowed-from before [] e legal =
-    let P : List Entry → Type 0 = λ h. Allowed h e in
-    subst P (sym (append-nil before)) legal.0
-last-allowed-from before (x ∷ es) e legal =
-    let P : List Entry → Type 0 = λ h. Allowed h e in
-    subst P (append_assoc before (x ∷ []) es) (last-allowed-from (before ++ x ∷ []) es e legal.1)
+last-allowed-from before [] e legal = grind (arith, common_steps)
+last-allowed-from before (x ∷ es) e legal = grind (arith, common_steps, last-allowed-from (before ++ x ∷ []) es e legal.1)
 
 pub last-allowed : (h : List Entry) (e : Entry) → Legal (h ++ e ∷ []) → Allowed h e
 last-allowed h e legal = last-allowed-from [] h e legal
-
--- a mark's step and the last touch are behind the same versions, but for those before the last publication
-same-side : (h : List Entry) (s : Series) (m : Mark) (version : ℕ) → IsMark h (length h) s m → later version (last_publication s h) ≡ None
-    → nat_lt version m.touched ≡ nat_lt version (last_touch h s)
-same-side h s m version is none = elim is.touch [
-  | inl at ↦
-      let le = caught h s m is in
-      let same : m.touched ≡ last_touch h s = omega (arith, at, le) in
-      ap (nat_lt version) same
-  | inr past ↦ by (last_publication s h) none past
-]
-  where
-    by : (o : Option Publication) → later version o ≡ None → is_behind m.touched o ≡ false → nat_lt version m.touched ≡ nat_lt version (last_touch h s)
-    by None none past = absurd (let never : true ≡ false = past in cc)
-    by (Some p) none past = elim (cases_Bool (nat_lt version p.version)) [
-      | inl above ↦ absurd (let never : Some p.version ≡ None = sym (ap (λ b. cond b (Some p.version) None) above) ∙ none in cc)
-      | inr up ↦
-          let le = caught h s m is in
-          let one = not-less-is p.version m.touched past in
-          let two = not-less-is version p.version up in
-          not-less version m.touched (omega (arith, one, two)) ∙ sym (not-less version (last_touch h s) (omega (arith, one, two, le)))
-    ]
 
 -- any claim on a series whose mark has the last touch is what the mark makes
 makes-any : (h : List Entry) (s : Series) (claim : Claim) (m : Mark) → IsMark h (length h) s m → claim_by h s (with_claim claim (Some m)) ≡ claim
@@ -214,17 +162,14 @@ module _ (h : List Entry) (a b : Entries) (covers : Covers h (length h) a) (k : 
   refused-claims t =
       let s : Series = series_of k in
       let fits : IsMark h (length h) s marked.mark = subst (λ (o : Option Mark). Fits h (length h) s o) marked.there (covers.each s) in
-      let side : nat_lt version step ≡ nat_lt version (last_touch h s) =
-      ap (nat_lt version) (sym marked.touched) ∙ same-side h s marked.mark version fits none in
+      let side : nat_lt version step ≡ nat_lt version (last_touch h s) = grind (arith, common_steps) in
       claimed-claims h (length h) a b covers k claim claimed
       (λ u same. ap (λ (o : Option Mark). claim_by h u (with_claim claim o)) (its-mark u same) ∙ makes-any h u claim marked.mark (its-fits u same)) t
       ∙ ap (λ b. cond (same_series s t) (cond b Free Refused) (claim_by h t (mark_of (key_of t) a))) side
 
 -- ---- what is kept of the last publication
 pub kept-none : (h : List Entry) (o : Option Publication) → IsKept h o None → o ≡ None
-kept-none h None kept = refl
-kept-none h (Some p) kept = absurd kept
+kept-none h o kept = grind (arith, common_steps)
 
 pub kept-some : (h : List Entry) (o : Option Publication) (done : Done) → IsKept h o (Some done) → o ≡ Some (publication_from done)
-kept-some h None done kept = absurd kept
-kept-some h (Some p) done kept = ap (λ (q : Publication). Some q) kept.0
+kept-some h o done kept = grind (arith, common_steps)

@@ -1,8 +1,7 @@
 -- The first number of the open jobs that passes a test.
 use Rattle.std.proofs.Common.{◌≡◌, ℕ, zero, suc, ◌+◌, ◌≤◌, Bool, true, false, cond, not, List, [], ◌∷◌, refl, sym, ap, subst, ◌∙◌, inl, inr, Option, Some, None, arith}
-use Rattle.std.{specs.Prelude.{IsSome, find, slice_get}, proofs.lemmas.Bool.cases_Bool}
+use Rattle.std.{specs.Prelude.{IsSome, find, slice_get}, proofs.lemmas.Bool.cases_Bool, proofs.lemmas.Grind.common_steps}
 use Rattle.bisect_core.specs.{Bisections.{Bisection, asked_by, is_open}, declared.outcome.Outcome.Outcome}
-use Rattle.bisect_core.specs.declared.outcome.Outcome.TheVariants.{Asks, Found, Undecided, Faulted}
 use Rattle.follow_index.specs.Numbered.{open_from, open_numbers}
 use Rattle.history_model.specs.{declared.entries.Entry.Entry, Jobs.{asked, is_under_way, job_in, jobs, place_asked}}
 use Rattle.track_state.specs.{Questions.{IsFirstQuestion, IsQuestion, NoneIsAsked, is_claimed}, declared.questions.Question.Question}
@@ -45,7 +44,6 @@ found p k (x ∷ js) n is = elim (cases_Bool (is_under_way x)) [
       let at : find p (k ∷ open_from (k + 1) js) ≡ Some n = sym (ap (λ b. find p (cond b (k ∷ open_from (k + 1) js) (open_from (k + 1) js))) open_x) ∙ is in
       elim (cases_Bool (p k)) [
         | inl hit ↦
-            let same : Some k ≡ Some n = sym (ap (λ b. cond b (Some k) (find p (open_from (k + 1) js))) hit) ∙ at in
             let number : k ≡ n = cc in
             record {
               place = 0;
@@ -66,10 +64,7 @@ found p k (x ∷ js) n is = elim (cases_Bool (is_under_way x)) [
 ]
 
 pub missed : (p : ℕ → Bool) (k : ℕ) (js : List Bisection) → find p (open_from k js) ≡ None → (i : ℕ) (b : Bisection) → slice_get js i ≡ Some b → is_under_way b ≡ true → p (k + i) ≡ false
-missed p k [] none i b there open_b = absurd (nothing i there)
-  where
-    nothing : (i : ℕ) → slice_get {X = Bisection} [] i ≡ Some b → ⊥
-    nothing i is = cc
+missed p k [] none i b there open_b = grind (arith, common_steps)
 missed p k (x ∷ js) none i b there open_b = elim (cases_Bool (is_under_way x)) [
   | inl open_x ↦
       let at : find p (k ∷ open_from (k + 1) js) ≡ None = sym (ap (λ b. find p (cond b (k ∷ open_from (k + 1) js) (open_from (k + 1) js))) open_x) ∙ none in
@@ -92,17 +87,9 @@ missed p k (x ∷ js) none i b there open_b = elim (cases_Bool (is_under_way x))
     shut-first (suc i) there shut rest = let at : k + suc i ≡ k + 1 + i = omega arith in ap p at ∙ rest i b there open_b
 
 -- ---- jobs that ask
-asking-open : (o : Outcome) (place : ℕ) → asked_by o ≡ Some place → is_open o ≡ true
-asking-open (Asks at) place is = refl
-asking-open (Found lo hi) place is = absurd (cc)
-asking-open (Undecided at status) place is = absurd (cc)
-asking-open (Faulted at) place is = absurd (cc)
 
 open-asking : (o : Outcome) → is_open o ≡ true → IsSome (asked_by o)
-open-asking (Asks at) is = refl
-open-asking (Found lo hi) is = absurd (let never : false ≡ true = is in cc)
-open-asking (Undecided at status) is = absurd (let never : false ≡ true = is in cc)
-open-asking (Faulted at) is = absurd (let never : false ≡ true = is in cc)
+open-asking o is = grind (arith, common_steps)
 
 -- a job that is asked is behind its number
 record IsAt (js : List Bisection) (number : ℕ) : Type 0 where
@@ -113,32 +100,18 @@ record IsAt (js : List Bisection) (number : ℕ) : Type 0 where
   pub under_way : is_under_way job ≡ true
 
 asked-at : (js : List Bisection) (number place : ℕ) → place_asked (job_in number js) ≡ Some place → IsAt js number
-asked-at js zero place is = absurd (cc)
-asked-at js (suc i) place is = by (slice_get js i) refl
-  where
-    by : (o : Option Bisection) → slice_get js i ≡ o → IsAt js (suc i)
-    by None none = absurd (let never : None ≡ Some place = sym (ap place_asked none) ∙ is in cc)
-    by (Some b) there = record {
-      place = i;
-      number_is = omega arith;
-      job = b;
-      there = there;
-      under_way = asking-open b.outcome place (sym (ap place_asked there) ∙ is);
-    }
+asked-at js number place is = grind (arith, common_steps)
 
 not-true : (b : Bool) → not b ≡ true → b ≡ false
-not-true true is = absurd (let never : false ≡ true = is in cc)
-not-true false is = refl
+not-true b is = grind (arith, common_steps)
 
 not-false : (b : Bool) → not b ≡ false → b ≡ true
-not-false true is = refl
-not-false false is = absurd (let never : true ≡ false = is in cc)
+not-false b is = grind (arith, common_steps)
 
 pub is-asked : (h : List Entry) (p : ℕ → Bool) (n : ℕ) → find p (open_numbers (jobs h)) ≡ Some n → IsSome (asked n h)
 is-asked h p n is =
     let at = found p 1 (jobs h) n is in
-    let job : job_in n (jobs h) ≡ Some at.job =
-    subst (λ (m : ℕ). job_in m (jobs h) ≡ Some at.job) (sym (let number = at.number in let s : n ≡ suc at.place = omega (arith, number) in s)) at.there in
+    let job : job_in n (jobs h) ≡ Some at.job = grind (arith, common_steps) in
     subst (λ (o : Option ℕ). IsSome o) (sym (ap place_asked job)) (open-asking at.job.outcome at.under_way)
 
 module _ (h : List Entry) (claimed : List ℕ) where
@@ -160,6 +133,4 @@ module _ (h : List Entry) (claimed : List ℕ) where
       }
 
   pub no-question : find free (open_numbers (jobs h)) ≡ None → NoneIsAsked h claimed
-  no-question none job place asks =
-      let one = asked-at (jobs h) job place asks in
-      ap (is_claimed claimed) one.number_is ∙ not-false (is_claimed claimed (1 + one.place)) (missed free 1 (jobs h) none one.place one.job one.there one.under_way)
+  no-question none job place asks = grind (arith, common_steps, asked-at, h, claimed, not-false, missed, free)

@@ -1,17 +1,16 @@
 -- What is open by the marks, where all entries were looked at, and what a claim more or a mark less changes.
 use Rattle.std.proofs.Common.{◌≡◌, ℕ, ◌≤◌, true, false, cond, List, length, refl, sym, ap, subst, ◌∙◌, inl, inr, Option, Some, None, arith}
-use Rattle.std.{specs.Prelude.nat_lt, specs.Ordering.is_eq, proofs.lemmas.Bool.cases_Bool}
+use Rattle.std.{specs.Prelude.nat_lt, specs.Ordering.is_eq, proofs.lemmas.Bool.cases_Bool, proofs.lemmas.Grind.common_steps}
 use Rattle.history_model.specs.{declared.entries.Entry.Entry, Publications.last_publication, Runs.{Series, same_series}}
 use Rattle.touch_index.specs.{Marks.{Entries, IsFirstFree, NoneIsFree, key_cmp, mark_of, touched_claim, with_claim}, declared.key.SeriesKey.SeriesKey}
 use Rattle.touch_index.specs.declared.mark.{Claim.Claim, Claim.TheVariants.{Free, Taken, Refused}, Mark.Mark}
 use Rattle.touch_model.specs.{Stale.{is_behind, is_stale}, Touches.last_touch}
 use Rattle.track_state.specs.{Covering.{Covers, Fits, IsMark, MakeSame}, Work.{IsFirstBy, IsOpenBy, NoneIsOpenBy, claim_by, key_of, series_of}}
-use Rattle.track_state.proofs.{Covering.{either, fresh-unmarked, marked-claim, marked-stale, unmarked-fresh}, Touching.{is_key, key-is, same-key}}
+use Rattle.track_state.proofs.{Covering.{either, fresh-unmarked, marked-claim, marked-stale}, Touching.{is_key, key-is, same-key}}
 
 -- ---- what is open
 open-free : (h : List Entry) (t : Series) (o : Option Mark) → Fits h (length h) t o → is_stale h t ≡ true → claim_by h t o ≡ Free → (m : Mark) × (o ≡ Some m) × (m.claim ≡ Free)
-open-free h t None fits stale free = absurd (let never : false ≡ true = sym (unmarked-fresh h t fits) ∙ stale in cc)
-open-free h t (Some m) fits stale free = (m, refl, sym (marked-claim h t m fits) ∙ free)
+open-free h t o fits stale free = grind (arith, common_steps)
 
 module _ (h : List Entry) (marks : Entries) (covers : Covers h (length h) marks) where
   pub first-is : (k : SeriesKey) (step : ℕ) → IsFirstFree marks k step → is_behind step (last_publication (series_of k) h) ≡ true → IsFirstBy h marks (series_of k)
@@ -20,19 +19,12 @@ module _ (h : List Entry) (marks : Entries) (covers : Covers h (length h) marks)
       let m : Mark = record { touched = step; claim = Free } in
       let fits : IsMark h (length h) s m = subst (λ (o : Option Mark). Fits h (length h) s o) first.free (covers.each s) in
       record {
-        is_open = record {
-          stale = marked-stale h s m fits ∙ behind;
-          free = ap (claim_by h s) first.free ∙ marked-claim h s m fits;
-        };
-        first = λ t is.
-            let found = open-free h t (mark_of (key_of t) marks) (covers.each t) is.stale is.free in
-            first.least (key_of t) found.0 found.1 found.2;
+        is_open = grind (arith, common_steps);
+        first = grind (arith, common_steps);
       }
 
   pub none-is : NoneIsFree marks → NoneIsOpenBy h marks
-  none-is none t is =
-      let found = open-free h t (mark_of (key_of t) marks) (covers.each t) is.stale is.free in
-      none (key_of t) found.0 found.1 found.2
+  none-is none t is = grind (arith, common_steps)
 
   -- ---- a mark less
   module _ (k : SeriesKey) (step : ℕ) (first : IsFirstFree marks k step) (fresh : is_behind step (last_publication (series_of k) h) ≡ false) (b : Entries)
@@ -85,14 +77,7 @@ module _ (h : List Entry) (seen : ℕ) (a b : Entries) (covers : Covers h seen a
   others s other = then s ∙ ap (λ c. cond c (with_claim claim (mark_of k a)) (mark_of (key_of s) a)) other
 
   refits : (claim ≡ Refused → length h ≤ seen) → (s : Series) (o : Option Mark) → Fits h seen s o → Fits h seen s (with_claim claim o)
-  refits late s None fits = fits
-  refits late s (Some m) fits = record {
-    known = fits.known;
-    since = fits.since;
-    past = fits.past;
-    touch = fits.touch;
-    refused = λ is. let all = late is in let le = fits.past in omega (arith, all, le);
-  }
+  refits late s o fits = grind (arith, common_steps)
 
   pub claimed-covers : (claim ≡ Refused → length h ≤ seen) → Covers h seen b
   claimed-covers late = record {
@@ -120,18 +105,11 @@ pub makes-plain : (h : List Entry) (s : Series) (claim : Claim) (m : Mark) → t
 makes-plain h s claim m plain = ap (λ (c : Claim). cond (nat_lt m.touched (last_touch h s)) c claim) plain ∙ either (nat_lt m.touched (last_touch h s)) claim
 
 pub makes-free : (h : List Entry) (s : Series) (o : Option Mark) → claim_by h s (with_claim Free o) ≡ Free
-makes-free h s None = refl
-makes-free h s (Some m) = makes-plain h s Free m refl
+makes-free h s o = grind (arith, common_steps)
 
 -- ---- the same claims by other marks
 pub first-same : (h : List Entry) (a b : Entries) → MakeSame h a b → (s : Series) → IsFirstBy h b s → IsFirstBy h a s
-first-same h a b same s is = record {
-  is_open = record { stale = is.is_open.stale; free = sym (same s) ∙ is.is_open.free };
-  first = λ t open_t. is.first t (record { stale = open_t.stale; free = same t ∙ open_t.free });
-}
-
-pub none-same : (h : List Entry) (a b : Entries) → MakeSame h a b → NoneIsOpenBy h b → NoneIsOpenBy h a
-none-same h a b same none t open_t = none t (record { stale = open_t.stale; free = same t ∙ open_t.free })
+first-same h a b same s is = grind (arith, common_steps)
 
 -- ---- the first open series is taken
 pub taken-claims : (h : List Entry) (a b : Entries) → Covers h (length h) a → (k : SeriesKey) → IsOpenBy h a (series_of k)

@@ -1,20 +1,14 @@
 -- The test of an entry that is looked at tells the known series that it touches.
-use Rattle.std.proofs.Common.{◌≡◌, ℕ, ◌+◌, Bool, true, false, cond, ◌&&◌, ◌||◌, List, [], ◌∷◌, take, refl, sym, ap, ◌∙◌, inl, inr, Some}
-use Rattle.std.{specs.Prelude.{find, slice_get, bytes_eq}, specs.List.list_any, proofs.lemmas.Bool.cases_Bool}
+use Rattle.std.proofs.Common.{◌≡◌, ℕ, ◌+◌, Bool, true, false, cond, ◌||◌, List, [], ◌∷◌, take, sym, ap, ◌∙◌, inl, inr, Some, arith}
+use Rattle.std.{specs.Prelude.{find, slice_get}, specs.List.list_any, proofs.lemmas.Bool.cases_Bool, proofs.lemmas.Grind.common_steps}
 use Rattle.history_model.specs.{declared.entries.Acceptance.Acceptance, declared.entries.Entry.Entry, Allowed.Legal, Laws.KnownStays}
 use Rattle.history_model.specs.declared.entries.Entry.TheVariants as entry
-use Rattle.history_model.specs.Runs.{Series, acceptances, accepted, is_known, is_of, is_run}
+use Rattle.history_model.specs.Runs.{Series, is_known, is_of}
 use Rattle.touch_model.specs.{Laws.{KnownGrows, RetractedStays, brings}, Touches.has_sample}
 use Rattle.track_state.{specs.Covering.IsTest, specs.Touching.touched_by, proofs.Covering.next}
 
 or-true : (b : Bool) → (b || true) ≡ true
-or-true true = refl
-or-true false = refl
-
-and-parts : (a b : Bool) → (a && b) ≡ true → (a ≡ true) × (b ≡ true)
-and-parts true true both = (refl, refl)
-and-parts true false both = absurd (cc)
-and-parts false b both = absurd (cc)
+or-true b = grind (arith, common_steps)
 
 -- a series of which a run that is found has a sample is one of all
 found-any : (s : Series) (p : Acceptance → Bool) (runs : List Acceptance) → has_sample s (find p runs) ≡ true
@@ -47,13 +41,5 @@ module _ (known : KnownGrows) (stays : KnownStays) (retracted : RetractedStays) 
     just = λ s has. (has, brought-known (entry.Accept run) there s has);
     each = λ s has is. has;
   }
-  is-test (entry.Retract run) there =
-      let same : accepted run h ≡ accepted run (take place h) = retracted h place run legal there in
-      record {
-        just = λ s has. (sym (ap (has_sample s) same) ∙ has, found-any s (is_run run) (acceptances h) has);
-        each = λ s has is. ap (has_sample s) same ∙ has;
-      }
-  is-test (entry.Tune metric penalty len) there = record {
-    just = λ s has. let parts = and-parts (is_known s h) (bytes_eq metric s.metric) has in (parts.1, parts.0);
-    each = λ s has is. ap (λ b. b && bytes_eq metric s.metric) is ∙ has;
-  }
+  is-test (entry.Retract run) there = grind (arith, common_steps, h, take, place, retracted, legal, found-any)
+  is-test (entry.Tune metric penalty len) there = grind (arith, common_steps)

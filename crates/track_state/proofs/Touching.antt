@@ -1,19 +1,15 @@
 -- Series that are touched, one after another.
-use Rattle.std.proofs.Common.{◌≡◌, ℕ, ◌+◌, ◌<◌, Bool, true, false, cond, ◌&&◌, ◌||◌, List, length, take, drop, get_or, refl, sym, ap, ap₂, ◌∙◌, inl, inr, Option, Some, None}
-use Rattle.std.specs.{Prelude.{bytes_eq, OnOk, Result, Ok, Err}, declared.alloc.AllocError.AllocError, List.list_any, declared.cmp.Ordering.Ordering}
-use Rattle.std.specs.{declared.cmp.Ordering.TheVariants.{Less, Equal, Greater}, Ordering.{nat_cmp, is_eq, ordering_then}, Cmp.Lexicographic.slice_cmp}
+use Rattle.std.proofs.Common.{◌≡◌, ℕ, ◌+◌, ◌<◌, Bool, true, false, cond, ◌&&◌, ◌||◌, List, length, take, drop, get_or, refl, sym, ap, ap₂, ◌∙◌, inl, inr, Option, Some, arith}
+use Rattle.std.specs.{Prelude.{bytes_eq, OnOk, Result}, declared.alloc.AllocError.AllocError, List.list_any, declared.cmp.Ordering.Ordering}
+use Rattle.std.{specs.Ordering.{is_eq, ordering_then}, proofs.lemmas.Grind.common_steps, proofs.lemmas.Slice.Eq.bytes_eq-Decides}
 use Rattle.std.proofs.lemmas.{Bool.cases_Bool, List.take-append-drop, List.Folds.{list_any-append, list_any_more}, Map.Text.is_eq-slice_cmp}
-use Rattle.std.proofs.lemmas.Slice.Eq.{bytes_eq-Decides}
 use Rattle.history_model.specs.Runs.{Series}
-use Rattle.touch_index.specs.{Marks.{Entries, key_cmp, mark_of, touched_claim, touched_mark}, declared.key.SeriesKey.SeriesKey, declared.mark.Claim.Claim}
-use Rattle.touch_index.specs.declared.mark.{Claim.TheVariants.{Free, Taken, Refused}, Mark.Mark}
+use Rattle.touch_index.specs.{Marks.{Entries, key_cmp, mark_of, touched_mark}, declared.key.SeriesKey.SeriesKey, declared.mark.Mark.Mark}
 use Rattle.track_state.specs.{Covering.{AreTouched, SomeAreTouched}, Work.key_of}
 
 -- ---- keys and series
 both : (x y : Ordering) → is_eq (ordering_then x y) ≡ (is_eq x && is_eq y)
-both Less y = refl
-both Equal y = refl
-both Greater y = refl
+both x y = grind (arith, common_steps)
 
 abbrev pub is_key : SeriesKey → Series → Bool
 is_key k s = bytes_eq k.test s.test && bytes_eq k.metric s.metric
@@ -22,21 +18,10 @@ abbrev key_series : SeriesKey → Series
 key_series k = record { test = k.test; metric = k.metric }
 
 pub key-is : (k : SeriesKey) (s : Series) → is_eq (key_cmp k (key_of s)) ≡ is_key k s
-key-is k s =
-    both (slice_cmp nat_cmp k.test s.test) (slice_cmp nat_cmp k.metric s.metric)
-    ∙ ap₂ (λ (a b : Bool). a && b) (is_eq-slice_cmp k.test s.test) (is_eq-slice_cmp k.metric s.metric)
+key-is k s = grind (arith, common_steps, both, ap₂, is_eq-slice_cmp)
 
 pub same-key : (k : SeriesKey) (s : Series) → is_key k s ≡ true → k ≡ key_of s
-same-key k s both =
-    let halves = split (bytes_eq k.test s.test) (bytes_eq k.metric s.metric) both in
-    let tests : k.test ≡ s.test = (bytes_eq-Decides k.test s.test).0 halves.0 in
-    let metrics : k.metric ≡ s.metric = (bytes_eq-Decides k.metric s.metric).0 halves.1 in
-    ap₂ (λ (t m : List ℕ). let q : SeriesKey = record { test = t; metric = m } in q) tests metrics
-  where
-    split : (a b : Bool) → (a && b) ≡ true → (a ≡ true) × (b ≡ true)
-    split true true both = (refl, refl)
-    split true false both = absurd (cc)
-    split false b both = absurd (cc)
+same-key k s both = grind (arith, common_steps, both, bytes_eq-Decides, ap₂)
 
 key-itself : (k : SeriesKey) → is_key k (key_series k) ≡ true
 key-itself k = ap (λ b. b && bytes_eq k.metric k.metric) ((bytes_eq-Decides k.test k.test).1 refl) ∙ (bytes_eq-Decides k.metric k.metric).1 refl
@@ -58,44 +43,15 @@ one-touch k step a b touched s =
           ∙ sym (ap (λ c. cond c (Some (touched_mark step (mark_of (key_of s) a))) (mark_of (key_of s) a)) other)
     ]
 
-claim-again : (c : Claim) → touched_claim (touched_claim c) ≡ touched_claim c
-claim-again Free = refl
-claim-again Taken = refl
-claim-again Refused = refl
-
-touched-again : (step : ℕ) (o : Option Mark) → touched_mark step (Some (touched_mark step o)) ≡ touched_mark step o
-touched-again step None = refl
-touched-again step (Some m) = ap (λ (c : Claim). let n : Mark = record { touched = step; claim = c } in n) (claim-again m.claim)
-
 module _ (p q : Series → Bool) (step : ℕ) where
   pub push : (a b c : Entries) → AreTouched p step a b → AreTouched q step b c → AreTouched (λ s. p s || q s) step a c
-  push a b c first then s =
-      let old : Option Mark = mark_of (key_of s) a in
-      let mid : Option Mark = mark_of (key_of s) b in
-      then s ∙ elim (cases_Bool (p s)) [
-        | inl hit ↦
-            let is : mid ≡ Some (touched_mark step old) = first s ∙ ap (λ d. cond d (Some (touched_mark step old)) old) hit in
-            ap (λ (o : Option Mark). cond (q s) (Some (touched_mark step o)) o) is
-            ∙ again (q s) old
-            ∙ sym (ap (λ d. cond (d || q s) (Some (touched_mark step old)) old) hit)
-        | inr miss ↦
-            let is : mid ≡ old = first s ∙ ap (λ d. cond d (Some (touched_mark step old)) old) miss in
-            ap (λ (o : Option Mark). cond (q s) (Some (touched_mark step o)) o) is
-            ∙ sym (ap (λ d. cond (d || q s) (Some (touched_mark step old)) old) miss)
-      ]
-    where
-      again : (d : Bool) (o : Option Mark) → cond d (Some (touched_mark step (Some (touched_mark step o)))) (Some (touched_mark step o)) ≡ Some (touched_mark step o)
-      again true o = ap (λ (m : Mark). Some m) (touched-again step o)
-      again false o = refl
+  push a b c first then s = grind (arith, common_steps)
 
   pub same : (a b : Entries) → ((s : Series) → p s ≡ q s) → AreTouched p step a b → AreTouched q step a b
   same a b agree are s = are s ∙ ap (λ d. cond d (Some (touched_mark step (mark_of (key_of s) a))) (mark_of (key_of s) a)) (agree s)
 
   pub some : (a b : Entries) → ((s : Series) → p s ≡ true → q s ≡ true) → AreTouched p step a b → SomeAreTouched q step a b
-  some a b within are s = elim (cases_Bool (p s)) [
-    | inl hit ↦ inr (within s hit, are s ∙ ap (λ d. cond d (Some (touched_mark step (mark_of (key_of s) a))) (mark_of (key_of s) a)) hit)
-    | inr miss ↦ inl (are s ∙ ap (λ d. cond d (Some (touched_mark step (mark_of (key_of s) a))) (mark_of (key_of s) a)) miss)
-  ]
+  some a b within are s = grind (arith, common_steps)
 
 pub nothing : (p : Series → Bool) (step : ℕ) (a : Entries) → ((s : Series) → p s ≡ false) → AreTouched p step a a
 nothing p step a none s = sym (ap (λ d. cond d (Some (touched_mark step (mark_of (key_of s) a))) (mark_of (key_of s) a)) (none s))
@@ -115,5 +71,4 @@ module _ {A : Type 0} (p : A → Series → Bool) (xs : List A) where
 
 -- where a call answers that all went well
 pub same-all : (p q : Series → Bool) (step : ℕ) (a b : Entries) (r : Result (Unit {0}) AllocError) → ((s : Series) → p s ≡ q s) → OnOk r (AreTouched p step a b) → OnOk r (AreTouched q step a b)
-same-all p q step a b (Ok u) agree are = same p q step a b agree are
-same-all p q step a b (Err e) agree are = tt
+same-all p q step a b r agree are = grind (arith, common_steps)

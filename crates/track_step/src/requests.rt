@@ -32,12 +32,7 @@ pub fn answer<L: Ledger>(
         Counts request.now reply.answer steps.old steps.new) }
     ensures left { OnErr result (IsSameButTables track.old track.new) }
 {
-    if let Request::Segment {
-        machine: _,
-        test,
-        metric,
-    } = request
-    {
+    if let Request::Segment { test, metric, .. } = request {
         return segment(track, author, test, metric, steps);
     }
     step(track, author, request)
@@ -57,97 +52,52 @@ pub fn step(track: &mut MachineState, author: Author, request: &Request) -> Resu
             let machine = machine.copy(track.alloc())?;
             Ok(track.told(Answer::Machine { machine }))
         }
-        Request::Commit {
-            machine: _,
-            number,
-            name,
-        } => {
-            let number = *number;
-            commit(track, author, number, name)
-        }
+        Request::Commit { number, name, .. } => commit(track, author, *number, name),
         Request::Submit {
-            machine: _,
             commit,
             run,
             samples,
             ignored,
             stated,
-        } => {
-            let ignored = *ignored;
-            submit(track, author, commit, run, samples, ignored, stated)
-        }
-        Request::Retract { machine: _, run } => retract(track, author, run),
+            ..
+        } => submit(track, author, commit, run, samples, *ignored, stated),
+        Request::Retract { run, .. } => retract(track, author, run),
         Request::Tune {
-            machine: _,
             metric,
             penalty,
             length,
-        } => {
-            let penalty = *penalty;
-            let length = *length;
-            tune(track, author, metric, penalty, length)
-        }
+            ..
+        } => tune(track, author, metric, *penalty, *length),
         Request::Calibrate {
-            machine: _,
             test,
             metric,
             factor,
-        } => {
-            let factor = *factor;
-            calibrate(track, author, test, metric, factor)
-        }
+            ..
+        } => calibrate(track, author, test, metric, *factor),
         Request::Segment { .. } => unreachable!(),
-        Request::Changes {
-            machine: _,
-            test,
-            metric,
-        } => changes(track, test, metric),
-        Request::Verify {
-            machine: _,
-            test,
-            metric,
-        } => verify(track, test, metric),
-        Request::Runs { machine: _ } => runs(track),
+        Request::Changes { test, metric, .. } => changes(track, test, metric),
+        Request::Verify { test, metric, .. } => verify(track, test, metric),
+        Request::Runs { .. } => runs(track),
         Request::Regress {
-            machine: _,
             test,
             metric,
             change,
-        } => {
-            let change = *change;
-            regress(track, author, test, metric, change)
-        }
+            ..
+        } => regress(track, author, test, metric, *change),
         Request::SetState {
-            machine: _,
             regression,
             state,
-        } => {
-            let regression = *regression;
-            let state = *state;
-            set_state(track, author, regression, state)
-        }
-        Request::Bisect { machine: _, lo, hi } => bisect(track, author, lo, hi),
+            ..
+        } => set_state(track, author, *regression, *state),
+        Request::Bisect { lo, hi, .. } => bisect(track, author, lo, hi),
         Request::Answer {
-            machine: _,
             job,
             commit,
             status,
-        } => {
-            let number = *job;
-            let status = *status;
-            answer_job(track, author, number, commit, status)
-        }
-        Request::Resume { machine: _, job } => {
-            let number = *job;
-            resume(track, author, number)
-        }
-        Request::Job { machine: _, job } => {
-            let number = *job;
-            track_follow::job(track, number)
-        }
-        Request::Report { machine: _, json } => {
-            let json = *json;
-            report(track, json)
-        }
+            ..
+        } => answer_job(track, author, *job, commit, *status),
+        Request::Resume { job, .. } => resume(track, author, *job),
+        Request::Job { job, .. } => track_follow::job(track, *job),
+        Request::Report { json, .. } => report(track, *json),
     }
 }

@@ -1,5 +1,5 @@
 -- How an audit ends, and the names of its files.
-use Rattle.std.proofs.Common.{◌≡◌, ℕ, ◌-◌, ◌≤◌, zero, suc, inl, inr, List, ◌∷◌, Result, Ok, Err, OnOk, OnErr, slice_get, sym, ap, subst, arith}
+use Rattle.std.proofs.Common.{◌≡◌, ℕ, ◌-◌, ◌≤◌, zero, suc, inl, inr, List, Result, Ok, Err, OnOk, OnErr, slice_get, sym, ap, subst, arith}
 use Rattle.track_outside.specs.Calls.{Took, FailedIn}
 use Rattle.track_outside.specs.declared.files.Files as files
 use Rattle.track_outside.specs.declared.sink.Sink as sink
@@ -36,13 +36,6 @@ named-ends g h named given before after old new why status is told opened put =
     subst (λ n. EndsAudit g h n before after old new status) (sym is) (record { why = why; told = told; files = opened; output = put })
 
 -- ---- the file at a place
-
--- behind the first two
-pub at-two : {X : Type 0} (a b : X) (xs : List X) (place : ℕ) → 2 ≤ place → slice_get (a ∷ b ∷ xs) place ≡ slice_get xs (place - 2)
-at-two a b xs zero more = absurd (omega (arith, more))
-at-two a b xs (suc zero) more = absurd (omega (arith, more))
-at-two a b xs (suc (suc k)) more =
-    let same : suc (suc k) - 2 ≡ k = omega arith in ap (slice_get xs) (sym same)
 
 -- behind the journals
 pub behind-journal : (journal : List ℕ) (scripts : List (List ℕ)) (place : ℕ) → 2 ≤ place → script_name (names_of journal scripts) place ≡ slice_get (files_of scripts) (place - 2)

@@ -16,15 +16,13 @@ use Rattle.line_pieces.specs.declared.stop.Stop.TheVariants as lines
 use Rattle.cut_lines.specs.{Reading.ArePointsWithin, Stops.BytesShowWithin}
 use Rattle.path_command.specs.{Endings.{EndsPath as PutsPath, HasCause as HasPathCause}, declared.end.PathEnd.PathEnd}
 use Rattle.path_command.specs.declared.end.PathEnd.TheVariants as path
-use Rattle.tracker_top.specs.{Paths.path_status_of, declared.status.Status.Status}
+use Rattle.tracker_top.specs.{Paths.path_status_of, declared.status.Status.Status, Text.line_of, Answers.{IsCertificateText, state_of}}
 use Rattle.command_words.specs.declared.command.Command.TheVariants.{Cut, Apply, Gen, Trial, Play, Path, Hunt, Audit}
 use Rattle.tracker_top.specs.declared.status.Status.TheVariants.{Done, BadWords, ReadFault, WriteFault, StoreFault, BadStore, CutOff, NoMemory, InputTooLong, BadLine, Full, Differs, TooFew}
 use Rattle.command_words.specs.Commands.{AreNoCommand, IsSpelled, AreOneCommand}
 use Rattle.trial_script.specs.{Counts.RoseByRedone, Growth.{ComesBack, stored_after}, Sessions.{State, AnswersFor}}
-use Rattle.tracker_top.specs.Statuses.{AsksAudit, AsksHunt, AsksPlay, status_of, script_status_of, script_status, ended, CutShows, PathShows, ScriptShows, Shows, IsDue, OneStatusIsDue}
-use Rattle.tracker_top.specs.Text.{line_of}
-use Rattle.tracker_top.specs.Endings.{HasCause, EndsOutput, AnswersScript, Begins, WasStarted, Keeps, Prints, AppendCause, LoadCause, EndsSo, EndsScript, EndsApply, IsOfOutput, HasAsked, IsPlain, Ends, IsTold, Streams}
-use Rattle.tracker_top.specs.Answers.{IsCertificateText, state_of}
+use Rattle.tracker_top.specs.Statuses.{status_of, script_status_of, script_status, ended, CutShows, PathShows, ScriptShows, Shows, IsDue, OneStatusIsDue}
+use Rattle.tracker_top.specs.Endings.{HasCause, EndsOutput, AnswersScript, Begins, WasStarted, Keeps, Prints, AppendCause, LoadCause, EndsSo, EndsScript, EndsApply, IsOfOutput, HasAsked, Ends, IsTold, Streams}
 use Rattle.keep_rows.specs.{Kept.AreKept, Loading.{Stored, LeadTo, IsFirstBad}, Rows.new_rows}
 use Rattle.track_model.specs.Tracks.{Track}
 use Rattle.series_gen.specs.Script.{script as script_of}
@@ -200,17 +198,6 @@ module _ {I O K : Type 0} (g : source.Ghosts I) (h : sink.Ghosts O) (k : keeper.
   comes (Play plan) result spelled ends = absurd ends
   comes (Hunt plan) result spelled ends = absurd ends
   comes (Audit named) result spelled ends = absurd ends
-
--- words that ask for none of `play`, `hunt` and `audit` spell a command that opens no file and runs no threads
-pub is-plain : (words : List (List ℕ)) (command : Command) → IsSpelled words command → ¬ AsksPlay words → ¬ AsksHunt words → ¬ AsksAudit words → IsPlain command
-is-plain words (Cut cut) spelled play hunt audit = tt
-is-plain words (Apply store) spelled play hunt audit = tt
-is-plain words (Gen number) spelled play hunt audit = tt
-is-plain words (Trial number) spelled play hunt audit = tt
-is-plain words (Path path) spelled play hunt audit = tt
-is-plain words (Play plan) spelled play hunt audit = absurd (play (spelled.rest, spelled.named))
-is-plain words (Hunt plan) spelled play hunt audit = absurd (hunt (spelled.rest, spelled.named))
-is-plain words (Audit named) spelled play hunt audit = absurd (audit (spelled.rest, spelled.named))
 
 -- ---- how `apply` ends
 not_done : (stop : ScriptStop) → script_status_of stop ≢ Done

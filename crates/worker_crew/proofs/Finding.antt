@@ -1,9 +1,9 @@
 -- Private: no public contract cites this. What a worker that bisects found, by the entries of the journals, is what its pass
 -- made.
-use Rattle.std.proofs.Common.{◌≡◌, ◌-◌, ℕ, suc, inl, inr, Bool, true, false, cond, List, [], ◌∷◌, ◌++◌, length, refl, sym, ap, ap₂, subst, ◌∙◌, Option, Some, None, append_assoc, append-nil, eq-eqb, ne_eqb}
+use Rattle.std.proofs.Common.{◌≡◌, ◌-◌, ℕ, suc, inl, inr, Bool, true, false, cond, List, [], ◌∷◌, ◌++◌, length, refl, sym, ap, ap₂, subst, ◌∙◌, Some, None, append_assoc, append-nil, eq-eqb, arith}
 use Rattle.std.{specs.Prelude.{◌==◌, Contains, option_to_list, slice_get, if◌then◌else◌}, specs.List.AllByRecursion, proofs.lemmas.Bool.{cases_Bool, cases_lt}}
-use Rattle.std.proofs.lemmas.Bool.Decides.{eqb_tells}
-use Rattle.history_lock.specs.{Marks.{AreByOthers, IsOtherMark, entries, marked, unmarked}, declared.view.Marked.Marked}
+use Rattle.std.proofs.lemmas.{Bool.Decides.eqb_tells, Grind.common_steps}
+use Rattle.history_lock.specs.{Marks.{AreByOthers, entries, marked, unmarked}, declared.view.Marked.Marked}
 use Rattle.history_model.specs.{declared.entries.Author.Author, declared.entries.Entry.Entry, declared.entries.Placed.Placed, Entries.entries_of}
 use Rattle.history_model.specs.declared.entries.Author.TheVariants as author
 use Rattle.worker_model.specs.Findings.{Finding, finding_of}
@@ -17,10 +17,7 @@ not-both : true ≡ false → ⊥
 not-both is = cc
 
 bisector-is : (n : ℕ) (a : Author) → is_bisector n a ≡ true → a ≡ author.Bisect n
-bisector-is n author.Kept is = cc
-bisector-is n (author.Script i) is = cc
-bisector-is n (author.Recompute i) is = cc
-bisector-is n (author.Bisect i) is = elim (eqb_tells i n) [ inl same ↦ ap author.Bisect same.1 | inr other ↦ absurd (not-both (sym is ∙ other.0)) ]
+bisector-is n a is = grind (arith, common_steps)
 
 is-bisector : (n : ℕ) (a : Author) → a ≡ author.Bisect n → is_bisector n a ≡ true
 is-bisector n a is = ap (is_bisector n) is ∙ eq-eqb n n refl
@@ -82,12 +79,7 @@ findings-append mark h (x ∷ xs) ys =
 
 others-none : (mark : ℕ) (h : List Entry) (xs : List (Marked Placed)) → AreByOthers (mark ∷ []) xs → findings_by mark h xs ≡ []
 others-none mark h [] others = refl
-others-none mark h (x ∷ xs) others =
-    ap₂ (λ (b : Bool) (l : List Finding). (if b then option_to_list (finding_of h x.entry.entry) else []) ++ l) (other x.by others.0) (others-none mark (h ++ x.entry.entry ∷ []) xs others.1)
-  where
-    other : (by : Option ℕ) → IsOtherMark (mark ∷ []) by → is_number mark by ≡ false
-    other None is = absurd is
-    other (Some k) is = ne_eqb k mark is.0
+others-none mark h (x ∷ xs) others = grind (arith, common_steps, others-none mark (h ++ x.entry.entry ∷ []) xs others.1)
 
 unmarked-none : (mark : ℕ) (h : List Entry) (es : List Placed) → findings_by mark h (unmarked es) ≡ []
 unmarked-none mark h [] = refl
@@ -100,13 +92,7 @@ entries-unmarked (e ∷ es) = ap (λ (l : List Entry). e.entry ∷ l) (entries-u
 -- what a pass made behind what was kept, others before and after it
 pub findings-log : (mark : ℕ) (k : List Placed) (more rest : List (Marked Placed)) → AreByOthers (mark ∷ []) rest
     → findings_by mark [] ((unmarked k ++ more) ++ rest) ≡ findings_by mark (entries_of k) more
-findings-log mark k more rest others =
-    findings-append mark [] (unmarked k ++ more) rest
-    ∙ ap (λ (l : List Finding). findings_by mark [] (unmarked k ++ more) ++ l) (others-none mark ([] ++ entries_of (entries (unmarked k ++ more))) rest others)
-    ∙ append-nil (findings_by mark [] (unmarked k ++ more))
-    ∙ findings-append mark [] (unmarked k) more
-    ∙ ap (λ (l : List Finding). l ++ findings_by mark ([] ++ entries_of (entries (unmarked k))) more) (unmarked-none mark [] k)
-    ∙ ap (λ (g : List Entry). findings_by mark g more) (entries-unmarked k)
+findings-log mark k more rest others = grind (arith, common_steps, findings-append, others-none, append-nil, unmarked-none, entries-unmarked)
 
 -- entries behind others
 pub behind-append : (n : ℕ) (h : List Entry) (xs ys : List Placed) → findings_behind n h (xs ++ ys) ≡ findings_behind n h xs ++ findings_behind n (h ++ entries_of xs) ys
@@ -121,5 +107,4 @@ behind-append n h (p ∷ xs) ys =
 -- entries of others find nothing
 pub behind-none : (n : ℕ) (h : List Entry) (xs : List Placed) → AllByRecursion (λ (p : Placed). is_bisector n p.author ≡ false) xs → findings_behind n h xs ≡ []
 behind-none n h [] all = refl
-behind-none n h (p ∷ xs) all =
-    ap₂ (λ (b : Bool) (l : List Finding). (if b then option_to_list (finding_of h p.entry) else []) ++ l) all.0 (behind-none n (h ++ p.entry ∷ []) xs all.1)
+behind-none n h (p ∷ xs) all = grind (arith, common_steps, behind-none n (h ++ p.entry ∷ []) xs all.1)

@@ -1,26 +1,23 @@
 -- Private: no public contract cites this. What main adds behind the passes, and what it asks for it.
-use Rattle.std.proofs.Common.{◌≡◌, ◌+◌, ℕ, zero, suc, inl, inr, Bool, true, false, List, [], ◌∷◌, ◌++◌, length, map, refl, sym, ap, ap₂, subst, ◌∙◌, Option, Some, None, arith, append_assoc, append-nil, ne_eqb}
-use Rattle.std.specs.{Prelude.{◌&&◌, All, bytes_eq, filter, is_none, option_map, option_to_list, slice_get, if◌then◌else◌}, List.{AllByRecursion, AllZip}}
-use Rattle.std.proofs.lemmas.{Bool.cases_Bool, List.{length-append, map-append}, List.Elements.{All-append, All-nil, All-weaker, filter-append}}
+use Rattle.std.proofs.Common.{◌≡◌, ◌+◌, ℕ, zero, suc, inl, inr, Bool, true, false, List, [], ◌∷◌, ◌++◌, length, map, refl, sym, ap, ap₂, subst, ◌∙◌, Option, Some, None, arith, append-nil, ne_eqb}
+use Rattle.std.specs.{Prelude.{All, bytes_eq, filter, is_none, option_map, slice_get, if◌then◌else◌}, List.{AllByRecursion, AllZip}}
+use Rattle.std.proofs.lemmas.{Bool.cases_Bool, List.{length-append, map-append}, List.Elements.{All-append, All-weaker, filter-append}, Grind.common_steps}
 use Rattle.track_outside.specs.Asked.{Ask}
-use Rattle.history_model.specs.declared.{entries.Author.Author, entries.Entry.Entry, events.JobEvent.JobEvent, entries.Placed.Placed}
+use Rattle.history_model.specs.{declared.entries.Entry.Entry, declared.entries.Placed.Placed, Entries.entries_of}
 use Rattle.history_model.specs.declared.entries.Author.TheVariants as author
 use Rattle.history_model.specs.declared.entries.Entry.TheVariants as entry
-use Rattle.history_model.specs.declared.events.JobEvent.TheVariants as event
-use Rattle.history_model.specs.Entries.{entries_of}
 use Rattle.worker_model.specs.Findings as model
-use Rattle.worker_model.specs.Findings.{Finding, finding_of, gives_up}
+use Rattle.worker_model.specs.Findings.{Finding}
 use Rattle.track_model.specs.Tracks.{Track}
 use Rattle.recompute_workers.specs.Recomputing.{AddsPublications, IsPublicationBy}
 use Rattle.bisect_workers.specs.Bisecting as bisecting
 use Rattle.bisect_workers.specs.Bisecting.{IsBisected, IsSaidBy, RoseBy}
 use Rattle.bisect_workers.specs.Findings as found
-use Rattle.play_fits.specs.{Ends.{IsLate, IsOfWorker}, Journals.{history_in, machines_of}}
-use Rattle.play_fits.specs.Workers.{Crew, IsOneOf, Use, findings, findings_behind, found_for, give_ups, is_bisector, is_for}
+use Rattle.play_fits.{specs.Ends.IsLate, specs.Journals.{history_in, machines_of}, proofs.Lists.same-bytes}
+use Rattle.play_fits.specs.Workers.{Crew, IsOneOf, Use, findings, findings_behind, found_for, give_ups, is_bisector}
 use Rattle.play_crew.proofs.Fitting.{Apart, Others, all-map}
-use Rattle.play_fits.proofs.Lists.{all-append, same-bytes}
 use Rattle.worker_crew.{specs.Runs.{BisectsEach, BisectsLast, RecomputesLast, Tally}, proofs.Finding.{behind-append, behind-none}}
-use Rattle.worker_crew.proofs.{Naming.{eq-bytes, given, is_given}, Owning.{placed-is, said-may}}
+use Rattle.worker_crew.proofs.Naming.{eq-bytes, given, is_given}
 
 pub all-rec : {A : Type 0} (P : A → Type 0) (xs : List A) → All P xs → AllByRecursion P xs
 all-rec P [] all = tt
@@ -45,25 +42,13 @@ adds-trans P [] [] (c ∷ cs) one two = absurd two
 adds-trans P [] (b ∷ news) cs one two = absurd one
 adds-trans P (a ∷ olds) [] cs one two = absurd one
 adds-trans P (a ∷ olds) (b ∷ news) [] one two = absurd two
-adds-trans P (a ∷ olds) (b ∷ news) (c ∷ cs) one two = (
-  record {
-    machine = two.0.machine ∙ one.0.machine;
-    kept = two.0.kept ∙ one.0.kept;
-    more = one.0.more ++ two.0.more;
-    history = two.0.history ∙ ap (λ (h : List Placed). h ++ two.0.more) one.0.history ∙ append_assoc a.history one.0.more two.0.more;
-    each = all-append P one.0.more two.0.more one.0.each two.0.each;
-  },
-  adds-trans P olds news cs one.1 two.1,
-)
+adds-trans P (a ∷ olds) (b ∷ news) (c ∷ cs) one two = grind (arith, common_steps, adds-trans P olds news cs one.1 two.1)
 
 pub adds-map : (P Q : Placed → Type 0) → ((p : Placed) → P p → Q p) → (olds news : List Track) → AllZip (Adds P) olds news → AllZip (Adds Q) olds news
 adds-map P Q f [] [] all = tt
 adds-map P Q f [] (b ∷ news) all = absurd all
 adds-map P Q f (a ∷ olds) [] all = absurd all
-adds-map P Q f (a ∷ olds) (b ∷ news) all = (
-  record { machine = all.0.machine; kept = all.0.kept; more = all.0.more; history = all.0.history; each = all-map P Q all.0.more f all.0.each },
-  adds-map P Q f olds news all.1,
-)
+adds-map P Q f (a ∷ olds) (b ∷ news) all = grind (arith, common_steps, all-map, adds-map P Q f olds news all.1)
 
 pub names-stay : (P : Placed → Type 0) (olds news : List Track) → AllZip (Adds P) olds news → machines_of news ≡ machines_of olds
 names-stay P [] [] all = refl
@@ -96,19 +81,13 @@ pub publishes-adds : (olds news : List Track) → AllZip (AddsPublications (auth
 publishes-adds [] [] all = tt
 publishes-adds [] (b ∷ news) all = absurd all
 publishes-adds (a ∷ olds) [] all = absurd all
-publishes-adds (a ∷ olds) (b ∷ news) all = (
-  record { machine = all.0.machine; kept = all.0.kept; more = all.0.more; history = all.0.history; each = all-rec (IsPublicationBy (author.Recompute 1)) all.0.more all.0.each },
-  publishes-adds olds news all.1,
-)
+publishes-adds (a ∷ olds) (b ∷ news) all = grind (arith, common_steps, all-rec, publishes-adds olds news all.1)
 
 pub recomputes-adds : (workers : ℕ) (olds news : List Track) → RecomputesLast workers olds news → AllZip (Adds (IsPublicationBy (author.Recompute 1))) olds news
-recomputes-adds zero olds news same = subst (λ (ts : List Track). AllZip (Adds (IsPublicationBy (author.Recompute 1))) olds ts) (sym same) (adds-none (IsPublicationBy (author.Recompute 1)) olds)
-recomputes-adds (suc n) olds news all = publishes-adds olds news all
+recomputes-adds workers olds news same = grind (arith, common_steps, adds-none, publishes-adds)
 
 publication-late : (crew : Crew) (p : Placed) → IsOneOf crew.recompute 1 → IsPublicationBy (author.Recompute 1) p → IsLate crew p
-publication-late crew p one is =
-    let same : p ≡ record { author = author.Recompute 1; entry = entry.Publish is.publication } = placed-is p (author.Recompute 1) (entry.Publish is.publication) is.author_is is.entry_is in
-    subst (IsLate crew) (sym same) (record { may_add = (one, tt); of_worker = tt })
+publication-late crew p one is = grind (arith, common_steps)
 
 pub recomputes-late : (crew : Crew) (olds news : List Track) → RecomputesLast crew.recompute olds news → AllZip (Adds (IsLate crew)) olds news
 recomputes-late crew olds news is = by crew.recompute refl is
@@ -133,25 +112,13 @@ pub bisected-adds : (word : List ℕ) (olds news : List Track) (t u : Tally) →
 bisected-adds word [] [] t u all = tt
 bisected-adds word [] (b ∷ news) t u all = absurd all
 bisected-adds word (a ∷ olds) [] t u all = absurd all
-bisected-adds word (a ∷ olds) (b ∷ news) t u all = (
-  record { machine = all.1.machine; kept = all.1.kept; more = all.1.more; history = all.1.history; each = all-rec (IsSaidBy (author.Bisect 1)) all.1.more all.1.each },
-  bisected-adds word olds news all.0 u all.2,
-)
+bisected-adds word (a ∷ olds) (b ∷ news) t u all = grind (arith, common_steps, all-rec, bisected-adds word olds news all.0 u all.2)
 
 said-late : (crew : Crew) (p : Placed) → IsOneOf crew.bisect 1 → IsSaidBy (author.Bisect 1) p → IsLate crew p
-said-late crew p one is = record { may_add = said-may crew 1 one p is; of_worker = of p.author is.author_is }
-  where
-    of : (w : Author) → w ≡ author.Bisect 1 → IsOfWorker w
-    of w same = subst IsOfWorker (sym same) tt
+said-late crew p one is = grind (arith, common_steps)
 
 pub bisects-late : (crew : Crew) (word : List ℕ) (olds news : List Track) (before after : List Tally) → BisectsLast crew.bisect word olds news before after → AllZip (Adds (IsLate crew)) olds news
-bisects-late crew word olds news before after is = by crew.bisect refl before after is
-  where
-    by : (n : ℕ) → crew.bisect ≡ n → (ts us : List Tally) → BisectsLast n word olds news ts us → AllZip (Adds (IsLate crew)) olds news
-    by zero many ts us same = subst (λ (x : List Track). AllZip (Adds (IsLate crew)) olds x) (sym same.0) (adds-none (IsLate crew) olds)
-    by (suc n) many [] us all = absurd all
-    by (suc n) many (t ∷ ts) [] all = absurd all
-    by (suc n) many (t ∷ ts) (u ∷ us) all = adds-map (IsSaidBy (author.Bisect 1)) (IsLate crew) (λ p. said-late crew p (omega arith, omega (arith, many))) olds news (bisected-adds word olds news t u all.0)
+bisects-late crew word olds news before after is = grind (arith, common_steps, adds-none, adds-map, said-late, bisected-adds)
 
 -- another worker's findings stay
 said-not : (n : ℕ) → (n ≡ 1 → ⊥) → (p : Placed) → IsSaidBy (author.Bisect 1) p → is_bisector n p.author ≡ false
@@ -171,68 +138,24 @@ is_failed f = is_none f.status
 abbrev pub failed : List Finding → ℕ
 failed fs = length (filter is_failed fs)
 
-pub failed-append : (xs ys : List Finding) → failed (xs ++ ys) ≡ failed xs + failed ys
-failed-append xs ys = ap length (filter-append is_failed xs ys) ∙ length-append (filter is_failed xs) (filter is_failed ys)
-
 abbrev pub one-if : Bool → ℕ
 one-if b = if b then 1 else 0
 
-event-failed : (h : List Entry) (e : JobEvent) → failed (option_to_list (finding_of h (entry.Job e))) ≡ one-if (gives_up (entry.Job e))
-event-failed h (event.Begin lo hi) = refl
-event-failed h (event.Answer job place status) = refl
-event-failed h (event.GiveUp job place) = refl
-
-pub entry-failed : (h : List Entry) (e : Entry) → failed (option_to_list (finding_of h e)) ≡ one-if (gives_up e)
-entry-failed h (entry.Commit number name) = refl
-entry-failed h (entry.Accept run) = refl
-entry-failed h (entry.Retract run) = refl
-entry-failed h (entry.Tune metric penalty len) = refl
-entry-failed h (entry.Publish publication) = refl
-entry-failed h (entry.Regression e) = refl
-entry-failed h (entry.Job e) = event-failed h e
-
 pub length-one : {A : Type 0} (p : A → Bool) (x : A) (xs : List A) → length (filter p (x ∷ xs)) ≡ one-if (p x) + length (filter p xs)
-length-one p x xs = by (p x) refl
-  where
-    by : (b : Bool) → p x ≡ b → length (filter p (x ∷ xs)) ≡ one-if (p x) + length (filter p xs)
-    by true is = simp is (omega arith)
-    by false is = simp is (omega arith)
+length-one p x xs = grind (arith, common_steps)
 
 pub failed-ups : (h : List Entry) (ps : List Placed) → found.give_ups ps ≡ failed (model.findings_behind h ps)
 failed-ups h [] = refl
-failed-ups h (p ∷ ps) =
-    let rest = failed-ups (h ++ p.entry ∷ []) ps in
-    let one = length-one (λ (q : Placed). gives_up q.entry) p ps in
-    let here = entry-failed h p.entry in
-    let both = failed-append (option_to_list (finding_of h p.entry)) (model.findings_behind (h ++ p.entry ∷ []) ps) in
-    omega (arith, rest, one, here, both)
+failed-ups h (p ∷ ps) = grind (arith, common_steps, failed-ups (h ++ p.entry ∷ []) ps)
 
 pub ups-of : (n : ℕ) (h : List Entry) (ps : List Placed) → give_ups n ps ≡ failed (findings_behind n h ps)
 ups-of n h [] = refl
-ups-of n h (p ∷ ps) = by (ups-of n (h ++ p.entry ∷ []) ps) (is_bisector n p.author) refl
-  where
-    more : List Finding
-    more = findings_behind n (h ++ p.entry ∷ []) ps
-
-    by : give_ups n ps ≡ failed more → (b : Bool) → is_bisector n p.author ≡ b → give_ups n (p ∷ ps) ≡ failed (findings_behind n h (p ∷ ps))
-    by rest true is =
-        let one = length-one (λ (q : Placed). is_bisector n q.author && gives_up q.entry) p ps in
-        let same : one-if (is_bisector n p.author && gives_up p.entry) ≡ one-if (gives_up p.entry) = ap (λ (b : Bool). one-if (b && gives_up p.entry)) is in
-        let here = entry-failed h p.entry in
-        let both = failed-append (option_to_list (finding_of h p.entry)) more in
-        let all : failed (findings_behind n h (p ∷ ps)) ≡ failed (option_to_list (finding_of h p.entry) ++ more) = ap (λ (b : Bool). failed ((if b then option_to_list (finding_of h p.entry) else []) ++ more)) is in
-        omega (arith, rest, one, same, here, both, all)
-    by rest false is =
-        let one = length-one (λ (q : Placed). is_bisector n q.author && gives_up q.entry) p ps in
-        let same : one-if (is_bisector n p.author && gives_up p.entry) ≡ 0 = ap (λ (b : Bool). one-if (b && gives_up p.entry)) is in
-        let all : failed (findings_behind n h (p ∷ ps)) ≡ failed more = ap (λ (b : Bool). failed ((if b then option_to_list (finding_of h p.entry) else []) ++ more)) is in
-        omega (arith, rest, one, same, all)
+ups-of n h (p ∷ ps) = grind (arith, common_steps, ups-of n (h ++ p.entry ∷ []) ps)
 
 -- what its own worker says is what entries say
 pub said-behind : (h : List Entry) (ps : List Placed) → AllByRecursion (IsSaidBy (author.Bisect 1)) ps → findings_behind 1 h ps ≡ model.findings_behind h ps
 said-behind h [] all = refl
-said-behind h (p ∷ ps) all =
-    ap₂ (λ (b : Bool) (l : List Finding). (if b then option_to_list (finding_of h p.entry) else []) ++ l) (ap (is_bisector 1) all.0.author_is) (said-behind (h ++ p.entry ∷ []) ps all.1)
+said-behind h (p ∷ ps) all = grind (arith, common_steps, said-behind (h ++ p.entry ∷ []) ps all.1)
 
 -- ---- asks by the machine whose history has what they found
 abbrev pub late_use : List ℕ → found.Use → Use
@@ -244,40 +167,15 @@ asks-late name (u ∷ us) = ap (λ (l : List Ask). u.ask ∷ l) (asks-late name 
 
 pub found-here : (name m : List ℕ) (us : List found.Use) → bytes_eq name m ≡ true → found_for m (map (late_use name) us) ≡ found.found_of us
 found-here name m [] is = refl
-found-here name m (u ∷ us) is = by (found-here name m us is) u.used refl
-  where
-    by : found_for m (map (late_use name) us) ≡ found.found_of us → (b : Bool) → u.used ≡ b → found_for m (map (late_use name) (u ∷ us)) ≡ found.found_of (u ∷ us)
-    by rest true used = simp (used, is) (ap (λ (l : List Finding). found.found_by u ∷ l) rest)
-    by rest false used = simp used rest
+found-here name m (u ∷ us) is = grind (arith, common_steps, found-here name m us is)
 
 pub found-there : (name m : List ℕ) (us : List found.Use) → bytes_eq name m ≡ false → found_for m (map (late_use name) us) ≡ []
 found-there name m [] is = refl
-found-there name m (u ∷ us) is = by (found-there name m us is) u.used refl
-  where
-    by : found_for m (map (late_use name) us) ≡ [] → (b : Bool) → u.used ≡ b → found_for m (map (late_use name) (u ∷ us)) ≡ []
-    by rest true used =
-        let for : is_for m (late_use name u) ≡ false = ap (λ (b : Bool). is_for m (record { ask = u.ask; machine = if b then Some name else None })) used ∙ is in
-        simp for rest
-    by rest false used =
-        let for : is_for m (late_use name u) ≡ false = ap (λ (b : Bool). is_for m (record { ask = u.ask; machine = if b then Some name else None })) used in
-        simp for rest
+found-there name m (u ∷ us) is = grind (arith, common_steps, found-there name m us is)
 
 pub given-late : (name : List ℕ) (us : List found.Use) → given (map (late_use name) us) ≡ failed (found.found_of us)
 given-late name [] = refl
-given-late name (u ∷ us) = by (given-late name us) u.used refl
-  where
-    by : given (map (late_use name) us) ≡ failed (found.found_of us) → (b : Bool) → u.used ≡ b → given (map (late_use name) (u ∷ us)) ≡ failed (found.found_of (u ∷ us))
-    by rest true used =
-        let one = length-one is_given (late_use name u) (map (late_use name) us) in
-        let same : one-if (is_given (late_use name u)) ≡ one-if (is_none u.ask.status) = ap (λ (b : Bool). one-if (is_given (record { ask = u.ask; machine = if b then Some name else None }))) used in
-        let here = length-one is_failed (found.found_by u) (found.found_of us) in
-        let all : failed (found.found_of (u ∷ us)) ≡ failed (found.found_by u ∷ found.found_of us) = simp used refl in
-        omega (arith, rest, one, same, here, all)
-    by rest false used =
-        let one = length-one is_given (late_use name u) (map (late_use name) us) in
-        let same : one-if (is_given (late_use name u)) ≡ 0 = ap (λ (b : Bool). one-if (is_given (record { ask = u.ask; machine = if b then Some name else None }))) used in
-        let all : failed (found.found_of (u ∷ us)) ≡ failed (found.found_of us) = simp used refl in
-        omega (arith, rest, one, same, all)
+given-late name (u ∷ us) = grind (arith, common_steps, given-late name us)
 
 -- ---- main's asks for all machines
 -- an ask is one of the test of that word, on a commit that a job asks after some first entries of a machine's history
@@ -300,24 +198,17 @@ pub record TiedLate (word : List ℕ) (olds news : List Track) (t u : Tally) : T
   pub rose : RoseBy (given uses) t.faults u.faults
 
 for-append : (m : List ℕ) (us vs : List Use) → found_for m (us ++ vs) ≡ found_for m us ++ found_for m vs
-for-append m us vs =
-    ap (λ (l : List Use). map (λ (u : Use). record { commit = u.ask.commit; status = u.ask.status }) l) (filter-append (is_for m) us vs)
-    ∙ map-append (λ (u : Use). record { commit = u.ask.commit; status = u.ask.status }) (filter (is_for m) us) (filter (is_for m) vs)
+for-append m us vs = grind (arith, common_steps)
 
 given-append : (us vs : List Use) → given (us ++ vs) ≡ given us + given vs
 given-append us vs = ap length (filter-append is_given us vs) ∙ length-append (filter is_given us) (filter is_given vs)
 
 pub told-twice : (o : Option (List Ask)) (xs ys : List Ask)
     → option_map (λ (before : List Ask). before ++ ys) (option_map (λ (before : List Ask). before ++ xs) o) ≡ option_map (λ (before : List Ask). before ++ (xs ++ ys)) o
-told-twice None xs ys = refl
-told-twice (Some asks) xs ys = ap (λ (l : List Ask). Some l) (append_assoc asks xs ys)
+told-twice o xs ys = grind (arith, common_steps)
 
 pub told-none : (o : Option (List Ask)) → option_map (λ (before : List Ask). before ++ []) o ≡ o
-told-none None = refl
-told-none (Some asks) = ap (λ (l : List Ask). Some l) (append-nil asks)
-
-rose-twice : (k j a b c : ℕ) → RoseBy k a b → RoseBy j b c → RoseBy (k + j) a c
-rose-twice k j a b c one two = omega (arith, one, two)
+told-none o = grind (arith, common_steps)
 
 others-apart : (m : List ℕ) (t : Track) (ts : List Track) → bytes_eq t.machine m ≡ true → Others t.machine ts → Others m ts
 others-apart m t ts is others = subst (λ (n : List ℕ). Others n ts) (same-bytes t.machine m is) others
@@ -332,14 +223,7 @@ sym-other a b is = elim (cases_Bool (bytes_eq b a)) [
     no is = cc
 
 pub tied-late : (word : List ℕ) (olds news : List Track) (t u : Tally) → Apart olds → BisectsEach word olds news t u → TiedLate word olds news t u
-tied-late word [] [] t u apart same = record {
-  uses = [];
-  told = ap (λ (v : Tally). v.asks) same ∙ sym (told-none t.asks);
-  found = λ m. refl;
-  none = λ m others. refl;
-  due = All-nil (IsDueAt word []);
-  rose = let is = ap (λ (v : Tally). v.faults) same in omega (arith, is);
-}
+tied-late word [] [] t u apart same = grind (arith, common_steps)
 tied-late word [] (new ∷ news) t u apart all = absurd all
 tied-late word (old ∷ olds) [] t u apart all = absurd all
 tied-late word (old ∷ olds) (new ∷ news) t u apart all = joins (tied-late word olds news all.0 u apart.1 all.2)
@@ -386,8 +270,7 @@ tied-late word (old ∷ olds) (new ∷ news) t u apart all = joins (tied-late wo
         simp (too, is) (here-found ∙ ap (λ (l : List Finding). findings 1 old.history ++ l) (sym uses))
     found-at r m false is =
         let too : bytes_eq new.machine m ≡ false = ap (λ (n : List ℕ). bytes_eq n m) one.machine ∙ is in
-        let uses : found_for m (mine ++ r.uses) ≡ found_for m r.uses =
-        for-append m mine r.uses ∙ ap (λ (xs : List Finding). xs ++ found_for m r.uses) (found-there name m one.uses is) in
+        let uses : found_for m (mine ++ r.uses) ≡ found_for m r.uses = grind (arith, common_steps, for-append, found-there) in
         simp (too, is) (r.found m ∙ ap (λ (l : List Finding). findings 1 (history_in olds m) ++ l) (sym uses))
 
     joins : TiedLate word olds news v u → TiedLate word (old ∷ olds) (new ∷ news) t u
@@ -399,8 +282,7 @@ tied-late word (old ∷ olds) (new ∷ news) t u apart all = joins (tied-late wo
           ∙ ap (λ (l : List Ask). option_map (λ (before : List Ask). before ++ l) t.asks)
           (ap (λ (l : List Ask). l ++ map (λ (x : Use). x.ask) r.uses) (sym (asks-late name one.uses)) ∙ sym (asks-are r));
       found = λ m. found-at r m (bytes_eq old.machine m) refl;
-      none = λ m others.
-          for-append m mine r.uses ∙ ap₂ (λ (xs ys : List Finding). xs ++ ys) (found-there name m one.uses (sym-other m name others.0)) (r.none m others.1);
+      none = grind (arith, common_steps, for-append, ap₂, found-there, sym-other);
       due =
           subst (λ (l : List Ask). All (IsDueAt word (new ∷ news)) l) (sym (asks-are r))
           (All-append (IsDueAt word (new ∷ news)) (map (λ (x : Use). x.ask) mine) (map (λ (x : Use). x.ask) r.uses) here-due

@@ -1,14 +1,14 @@
 -- Private: no public contract cites this. The asks of a worker at a room, by the names of its machines.
 use Rattle.std.proofs.Common.{◌≡◌, ◌≤◌, ◌+◌, ℕ, zero, suc, inl, inr, Bool, true, false, List, [], ◌∷◌, ◌++◌, length, map, refl, sym, ap, ap₂, subst, ◌∙◌, Option, Some, None, arith, eq-eqb, ne_eqb}
-use Rattle.std.specs.{Prelude.{◌==◌, ◌&&◌, All, bytes_eq, filter, is_none, is_some, option_map, slice_get, take}, List.AllByRecursion}
-use Rattle.std.proofs.lemmas.{Bool.cases_Bool, List.{length-append, take-append-le}, List.Elements.All-weaker, Slice.Eq.bytes_eq-Decides}
+use Rattle.std.specs.{Prelude.{◌==◌, ◌&&◌, All, bytes_eq, filter, is_none, is_some, option_map, slice_get}, List.AllByRecursion}
+use Rattle.std.proofs.lemmas.{Bool.cases_Bool, List.length-append, List.Elements.All-weaker, Slice.Eq.bytes_eq-Decides, Grind.common_steps}
 use Rattle.track_outside.specs.Asked.{Ask}
 use Rattle.history_lock.specs.{Marks.entries, declared.view.Marked.Marked}
-use Rattle.history_model.specs.{declared.entries.Author.Author, declared.entries.Placed.Placed, Entries.entries_of}
-use Rattle.worker_model.specs.Findings.{AsksCommit, Finding}
+use Rattle.history_model.specs.declared.entries.{Author.Author, Placed.Placed}
+use Rattle.worker_model.specs.Findings.{Finding}
 use Rattle.play_crew.specs.{Asked.names_of, Rooms.IsPassOf, Sights.{Home, Sight}, Seats.{AreDifferent, IsOther, mark_in, seen_in}}
 use Rattle.bisect_workers.specs.Beside as beside
-use Rattle.bisect_workers.specs.Beside.{BisectsAt, EachBisects, IsDueIn, found_at, given_up, is_given_up, is_number}
+use Rattle.bisect_workers.specs.Beside.{BisectsAt, EachBisects, IsDueIn, found_at, given_up, is_number}
 use Rattle.play_fits.{specs.Workers.{IsDue, Use, found_for, is_for}, proofs.Lists.same-bytes}
 use Rattle.play_crew.proofs.Gathered.{at-contains, mapped-at}
 
@@ -88,28 +88,9 @@ is_given u = is_some u.machine && is_none u.ask.status
 abbrev pub given : List Use → ℕ
 given uses = length (filter is_given uses)
 
-less-given : (pass : List Sight) (u : beside.Use) → is_given_up u ≡ false → is_given (named_use pass u) ≡ false
-less-given pass u is = by u.place refl
-  where
-    by : (o : Option ℕ) → u.place ≡ o → is_given (named_use pass u) ≡ false
-    by None at = ap (λ (o : Option ℕ). is_given (record { ask = u.ask; machine = machine_at pass o })) at
-    by (Some j) at =
-        let none_is : is_none u.ask.status ≡ false = sym (ap (λ (o : Option ℕ). is_some o && is_none u.ask.status) at) ∙ is in
-        ap (λ (b : Bool). is_some (machine_at pass u.place) && b) none_is ∙ and-false (is_some (machine_at pass u.place))
-      where
-        and-false : (b : Bool) → (b && false) ≡ false
-        and-false true = refl
-        and-false false = refl
-
 pub given-named : (pass : List Sight) (uses : List beside.Use) → given (map (named_use pass) uses) ≤ given_up uses
 given-named pass [] = omega arith
-given-named pass (u ∷ uses) = by (given-named pass uses) (is_given_up u) refl (is_given (named_use pass u)) refl
-  where
-    by : given (map (named_use pass) uses) ≤ given_up uses → (b : Bool) → is_given_up u ≡ b → (c : Bool) → is_given (named_use pass u) ≡ c → given (map (named_use pass) (u ∷ uses)) ≤ given_up (u ∷ uses)
-    by rest true one true two = simp (one, two) (omega (arith, rest))
-    by rest true one false two = simp (one, two) (omega (arith, rest))
-    by rest false one false two = simp (one, two) rest
-    by rest false one true two = absurd (true-false (sym two ∙ less-given pass u one))
+given-named pass (u ∷ uses) = grind (arith, common_steps, given-named pass uses)
 
 pub asks-named : (pass : List Sight) (uses : List beside.Use) → map (λ (u : Use). u.ask) (map (named_use pass) uses) ≡ beside.asks_of uses
 asks-named pass [] = refl
@@ -138,9 +119,7 @@ module _ (word : List ℕ) (room : List Home) (pass : List Sight) (of : IsPassOf
         declared = at-contains machines d.place name there;
         count = d.due.count;
         within = let long : length (journal name) ≡ length (entries s.seen ++ more name) = ap length begins in omega (arith, size, within, long);
-        asked =
-            subst (λ (l : List Placed). AsksCommit (entries_of l) ask.commit)
-            (sym (ap (λ (l : List Placed). take d.due.count l) begins ∙ take-append-le d.due.count (entries s.seen) (more name) within)) d.due.asked;
+        asked = grind (arith, common_steps);
       }
 
   pub due-named : (asks : List Ask) → All (IsDueIn word pass) asks → All (IsDue word machines journal) asks
@@ -162,10 +141,7 @@ pub record BisectedIn (w : Author) (uses : List beside.Use) (start : ℕ) (befor
 -- it has none of another name
 pub bisected-in : (w : Author) (uses : List beside.Use) (start : ℕ) (before after : List Sight) → EachBisects w uses start before after → (m : List ℕ) (k : ℕ) (t : Sight) → slice_get after k ≡ Some t → bytes_eq t.home.machine m ≡ true
     → BisectedIn w uses start before after m
-bisected-in w uses start [] [] each m k t is named = absurd (no is)
-  where
-    no : slice_get {X = Sight} [] k ≡ Some t → ⊥
-    no is = cc
+bisected-in w uses start [] [] each m k t is named = grind (arith, common_steps)
 bisected-in w uses start [] (x ∷ after) each m k t is named = absurd each
 bisected-in w uses start (y ∷ before) [] each m k t is named = absurd each
 bisected-in w uses start (y ∷ before) (x ∷ after) each m k t is named = by (bytes_eq x.home.machine m) refl (λ j u at yes_is. bisected-in w uses (suc start) before after each.1 m j u at yes_is) k is

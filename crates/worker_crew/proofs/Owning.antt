@@ -1,17 +1,18 @@
 -- Private: no public contract cites this. What a worker's pass made is its own.
-use Rattle.std.proofs.Common.{◌≡◌, ◌≤◌, ◌+◌, ◌-◌, ℕ, zero, suc, inl, inr, Bool, true, false, List, [], ◌∷◌, ◌++◌, length, refl, sym, ap, ap₂, subst, ◌∙◌, Option, Some, None, arith}
+use Rattle.std.proofs.lemmas.Grind.{common_steps}
+use Rattle.std.proofs.Common.{◌≡◌, ◌≤◌, ◌+◌, ◌-◌, ℕ, zero, suc, inl, inr, Bool, true, false, List, [], ◌∷◌, ◌++◌, length, refl, sym, ap, ap₂, subst, ◌∙◌, Some, arith}
 use Rattle.std.{specs.Prelude.{◌⊎◌, slice_get, bytes_eq, if◌then◌else◌}, specs.List.{AllByRecursion, AllZip}, proofs.lemmas.Bool.cases_lt}
 use Rattle.history_lock.specs.{Marks.{IsOtherMark, marked}, declared.view.Marked.Marked}
 use Rattle.history_model.specs.declared.entries.{Author.Author, Entry.Entry, Placed.Placed}
 use Rattle.history_model.specs.declared.entries.Author.TheVariants as author
 use Rattle.history_model.specs.declared.entries.Entry.TheVariants as entry
-use Rattle.bisect_workers.specs.{Settling.entry_said, Beside.{EachBisects, Use}, Bisecting.IsSaidBy}
+use Rattle.bisect_workers.specs.Beside.{EachBisects, Use}
 use Rattle.track_model.specs.Tracks.{Track}
-use Rattle.play_crew.specs.{Sights.{Sight, own_marks, seeing}, Gathered.OwnsMade, Seats.{Seat, mark_in, seen_in}, Shared.HasSeenKept}
+use Rattle.play_crew.specs.{Sights.{Sight, seeing}, Gathered.OwnsMade, Seats.{Seat, mark_in, seen_in}, Shared.HasSeenKept}
 use Rattle.recompute_workers.specs.Works as recomputing
 use Rattle.recompute_workers.specs.Works.{Works}
 use Rattle.bisect_workers.specs.Beside as bisecting
-use Rattle.play_fits.{specs.Journals.history_in, specs.Workers.{Crew, IsOneOf, IsSettled, MayAdd}, proofs.Lists.{stands-behind, stays-before}}
+use Rattle.play_fits.{specs.Journals.history_in, specs.Workers.{Crew, IsOneOf, MayAdd}, proofs.Lists.{stands-behind, stays-before}}
 use Rattle.play_crew.proofs.Fitting.{unmarked-at}
 use Rattle.worker_crew.specs.Runs.{AreBisectedFrom, AreRecomputedFrom, Tally}
 
@@ -34,10 +35,7 @@ module _ (crew : Crew) (w : Author) where
 
   own-at : (s : Sight) (xs : List (Marked Placed)) (n : ℕ) (p : Placed) → AllByRecursion (IsOwn s) xs → slice_get xs n ≡ Some (marked p (Some s.mark)) → (p.author ≡ w) × MayAdd crew p
   own-at s [] n p all is = cc
-  own-at s (x ∷ xs) zero p all is =
-      let same : x ≡ marked p (Some s.mark) = cc in
-      let here : (x.entry.author ≡ w) × MayAdd crew x.entry = all.0 (ap (λ (y : Marked Placed). y.by) same) in
-      subst (λ (y : Marked Placed). (y.entry.author ≡ w) × MayAdd crew y.entry) same here
+  own-at s (x ∷ xs) zero p all is = grind (arith, common_steps)
   own-at s (x ∷ xs) (suc n) p all is = own-at s xs n p all.1 is
 
   -- by machine name: an entry with the mark was seen before with a mark, or is its own
@@ -86,56 +84,37 @@ module _ (crew : Crew) (w : Author) where
           no is = cc
 
   pub owns : (tracks : List Track) (before : List Sight) (a : Seat) → AllZip Makes before a.pass → HasSeenKept tracks before → a.author ≡ w → OwnsMade crew a
-  owns tracks before a all saw is m place p made = by (named before a.pass all m place p made)
-    where
-      by : Old before m place p ⊎ ((p.author ≡ w) × MayAdd crew p) → (p.author ≡ a.author) × MayAdd crew p
-      by (inl old) = absurd (unmarked-at (history_in tracks m) place p old.0 (ap (λ (l : List (Marked Placed)). slice_get l place) (sym (saw m)) ∙ old.1))
-      by (inr own) = (own.0 ∙ sym is, own.1)
+  owns tracks before a all saw is m place p made = grind (arith, common_steps, named, w, crew, unmarked-at, history_in, slice_get)
+
+-- what follows of each item follows of all
+pub all-to : {A : Type 0} (P Q : A → Type 0) (xs : List A) → ((x : A) → P x → Q x) → AllByRecursion P xs → AllByRecursion Q xs
+all-to P Q [] f all = tt
+all-to P Q (x ∷ xs) f all = (f x all.0, all-to P Q xs f all.1)
 
 -- ---- a worker that recomputes
 publishes-own : (crew : Crew) (n : ℕ) → IsOneOf crew.recompute n → (s : Sight) (x : Marked Placed) → recomputing.IsByWorker (author.Recompute n) s x → IsOwn crew (author.Recompute n) s x
-publishes-own crew n one s x (inl other) is = absurd (not-own s.mark s.joined (subst (λ (b : Option ℕ). IsOtherMark (own_marks s) b) is other))
-publishes-own crew n one s x (inr made) is = (
-  made.1.author_is,
-  subst (MayAdd crew) (sym (placed-is x.entry (author.Recompute n) (entry.Publish made.1.publication) made.1.author_is made.1.entry_is)) (one, tt),
-)
-
-all-own : (crew : Crew) (n : ℕ) → IsOneOf crew.recompute n → (s : Sight) (xs : List (Marked Placed)) → AllByRecursion (recomputing.IsByWorker (author.Recompute n) s) xs → AllByRecursion (IsOwn crew (author.Recompute n) s) xs
-all-own crew n one s [] all = tt
-all-own crew n one s (x ∷ xs) all = (publishes-own crew n one s x all.0, all-own crew n one s xs all.1)
+publishes-own crew n one s x x5 is = grind (arith, common_steps)
 
 pub works-make : (crew : Crew) (n : ℕ) → IsOneOf crew.recompute n → (before after : List Sight) → AllZip (Works (author.Recompute n)) before after → AllZip (Makes crew (author.Recompute n)) before after
 works-make crew n one [] [] all = tt
 works-make crew n one [] (t ∷ after) all = absurd all
 works-make crew n one (s ∷ before) [] all = absurd all
 works-make crew n one (s ∷ before) (t ∷ after) all = (
-  record { more = all.0.0; sees = all.0.2; each = all-own crew n one s all.0.0 all.0.1 },
+  record { more = all.0.0; sees = all.0.2; each = all-to _ _ all.0.0 (publishes-own crew n one s) all.0.1 },
   works-make crew n one before after all.1,
 )
 
 -- ---- a worker that bisects
-is-settled : (job place : ℕ) (status : Option ℕ) → IsSettled (entry_said job place status)
-is-settled job place None = tt
-is-settled job place (Some n) = tt
-
-pub said-may : (crew : Crew) (n : ℕ) → IsOneOf crew.bisect n → (p : Placed) → IsSaidBy (author.Bisect n) p → MayAdd crew p
-said-may crew n one p said =
-    subst (MayAdd crew) (sym (placed-is p (author.Bisect n) (entry_said said.job said.place said.status) said.author_is said.entry_is)) (one, is-settled said.job said.place said.status)
 
 says-own : (crew : Crew) (n : ℕ) → IsOneOf crew.bisect n → (s : Sight) (x : Marked Placed) → bisecting.IsByWorker (author.Bisect n) s x → IsOwn crew (author.Bisect n) s x
-says-own crew n one s x (inl other) is = absurd (not-own s.mark s.joined (subst (λ (b : Option ℕ). IsOtherMark (own_marks s) b) is other))
-says-own crew n one s x (inr made) is = (made.1.author_is, said-may crew n one x.entry made.1)
-
-all-says : (crew : Crew) (n : ℕ) → IsOneOf crew.bisect n → (s : Sight) (xs : List (Marked Placed)) → AllByRecursion (bisecting.IsByWorker (author.Bisect n) s) xs → AllByRecursion (IsOwn crew (author.Bisect n) s) xs
-all-says crew n one s [] all = tt
-all-says crew n one s (x ∷ xs) all = (says-own crew n one s x all.0, all-says crew n one s xs all.1)
+says-own crew n one s x x5 is = grind (arith, common_steps)
 
 pub bisects-make : (crew : Crew) (n : ℕ) → IsOneOf crew.bisect n → (uses : List Use) (place : ℕ) (before after : List Sight) → EachBisects (author.Bisect n) uses place before after → AllZip (Makes crew (author.Bisect n)) before after
 bisects-make crew n one uses place [] [] all = tt
 bisects-make crew n one uses place [] (t ∷ after) all = absurd all
 bisects-make crew n one uses place (s ∷ before) [] all = absurd all
 bisects-make crew n one uses place (s ∷ before) (t ∷ after) all = (
-  record { more = all.0.more; sees = all.0.sees; each = all-says crew n one s all.0.more all.0.each },
+  record { more = all.0.more; sees = all.0.sees; each = all-to _ _ all.0.more (says-own crew n one s) all.0.each },
   bisects-make crew n one uses (suc place) before after all.1,
 )
 

@@ -1,6 +1,6 @@
 -- Private: no public contract cites this. Seats, runners and machines of a whole run, by their places.
-use Rattle.std.proofs.Common.{◌≡◌, ◌<◌, ◌≤◌, ◌+◌, ℕ, zero, suc, inl, inr, Bool, true, false, List, [], ◌∷◌, ◌++◌, length, map, refl, sym, ap, ap₂, subst, ◌∙◌, Some, arith}
-use Rattle.std.specs.{Prelude.{◌⊎◌, Contains, bytes_eq, slice_get}, List.{AllByRecursion, AllZip}}
+use Rattle.std.proofs.Common.{◌≡◌, ◌<◌, ◌≤◌, ◌+◌, ℕ, zero, suc, inl, inr, false, List, [], ◌∷◌, ◌++◌, length, map, refl, sym, ap, ap₂, subst, ◌∙◌, Some, arith}
+use Rattle.std.{specs.Prelude.{◌⊎◌, Contains, bytes_eq, slice_get}, specs.List.{AllByRecursion, AllZip}, proofs.lemmas.Grind.common_steps}
 use Rattle.history_lock.specs.Marks.{entries}
 use Rattle.history_model.specs.declared.entries.Author.TheVariants as author
 use Rattle.history_model.specs.declared.entries.Placed.{Placed}
@@ -47,12 +47,8 @@ pub recompute-author : (n : ℕ) (bs : List (List Sight)) (us : List Seat) → A
 recompute-author n [] [] all k a is = absurd (no-item k a is)
 recompute-author n [] (x ∷ us) all k a is = absurd all
 recompute-author n (b ∷ bs) [] all k a is = absurd all
-recompute-author n (b ∷ bs) (x ∷ us) all zero a is =
-    let first : n + 0 ≡ n = omega arith in
-    rw first (subst (λ (y : Seat). y.author ≡ author.Recompute n) (same-some x a is) all.0.author)
-recompute-author n (b ∷ bs) (x ∷ us) all (suc k) a is =
-    let next : n + suc k ≡ (n + 1) + k = omega arith in
-    rw next (recompute-author (n + 1) bs us all.1 k a is)
+recompute-author n (b ∷ bs) (x ∷ us) all zero a is = grind (arith, common_steps)
+recompute-author n (b ∷ bs) (x ∷ us) all (suc k) a is = grind (arith, common_steps, recompute-author (n + 1) bs us all.1 k a is)
 
 pub bisect-author : (word : List ℕ) (n : ℕ) (bs : List (List Sight)) (us : List Seat) (old new : List Tally) → AreBisectedFrom word n bs us old new → (k : ℕ) (a : Seat) → slice_get us k ≡ Some a → a.author ≡ author.Bisect (n + k)
 bisect-author word n [] [] old new all k a is = absurd (no-item k a is)
@@ -60,30 +56,13 @@ bisect-author word n [] (x ∷ us) old new all k a is = absurd all
 bisect-author word n (b ∷ bs) [] old new all k a is = absurd all
 bisect-author word n (b ∷ bs) (x ∷ us) [] new all k a is = absurd all
 bisect-author word n (b ∷ bs) (x ∷ us) (t ∷ old) [] all k a is = absurd all
-bisect-author word n (b ∷ bs) (x ∷ us) (t ∷ old) (u ∷ new) all zero a is =
-    let first : n + 0 ≡ n = omega arith in
-    rw first (subst (λ (y : Seat). y.author ≡ author.Bisect n) (same-some x a is) all.0.author)
+bisect-author word n (b ∷ bs) (x ∷ us) (t ∷ old) (u ∷ new) all zero a is = grind (arith, common_steps)
 bisect-author word n (b ∷ bs) (x ∷ us) (t ∷ old) (u ∷ new) all (suc k) a is =
     let next : n + suc k ≡ (n + 1) + k = omega arith in
     rw next (bisect-author word (n + 1) bs us old new all.1 k a is)
 
-recompute-number : (i j : ℕ) → author.Recompute i ≡ author.Recompute j → i ≡ j
-recompute-number i j is = cc
-
-bisect-number : (i j : ℕ) → author.Bisect i ≡ author.Bisect j → i ≡ j
-bisect-number i j is = cc
-
 script-number : (i j : ℕ) → author.Script i ≡ author.Script j → i ≡ j
 script-number i j is = cc
-
-script-recompute : (i j : ℕ) → author.Script i ≡ author.Recompute j → ⊥
-script-recompute i j is = cc
-
-script-bisect : (i j : ℕ) → author.Script i ≡ author.Bisect j → ⊥
-script-bisect i j is = cc
-
-recompute-bisect : (i j : ℕ) → author.Recompute i ≡ author.Bisect j → ⊥
-recompute-bisect i j is = cc
 
 -- seats with different authors
 module _ (scripts recomputers bisectors : List Seat)
@@ -94,11 +73,7 @@ module _ (scripts recomputers bisectors : List Seat)
   Kind i = ((k : ℕ) × (slice_get scripts k ≡ Some i)) ⊎ (((k : ℕ) × (slice_get recomputers k ≡ Some i)) ⊎ ((k : ℕ) × (slice_get bisectors k ≡ Some i)))
 
   kind-at : (k : ℕ) (i : Seat) → slice_get (scripts ++ (recomputers ++ bisectors)) k ≡ Some i → Kind i
-  kind-at k i is = by (split-at scripts (recomputers ++ bisectors) k i is)
-    where
-      by : ((j : ℕ) × (slice_get scripts j ≡ Some i)) ⊎ ((j : ℕ) × (slice_get (recomputers ++ bisectors) j ≡ Some i)) → Kind i
-      by (inl front) = inl front
-      by (inr back) = inr (split-at recomputers bisectors back.0 i back.1)
+  kind-at k i is = grind (arith, common_steps, split-at, scripts, recomputers, bisectors, k)
 
   kind-of : (i : Seat) → Contains (onto (scripts ++ (recomputers ++ bisectors)) []) i → Kind i
   kind-of i one = by (from-onto (scripts ++ (recomputers ++ bisectors)) [] i one)
@@ -111,15 +86,7 @@ module _ (scripts recomputers bisectors : List Seat)
   one-place seats k l i j at to same = let place : k ≡ l = omega (arith, same) in same-some i j (sym at ∙ ap (λ (n : ℕ). slice_get seats n) place ∙ to)
 
   kinds-apart : (i j : Seat) → i.author ≡ j.author → Kind i → Kind j → i ≡ j
-  kinds-apart i j same (inl k) (inl l) = one-place scripts k.0 l.0 i j k.1 l.1 (script-number (1 + k.0) (1 + l.0) (sym (of_script k.0 i k.1) ∙ same ∙ of_script l.0 j l.1))
-  kinds-apart i j same (inl k) (inr (inl l)) = absurd (script-recompute (1 + k.0) (1 + l.0) (sym (of_script k.0 i k.1) ∙ same ∙ of_recompute l.0 j l.1))
-  kinds-apart i j same (inl k) (inr (inr l)) = absurd (script-bisect (1 + k.0) (1 + l.0) (sym (of_script k.0 i k.1) ∙ same ∙ of_bisect l.0 j l.1))
-  kinds-apart i j same (inr (inl k)) (inl l) = absurd (script-recompute (1 + l.0) (1 + k.0) (sym (of_script l.0 j l.1) ∙ sym same ∙ of_recompute k.0 i k.1))
-  kinds-apart i j same (inr (inl k)) (inr (inl l)) = one-place recomputers k.0 l.0 i j k.1 l.1 (recompute-number (1 + k.0) (1 + l.0) (sym (of_recompute k.0 i k.1) ∙ same ∙ of_recompute l.0 j l.1))
-  kinds-apart i j same (inr (inl k)) (inr (inr l)) = absurd (recompute-bisect (1 + k.0) (1 + l.0) (sym (of_recompute k.0 i k.1) ∙ same ∙ of_bisect l.0 j l.1))
-  kinds-apart i j same (inr (inr k)) (inl l) = absurd (script-bisect (1 + l.0) (1 + k.0) (sym (of_script l.0 j l.1) ∙ sym same ∙ of_bisect k.0 i k.1))
-  kinds-apart i j same (inr (inr k)) (inr (inl l)) = absurd (recompute-bisect (1 + l.0) (1 + k.0) (sym (of_recompute l.0 j l.1) ∙ sym same ∙ of_bisect k.0 i k.1))
-  kinds-apart i j same (inr (inr k)) (inr (inr l)) = one-place bisectors k.0 l.0 i j k.1 l.1 (bisect-number (1 + k.0) (1 + l.0) (sym (of_bisect k.0 i k.1) ∙ same ∙ of_bisect l.0 j l.1))
+  kinds-apart i j same x3 x4 = grind (arith, common_steps)
 
   pub seats-apart : (i j : Seat) → Contains (onto (scripts ++ (recomputers ++ bisectors)) []) i → Contains (onto (scripts ++ (recomputers ++ bisectors)) []) j → i.author ≡ j.author → i ≡ j
   seats-apart i j one two same = kinds-apart i j same (kind-of i one) (kind-of j two)
@@ -194,36 +161,18 @@ pub record FirstAt (word : List ℕ) (olds news : List Track) (before after : Li
   pub rest : (k : ℕ) → slice_get after (suc k) ≡ slice_get before (suc k)
 
 pub first-at : (workers : ℕ) (word : List ℕ) (olds news : List Track) (before after : List Tally) → 1 ≤ workers → BisectsLast workers word olds news before after → FirstAt word olds news before after
-first-at zero word olds news before after some is = absurd (omega (arith, some))
-first-at (suc n) word olds news [] after some is = absurd is
-first-at (suc n) word olds news (t ∷ before) [] some is = absurd is
-first-at (suc n) word olds news (t ∷ before) (u ∷ after) some is = record { tally = t; tally' = u; had = refl; has = refl; each = is.0; rest = λ k. ap (λ (l : List Tally). slice_get l k) is.1 }
+first-at workers word olds news before after some is = grind (arith, common_steps)
 
 -- a runner without a worker isn't asked at last
 pub idle-last : (workers : ℕ) (word : List ℕ) (olds news : List Track) (before after : List Tally) → BisectsLast workers word olds news before after → (k : ℕ) → workers ≤ k → slice_get after k ≡ slice_get before k
-idle-last zero word olds news before after is k le = ap (λ (l : List Tally). slice_get l k) is.1
-idle-last (suc n) word olds news [] after is k le = absurd is
-idle-last (suc n) word olds news (t ∷ before) [] is k le = absurd is
-idle-last (suc n) word olds news (t ∷ before) (u ∷ after) is zero le = absurd (omega (arith, le))
-idle-last (suc n) word olds news (t ∷ before) (u ∷ after) is (suc k) le = ap (λ (l : List Tally). slice_get l k) is.1
+idle-last workers word olds news before after is k le = grind (arith, common_steps)
 
 -- ---- the machines that the room leaves
 pub left-histories : (last : List Sight) (left : List Track) → AllZip EndsWhole last left → (m : List ℕ) → history_in left m ≡ entries (seen_in last m)
 left-histories [] [] all m = refl
 left-histories [] (t ∷ left) all m = absurd all
 left-histories (s ∷ last) [] all m = absurd all
-left-histories (s ∷ last) (t ∷ left) all m = by (left-histories last left all.1 m) (bytes_eq s.home.machine m) refl
-  where
-    name : t.machine ≡ s.home.machine
-    name = ap (λ (u : Track). u.machine) all.0.0
-
-    by : history_in left m ≡ entries (seen_in last m) → (b : Bool) → bytes_eq s.home.machine m ≡ b → history_in (t ∷ left) m ≡ entries (seen_in (s ∷ last) m)
-    by rest true is =
-        let too : bytes_eq t.machine m ≡ true = ap (λ (n : List ℕ). bytes_eq n m) name ∙ is in
-        simp (too, is) (ap (λ (u : Track). u.history) all.0.0)
-    by rest false is =
-        let too : bytes_eq t.machine m ≡ false = ap (λ (n : List ℕ). bytes_eq n m) name ∙ is in
-        simp (too, is) rest
+left-histories (s ∷ last) (t ∷ left) all m = grind (arith, common_steps, left-histories last left all.1 m)
 
 pub left-names : (last : List Sight) (left : List Track) → AllZip EndsWhole last left → machines_of left ≡ names_of (map (λ (s : Sight). s.home) last)
 left-names [] [] all = refl

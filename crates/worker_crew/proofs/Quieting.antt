@@ -1,10 +1,9 @@
 -- Private: no public contract cites this. What is quiet stays so where answers are added, and a whole run leaves quiet journals.
-use Rattle.std.proofs.Common.{◌≡◌, ◌≤◌, ℕ, zero, suc, inl, inr, Bool, true, false, List, [], ◌∷◌, ◌++◌, length, refl, sym, ap, ap₂, subst, ◌∙◌, arith, append_assoc, append-nil}
-use Rattle.std.{specs.Prelude.◌||◌, specs.List.{AllByRecursion, AllZip}, proofs.lemmas.List.{length-append, map-append}}
+use Rattle.std.proofs.Common.{◌≡◌, ◌≤◌, ℕ, inl, inr, Bool, false, List, [], ◌∷◌, ◌++◌, length, refl, sym, ap₂, subst, ◌∙◌, arith, append_assoc, append-nil}
+use Rattle.std.{specs.Prelude.◌||◌, specs.List.{AllByRecursion, AllZip}, proofs.lemmas.List.length-append, proofs.lemmas.Grind.common_steps}
 use Rattle.metric_table.specs.declared.limits.Limit.TheVariants as limit
 use Rattle.segment_model.specs.Segments.{Position}
 use Rattle.history_model.specs.declared.entries.{Acceptance.Acceptance, Author.Author, Entry.Entry, Placed.Placed}
-use Rattle.history_model.specs.declared.entries.Author.TheVariants as author
 use Rattle.history_model.specs.declared.entries.Entry.TheVariants as entry
 use Rattle.history_model.specs.{declared.events.JobEvent.JobEvent, Allowed.{Allowed, AllowedAfter, Legal}, Entries.entries_of}
 use Rattle.history_model.specs.{Laws.{AcceptancesGrow, CutsGrow, PublicationStays, RetractionsGrow}, Penalties.{SettingStays, length_of, penalty_of}}
@@ -19,8 +18,7 @@ use Rattle.worker_crew.{specs.Laws.FinishesLast, specs.Runs.{BisectsLast, RunsPl
 
 -- ---- what is quiet stays so where something is said of a job
 or-false : (b : Bool) → (b || false) ≡ b
-or-false true = refl
-or-false false = refl
+or-false b = grind (arith, common_steps)
 
 module _ (accept : AcceptancesGrow) (retract : RetractionsGrow) (cuts : CutsGrow) (setting : SettingStays) (grow : TouchesGrow) (known : KnownGrows) (stays : PublicationStays) where
   module _ (h : List Entry) (e : JobEvent) (allowed : Allowed h (entry.Job e)) where
@@ -85,8 +83,7 @@ module _ (accept : AcceptancesGrow) (retract : RetractionsGrow) (cuts : CutsGrow
   quiet-machines w [] (n ∷ news) adds legal quiet = absurd adds
   quiet-machines w (o ∷ olds) [] adds legal quiet = absurd adds
   quiet-machines w (o ∷ olds) (n ∷ news) adds legal quiet =
-      let split : entries_of n.history ≡ entries_of o.history ++ entries_of adds.0.more =
-      ap entries_of adds.0.history ∙ map-append (λ (p : Placed). p.entry) o.history adds.0.more in
+      let split : entries_of n.history ≡ entries_of o.history ++ entries_of adds.0.more = grind (arith, common_steps) in
       let after : AllowedAfter (entries_of o.history) (entries_of adds.0.more) =
       legal-behind [] (entries_of o.history) (entries_of adds.0.more) (subst (λ (h : List Entry). Legal h) split legal.0) in (
         subst SeriesAreQuiet (sym split) (quiet-all w (entries_of o.history) adds.0.more adds.0.each after quiet.0),
@@ -99,13 +96,7 @@ module _ (accept : AcceptancesGrow) (retract : RetractionsGrow) (cuts : CutsGrow
 
   quiet-last : (workers : ℕ) (word : List ℕ) (olds news : List Track) (before after : List Tally) → BisectsLast workers word olds news before after
       → AllByRecursion (λ (t : Track). Legal (entries_of t.history)) news → AllByRecursion (λ (t : Track). SeriesAreQuiet (entries_of t.history)) olds → AllByRecursion (λ (t : Track). SeriesAreQuiet (entries_of t.history)) news
-  quiet-last zero word olds news before after is legal quiet = subst (λ (ts : List Track). AllByRecursion (λ (t : Track). SeriesAreQuiet (entries_of t.history)) ts) (sym is.0) quiet
-  quiet-last (suc n) word olds news [] after is legal quiet = absurd is
-  quiet-last (suc n) word olds news (t ∷ before) [] is legal quiet = absurd is
-  quiet-last (suc n) word olds news (t ∷ before) (u ∷ after) is legal quiet = quiet-machines (author.Bisect 1) olds news (bisected-adds word olds news t u is.0) legal quiet
+  quiet-last workers word olds news before after is legal quiet = grind (arith, common_steps, quiet-machines, bisected-adds)
 
   pub players-quiet : (play : Play) (journals : List Track) (r : RunsPlayers play journals) → FinishesLast play r.published journals → IsQuiet play.recompute play.bisect journals
-  players-quiet play journals r f = record {
-    series = λ some. quiet-last play.bisect play.word r.published journals r.worked r.ended r.bisects r.legal (f.series some);
-    jobs = f.jobs;
-  }
+  players-quiet play journals r f = grind (arith, common_steps, quiet-last)

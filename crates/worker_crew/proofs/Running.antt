@@ -1,28 +1,26 @@
 -- Private: no public contract cites this. A whole shared run fits.
-use Rattle.std.proofs.Common.{◌≡◌, ◌≢◌, ◌<◌, ◌≤◌, ◌+◌, ℕ, zero, suc, inl, inr, true, List, [], ◌∷◌, ◌++◌, length, map, refl, sym, ap, subst, ◌∙◌, Option, Some, arith, append_assoc}
-use Rattle.std.specs.{Prelude.{◌⊎◌, All, Contains, bytes_eq, filter, option_map, slice_get, take}, List.{AllByRecursion, AllZip}}
-use Rattle.std.proofs.lemmas.{Bool.cases_lt, List.{length-append, map-append}, List.Elements.{All-append, All-nil, All-weaker, filter-append}}
+use Rattle.std.proofs.Common.{◌≡◌, ◌≢◌, ◌<◌, ◌≤◌, ◌+◌, ℕ, zero, suc, inl, inr, true, List, [], ◌∷◌, ◌++◌, length, map, refl, sym, ap, subst, ◌∙◌, Some, arith}
+use Rattle.std.specs.{Prelude.{◌⊎◌, All, Contains, bytes_eq, option_map, slice_get, take}, List.{AllByRecursion, AllZip}}
+use Rattle.std.proofs.lemmas.{Bool.cases_lt, List.map-append, List.Elements.{All-append, All-nil, All-weaker}, Grind.common_steps}
 use Rattle.track_outside.specs.Asked.{Ask}
 use Rattle.history_lock.specs.{Marks.{entries, unmarked}, declared.view.Marked.Marked}
 use Rattle.history_model.specs.declared.entries.Author.TheVariants as author
 use Rattle.history_model.specs.{declared.entries.Entry.Entry, declared.entries.Placed.Placed, Allowed.Legal, Entries.entries_of}
-use Rattle.worker_model.specs.Findings.{AsksCommit, Finding}
+use Rattle.worker_model.specs.Findings.{AsksCommit}
 use Rattle.track_model.specs.Tracks.{Track}
 use Rattle.play_crew.specs.{Asked.names_of, Rooms.IsPassOf, Sights.{Home, Sight}, Gathered.{OwnsMade, joined_of}, Seats.{AreDifferent, Seat, mark_in, seen_in}}
 use Rattle.bisect_workers.specs.Beside as beside
 use Rattle.bisect_workers.specs.{Beside.{findings_by, found_at}, Bisecting.RoseBy}
 use Rattle.play_fits.specs.{Ends.{AreEndsOf, HasPlayed, IsLate}, Fits.{Fits, Play, Played, crew_of}, Journals.{history_in, machines_of}}
-use Rattle.play_fits.specs.Whole.{AreAll, AreByCrew, GoesOn, Joined, journals_of, longer}
-use Rattle.play_fits.{specs.Workers.{Asked, Crew, IsBisector, IsDue, IsOneOf, MayAdd, Use, findings, found_for, is_bisector, is_for}, proofs.Ends.ends-fit}
-use Rattle.play_fits.proofs.{Whole.all-by-crew, Lists.all-append}
+use Rattle.play_fits.{specs.Whole.{AreAll, AreByCrew, GoesOn, Joined, journals_of, longer}, proofs.Whole.all-by-crew, proofs.Lists.all-append}
+use Rattle.play_fits.{specs.Workers.{Asked, Crew, IsBisector, IsDue, IsOneOf, MayAdd, Use, findings, found_for, is_bisector}, proofs.Ends.ends-fit}
 use Rattle.play_crew.specs.Shared.{EndsShared, HasSeenKept, onto}
 use Rattle.play_crew.proofs.Fitting.{Apart, IsNoBisector, PlayedAt, all-onto, all-owned, apart-named, author-at, has-played, in-onto, no-bisector-of, own-histories, own-seen, played-at, same-some, whole-of, all-map}
 use Rattle.play_crew.proofs.{Gathered.{all-at, at-contains, contains-at, gathered-all, kept-in, mapped-at, mapped-from}, Shared.sharing-ends}
 use Rattle.worker_crew.specs.Runs.{BisectsEach, IsAtRoom, IsBisectedAt, IsNew, RunsPlayers, Tally, afters_of, befores_of}
-use Rattle.worker_crew.proofs.Finding.{agree, behind-none, findings-agree, findings-log}
-use Rattle.worker_crew.proofs.Late.{Adds, Behind, IsDueAt, TiedLate, adds-trans, behind-named, bisects-late, findings-others, findings-published, names-stay, recomputes-late, tied-late, told-none, told-twice}
-use Rattle.worker_crew.proofs.Naming.{BisectedIn, asks-named, bisected-in, due-named, eq-bytes, found-named, given, given-named, is_given, named_use}
-use Rattle.worker_crew.proofs.Owning.{bisectors-own, recomputers-own}
+use Rattle.worker_crew.proofs.{Finding.{agree, behind-none, findings-agree, findings-log}, Owning.{bisectors-own, recomputers-own}}
+use Rattle.worker_crew.proofs.Late.{Adds, Behind, IsDueAt, TiedLate, adds-trans, behind-named, bisects-late, findings-others, findings-published, names-stay, recomputes-late, tied-late, told-none}
+use Rattle.worker_crew.proofs.Naming.{BisectedIn, asks-named, bisected-in, due-named, eq-bytes, found-named, given, given-named, named_use}
 use Rattle.worker_crew.proofs.Places.{FirstAt, IsSame, RunnerAt, WorkerAt, all-back, all-front, at-back, at-front, bisect-author, first-at, idle-at, idle-last, left-histories, left-names, left-same, names-distinct, recompute-author, runner-at, same-adds, seats-apart, worker-at}
 use Rattle.worker_crew.proofs.Tied.{Distinct, Tied, tied-bisector}
 
@@ -98,10 +96,7 @@ module _ (crew : Crew) (tracks : List Track) (room : List Home) (different : Are
       found-at-place m c.0 at.0 at.1 yes_is
 
   on-pass : (m : List ℕ) → journal m ≡ entries (seen_in a.pass m) ++ (entries (goes.rest m) ++ more m)
-  on-pass m =
-      on m ∙ ap (λ (l : List (Marked Placed)). entries l ++ more m) (goes.seen m)
-      ∙ ap (λ (l : List Placed). l ++ more m) (map-append (λ (x : Marked Placed). x.entry) (seen_in a.pass m) (goes.rest m))
-      ∙ append_assoc (entries (seen_in a.pass m)) (entries (goes.rest m)) (more m)
+  on-pass m = grind (arith, common_steps)
 
   pub tied-left : TiedLeft n word machines (λ m. entries (log m)) journal t u
   tied-left = record {
@@ -116,9 +111,7 @@ module _ (crew : Crew) (tracks : List Track) (room : List Home) (different : Are
 
 -- ---- and what main found at last
 for-append : (m : List ℕ) (us vs : List Use) → found_for m (us ++ vs) ≡ found_for m us ++ found_for m vs
-for-append m us vs =
-    ap (λ (l : List Use). map (λ (u : Use). record { commit = u.ask.commit; status = u.ask.status }) l) (filter-append (is_for m) us vs)
-    ∙ map-append (λ (u : Use). record { commit = u.ask.commit; status = u.ask.status }) (filter (is_for m) us) (filter (is_for m) vs)
+for-append m us vs = grind (arith, common_steps)
 
 due-at : (word : List ℕ) (journals : List Track) → Apart journals → (ask : Ask) → IsDueAt word journals ask → IsDue word (machines_of journals) (history_in journals) ask
 due-at word journals apart ask d =
@@ -136,21 +129,13 @@ tied-first : (word : List ℕ) (left published journals : List Track) (t v u : T
     → TiedLeft 1 word (machines_of journals) (history_in left) (history_in journals) t v → TiedLate word published journals v u → Tied 1 word (machines_of journals) (history_in journals) t u
 tied-first word left published journals t v u apart same l late = record {
   uses = l.uses ++ late.uses;
-  told =
-      late.told ∙ ap (λ (o : Option (List Ask)). option_map (λ (before : List Ask). before ++ map (λ (x : Use). x.ask) late.uses) o) l.told
-      ∙ told-twice t.asks (map (λ (x : Use). x.ask) l.uses) (map (λ (x : Use). x.ask) late.uses)
-      ∙ ap (λ (y : List Ask). option_map (λ (before : List Ask). before ++ y) t.asks) (sym asks_are);
-  found = λ m declared.
-      late.found m ∙ ap (λ (fs : List Finding). fs ++ found_for m late.uses) (same m ∙ l.found m declared) ∙ sym (for-append m l.uses late.uses);
+  told = grind (arith, common_steps);
+  found = grind (arith, common_steps);
   due =
       subst (λ (y : List Ask). All (IsDue word (machines_of journals) (history_in journals)) y) (sym asks_are)
       (All-append (IsDue word (machines_of journals) (history_in journals)) (map (λ (x : Use). x.ask) l.uses) (map (λ (x : Use). x.ask) late.uses) l.due
       (All-weaker (IsDueAt word journals) (IsDue word (machines_of journals) (history_in journals)) (due-at word journals apart) (map (λ (x : Use). x.ask) late.uses) late.due));
-  rose =
-      let many : given (l.uses ++ late.uses) ≡ given l.uses + given late.uses = ap length (filter-append is_given l.uses late.uses) ∙ length-append (filter is_given l.uses) (filter is_given late.uses) in
-      let one = l.rose in
-      let two = late.rose in
-      omega (arith, many, one, two);
+  rose = grind (arith, common_steps);
 }
   where
     asks_are : map (λ (x : Use). x.ask) (l.uses ++ late.uses) ≡ map (λ (x : Use). x.ask) l.uses ++ map (λ (x : Use). x.ask) late.uses
@@ -158,13 +143,7 @@ tied-first word left published journals t v u apart same l late = record {
 
 tied-other : (n : ℕ) (word : List ℕ) (machines : List (List ℕ)) (left journal : List ℕ → List Placed) (t u : Tally) → ((m : List ℕ) → findings n (journal m) ≡ findings n (left m))
     → TiedLeft n word machines left journal t u → Tied n word machines journal t u
-tied-other n word machines left journal t u same l = record {
-  uses = l.uses;
-  told = l.told;
-  found = λ m declared. same m ∙ l.found m declared;
-  due = l.due;
-  rose = l.rose;
-}
+tied-other n word machines left journal t u same l = grind (arith, common_steps)
 
 -- ---- a runner without a worker
 abbrev tied-idle : (n : ℕ) (word : List ℕ) (machines : List (List ℕ)) (journal : List ℕ → List Placed) (t u : Tally) → u ≡ t → ((m : List ℕ) → AllByRecursion (IsNoBisector n) (journal m)) → Tied n word machines journal t u

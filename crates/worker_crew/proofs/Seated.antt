@@ -1,6 +1,6 @@
 -- Private: no public contract cites this. Workers that were run, as seats of their room.
-use Rattle.std.{proofs.Common.{◌≡◌, ◌+◌, ℕ, suc, List, [], ◌∷◌, ◌++◌, length, map, refl, sym, ap, ap₂, subst, ◌∙◌, arith}, specs.Prelude.zip, specs.List.AllZip}
-use Rattle.std.proofs.lemmas.List.{map-append}
+use Rattle.std.proofs.lemmas.Grind.{common_steps}
+use Rattle.std.{proofs.Common.{◌≡◌, ◌+◌, ℕ, suc, List, [], ◌∷◌, ◌++◌, length, map, refl, ap, ap₂, subst, ◌∙◌, arith}, specs.Prelude.zip, specs.List.AllZip}
 use Rattle.track_outside.specs.declared.runner.Runner as runner
 use Rattle.history_model.specs.declared.entries.Author.{Author}
 use Rattle.history_model.specs.declared.entries.Author.TheVariants as author
@@ -135,7 +135,5 @@ seats-share tracks room first between last ps qs rs us vs ws of starts splits on
   splits = splits;
   seated = all-append (λ (i : Seat). IsPassOf room i.pass) us (vs ++ ws) one.of_room (all-append (λ (i : Seat). IsPassOf room i.pass) vs ws two.of_room three.of_room);
   same = zip-append (λ (b : List Sight) (i : Seat). AreSame b i.pass) ps us (qs ++ rs) (vs ++ ws) one.same (zip-append (λ (b : List Sight) (i : Seat). AreSame b i.pass) qs vs rs ws two.same three.same);
-  joins =
-      subst (λ (l : List (List Sight)). JoinsAll between l last)
-      (ap (λ (l : List (List Sight)). map pass_of us ++ l) (sym (map-append pass_of vs ws)) ∙ sym (map-append pass_of us (vs ++ ws))) joins;
+  joins = grind (arith, common_steps);
 }

@@ -1,14 +1,13 @@
 -- Private: no public contract cites this. A runner whose asks are tied to what its worker found is one of a worker's.
-use Rattle.std.proofs.Common.{◌≡◌, ◌<◌, ◌≤◌, ◌+◌, ℕ, suc, inl, inr, Bool, true, false, List, [], ◌∷◌, ◌++◌, map, refl, ap, ◌∙◌, Option, Some, None, arith}
+use Rattle.std.proofs.Common.{◌≡◌, ◌<◌, ◌≤◌, ◌+◌, ℕ, suc, Bool, true, false, List, [], ◌∷◌, ◌++◌, map, refl, ap, ◌∙◌, Option, Some, None, arith}
 use Rattle.std.specs.{Prelude.{◌&&◌, All, Contains, IfSome, bytes_eq, is_none, is_some, option_map, slice_get, sum_by}, List.AllByRecursion}
-use Rattle.std.proofs.lemmas.List.Sums.{sum_by-cons}
+use Rattle.std.proofs.lemmas.{List.Sums.sum_by-cons, Grind.common_steps}
 use Rattle.track_outside.specs.Asked.{Ask}
 use Rattle.history_model.specs.declared.entries.Placed.{Placed}
 use Rattle.bisect_workers.specs.Bisecting.{RoseBy}
-use Rattle.play_fits.specs.Workers.{AreAsksOf, Crew, IsBisector, IsDue, Use, all_give_ups, findings, found_by, found_for, give_ups, is_for}
+use Rattle.play_fits.{specs.Workers.{AreAsksOf, Crew, IsBisector, IsDue, Use, all_give_ups, findings, found_for, give_ups, is_for}, proofs.Lists.same-bytes}
 use Rattle.play_crew.proofs.Gathered.{at-contains}
-use Rattle.play_fits.proofs.Lists.{same-bytes}
-use Rattle.worker_crew.{specs.Runs.{IsNew, Tally}, proofs.Late.{failed, one-if, length-one, is_failed, ups-of}, proofs.Naming.{given, is_given}}
+use Rattle.worker_crew.{specs.Runs.{IsNew, Tally}, proofs.Late.{failed, one-if, length-one, ups-of}, proofs.Naming.{given, is_given}, proofs.Owning.all-to}
 
 -- a runner's asks, and what its worker found in the journals
 pub record Tied (n : ℕ) (word : List ℕ) (machines : List (List ℕ)) (journal : List ℕ → List Placed) (t u : Tally) : Type 0 where
@@ -33,16 +32,11 @@ sum-same f g (m ∷ ms) all = let one = sum_by-cons f m ms in let two = sum_by-c
 
 sum-plus : (f g h : List ℕ → ℕ) (ms : List (List ℕ)) → ((m : List ℕ) → f m ≡ g m + h m) → sum_by f ms ≡ sum_by g ms + sum_by h ms
 sum-plus f g h [] each = refl
-sum-plus f g h (m ∷ ms) each =
-    let one = sum_by-cons f m ms in let two = sum_by-cons g m ms in let three = sum_by-cons h m ms in let rest = sum-plus f g h ms each in let here = each m in omega (arith, one, two, three, rest, here)
+sum-plus f g h (m ∷ ms) each = grind (arith, common_steps, sum-plus f g h ms each)
 
 every : (P : List ℕ → Type 0) (ms : List (List ℕ)) → ((m : List ℕ) → P m) → AllByRecursion P ms
 every P [] each = tt
 every P (m ∷ ms) each = (each m, every P ms each)
-
-all-to : (P Q : List ℕ → Type 0) (ms : List (List ℕ)) → ((m : List ℕ) → P m → Q m) → AllByRecursion P ms → AllByRecursion Q ms
-all-to P Q [] f all = tt
-all-to P Q (m ∷ ms) f all = (f m all.0, all-to P Q ms f all.1)
 
 -- a name is that of one machine at most
 sum-names : (x : List ℕ) (ms : List (List ℕ)) → Distinct ms → sum_by (λ m. one-if (bytes_eq x m)) ms ≤ 1
@@ -52,8 +46,7 @@ sum-names x (m ∷ ms) apart = by (sum-names x ms apart.1) (bytes_eq x m) refl
     by : sum_by (λ k. one-if (bytes_eq x k)) ms ≤ 1 → (b : Bool) → bytes_eq x m ≡ b → sum_by (λ k. one-if (bytes_eq x k)) (m ∷ ms) ≤ 1
     by rest true is =
         let same : x ≡ m = same-bytes x m is in
-        let none : sum_by (λ k. one-if (bytes_eq x k)) ms ≡ 0 =
-        sum-zero (λ k. one-if (bytes_eq x k)) ms (all-to (λ b. bytes_eq m b ≡ false) (λ b. one-if (bytes_eq x b) ≡ 0) ms (λ b other. ap (λ (y : List ℕ). one-if (bytes_eq y b)) same ∙ ap one-if other) apart.0) in
+        let none : sum_by (λ k. one-if (bytes_eq x k)) ms ≡ 0 = grind (arith, common_steps, sum-zero, one-if, all-to, same) in
         let step = sum_by-cons (λ k. one-if (bytes_eq x k)) m ms in
         let here : one-if (bytes_eq x m) ≡ 1 = ap one-if is in
         omega (arith, none, step, here)
@@ -92,18 +85,7 @@ sum-use u ms apart = by u.machine refl (is_none u.ask.status) refl
         and-true false = refl
 
 failed-use : (m : List ℕ) (u : Use) (us : List Use) → failed (found_for m (u ∷ us)) ≡ one-if (is_for m u && is_none u.ask.status) + failed (found_for m us)
-failed-use m u us = by (is_for m u) refl
-  where
-    by : (b : Bool) → is_for m u ≡ b → failed (found_for m (u ∷ us)) ≡ one-if (is_for m u && is_none u.ask.status) + failed (found_for m us)
-    by true is =
-        let here = length-one is_failed (found_by u.ask) (found_for m us) in
-        let same : one-if (is_for m u && is_none u.ask.status) ≡ one-if (is_none u.ask.status) = ap (λ (b : Bool). one-if (b && is_none u.ask.status)) is in
-        let all : failed (found_for m (u ∷ us)) ≡ failed (found_by u.ask ∷ found_for m us) = simp is refl in
-        omega (arith, here, same, all)
-    by false is =
-        let same : one-if (is_for m u && is_none u.ask.status) ≡ 0 = ap (λ (b : Bool). one-if (b && is_none u.ask.status)) is in
-        let all : failed (found_for m (u ∷ us)) ≡ failed (found_for m us) = simp is refl in
-        omega (arith, same, all)
+failed-use m u us = grind (arith, common_steps)
 
 sum-uses : (us : List Use) (ms : List (List ℕ)) → Distinct ms → sum_by (λ m. failed (found_for m us)) ms ≤ given us
 sum-uses [] ms apart = let none = sum-zero (λ m. failed (found_for m [])) ms (every (λ m. failed (found_for m []) ≡ 0) ms (λ m. refl)) in omega (arith, none)
@@ -124,23 +106,8 @@ module _ (n : ℕ) (crew : Crew) (word : List ℕ) (machines : List (List ℕ)) 
   abbrev asks : List Ask
   asks = map (λ (x : Use). x.ask) tied.uses
 
-  are-asks : AreAsksOf n crew word machines journal asks
-  are-asks = record {
-    found = record { uses = tied.uses; of_asks = refl; found = tied.found };
-    due = tied.due;
-    past = few;
-  }
-
   if-asks : IfSome u.asks (AreAsksOf n crew word machines journal)
-  if-asks = by fresh
-    where
-      by : IsNew t → IfSome u.asks (AreAsksOf n crew word machines journal)
-      by (inl none_is) =
-          let is : u.asks ≡ None = tied.told ∙ ap (λ (o : Option (List Ask)). option_map (λ (before : List Ask). before ++ asks) o) none_is in
-          rw is tt
-      by (inr nil_is) =
-          let is : u.asks ≡ Some asks = tied.told ∙ ap (λ (o : Option (List Ask)). option_map (λ (before : List Ask). before ++ asks) o) nil_is in
-          rw is are-asks
+  if-asks = grind (arith, common_steps)
 
   counted : all_give_ups n machines journal ≤ given tied.uses
   counted =
@@ -152,7 +119,4 @@ module _ (n : ℕ) (crew : Crew) (word : List ℕ) (machines : List (List ℕ)) 
       omega (arith, same, few)
 
   pub tied-bisector : IsBisector n crew word machines journal (record { asks = u.asks; before = t.faults; after = u.faults })
-  tied-bisector = record {
-    asked = if-asks;
-    given_up = let many = counted in let rose = tied.rose in omega (arith, many, rose);
-  }
+  tied-bisector = grind (arith, common_steps, if-asks, counted, tied.rose)

@@ -1,9 +1,9 @@
 -- Private: no public contract cites this. What scripts and workers ensure comes to a run of players.
 use Rattle.std.{proofs.Common.{◌≡◌, List, [], ◌∷◌, ◌++◌, length, map, refl, sym, ap, ap₂, subst, ◌∙◌, arith}, specs.Prelude.{drop, take}}
-use Rattle.std.proofs.lemmas.List.{length-take, map-append, take-append-drop}
+use Rattle.std.proofs.lemmas.{List.{length-take, map-append, take-append-drop}, Grind.common_steps}
 use Rattle.track_outside.specs.declared.runner.Runner as runner
 use Rattle.track_model.specs.Tracks.{Track}
-use Rattle.play_crew.specs.{Sights.Sight, Shared.{IsShared, JoinsAll}}
+use Rattle.play_crew.specs.{Sights.Sight, Shared.IsShared}
 use Rattle.play_fits.specs.Fits.{Play}
 use Rattle.play_crew.specs.Shared as seats
 use Rattle.worker_crew.specs.{Runs.{AreBisectedFrom, RunsPlayers, Tally}, Seated.{HaveBisected, HaveRecomputed, bisect_seat, recompute_seat, tally_of}}
@@ -42,11 +42,7 @@ module _ {A : Type 0} (r : runner.Ghosts A) (play : Play) (journals : List Track
       (subst (λ (l : List Tally). AreBisectedFrom play.word 1 c.of_bisect (map bisect_seat c.bisectors) l (map (tally_of r) (take play.bisect worked) ++ behind)) (split began) all)
 
   shared : IsShared play.tracks c.room (c.passes ++ (c.of_recompute ++ c.of_bisect)) (c.scripts ++ (map recompute_seat c.recomputers ++ map bisect_seat c.bisectors)) c.first c.last
-  shared =
-      seats-share play.tracks c.room c.first c.between c.last c.passes c.of_recompute c.of_bisect c.scripts (map recompute_seat c.recomputers) (map bisect_seat c.bisectors)
-      c.of_room c.starts c.splits c.seated recomputed.seated bisected.seated
-      (subst (λ (l : List (List Sight)). JoinsAll c.between (map seats.pass_of c.scripts ++ l) c.last)
-      (ap₂ (λ (xs ys : List (List Sight)). xs ++ ys) (sym (recompute-passes c.recomputers)) (sym (bisect-passes c.bisectors))) c.joins)
+  shared = grind (arith, common_steps, seats-share, play.tracks, map, recomputed.seated, bisected.seated, ap₂, recompute-passes, bisect-passes)
 
   crew-runs : RunsPlayers play journals
   crew-runs = record {

@@ -1,35 +1,22 @@
-use Rattle.std.proofs.{Common.{◌≡◌, inr, ◌≤◌, length, sym, ap, subst, arith}, lemmas.List.length-map}
+use Rattle.std.proofs.{Common.{◌≡◌, inr, ◌≤◌, length, subst, arith}, lemmas.List.length-map, lemmas.Grind.common_steps}
 use Rattle.metric_table.specs.declared.limits.Limit.TheVariants as limit
-use Rattle.history_model.specs.{declared.entries.Author.TheVariants.Bisect, declared.entries.Placed.Placed, Allowed.KeepsLimits, Entries.entries_of}
+use Rattle.history_model.specs.{declared.entries.Placed.Placed, Allowed.KeepsLimits, Entries.entries_of}
 use Rattle.track_model.specs.Tracks.{Track}
-use Rattle.track_room.{specs.Work.{IsUntaken, Work}, proofs.Untaken.unclaimed-untaken}
-use Rattle.bisect_workers.{specs.Bisecting.IsBisected, proofs.Closed.jobs-closed, proofs.Joined.{joined, nothing}}
+use Rattle.track_room.proofs.Untaken.{unclaimed-untaken}
+use Rattle.bisect_workers.proofs.{Closed.jobs-closed, Joined.{joined, nothing}}
 use Rattle.bisect_workers.proofs.last.bisect_last.Goals as goal
 
 pub turns-init : goal.turns-init
-turns-init g c = (
-  subst (λ (t : Track). IsBisected (Bisect 1) c.args.test.now c.args.state.now.track t (g.R.Runner.asked c.args.runner.now) (g.R.Runner.asked c.args.runner.now) (g.R.Runner.faults c.args.runner.now) (g.R.Runner.faults c.args.runner.now))
-      (sym (ap (λ (w : Work). w.track) c.end_claims.ensures))
-      (nothing (Bisect 1) c.args.test.now c.args.state.now.track (g.R.Runner.asked c.args.runner.now) (g.R.Runner.faults c.args.runner.now) (g.R.Runner.faults c.args.runner.now) (omega arith)),
-  subst IsUntaken (sym c.end_claims.ensures) (unclaimed-untaken c.args.state.now.track),
-)
+turns-init g c = grind (arith, common_steps, nothing, unclaimed-untaken)
 
 pub returns-in_err-turn-clause-bisected : goal.returns-in_err-turn-clause-bisected
-returns-in_err-turn-clause-bisected g c =
-    joined (Bisect 1) c.args.test.now c.args.state.now.track c.turns.state.track c.turn.new.state.track (g.R.Runner.asked c.args.runner.now) (g.R.Runner.asked c.turns.runner) (g.R.Runner.asked c.turn.new.runner)
-    (g.R.Runner.faults c.args.runner.now) (g.R.Runner.faults c.turns.runner) (g.R.Runner.faults c.turn.new.runner) c.turns.invariant.0 c.turn.ensures.bisected
+returns-in_err-turn-clause-bisected g c = grind (arith, common_steps, joined)
 
 pub returns-then-not-branch-clause-bisected : goal.returns-then-not-branch-clause-bisected
-returns-then-not-branch-clause-bisected g c =
-    joined (Bisect 1) c.args.test.now c.args.state.now.track c.turns.state.track c.turn.new.state.track (g.R.Runner.asked c.args.runner.now) (g.R.Runner.asked c.turns.runner) (g.R.Runner.asked c.turn.new.runner)
-    (g.R.Runner.faults c.args.runner.now) (g.R.Runner.faults c.turns.runner) (g.R.Runner.faults c.turn.new.runner) c.turns.invariant.0 c.turn.ensures.bisected
+returns-then-not-branch-clause-bisected g c = grind (arith, common_steps, joined)
 
 pub turns-preserved : goal.turns-preserved
-turns-preserved g c = (
-  joined (Bisect 1) c.args.test.now c.args.state.now.track c.turns.state.track c.turn.new.state.track (g.R.Runner.asked c.args.runner.now) (g.R.Runner.asked c.turns.runner) (g.R.Runner.asked c.turn.new.runner)
-      (g.R.Runner.faults c.args.runner.now) (g.R.Runner.faults c.turns.runner) (g.R.Runner.faults c.turn.new.runner) c.turns.invariant.0 c.turn.ensures.bisected,
-  c.turn.ensures.free c.turns.invariant.1,
-)
+turns-preserved g c = grind (arith, common_steps, joined)
 
 pub returns-in_err-turn-clause-free : goal.returns-in_err-turn-clause-free
 returns-in_err-turn-clause-free g c = c.turn.ensures.free c.turns.invariant.1

@@ -1,13 +1,8 @@
-use Rattle.history_model.{proofs.Chosen.entries-push, specs.declared.entries.Author.TheVariants.Bisect, specs.declared.entries.Entry.Entry}
-use Rattle.std.{proofs.Common.{◌≡◌, List, [], ◌∷◌, length, refl, sym, ap, subst, ◌∙◌, Option, Some, None, arith}, specs.Prelude.IsSome}
-use Rattle.std.proofs.lemmas.List.{length-append}
-use Rattle.track_outside.specs.Asked.{Ask}
-use Rattle.bisect_core.specs.Bisections.{Bisection}
-use Rattle.history_model.specs.Entries.{entries_of}
+use Rattle.history_model.specs.{declared.entries.Author.TheVariants.Bisect, Entries.entries_of}
+use Rattle.std.proofs.{Common.{◌≡◌, [], sym, ap, subst, Option, Some, arith}, lemmas.Grind.common_steps}
 use Rattle.track_room.specs.{Settling.entry_said, Asking.IsOpenQuestion, Work.{IsUntaken, Work}, Questions.IsFirstQuestion, Question.Question}
 use Rattle.track_model.specs.Tracks.{Track, with_entry}
-use Rattle.track_room.proofs.Untaken.{settled-untaken}
-use Rattle.bisect_workers.{specs.Bisecting.IsBisected, proofs.Joined.nothing, proofs.Turning.{none-asks, recorded, unused, used}}
+use Rattle.bisect_workers.{specs.Bisecting.IsBisected, proofs.Joined.nothing, proofs.Turning.{recorded, unused, used}}
 use Rattle.bisect_workers.proofs.last.turn.Goals as goal
 
 -- what a state's machine is asked, its machine's history asks
@@ -17,29 +12,14 @@ of-state old lent is o asked = subst (λ (t : Track). IsOpenQuestion (entries_of
 asked-first : (old lent : Track) → lent ≡ old → (q : Question) (o : Option Question) → o ≡ Some q → IsOpenQuestion (entries_of lent.history) [] o → IsFirstQuestion (entries_of old.history) [] q
 asked-first old lent is q o found asked = subst (λ (p : Option Question). IsOpenQuestion (entries_of old.history) [] p) found (of-state old lent is o asked)
 
-pub settle-requires : goal.settle-requires
-settle-requires g c =
-    let first : IsFirstQuestion (entries_of c.args.state.now.track.history) [] c.in-Some.question = asked-first c.args.state.now.track c.track.result.now c.track.ensures c.in-Some.question _ c.in-Some.is c.in_ok-question.ensures in
-    subst (λ (o : Option Bisection). IsSome o) (sym first.question.there) refl
-
 pub returns-in_err-question-clause-bisected : goal.returns-in_err-question-clause-bisected
-returns-in_err-question-clause-bisected g c =
-    nothing (Bisect 1) c.args.test.now c.args.state.now.track (g.R.Runner.asked c.args.runner.now) (g.R.Runner.faults c.args.runner.now) (g.R.Runner.faults c.args.runner.now) (omega arith)
+returns-in_err-question-clause-bisected g c = grind (arith, common_steps, nothing)
 
 pub returns-in_default-clause-bisected : goal.returns-in_default-clause-bisected
-returns-in_default-clause-bisected g c =
-    nothing (Bisect 1) c.args.test.now c.args.state.now.track (g.R.Runner.asked c.args.runner.now) (g.R.Runner.faults c.args.runner.now) (g.R.Runner.faults c.args.runner.now) (omega arith)
-
-pub returns-in_default-clause-done : goal.returns-in_default-clause-done
-returns-in_default-clause-done g c is_false =
-    none-asks (entries_of c.args.state.now.track.history)
-    (of-state c.args.state.now.track c.track.result.now c.track.ensures None (subst (λ (o : Option Question). IsOpenQuestion (entries_of c.track.result.now.history) [] o) c.in_default.is c.in_ok-question.ensures))
+returns-in_default-clause-bisected g c = grind (arith, common_steps, nothing)
 
 pub returns-in_err-status-clause-bisected : goal.returns-in_err-status-clause-bisected
-returns-in_err-status-clause-bisected g c =
-    subst (λ (o : Option (List Ask)). IsBisected (Bisect 1) c.args.test.now c.args.state.now.track c.args.state.now.track (g.R.Runner.asked c.args.runner.now) o (g.R.Runner.faults c.args.runner.now) (g.R.Runner.faults c.ask.new.runner))
-    (sym c.in_err-status.ensures.same)
-    (nothing (Bisect 1) c.args.test.now c.args.state.now.track (g.R.Runner.asked c.args.runner.now) (g.R.Runner.faults c.args.runner.now) (g.R.Runner.faults c.ask.new.runner) c.ask.ensures.counts)
+returns-in_err-status-clause-bisected g c = grind (arith, common_steps, nothing)
 
 pub returns-in_err-settle-clause-bisected : goal.returns-in_err-settle-clause-bisected
 returns-in_err-settle-clause-bisected g c =
@@ -59,20 +39,5 @@ returns-clause-bisected g c =
     used (Bisect 1) c.args.test.now old c.in-Some.question first.question c.in_ok-status.status c.settle.new.self.track is (g.R.Runner.asked c.args.runner.now) (g.R.Runner.asked c.ask.new.runner)
     (g.R.Runner.faults c.args.runner.now) (g.R.Runner.faults c.ask.new.runner) c.in_ok-status.ensures.asked c.in_ok-status.ensures.faults
 
-pub returns-clause-free : goal.returns-clause-free
-returns-clause-free g c free =
-    settled-untaken c.args.state.now (Bisect 1) c.in-Some.question c.in_ok-status.status c.in_ok-settle.field-0 c.settle.new.self c.in_ok-settle.ensures.settled free
-
 pub returns-in_err-settle-clause-free : goal.returns-in_err-settle-clause-free
 returns-in_err-settle-clause-free g c free = subst IsUntaken (sym c.in_err-settle.ensures.same) free
-
-pub returns-clause-more : goal.returns-clause-more
-returns-clause-more g c is_true =
-    let old : Track = c.args.state.now.track in
-    let first : IsFirstQuestion (entries_of old.history) [] c.in-Some.question = asked-first old c.track.result.now c.track.ensures c.in-Some.question _ c.in-Some.is c.in_ok-question.ensures in
-    let e : Entry = entry_said c.in-Some.question.job c.in-Some.question.place c.in_ok-status.status in
-    let is : c.settle.new.self.track ≡ with_entry (Bisect 1) old e =
-    recorded c.within_law.ensures.kept old (Bisect 1) c.in-Some.question c.in_ok-status.status c.in_ok-settle.field-0 c.settle.new.self.track first.question c.requires c.in_ok-settle.ensures.settled.track in
-    let size = length-append (entries_of old.history) (e ∷ []) in
-    let same = ap (λ (t : Track). length (entries_of t.history)) is ∙ ap (λ (es : List Entry). length es) (entries-push old.history (record { author = Bisect 1; entry = e })) in
-    omega (arith, size, same)

@@ -1,4 +1,4 @@
-use Rattle.std.proofs.Common.{arith}
+use Rattle.std.proofs.{Common.arith, lemmas.Grind.common_steps}
 use Rattle.history_model.specs.declared.entries.Author.TheVariants.{Bisect}
 use Rattle.bisect_workers.{proofs.Besides.{joined, nothing, sees-all}, specs.Beside.IsBisectedIn, proofs.worker.bisect_by.Given.Over}
 use Rattle.bisect_workers.proofs.worker.bisect_by.Goals.{After-turn}
@@ -14,9 +14,7 @@ turns-init g c = record {
 -- after one turn more
 bisected : (g : Over) (c : After-turn g) → IsBisectedIn (Bisect c.args.number) c.args.test.now c.args.pass.now c.turn.new.pass (g.A.Runner.asked c.args.runner.now) (g.A.Runner.asked c.turn.new.runner)
     (g.A.Runner.faults c.args.runner.now) (g.A.Runner.faults c.turn.new.runner)
-bisected g c =
-    joined (Bisect c.args.number) c.args.test.now c.args.pass.now c.turns.pass c.turn.new.pass (g.A.Runner.asked c.args.runner.now) (g.A.Runner.asked c.turns.runner) (g.A.Runner.asked c.turn.new.runner)
-    (g.A.Runner.faults c.args.runner.now) (g.A.Runner.faults c.turns.runner) (g.A.Runner.faults c.turn.new.runner) c.turns.invariant.bisected c.turn.ensures.bisected
+bisected g c = grind (arith, common_steps, joined)
 
 pub returns-in_err-turn-clause-bisected : goal.returns-in_err-turn-clause-bisected
 returns-in_err-turn-clause-bisected g c = bisected g (goal.at.returns-in_err-turn-clause-bisected g c).After-turn

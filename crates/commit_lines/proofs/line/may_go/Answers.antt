@@ -11,13 +11,3 @@ returns-then-ends_with_space c =
 
 pub may_become_name-requires : goal.may_become_name-requires
 may_become_name-requires c ends = both_ways c.ends_with_space.result c.if-ends_with_space.false (c.ends_with_space.ensures.1 ends)
-
-pub returns : goal.returns
-returns c =
-    MatchResult-weaker c.may_become_name.result c.may_become_name.ensures (λ may told. (
-      λ is. record {
-        ended = λ ends. absurd (both_ways c.ends_with_space.result c.if-ends_with_space.false (c.ends_with_space.ensures.1 ends));
-        becomes = told.0 is;
-      },
-      λ goes. told.1 goes.becomes,
-    )) (λ e told. told)

@@ -1,23 +1,15 @@
-use Rattle.std.{proofs.Common.{rules, ◌≤◌, length, refl, FitsSigned, arith}, specs.Int.w128, proofs.lemmas.Bool.false≢true, proofs.lemmas.Int.to_z-of_z}
+use Rattle.std.{proofs.Common.{length, arith}, specs.Int.w128, proofs.lemmas.Bool.false≢true, proofs.lemmas.Int.to_z-of_z, proofs.lemmas.Grind.common_steps}
 use Rattle.fixed_value.proofs.{Grammar.{short_value, signed_short, same_digits}, Powers.ten_grows}
 use Rattle.fixed_value.proofs.numeral.read_power.Goals as goal
 
 pub number_after-requires-clause-fits : goal.number_after-requires-clause-fits
-number_after-requires-clause-fits c =
-    let short : length c.split_sign-negative.result.1.now ≤ 38 = omega (arith, c.split_sign-negative.ensures.within, c.requires) in
-    omega (arith, ten_grows (length c.split_sign-negative.result.1.now) 38 short)
+number_after-requires-clause-fits c = grind (arith, common_steps, length, ten_grows)
 
 pub power_with_sign-requires : goal.power_with_sign-requires
-power_with_sign-requires c =
-    let short : length c.split_sign-negative.result.1.now ≤ 38 = omega (arith, c.split_sign-negative.ensures.within, c.requires) in
-    short_value c.split_sign-negative.result.1.now c.number_after.result (c.if-are_digits.ensures.0 refl) short c.number_after.ensures
+power_with_sign-requires c = grind (arith, common_steps, length, short_value)
 
 pub returns-then-are_digits-clause-within : goal.returns-then-are_digits-clause-within
-returns-then-are_digits-clause-within c =
-    let short : length c.split_sign-negative.result.1.now ≤ 38 = omega (arith, c.split_sign-negative.ensures.within, c.requires) in
-    let small = short_value c.split_sign-negative.result.1.now c.number_after.result (c.if-are_digits.ensures.0 refl) short c.number_after.ensures in
-    let fits : FitsSigned w128 c.power_with_sign.result = search rules in
-    simp to_z-of_z (signed_short c.split_sign-negative.result.0 c.number_after.result c.power_with_sign.result c.power_with_sign.ensures small)
+returns-then-are_digits-clause-within c = grind (arith, common_steps, length, short_value, w128, to_z-of_z, signed_short)
 
 pub returns-else-are_digits-clause-only : goal.returns-else-are_digits-clause-only
 returns-else-are_digits-clause-only c power is =

@@ -1,15 +1,12 @@
-use Rattle.std.proofs.{Common.{◌≡◌, ◌≢◌, ◌<◌, length, true, false, arith, ap, sym, ◌∙◌, eqb, length-append}, lemmas.Bool.Decides.nat_tests}
+use Rattle.std.proofs.{Common.{◌≢◌, ◌<◌, length, arith, ap, eqb, length-append}, lemmas.Bool.Decides.nat_tests, lemmas.Grind.common_steps}
 use Rattle.go_bench_text.proofs.Cutting.{IsNext, next_is, none_is}
 use Rattle.go_bench_text.proofs.fields.next_field.Goals as goal
 
 pub returns-then-is_empty-clause-none : goal.returns-then-is_empty-clause-none
-returns-then-is_empty-clause-none c =
-    let empty : eqb (length c.without_white-from.result.now) 0 ≡ true = sym c.is_empty.ensures ∙ c.if-is_empty.true in
-    none_is c.args.text.now c.without_white-from.result.now c.utf8.text c.without_white-from.ensures.trim (grind (arith, nat_tests))
+returns-then-is_empty-clause-none c = grind (arith, common_steps, eqb, length, none_is)
 
 next : (c : goal.After-split_black) → IsNext c.args.text.now c.split_black.result.0.now c.split_black.result.1.now
 next c =
-    let some : eqb (length c.without_white-from.result.now) 0 ≡ false = sym c.is_empty.ensures ∙ c.if-is_empty.false in
     let there : length c.without_white-from.result.now ≢ 0 = λ h. grind (arith, nat_tests) in
     next_is c.args.text.now c.without_white-from.result.now c.split_black.result.0.now c.split_black.result.1.now c.utf8.text c.without_white-from.ensures.trim there
     c.split_black.ensures.joined c.split_black.ensures.front c.split_black.ensures.back c.split_black.ensures.black c.split_black.ensures.stopped

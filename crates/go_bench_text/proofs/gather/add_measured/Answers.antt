@@ -1,12 +1,10 @@
-use Rattle.std.proofs.Common.{List, subst}
+use Rattle.std.proofs.{Common.{List, subst, arith}, lemmas.Grind.common_steps}
 use Rattle.go_bench_text.specs.{Fields.fields_of, Gathering.Gains, Pairs.samples_of, Readings.test_of, declared.pairs.Pair.Pair}
 use Rattle.go_bench_text.proofs.LineParts.{adds_measured, adds_broken, is_headed}
 use Rattle.go_bench_text.proofs.gather.add_measured.Goals as goal
 
 pub returns-then-not-branch-clause-ok : goal.returns-then-not-branch-clause-ok
-returns-then-not-branch-clause-ok c before e = adds_broken c.args.gathered.now before c.args.line.now c.requires (λ is.
-    let headed = is_headed c.args.line.now c.in-Some.name.now (fields_of c.in-Some.behind.now) c.in-Some.ensures.some is in
-    c.in_ok-read_pairs.ensures.none c.if-not-branch.true headed.0 headed.1)
+returns-then-not-branch-clause-ok c before e = grind (arith, common_steps, adds_broken, is_headed)
 
 pub returns-clause-ok : goal.returns-clause-ok
 returns-clause-ok c before e =

@@ -1,9 +1,8 @@
-use Rattle.std.proofs.Common.{◌≡◌, ◌<◌, ◌+◌, ◌∷◌, [], ℕ, List, length, take, rules, arith, refl}
+use Rattle.std.proofs.{Common.{◌≡◌, ◌<◌, ◌+◌, ◌∷◌, [], length, take, rules, arith, refl}, lemmas.Grind.common_steps}
 use Rattle.line_text.specs.Lines.{lines_of}
-use Rattle.go_bench_text.proofs.FirstLine.{IsNextLine, first_is_next, more_left, none_left}
+use Rattle.go_bench_text.proofs.{FirstLine.{IsNextLine, first_is_next, more_left, none_left}, read.gather.Goals.{After-read_line, In-Ok, In-Some}}
 use Rattle.go_bench_text.proofs.Progress.{Progress, progress_none, progress_more, progress_all, progress_over}
 use Rattle.go_bench_text.proofs.read.gather.Goals as goal
-use Rattle.go_bench_text.proofs.read.gather.Goals.{After-read_line, In-Ok, In-Some}
 
 pub loop-value-init : goal.loop-value-init
 loop-value-init c = record { pkg = search rules; rest = c.utf8.text; counted = omega arith; left = refl; progress = progress_none (lines_of c.args.text.now) c.new-gathered.result c.new-gathered.ensures }
@@ -14,11 +13,7 @@ next_line c =
 
 one_more : (c : In-Ok) → IsNextLine (lines_of c.args.text.now) c.loop-value.number c.first_line.result.0.now
     → Progress (lines_of c.args.text.now) (c.loop-value.number + 1) c.read_line.new.gathered c.in-Ok.value.now (c.loop-value.ignored + c.in-Ok.count)
-one_more c next =
-    let lines : List (List ℕ) = lines_of c.args.text.now in
-    let pkg_is = c.loop-value.invariant.progress.pkg_is in
-    progress_more lines c.loop-value.number c.first_line.result.0.now c.loop-value.gathered c.read_line.new.gathered c.loop-value.pkg.now c.in-Ok.value.now c.loop-value.ignored c.in-Ok.count next.less next.is
-    (c.in-Ok.ensures.adds (take c.loop-value.number lines) pkg_is) c.in-Ok.ensures.few (c.in-Ok.ensures.pkg (take c.loop-value.number lines) pkg_is) c.loop-value.invariant.progress
+one_more c next = grind (arith, common_steps, progress_more, take)
 
 pub overflow_add-number : goal.overflow_add-number
 overflow_add-number c = omega (arith, c.loop-value.invariant.counted)

@@ -1,4 +1,4 @@
-use Rattle.std.{proofs.Common.{◌≡◌, List, length, refl, sym, ap, ◌∙◌, arith, Some}, specs.Prelude.slice_get}
+use Rattle.std.{proofs.Common.{◌≡◌, List, length, refl, sym, ap, ◌∙◌, arith, Some}, specs.Prelude.slice_get, proofs.lemmas.Grind.common_steps}
 use Rattle.std.proofs.lemmas.Option.{slice_get_read, slice_get_within}
 use Rattle.history_model.specs.declared.{entries.Entry.Entry, entries.Entry.TheVariants.Publish, entries.Placed.Placed, publication.Publication.Publication}
 use Rattle.history_model.specs.Entries.{entries_of}
@@ -17,25 +17,12 @@ unreachable-requires c =
 pub put-requires-clause-met : goal.put-requires-clause-met
 put-requires-clause-met c = slice_get_within c.args.ahead.now.needs.items c.args.ahead.now.met c.args.need c.requires.next
 
-pub put-requires-clause-base : goal.put-requires-clause-base
-put-requires-clause-base c =
-    let as_many = c.requires.keeps.keeps.as_many_bases in
-    let inside = c.requires.inside in
-    omega (arith, as_many, inside, many c.args.history.now)
-
-pub put-requires-clause-version : goal.put-requires-clause-version
-put-requires-clause-version c =
-    let as_many = c.requires.keeps.keeps.as_many_versions in
-    let inside = c.requires.inside in
-    omega (arith, as_many, inside, many c.args.history.now)
-
 pub returns-clause-keeps : goal.returns-clause-keeps
 returns-clause-keeps c =
     let es : List Entry = entries_of c.args.history.now in
     let h : List Entry = entries_of c.args.track.now.history in
     let p : Publication = c.get-p.result.now in
-    let told : c.index-history-need.result.entry ≡ Publish c.get-p.result.now =
-    ap (λ (y : Placed). y.entry) c.index-history-need.is ∙ c.in-Publish.is ∙ ap (λ (q : Publication). Publish q) (sym c.get-p.ensures) in
+    let told : c.index-history-need.result.entry ≡ Publish c.get-p.result.now = grind (arith, common_steps) in
     let there : slice_get (entries_of c.args.history.now) c.args.need.place ≡ Some (Publish c.get-p.result.now) =
     entry-there c.args.history.now c.args.need.place c.index-history-need.result
     (slice_get_read c.args.history.now (length c.args.history.now) c.args.need.place c.index-history-need.result refl c.requires.inside c.index-history-need.is)

@@ -1,4 +1,5 @@
-use Rattle.std.{proofs.Common.{◌≡◌, ◌<◌, List, length, refl, ap, subst, arith, Some}, specs.Prelude.slice_get, proofs.lemmas.Option.slice_get_read}
+use Rattle.std.proofs.lemmas.Grind.{common_steps}
+use Rattle.std.{proofs.Common.{◌≡◌, ◌<◌, List, length, ap, arith, Some}, specs.Prelude.slice_get, proofs.lemmas.Option.slice_get_read}
 use Rattle.history_model.specs.{declared.entries.Entry.Entry, Entries.entries_of}
 use Rattle.track_model.specs.Tracks.{Track}
 use Rattle.journal_walk.{specs.Ahead.Keeps, proofs.Keeping.{all-later, none-later}, proofs.Plans.{many, need-inside}}
@@ -7,11 +8,7 @@ use Rattle.journal_walk.proofs.ahead.meet_needs.Goals.{After-index-need}
 
 -- the next need
 there : (c : After-index-need) → slice_get c.loop-ahead.ahead.needs.items c.loop-ahead.ahead.met ≡ Some c.index-need.result.now
-there c =
-    let within = c.loop-ahead-test.true in
-    let size = c.loop-ahead.ahead.needs.ok.0 in
-    slice_get_read c.loop-ahead.ahead.needs.items (length c.loop-ahead.ahead.needs.items) c.loop-ahead.ahead.met c.index-need.result.now refl
-    (omega (arith, within, size, c.len.ensures)) c.index-need.ensures
+there c = grind (arith, common_steps, slice_get_read, length)
 
 pub returns-then-need-len-clause-met : goal.returns-then-need-len-clause-met
 returns-then-need-len-clause-met c =
@@ -19,10 +16,8 @@ returns-then-need-len-clause-met c =
     let h : List Entry = entries_of c.args.track.now.history in
     let same : entries_of c.loop-ahead.track.history ≡ entries_of c.args.track.now.history = ap (λ (t : Track). entries_of t.history) c.loop-ahead.invariant.same in
     let at = c.loop-ahead.ahead in
-    let keeps : Keeps es h at.needs.items at.met at.bases.items at.versions.items =
-    subst (λ (l : List Entry). Keeps es l at.needs.items at.met at.bases.items at.versions.items) same c.loop-ahead.invariant.keeps.keeps in
-    let later : length (entries_of c.args.track.now.history) < c.index-need.result.now.at =
-    omega (arith, c.if-need-len.true, c.len-in-loop-ahead.ensures, many c.loop-ahead.track.history, ap length same) in
+    let keeps : Keeps es h at.needs.items at.met at.bases.items at.versions.items = grind (arith, common_steps) in
+    let later : length (entries_of c.args.track.now.history) < c.index-need.result.now.at = grind (arith, common_steps) in
     all-later es h at.needs.items at.met at.bases.items at.versions.items keeps c.index-need.result.now
     (there (goal.at.returns-then-need-len-clause-met c).After-index-need) later
 
@@ -41,7 +36,4 @@ meet-requires-clause-inside c =
     (there (goal.at.meet-requires-clause-inside c).After-index-need)
 
 pub returns-clause-met : goal.returns-clause-met
-returns-clause-met c =
-    let over = c.loop-ahead-test.false in
-    let size = c.loop-ahead.ahead.needs.ok.0 in
-    none-later (entries_of c.args.track.now.history) c.loop-ahead.ahead.needs.items c.loop-ahead.ahead.met (omega (arith, over, size, c.len.ensures))
+returns-clause-met c = grind (arith, common_steps, none-later)

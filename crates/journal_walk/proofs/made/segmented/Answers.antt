@@ -1,3 +1,4 @@
+use Rattle.std.proofs.lemmas.Grind.{common_steps}
 use Rattle.std.{proofs.Common.{ℕ, ℤ, ◌-◌, List, refl, sym, ap₂, ◌∙◌, subst, arith}, specs.Int.w128, proofs.lemmas.Int.to_z-of_z}
 use Rattle.segment_model.specs.Segments.{Position}
 use Rattle.segment_cost.specs.Certificate.{StandsFor}
@@ -8,9 +9,7 @@ use Rattle.journal_walk.proofs.Making.{fits}
 use Rattle.journal_walk.proofs.made.segmented.Goals as goal
 
 pub overflow_sub-redone : goal.overflow_sub-redone
-overflow_sub-redone c =
-    let within = common-within c.args.old.now c.args.then.now.points in
-    omega (arith, c.len.ensures, c.common_prefix.ensures, within.1)
+overflow_sub-redone c = grind (arith, common_steps, common-within)
 
 pub invariant_of-snapshot-clause-begins : goal.invariant_of-snapshot-clause-begins
 invariant_of-snapshot-clause-begins c =

@@ -1,13 +1,11 @@
-use Rattle.std.proofs.{Common.{◌≡◌, List, ℕ, ◌++◌, refl, ap, sym, ◌∙◌}, lemmas.Slice.Eq.bytes_eq-Decides}
+use Rattle.std.proofs.{Common.{◌≡◌, refl, ap, sym, ◌∙◌, arith}, lemmas.Slice.Eq.bytes_eq-Decides, lemmas.Grind.common_steps}
 use Rattle.track_entry.specs.Texts.{entry_text}
 use Rattle.journal_walk.proofs.same.is_same_entry.Goals as goal
 
 pub returns : goal.returns
 returns c one other =
-    let first : c.as_slice.result.now ≡ entry_text c.args.one.now =
-    c.as_slice.ensures.value ∙ c.in_ok-put_entry.ensures.ok ∙ ap (λ (l : List ℕ). l ++ entry_text c.args.one.now) c.new-text.ensures.items in
-    let second : c.as_slice-2.result.now ≡ entry_text c.args.other.now =
-    c.as_slice-2.ensures.value ∙ c.in_ok-put_entry-2.ensures.ok ∙ ap (λ (l : List ℕ). l ++ entry_text c.args.other.now) c.new-more.ensures.items in
+    let first : c.as_slice.result.now ≡ entry_text c.args.one.now = grind (arith, common_steps) in
+    let second : c.as_slice-2.result.now ≡ entry_text c.args.other.now = grind (arith, common_steps) in
     let decides = bytes_eq-Decides c.as_slice.result.now c.as_slice-2.result.now in (
       λ same.
           let texts : c.as_slice.result.now ≡ c.as_slice-2.result.now = decides.0 (sym c.eq.ensures ∙ same) in

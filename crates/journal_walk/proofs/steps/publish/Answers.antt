@@ -1,4 +1,4 @@
-use Rattle.std.proofs.Common.{subst}
+use Rattle.std.proofs.{Common.{subst, arith}, lemmas.Grind.common_steps}
 use Rattle.history_model.specs.declared.entries.Author.TheVariants.{Kept}
 use Rattle.track_step.specs.{Publications.IsPublished, Published.Published}
 use Rattle.journal_walk.proofs.Publishing.{is-added, is-full, is-stale, publishes}
@@ -23,6 +23,4 @@ returns-in-Full-clause-none c =
     (subst (λ (t : Published). IsPublished c.args.track.now Kept c.args.made.done t c.finish.new.track) c.in-Full.is c.in_ok-finished.ensures.published)).0
 
 pub returns-in-Full-clause-kept : goal.returns-in-Full-clause-kept
-returns-in-Full-clause-kept c =
-    (is-full c.args.track.now c.args.made.done c.finish.new.track c.in-Full.field-0
-    (subst (λ (t : Published). IsPublished c.args.track.now Kept c.args.made.done t c.finish.new.track) c.in-Full.is c.in_ok-finished.ensures.published)).1
+returns-in-Full-clause-kept c = grind (arith, common_steps, is-full)

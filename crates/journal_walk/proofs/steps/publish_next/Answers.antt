@@ -1,9 +1,9 @@
-use Rattle.std.proofs.{Common.{◌≡◌, ◌+◌, List, [], ◌∷◌, length, ap, ◌∙◌, subst, arith}, lemmas.List.length-append}
+use Rattle.std.proofs.{Common.{◌≡◌, ◌+◌, List, length, ap, subst, arith}, lemmas.Grind.common_steps}
 use Rattle.history_model.specs.declared.{entries.Entry.Entry, entries.Entry.TheVariants.Publish, publication.Publication.Publication}
 use Rattle.history_model.specs.{Allowed.Allowed, Entries.entries_of}
 use Rattle.machine_state.specs.Made.{publication_from}
 use Rattle.journal_walk.{specs.Ahead.KeepsAhead, specs.Made.IsMadeFor, specs.Steps.Publishes, proofs.Adding.{gone, grown, stays}, proofs.Plans.many}
-use Rattle.journal_walk.proofs.{Publishing.publishes-still, Ready.{of-bases, of-versions}}
+use Rattle.journal_walk.proofs.Ready.{of-bases, of-versions}
 use Rattle.journal_walk.proofs.steps.publish_next.Goals as goal
 
 pub returns-in_default-2-clause-none : goal.returns-in_default-2-clause-none
@@ -30,16 +30,8 @@ returns-clause-keeps c =
     let e : Entry = Publish (publication_from c.in-Some.made.done) in
     let added : Publishes c.args.track.now (publication_from c.in-Some.made.done) c.publish.new.track c.in-Some-2.reply = rw c.in-Some-2.is at c.in_ok-reply.ensures.published in
     let kept : KeepsAhead es h' c.args.ahead.now = grown es h h' e c.args.ahead.now c.requires.kept c.requires.all_met added.grown in
-    let size : length (entries_of c.publish.new.track.history) ≡ length (entries_of c.args.track.now.history) + 1 =
-    ap length added.grown ∙ length-append (entries_of c.args.track.now.history) (e ∷ []) in
+    let size : length (entries_of c.publish.new.track.history) ≡ length (entries_of c.args.track.now.history) + 1 = grind (arith, common_steps) in
     stays es h' (entries_of c.keep-kept.new.track.history) c.let_go.new.self
     (gone es h' c.len-place.result c.args.ahead.now c.let_go.new.self kept (omega (arith, size, c.len-place.ensures, many c.args.track.now.history))
     c.let_go.ensures.needs c.let_go.ensures.met c.let_go.ensures.bases c.let_go.ensures.versions c.let_go.ensures.firsts)
     (ap entries_of c.keep-kept.ensures.history)
-
-pub returns-clause-published : goal.returns-clause-published
-returns-clause-published c =
-    let made : IsMadeFor (entries_of c.args.track.now.history) c.args.p.now c.in-Some.made = rw c.in-Some.is at c.in_ok-made.ensures.some in
-    let added : Publishes c.args.track.now (publication_from c.in-Some.made.done) c.publish.new.track c.in-Some-2.reply = rw c.in-Some-2.is at c.in_ok-reply.ensures.published in
-    publishes-still c.args.track.now c.publish.new.track c.keep-kept.new.track c.args.p.now c.in-Some-2.reply c.keep-kept.ensures.machine c.keep-kept.ensures.history
-    (subst (λ (q : Publication). Publishes c.args.track.now q c.publish.new.track c.in-Some-2.reply) made.is added)

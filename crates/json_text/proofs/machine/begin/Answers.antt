@@ -1,4 +1,4 @@
-use Rattle.std.proofs.Common.{◌≡◌, ◌∷◌, [], ℕ, List, inl, inr, arith, rules, refl, subst, get_or, option_map, true, false}
+use Rattle.std.proofs.{Common.{◌≡◌, ◌∷◌, [], ℕ, List, inl, inr, arith, rules, refl, subst, get_or, option_map, true, false}, lemmas.Grind.common_steps}
 use Rattle.json_text.specs.{Machine.{begin, digits, first_digit}, States.frames_of, Tree.{null, boolean}}
 use Rattle.json_text.{proofs.Variants.{tree_of-null, tree_of-boolean}, specs.declared.state.Digits.Digits}
 use Rattle.json_text.specs.declared.state.Awaits.TheVariants.{FirstItem, FirstKey}
@@ -41,10 +41,7 @@ returns-in_ok-read_quoted-in-34-clause-arrives c =
     (read.0, text_arrives c.args.text.now c.args.place.now _ c.in_ok-read_quoted-in-34.field-0 c.args.stack.now.items c.requires.stands c.requires.some here c.requires.room read.2, omega (arith, c.requires.room))
 
 pub returns-in_err-read_quoted-in-34-clause-arrives : goal.returns-in_err-read_quoted-in-34-clause-arrives
-returns-in_err-read_quoted-in-34-clause-arrives c =
-    let here : get_or c.args.text.now c.args.place.now 0 ≡ 34 = subst (λ (xs : List ℕ). get_or xs c.args.place.now 0 ≡ 34) c.as_bytes-bytes.ensures.value c.in-34.is in
-    fault_handed _ _ c.args.text.now c.args.place.now _ c.args.stack.now.items c.from_residual.ensures.1
-    (quoted_fails _ c.args.text.now c.args.place.now c.read_quoted.new.place c.args.stack.now.items c.requires.stands c.requires.some here c.requires.room c.in_err-read_quoted-in-34.ensures.place.1 c.in_err-read_quoted-in-34.ensures.stops)
+returns-in_err-read_quoted-in-34-clause-arrives c = grind (arith, common_steps, get_or, fault_handed, quoted_fails)
 
 pub returns-in_ok-read_number-in_default-clause-arrives : goal.returns-in_ok-read_number-in_default-clause-arrives
 returns-in_ok-read_number-in_default-clause-arrives c =

@@ -1,13 +1,10 @@
-use Rattle.std.proofs.Common.{◌≡◌, ◌∙◌, ℕ, List, arith, get_or, ap, sym, subst}
+use Rattle.std.proofs.{Common.{◌≡◌, ℕ, List, arith, get_or, sym, subst}, lemmas.Grind.common_steps}
 use Rattle.json_text.specs.{Machine.{first_key, next_key, colon}, Tree.{Members, no_members}, Reached.Stands, States.frames_of}
-use Rattle.json_text.specs.Tree as trees
 use Rattle.json_text.proofs.{Reach.{object_ends, closed_arrives, key_alike, key_arrives, key_fails, fault_handed}, Runs.stands_alike, Variants.tree_of-object}
 use Rattle.json_text.proofs.machine.first_key.Goals as goal
 
 pub returns-then-as_bytes-place-eq125-clause-arrives : goal.returns-then-as_bytes-place-eq125-clause-arrives
-returns-then-as_bytes-place-eq125-clause-arrives c =
-    closed_arrives c.args.text.now _ c.args.place.now 125 c.args.stack.now.items _ _ c.as_bytes.ensures.value c.if-as_bytes-place-eq125.true (tree_of-object c.new-members.result ∙ ap trees.object c.new-members.ensures)
-    c.requires.room (λ here. object_ends c.args.text.now c.args.place.now c.args.stack.now.items c.requires.stands c.requires.some here c.requires.room)
+returns-then-as_bytes-place-eq125-clause-arrives c = grind (arith, common_steps, closed_arrives, tree_of-object, object_ends)
 
 pub returns-clause-arrives : goal.returns-clause-arrives
 returns-clause-arrives c =

@@ -1,11 +1,9 @@
-use Rattle.std.{specs.Str.IsUtf8, proofs.Common.{inr, arith, sym, subst, slice_range}}
+use Rattle.std.proofs.{Common.{inr, arith, sym, subst, slice_range}, lemmas.Grind.common_steps}
 use Rattle.json_text.{specs.States.ReadsNumber, proofs.Reach.{number_boundary, spells_number}}
 use Rattle.json_text.proofs.machine.read_number.Goals as goal
 
 pub part-requires-clause-end_boundary : goal.part-requires-clause-end_boundary
-part-requires-clause-end_boundary c =
-    number_boundary c.args.text.now c.as_bytes-bytes.result.now c.args.place.now c.read_digits-last.new.place c.as_bytes-bytes.ensures.value (subst IsUtf8 c.as_bytes-bytes.ensures.value c.as_bytes-bytes.ensures.utf8)
-    c.read_digits-last.ensures.place.0 c.read_digits-last.ensures.place.1 c.in-Some.ensures.ascii c.read_digits-last.ensures.ascii
+part-requires-clause-end_boundary c = grind (arith, common_steps, number_boundary)
 
 pub returns-in_ok-part-clause-reads : goal.returns-in_ok-part-clause-reads
 returns-in_ok-part-clause-reads c =

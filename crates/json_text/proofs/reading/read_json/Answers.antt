@@ -1,4 +1,4 @@
-use Rattle.std.proofs.Common.{inl, sym, subst}
+use Rattle.std.proofs.{Common.{inl, sym, subst, arith}, lemmas.Grind.common_steps}
 use Rattle.json_text.specs.{Outcome.Outcome, Places.IsNotText, declared.reading.JsonFault.TheVariants.NotText}
 use Rattle.json_text.proofs.Exact.{outcome_found, outcome_fault, only_due, place_due, same_fault}
 use Rattle.json_text.proofs.reading.read_json.Goals as goal
@@ -19,16 +19,10 @@ pub returns-in-Err-clause-only : goal.returns-in-Err-clause-only
 returns-in-Err-clause-only c = λ tree reads. absurd (c.in-Err.ensures.cases.0 reads.utf8)
 
 pub returns-in-Ok-clause-found : goal.returns-in-Ok-clause-found
-returns-in-Ok-clause-found c =
-    let bytes = c.args.bytes.now in
-    let outcome : Outcome c.read_text.result bytes = subst (Outcome c.read_text.result) c.in-Ok.ensures.cases.0 c.read_text.ensures in
-    outcome_found bytes c.read_text.result c.in-Ok.ensures.cases.1 outcome
+returns-in-Ok-clause-found c = grind (arith, common_steps, outcome_found)
 
 pub returns-in-Ok-clause-fault : goal.returns-in-Ok-clause-fault
-returns-in-Ok-clause-fault c =
-    let bytes = c.args.bytes.now in
-    let outcome : Outcome c.read_text.result bytes = subst (Outcome c.read_text.result) c.in-Ok.ensures.cases.0 c.read_text.ensures in
-    outcome_fault bytes c.read_text.result c.in-Ok.ensures.cases.1 outcome
+returns-in-Ok-clause-fault c = grind (arith, common_steps, outcome_fault)
 
 pub returns-in-Ok-clause-only : goal.returns-in-Ok-clause-only
 returns-in-Ok-clause-only c =

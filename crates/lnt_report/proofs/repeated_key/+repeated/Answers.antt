@@ -1,32 +1,15 @@
 use Rattle.std.{proofs.Common.{◌+◌, arith, ap, sym, ◌∙◌, ◌≡◌, ◌∷◌, map, drop, false, None, is_some}, specs.List.list_any, specs.Str.bytes_eq}
 use Rattle.std.{specs.BTreeMap.get_by, specs.Cmp.Lexicographic.slice_cmp, specs.Ordering.nat_cmp, proofs.lemmas.List.at_drop_more}
-use Rattle.std.proofs.lemmas.Map.Text.{btree_map_updates_str}
-use Rattle.json_text.specs.{Tree.nesting, View.{tree_of, members_of}, View.entry_of}
+use Rattle.std.proofs.lemmas.{Map.Text.btree_map_updates_str, Grind.common_steps}
+use Rattle.json_text.specs.View.{tree_of, members_of, entry_of}
 use Rattle.lnt_report.{specs.Rules.{repeated_key, repeated_in_members}, proofs.Keys.{with_key, next_member}, proofs.Lists.{item_no_deeper, member_no_deeper}}
 use Rattle.lnt_report.proofs.repeated_key.+repeated.Goals as goal
 
 pub repeated_in_list-repeated_key_in-requires : goal.repeated_in_list-repeated_key_in-requires
-repeated_in_list-repeated_key_in-requires t c = (
-  omega (
-    arith,
-    c.decreases,
-    item_no_deeper tree_of c.args.items.now c.loop-place.place c.index-items-place.result c.loop-place-test.true,
-    ap (λ x. nesting (tree_of x)) c.index-items-place.is,
-  ),
-  tt,
-)
+repeated_in_list-repeated_key_in-requires t c = grind (arith, common_steps, item_no_deeper)
 
 pub repeated_in_object-repeated_key_in-requires : goal.repeated_in_object-repeated_key_in-requires
-repeated_in_object-repeated_key_in-requires t c = (
-  omega (
-    arith,
-    c.decreases,
-    member_no_deeper entry_of c.args.members.now c.loop-member.member-index c.member-item.result c.loop-member-test.true,
-    ap (λ x. nesting (entry_of x).1) c.member-item.is,
-    ap nesting c.value.ensures,
-  ),
-  tt,
-)
+repeated_in_object-repeated_key_in-requires t c = grind (arith, common_steps, member_no_deeper)
 
 pub repeated_in_object-loop-member-preserved : goal.repeated_in_object-loop-member-preserved
 repeated_in_object-loop-member-preserved t c =
@@ -34,8 +17,7 @@ repeated_in_object-loop-member-preserved t c =
     let key = c.key-key.result.now in
     let item = c.member-item.result in
     let rest = drop (c.loop-member.member-index + 1) c.args.members.now in
-    let new : list_any (λ k. bytes_eq k key) keys ≡ false =
-    sym (c.loop-member.invariant.1 key) ∙ sym (ap is_some c.in_ok-insert.ensures.old) ∙ sym c.is_some.ensures ∙ c.if-is_some.false in
+    let new : list_any (λ k. bytes_eq k key) keys ≡ false = grind (arith, common_steps) in
     let inside : repeated_key (tree_of c.value.result.now) ≡ None = sym c.in_ok-path.ensures ∙ c.in_default.is in (
       key ∷ keys,
       (λ q. ap is_some (btree_map_updates_str key c.loop-member.before c.insert.new.self _ c.in_ok-insert.ensures.updates q)

@@ -1,14 +1,9 @@
-use Rattle.std.proofs.Common.{◌≡◌, ◌∷◌, ◌-◌, ◌<◌, length, take, drop, arith}
+use Rattle.std.proofs.{Common.{◌-◌, length, take, drop, arith}, lemmas.Grind.common_steps}
 use Rattle.lnt_report.proofs.Written.{first_and_rest, tests_begin, tests_step, tests_end}
 use Rattle.lnt_report.proofs.write.put_tests.Goals as goal
 
 pub loop-sample-init : goal.loop-sample-init
-loop-sample-init c =
-    let some : 0 < length c.args.samples.now = omega arith in
-    let split : c.args.samples.now ≡ c.first-item.result ∷ take (length c.args.samples.now - 1) (drop 1 c.args.samples.now) =
-    first_and_rest c.args.samples.now c.first-item.result some c.first-item.is in
-    tests_begin c.args.out.now.items c.put_test.new.out.items c.first-item.result (take (length c.args.samples.now - 1) (drop 1 c.args.samples.now)) c.args.samples.now
-    split c.in_ok-put_test.ensures
+loop-sample-init c = grind (arith, common_steps, length, take, drop, first_and_rest, tests_begin)
 
 pub loop-sample-preserved : goal.loop-sample-preserved
 loop-sample-preserved c =

@@ -1,20 +1,10 @@
-use Rattle.std.proofs.{Common.{◌≡◌, ℕ, ◌<◌, ◌≤◌, ◌+◌, length, ◌⊎◌, inl, inr, arith}, lemmas.Bool.cases_lt}
+use Rattle.std.proofs.{Common.{◌≡◌, ℕ, ◌<◌, ◌≤◌, ◌+◌, length, ◌⊎◌, arith}, lemmas.Grind.common_steps}
 use Rattle.segment_model.specs.Values.{cost_between}
-use Rattle.pelt_core.proofs.Marks.{none-looked, one-looked, looked-as}
+use Rattle.pelt_core.proofs.Marks.{one-looked, looked-as}
 use Rattle.pelt_core.proofs.candidates.mark_between.Goals as goal
 
 between-more : (from i s : ℕ) → (from ≤ s) × (s < i + 1) → ((from ≤ s) × (s < i)) ⊎ (s ≡ i)
-between-more from i s is = elim (cases_lt s i) [
-  | inl before ↦ inl (is.0, before)
-  | inr at ↦ inr (omega (arith, is.1, at))
-]
-
-pub loop-s-init : goal.loop-s-init
-loop-s-init g c = (
-  omega arith,
-  λ len may. none-looked (cost_between g.C.Cost.cost_of (g.C.Cost.positions c.args.cost.now)) len c.args.least.now (length (g.C.Cost.positions c.args.cost.now)) (λ s. (c.args.from ≤ s) × (s < c.args.from)) c.args.pruned.now
-      (λ s is. absurd (omega (arith, is.0, is.1))),
-)
+between-more from i s is = grind (arith, common_steps)
 
 pub loop-s-preserved : goal.loop-s-preserved
 loop-s-preserved g c = (

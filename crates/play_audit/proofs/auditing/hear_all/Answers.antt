@@ -1,27 +1,14 @@
-use Rattle.std.{proofs.Common.{◌≡◌, ◌+◌, ◌-◌, ◌≤◌, ℕ, List, length, length-drop, drop, Some, Ok, refl, sym, ap, subst, ◌∙◌, arith}, specs.Prelude.slice_get}
+use Rattle.std.proofs.lemmas.Grind.{common_steps}
+use Rattle.std.{proofs.Common.{◌≡◌, ◌+◌, ◌-◌, ◌≤◌, ℕ, List, length, drop, Some, Ok, sym, ap, subst, ◌∙◌, arith}, specs.Prelude.slice_get}
 use Rattle.request_reader.specs.Scripts.{IsScript, end}
-use Rattle.play_audit.specs.{Known.tracks_of, Marks.{AreRows, IsFirstOpen, NoneOpen, rows_of}, Heard.{HearsAll, IsRefusedBy, RefusesAt}}
+use Rattle.play_audit.specs.{Known.tracks_of, Marks.{IsFirstOpen, NoneOpen, rows_of}, Heard.{HearsAll, IsRefusedBy, RefusesAt}}
 use Rattle.play_audit.specs.declared.hearing.Told.TheVariants as told
-use Rattle.play_audit.proofs.{Listed.{read_at, tracks_many}, Scripts.{left_some, script_short}}
+use Rattle.play_audit.proofs.{Listed.{read_at, tracks_many}, Scripts.{left_some, script_short}, auditing.hear_all.Goals.{After-deref, In-Some}}
 use Rattle.play_audit.proofs.Judging.{AreFirstHeard, next_heard, none_heard, none_shown, open_unasked, refused_next}
 use Rattle.play_audit.proofs.auditing.hear_all.Goals as goal
-use Rattle.play_audit.proofs.auditing.hear_all.Goals.{After-deref, In-Some}
 
 pub loop-one-init : goal.loop-one-init
-loop-one-init c = (
-  none_heard c.args.journals.now c.args.heard.now (rows_of c.in_ok-marks.marks.items) c.in_ok-marks.ensures.rows c.in_ok-marks.ensures.none,
-  refl,
-  c.into_iter-rest.ensures.rest,
-  omega arith,
-)
-
-pub unreachable-requires : goal.unreachable-requires
-unreachable-requires c =
-    let none = rw c.in_default.is at c.next.ensures.cases in
-    let size : length c.loop-one.rest.rest.items ≡ 0 = sym c.loop-one.rest.rest.ok.0 ∙ none.0 in
-    let left : length c.loop-one.rest.rest.items ≡ length c.args.asked.items - c.loop-one.one-index =
-    ap length c.loop-one.invariant.2 ∙ length-drop c.loop-one.one-index c.args.asked.items in
-    omega (arith, size, left, c.requires.asked.many, c.loop-one-test.true)
+loop-one-init c = grind (arith, common_steps, none_heard)
 
 pub overflow_add-script : goal.overflow_add-script
 overflow_add-script c = omega (arith, c.loop-one.invariant.1, c.loop-one-test.true, c.requires.few)
@@ -40,12 +27,6 @@ count c = c.in-Some.items.ok.0
 
 pub hear-requires-clause-rows : goal.hear-requires-clause-rows
 hear-requires-clause-rows c = let so = c.loop-one.invariant.0 in so.marks.rows_are
-
-pub overflow_add-requests : goal.overflow_add-requests
-overflow_add-requests c =
-    let d = (goal.at.overflow_add-requests c).In-Some in
-    let short : length c.in-Some.items.items ≤ 1_073_741_825 = script_short c.one-item.result.script c.in-Some.items.items (reads d) in
-    omega (arith, short, count d, c.len-count.ensures, c.loop-one.invariant.3, c.loop-one.invariant.1, c.loop-one-test.true, c.requires.few)
 
 pub returns-in-Not : goal.returns-in-Not
 returns-in-Not c =
@@ -82,11 +63,6 @@ loop-one-preserved c =
 
 shape : (c : After-deref) → c.deref.result.now ≡ c.loop-one.marks.items
 shape c = c.deref.ensures.value
-
-pub first_unasked-requires-clause-rows : goal.first_unasked-requires-clause-rows
-first_unasked-requires-clause-rows c =
-    let so = c.loop-one.invariant.0 in
-    subst (λ (m : List _). AreRows (tracks_of c.args.journals.now) (rows_of m)) (sym (shape c)) so.marks.rows_are
 
 pub returns-in-Some-first_unasked : goal.returns-in-Some-first_unasked
 returns-in-Some-first_unasked c =

@@ -1,5 +1,5 @@
 use Rattle.std.{proofs.Common.{◌≡◌, ◌+◌, ℕ, List, [], ◌∷◌, ◌++◌, Some, Err, not, true, refl, sym, ap, subst, ◌∙◌, arith}, specs.Prelude.slice_get}
-use Rattle.std.specs.Result.{is_ok}
+use Rattle.std.{specs.Result.is_ok, proofs.lemmas.Grind.common_steps}
 use Rattle.request_reader.specs.Scripts.{IsScript, cut_off, end}
 use Rattle.audit_model.specs.Verdicts.{IsCutOff}
 use Rattle.play_audit.specs.declared.items.ItemsFault.TheVariants as fault
@@ -44,6 +44,4 @@ pub returns-clause-read : goal.returns-clause-read
 returns-clause-read c = all_read c.args.heard.now c.loop-one.one-index c.loop-one.asked.items c.loop-one.invariant.0 (omega (arith, c.loop-one.auto.one-index-end, c.loop-one-test.false))
 
 pub returns-clause-whole : goal.returns-clause-whole
-returns-clause-whole c =
-    none_cut c.reading_law.ensures.one c.args.heard.now c.loop-one.asked.items
-    (all_read c.args.heard.now c.loop-one.one-index c.loop-one.asked.items c.loop-one.invariant.0 (omega (arith, c.loop-one.auto.one-index-end, c.loop-one-test.false)))
+returns-clause-whole c = grind (arith, common_steps, none_cut, all_read)

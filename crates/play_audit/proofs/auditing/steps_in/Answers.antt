@@ -1,7 +1,7 @@
-use Rattle.std.{proofs.Common.{◌≡◌, ◌+◌, ℕ, ap, ◌∙◌, arith, length, take}, specs.Prelude.sum_by, proofs.lemmas.List.take_all}
+use Rattle.std.{proofs.Common.{◌≡◌, ◌+◌, ℕ, arith, length, take}, specs.Prelude.sum_by}
 use Rattle.track_model.specs.Tracks.{Track}
 use Rattle.audit_model.specs.Verdicts.{track_of}
-use Rattle.play_audit.{specs.Known.tracks_of, proofs.Listed.{read_at, sum_most, sum_next, track_at, tracks_many}, proofs.Opened.steps_fit}
+use Rattle.play_audit.{specs.Known.tracks_of, proofs.Listed.{read_at, sum_most, sum_next, track_at}, proofs.Opened.steps_fit}
 use Rattle.play_audit.proofs.auditing.steps_in.Goals as goal
 use Rattle.play_audit.proofs.auditing.steps_in.Goals.{After-count_of}
 
@@ -21,9 +21,3 @@ overflow_add-steps c =
 
 pub loop-journal-preserved : goal.loop-journal-preserved
 loop-journal-preserved c = grown c
-
-pub returns : goal.returns
-returns c =
-    let ts = tracks_of c.args.journals.now in
-    c.loop-journal.invariant ∙ ap (sum_by (λ (t : Track). length t.history)) (take_all c.loop-journal.journal-index ts
-    (omega (arith, c.loop-journal-test.false, tracks_many c.args.journals.now)))

@@ -1,21 +1,13 @@
-use Rattle.std.proofs.Common.{◌≡◌, ◌+◌, ◌<◌, ◌≤◌, ℕ, List, [], ◌∷◌, ◌++◌, length, get_or, drop, Some, refl, ap, sym, subst, ◌∙◌, arith}
+use Rattle.std.proofs.{Common.{◌≡◌, ◌+◌, ◌<◌, ◌≤◌, ℕ, List, length, get_or, drop, Some, ap, sym, subst, ◌∙◌, arith}, lemmas.Grind.common_steps}
 use Rattle.std.{specs.Prelude.slice_get, proofs.lemmas.Iterator.Adapters.YieldsList-from_vec}
 use Rattle.std.proofs.{lemmas.Iterator.Consumers.{YieldsList-end, YieldsList-turn}, lemmas.List.{length_push, take_all}, Common.{◌-◌, length-drop, take}}
 use Rattle.audit_model.specs.Hearing.{HearsNone}
 use Rattle.play_audit.{specs.Known.tracks_of, specs.Marks.rows_of, specs.Heard.{HearsItem, RefusesAt}, proofs.Listed.read_at}
-use Rattle.play_audit.proofs.{Going.{HasGone, begins_gone, more_gone, none_gone, past_gone, all_gone}, hearing.hear.Goals.{In-Some, In-Some-2, In-None}}
+use Rattle.play_audit.proofs.{Going.{HasGone, more_gone, none_gone, past_gone, all_gone}, hearing.hear.Goals.{In-Some, In-Some-2, In-None}}
 use Rattle.play_audit.proofs.hearing.hear.Goals as goal
 
 pub places_of-requires : goal.places_of-requires
 places_of-requires c = c.requires.sound
-
-pub loop-item-init : goal.loop-item-init
-loop-item-init c = (
-  tt,
-  tt,
-  refl,
-  begins_gone c.args.journals.now c.args.script c.args.items.items c.args.transcript.now c.in_ok-places.places.items (rows_of c.args.marks.now.items) c.in_ok-places.ensures c.requires.rows,
-)
 
 whole : (at : ℕ) (t : List ℕ) → take (length t - at) (drop at t) ≡ drop at t
 whole at t = take_all (length t - at) (drop at t) (omega (arith, length-drop at t))
@@ -57,14 +49,7 @@ pub overflow_add-at : goal.overflow_add-at
 overflow_add-at c = let g = goes c in let within : c.loop-item.at + c.in-Some-2.len ≤ length c.args.transcript.now = g.within in omega (arith, within)
 
 pub loop-item-preserved : goal.loop-item-preserved
-loop-item-preserved c =
-    let size : length c.loop-item.yielded + 1 ≡ length (c.loop-item.yielded ++ c.in-Some.item ∷ []) = omega (arith, length_push c.loop-item.yielded c.in-Some.item) in (
-      tt,
-      tt,
-      ap (λ (k : ℕ). k + 1) c.loop-item.invariant.2 ∙ size,
-      subst (λ (k : ℕ). HasGone c.args.journals.now c.args.script c.args.items.items c.args.transcript.now k (c.loop-item.at + c.in-Some-2.len)
-          c.hear_item.new.places.items (rows_of c.args.marks.now.items) (rows_of c.hear_item.new.marks.items)) size (goes c),
-    )
+loop-item-preserved c = grind (arith, common_steps, length, length_push, rows_of, goes)
 
 pub returns-in-None-2-clause-refused : goal.returns-in-None-2-clause-refused
 returns-in-None-2-clause-refused c = λ request is.

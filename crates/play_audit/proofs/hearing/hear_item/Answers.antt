@@ -1,4 +1,4 @@
-use Rattle.std.proofs.Common.{Err, sym, subst}
+use Rattle.std.proofs.{Common.{Err, sym, subst, arith}, lemmas.Grind.common_steps}
 use Rattle.request_words.specs.Bodies.{Item}
 use Rattle.track_model.specs.{Outcomes.refuses, Replies.apart}
 use Rattle.play_audit.{specs.Heard.Hears, specs.Marks.rows_of, proofs.Apart.{made_none, made_some, refused_apart}}
@@ -8,10 +8,7 @@ pub hear_request-requires : goal.hear_request-requires
 hear_request-requires c = c.requires
 
 pub returns-in-Ok : goal.returns-in-Ok
-returns-in-Ok c =
-    subst (λ (it : Item). Hears c.args.journals.now c.args.script it c.args.transcript.now c.hear_request.result c.args.places.now.items c.hear_request.new.places.items
-    (rows_of c.args.marks.now.items) (rows_of c.hear_request.new.marks.items))
-    (sym c.in-Ok.is) c.hear_request.ensures
+returns-in-Ok c = grind (arith, common_steps)
 
 pub returns-in-Err : goal.returns-in-Err
 returns-in-Err c =

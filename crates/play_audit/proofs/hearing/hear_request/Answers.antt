@@ -1,3 +1,4 @@
+use Rattle.std.proofs.lemmas.Grind.{common_steps}
 use Rattle.std.{proofs.Common.{◌≡◌, ℕ, List, [], Ok, length, get_or, sym, ap, subst, ◌∙◌, arith}, specs.Prelude.slice_get, specs.Prelude.Some}
 use Rattle.request_model.specs.declared.replies.Refusal.TheVariants as refusal
 use Rattle.track_model.specs.{Outcomes.refuses, Replies.apart}
@@ -10,7 +11,7 @@ use Rattle.play_audit.{specs.Places.{IsPlace, IsSound}, proofs.Listed.{map_set, 
 use Rattle.play_fits.specs.Scripts.{Exchange}
 use Rattle.play_audit.{specs.Known.AreKnown, specs.Heard.HearsItem, specs.Replies.{IsHeardNext, IsUnheard}, proofs.Named.{named_none, named_some}}
 use Rattle.history_model.specs.declared.entries.Author.TheVariants as author
-use Rattle.play_audit.{specs.Marks.rows_of, proofs.Apart.{alone_apart, made_none, made_some, unknown_apart}, proofs.hearing.hear_request.Goals.After-deref}
+use Rattle.play_audit.{specs.Marks.rows_of, proofs.Apart.{alone_apart, made_some, unknown_apart}, proofs.hearing.hear_request.Goals.After-deref}
 use Rattle.play_audit.proofs.hearing.hear_request.Goals as goal
 
 pub returns-then-is_alone : goal.returns-then-is_alone
@@ -19,8 +20,7 @@ returns-then-is_alone c =
     record {
       some = made_some c.args.journals.now c.args.script (Ok c.args.request.now) (apart (refuses refusal.OnlyAlone)) told c.args.transcript.now
           c.args.places.now.items (rows_of c.args.marks.now.items) c.apart.result c.apart.ensures c.requires.rows c.begins_with.result c.begins_with.ensures.some;
-      none = made_none c.args.journals.now c.args.script (Ok c.args.request.now) (apart (refuses refusal.OnlyAlone)) told c.args.transcript.now
-          c.args.places.now.items c.apart.result c.apart.ensures c.begins_with.result c.begins_with.ensures.none;
+      none = grind (arith, common_steps);
     }
 
 pub returns-in_default : goal.returns-in_default
@@ -30,33 +30,23 @@ returns-in_default c =
     record {
       some = made_some c.args.journals.now c.args.script (Ok c.args.request.now) (apart (refuses refusal.UnknownMachine)) told c.args.transcript.now
           c.args.places.now.items (rows_of c.args.marks.now.items) c.apart-in_default.result c.apart-in_default.ensures c.requires.rows c.begins_with-in_default.result c.begins_with-in_default.ensures.some;
-      none = made_none c.args.journals.now c.args.script (Ok c.args.request.now) (apart (refuses refusal.UnknownMachine)) told c.args.transcript.now
-          c.args.places.now.items c.apart-in_default.result c.apart-in_default.ensures c.begins_with-in_default.result c.begins_with-in_default.ensures.none;
+      none = grind (arith, common_steps);
     }
 
 pub bounds-journals-i : goal.bounds-journals-i
 bounds-journals-i c = let s = c.in-Some.ensures.some in slice_get_within c.args.journals.now c.in-Some.i s.0 s.1
 
 pub index_mut-place-requires : goal.index_mut-place-requires
-index_mut-place-requires c =
-    let s = c.in-Some.ensures.some in
-    let known = c.requires.known.1 in
-    omega (arith, slice_get_within c.args.journals.now c.in-Some.i s.0 s.1, known.many, c.args.places.now.ok.0)
+index_mut-place-requires c = grind (arith, common_steps, slice_get_within)
 
 pub index_mut-row-requires : goal.index_mut-row-requires
-index_mut-row-requires c =
-    let s = c.in-Some.ensures.some in
-    omega (arith, slice_get_within c.args.journals.now c.in-Some.i s.0 s.1, c.requires.rows.many, rows_many c.args.marks.now.items, tracks_many c.args.journals.now, c.args.marks.now.ok.0)
+index_mut-row-requires c = grind (arith, common_steps, slice_get_within, rows_many, tracks_many)
 
 here : (c : After-deref) → slice_get c.args.journals.now c.in-Some.i ≡ Some c.index-journals-i.result
-here c =
-    let s = c.in-Some.ensures.some in
-    read_at c.args.journals.now c.in-Some.i c.index-journals-i.result (slice_get_within c.args.journals.now c.in-Some.i s.0 s.1) c.index-journals-i.is
+here c = grind (arith, common_steps, read_at, slice_get_within)
 
 about : (c : After-deref) → c.index-journals-i.result.machine ≡ machine_of c.args.request.now
-about c =
-    let s = c.in-Some.ensures.some in
-    ap (λ (j : Journal). j.machine) (same_at c.args.journals.now c.in-Some.i c.index-journals-i.result s.0 (here c) s.1) ∙ s.2 ∙ c.machine.ensures
+about c = grind (arith, common_steps, same_at, here)
 
 history : (c : After-deref) → c.deref.result.now ≡ c.index-journals-i.result.history
 history c = c.deref.ensures.value ∙ ap (λ (j : Journal). j.history) c.journal.view_is
@@ -68,10 +58,7 @@ way c =
     read_at c.args.places.now.items c.in-Some.i c.index_mut-place.result.now (omega (arith, slice_get_within c.args.journals.now c.in-Some.i s.0 s.1, known.many)) c.index_mut-place.ensures.value
 
 row : (c : After-deref) → get_or (rows_of c.args.marks.now.items) c.in-Some.i [] ≡ c.index_mut-row.result.now.items
-row c =
-    let s = c.in-Some.ensures.some in
-    row_at c.args.marks.now.items c.in-Some.i c.index_mut-row.result.now
-    (omega (arith, slice_get_within c.args.journals.now c.in-Some.i s.0 s.1, c.requires.rows.many, rows_many c.args.marks.now.items, tracks_many c.args.journals.now)) c.index_mut-row.ensures.value
+row c = grind (arith, common_steps, row_at, slice_get_within, rows_many, tracks_many)
 
 pub hear-requires-clause-place : goal.hear-requires-clause-place
 hear-requires-clause-place c =

@@ -1,9 +1,9 @@
+use Rattle.std.proofs.lemmas.Grind.{common_steps}
 use Rattle.std.{proofs.Common.{◌≡◌, ◌+◌, ◌<◌, ◌≤◌, ℕ, Bool, List, [], ap, sym, subst, ◌∙◌, arith, length, get_or}, specs.Prelude.{slice_get, Some}}
 use Rattle.history_model.specs.declared.entries.Placed.{Placed}
 use Rattle.journal_reader.specs.Journals.{Journal}
 use Rattle.audit_model.specs.Verdicts.{track_of}
-use Rattle.play_audit.specs.{Known.{lines_in, tracks_of}, Marks.{IsFirstIn, NoneIn, rows_of}}
-use Rattle.play_audit.proofs.Listed.{read_at, row_at, rows_many, track_at, tracks_many}
+use Rattle.play_audit.{specs.Known.{lines_in, tracks_of}, specs.Marks.{IsFirstIn, NoneIn, rows_of}, proofs.Listed.{read_at, track_at, tracks_many}}
 use Rattle.play_audit.proofs.Opened.{AreShut, first_open, lines_fit, none_open, place_fits, shut_next}
 use Rattle.play_audit.proofs.marks.first_unasked.Goals as goal
 use Rattle.play_audit.proofs.marks.first_unasked.Goals.{After-deref-in-loop-i, In-Some}
@@ -15,20 +15,14 @@ history : (c : After-deref-in-loop-i) → c.deref.result.now ≡ c.index-journal
 history c = c.deref.ensures.value ∙ ap (λ (j : Journal). j.history) c.journal.view_is
 
 row : (c : After-deref-in-loop-i) → c.deref-in-loop-i.result.now ≡ get_or (rows_of c.args.marks.now) c.loop-i.i []
-row c =
-    let below : c.loop-i.i < length c.args.marks.now =
-    omega (arith, c.loop-i-test.true, c.requires.rows.many, rows_many c.args.marks.now, tracks_many c.args.journals.now) in
-    c.deref-in-loop-i.ensures.value ∙ sym (row_at c.args.marks.now c.loop-i.i c.index-marks-i.result below c.index-marks-i.is)
+row c = grind (arith, common_steps)
 
 pub unasked_in-requires : goal.unasked_in-requires
 unasked_in-requires c =
     ap length (row c) ∙ c.requires.rows.each c.loop-i.i (track_of c.index-journals-i.result) (here c) ∙ sym (ap length (history c))
 
 first-in : (c : In-Some) → IsFirstIn c.index-journals-i.result.history (get_or (rows_of c.args.marks.now) c.loop-i.i []) c.in-Some.place
-first-in c =
-    let d = (goal.at.returns-in-Some-clause-some c).After-deref-in-loop-i in
-    subst (λ (h : List Placed). IsFirstIn h (get_or (rows_of c.args.marks.now) c.loop-i.i []) c.in-Some.place) (history d)
-    (subst (λ (r : List Bool). IsFirstIn c.deref.result.now r c.in-Some.place) (row d) c.in-Some.ensures.some)
+first-in c = grind (arith, common_steps)
 
 fits-in : (c : In-Some) → c.loop-i.before + c.in-Some.place + 2 ≤ lines_in (tracks_of c.args.journals.now) + 1
 fits-in c =

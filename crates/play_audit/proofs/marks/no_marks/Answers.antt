@@ -1,4 +1,4 @@
-use Rattle.std.proofs.Common.{◌+◌, ℕ, false, replicate, ap, sym, subst, ◌∙◌, arith}
+use Rattle.std.proofs.{Common.{◌+◌, ℕ, false, replicate, ap, sym, subst, ◌∙◌, arith}, lemmas.Grind.common_steps}
 use Rattle.audit_model.specs.Verdicts.{track_of}
 use Rattle.play_audit.{specs.Known.tracks_of, specs.Marks.rows_of, proofs.Listed.{read_at, rows_next, track_at, tracks_many}}
 use Rattle.play_audit.proofs.Marking.{AreRowsFirst, all_rows, next_row}
@@ -14,6 +14,4 @@ loop-journal-preserved c =
     c.loop-journal.invariant (track_at js c.loop-journal.journal-index c.journal-item.result at) made)
 
 pub returns-clause-rows : goal.returns-clause-rows
-returns-clause-rows c =
-    all_rows (tracks_of c.args.journals.now) c.loop-journal.journal-index (rows_of c.loop-journal.marks.items)
-    (omega (arith, c.loop-journal.auto.journal-index-end, c.loop-journal-test.false, tracks_many c.args.journals.now)) c.loop-journal.invariant
+returns-clause-rows c = grind (arith, common_steps, all_rows, tracks_of, rows_of, tracks_many)

@@ -1,4 +1,4 @@
-use Rattle.std.proofs.{Common.{inl, inr, arith}, lemmas.Option.slice_get_within}
+use Rattle.std.proofs.{Common.{inl, inr, arith}, lemmas.Option.slice_get_within, lemmas.Grind.common_steps}
 use Rattle.play_audit.proofs.{Listed.read_at, Marking.shut_more}
 use Rattle.play_audit.proofs.marks.unasked_in.Goals as goal
 use Rattle.play_audit.proofs.marks.unasked_in.Goals.{else-is_of_script-via-then-is_of_script+else-not-marks-i, else-is_of_script-via-else-is_of_script}
@@ -7,13 +7,7 @@ pub returns-then-not-marks-i-clause-some : goal.returns-then-not-marks-i-clause-
 returns-then-not-marks-i-clause-some c =
     let script = c.is_of_script.ensures.yes c.if-is_of_script.true in
     record {
-      open_ = record {
-        entry = c.index-history-i.result;
-        script = script.0;
-        there = read_at c.args.history.now c.loop-i.i c.index-history-i.result c.loop-i-test.true c.index-history-i.is;
-        its = script.1;
-        unmarked = c.if-not-marks-i.true;
-      };
+      open_ = grind (arith, common_steps, script, script.0, read_at, script.1, c.loop-i.i, c.loop-i-test.true, c.index-history-i.is);
       first = c.loop-i.invariant;
     }
 

@@ -1,9 +1,10 @@
+use Rattle.std.proofs.lemmas.Grind.{common_steps}
 use Rattle.std.proofs.{Common.{◌≡◌, ◌-◌, ◌<◌, ◌^◌, ℕ, false, Bool, true, List, length, subst, refl, sym, ap, ◌∙◌, arith}, lemmas.List.length-set}
 use Rattle.history_model.specs.declared.entries.Author.TheVariants.{Script}
 use Rattle.play_model.specs.Replies.{Adds, Tells}
 use Rattle.request_model.specs.Requests.{machine_of}
-use Rattle.play_audit.specs.{Places.{IsBehind, IsBy}, Replies.{HasNone, IsCompared, IsHeardNext, IsNext, IsUnheard}}
-use Rattle.play_audit.proofs.Placing.{added_as, comes_next, goes_ok, has_gone, its_sound, line_at_place, may_ask, may_go, not_its_own, not_new, placed_at, stays_ok, told_as}
+use Rattle.play_audit.specs.{Places.IsBehind, Replies.{HasNone, IsCompared, IsHeardNext, IsNext, IsUnheard}}
+use Rattle.play_audit.proofs.Placing.{added_as, comes_next, has_gone, its_sound, line_at_place, may_ask, may_go, not_its_own, not_new, placed_at, stays_ok, told_as}
 use Rattle.play_audit.proofs.Telling.{heard_added, heard_told, in_none, in_some, none_by, some_by, unheard_added, unheard_told}
 use Rattle.play_audit.proofs.place.hear_named.Goals as goal
 use Rattle.play_audit.proofs.place.hear_named.Goals.{After-added_here}
@@ -14,11 +15,6 @@ go_to-requires-clause-sound c = its_sound (machine_of c.args.request.now) c.args
 
 pub go_to-requires-clause-by : goal.go_to-requires-clause-by
 go_to-requires-clause-by c = may_go (machine_of c.args.request.now) c.args.history.now c.args.known c.args.named.step c.args.walk.now c.requires.by c.requires.since c.requires.within
-
-pub told_here-requires : goal.told_here-requires
-told_here-requires c =
-    let both = may_ask c.args.request.now c.args.history.now c.args.known c.args.named.step c.args.walk.now c.go_to.new.walk c.requires.by c.in_ok-go_to.ensures c.requires.few c.requires.shared c.requires.sound c.requires.since in
-    record { may = both.0; knows = both.1 }
 
 pub returns-then-tells_of_none : goal.returns-then-tells_of_none
 returns-then-tells_of_none c =
@@ -62,25 +58,8 @@ returns-then-not-is_of_script-clause-none c =
 pub go_to-requires-2-clause-sound : goal.go_to-requires-2-clause-sound
 go_to-requires-2-clause-sound c = its_sound (machine_of c.args.request.now) c.args.history.now c.args.known c.args.walk.now c.requires.by c.requires.sound
 
-pub go_to-requires-2-clause-by : goal.go_to-requires-2-clause-by
-go_to-requires-2-clause-by c =
-    may_go (machine_of c.args.request.now) c.args.history.now c.args.known (c.args.named.step - 1) c.args.walk.now c.requires.by
-    (omega (arith, c.requires.since, c.if-named-known.false)) (omega (arith, c.requires.within))
-
 pub added_here-requires : goal.added_here-requires
-added_here-requires c =
-    let both = may_ask c.args.request.now c.args.history.now c.args.known (c.args.named.step - 1) c.args.walk.now c.go_to-2.new.walk c.requires.by c.in_ok-go_to-2.ensures c.requires.few c.requires.shared c.requires.sound
-    (omega (arith, c.requires.since, c.if-named-known.false)) in
-    let some : c.args.named.step - 1 < length c.args.history.now = omega (arith, c.requires.since, c.if-named-known.false, c.requires.within) in
-    let placed = placed_at c.args.history.now (c.args.named.step - 1) c.index-history-named.result some c.index-history-named.is in
-    record {
-      may = both.0;
-      knows = both.1;
-      next = comes_next (machine_of c.args.request.now) c.args.history.now c.args.known (c.args.named.step - 1) c.go_to-2.new.walk
-          (has_gone (machine_of c.args.request.now) c.args.history.now c.args.known (c.args.named.step - 1) c.args.walk.now c.go_to-2.new.walk c.requires.by c.in_ok-go_to-2.ensures)
-          c.args.transcript.now c.index-history-named.result placed;
-      said = (line_at_place c.args.history.now (c.args.named.step - 1) c.index-history-named.result c.requires.sound.lines placed).entry;
-    }
+added_here-requires c = grind (arith, common_steps, may_ask, length, placed_at, comes_next, has_gone, line_at_place)
 
 pub mark-requires-clause-some : goal.mark-requires-clause-some
 mark-requires-clause-some c = omega (arith, c.requires.since, c.if-named-known.false)
@@ -97,12 +76,6 @@ module _ (c : After-added_here) where
       added_as (machine_of c.args.request.now) c.args.history.now c.args.known (c.args.named.step - 1) c.go_to-2.new.walk gone c.args.transcript.now (Script c.args.script)
       c.index-history-named.result.author c.args.request.now c.args.named.step c.added_here.result (c.is_of_script.ensures.0 c.if-not-is_of_script.false)
       (omega (arith, c.requires.since, c.if-named-known.false)) c.added_here.ensures.compared
-
-pub returns-in-Ok-Some-clause-by : goal.returns-in-Ok-Some-clause-by
-returns-in-Ok-Some-clause-by c =
-    in_some c.added_here.result c.in-Ok-Some.field-0 c.in-Ok-Some.len (λ len. IsBy (machine_of c.args.request.now) c.args.history.now c.args.named.step c.added_here.new.walk) c.in-Ok-Some.is c.in-Ok-Some.field-0-is
-    (goes_ok (machine_of c.args.request.now) c.args.history.now c.args.known (c.args.named.step - 1) c.go_to-2.new.walk (gone (goal.at.returns-in-Ok-Some-clause-by c).After-added_here) c.args.transcript.now
-    c.along_law.ensures.stays c.added_here.new.walk c.args.named.step c.added_here.result (omega (arith, c.requires.since, c.if-named-known.false)) c.requires.within c.added_here.ensures.goes)
 
 pub returns-in-Ok-Some-clause-some : goal.returns-in-Ok-Some-clause-some
 returns-in-Ok-Some-clause-some c =

@@ -25,11 +25,6 @@ returns-then-len-most-clause-none c =
     c.requires.known.there c.args.last c.requires.known.is_last full)
     (subst (λ (x : Walked). IfOk c.refused.result (λ o. IfNone o ((rest : List ℕ) → c.args.transcript.now ≢ text_of (reply_of (added x) (refuses (Full Steps))) ++ rest))) c.in_ok-_cuts.ensures.same c.refused.ensures.none)
 
-pub passes_cuts-requires : goal.passes_cuts-requires
-passes_cuts-requires c =
-    let k = c.requires.known.knows in
-    record { knows = record { along = k.along; sound = k.sound; few = k.few; since = omega (arith, c.max.ensures, k.since, c.requires.known.past) } }
-
 pub returns-then-branch-clause-some : goal.returns-then-branch-clause-some
 returns-then-branch-clause-some c =
     let left : length c.args.walk.now.track.history < most Steps = omega (arith, c.if-len-most.false, c.len.ensures, c.most.ensures) in

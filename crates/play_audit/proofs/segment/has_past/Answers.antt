@@ -1,6 +1,6 @@
-use Rattle.std.proofs.{Common.{◌≡◌, ◌+◌, ◌<◌, length, subst, arith}, lemmas.Bool.ltb-true}
+use Rattle.std.proofs.{Common.{subst, arith}, lemmas.Bool.ltb-true}
 use Rattle.journal_walk.specs.Walks.{Walked, GoesOn, IsStuck}
-use Rattle.play_audit.proofs.{Passing.{few_so_far, goes_further, never_stuck, not-more, some_pass, starts_going}, Walking.grown_length}
+use Rattle.play_audit.proofs.Passing.{few_so_far, goes_further, never_stuck, not-more, some_pass, starts_going}
 use Rattle.play_audit.proofs.segment.has_past.Goals as goal
 
 pub loop-past-init : goal.loop-past-init
@@ -18,13 +18,6 @@ pub unreachable-requires : goal.unreachable-requires
 unreachable-requires c =
     never_stuck c.args.past.now c.loop-past.past (record { test = c.args.test.now; metric = c.args.metric.now }) c.args.to c.args.room c.requires.sound c.loop-past.invariant
     (omega (arith, c.len.ensures, c.loop-past-test.true)) (subst IsStuck c.in_ok-cuts_now.ensures.same (c.in_ok-go_on.ensures.stuck c.if-not-branch.true))
-
-pub loop-past-smaller : goal.loop-past-smaller
-loop-past-smaller c =
-    let goes : GoesOn c.loop-past.past c.go_on.new.self = subst (λ (x : Walked). GoesOn x c.go_on.new.self) c.in_ok-cuts_now.ensures.same (c.in_ok-go_on.ensures.added c.if-not-branch.false) in
-    let grown : length c.go_on.new.self.track.history ≡ length c.loop-past.past.track.history + 1 = grown_length c.loop-past.past c.go_on.new.self goes in
-    let low : length c.loop-past.past.track.history < c.args.to = omega (arith, c.len.ensures, c.loop-past-test.true) in
-    omega (arith, grown, low)
 
 pub loop-past-preserved : goal.loop-past-preserved
 loop-past-preserved c =

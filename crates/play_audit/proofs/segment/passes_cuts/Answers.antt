@@ -1,7 +1,6 @@
-use Rattle.std.{proofs.Common.{◌≡◌, ◌-◌, ◌≤◌, ℕ, true, false, ap, ◌∙◌}, specs.Prelude.IfOk}
+use Rattle.std.{proofs.Common.{◌≡◌, ◌-◌, ◌≤◌, ℕ, true, false, ap, ◌∙◌, arith}, specs.Prelude.IfOk, proofs.lemmas.Grind.common_steps}
 use Rattle.metric_table.specs.{Limits.most, declared.limits.Limit.TheVariants.Cuts}
-use Rattle.history_model.specs.{Entries.entries_of, Publications.cut_count}
-use Rattle.track_model.specs.Tracks.{Track}
+use Rattle.history_model.specs.Publications.{cut_count}
 use Rattle.journal_walk.specs.Walks.{Walked, added}
 use Rattle.play_audit.{specs.Segments.{HasFewCuts, PassesCuts}, proofs.Passing.alike, proofs.segment.passes_cuts.Goals.After-has_past}
 use Rattle.play_audit.proofs.segment.passes_cuts.Goals as goal
@@ -11,9 +10,7 @@ module _ (c : After-has_past) where
   same = c.in_ok-go_to.ensures.by.same ∙ ap (λ (w : Walked). w.history) c.in_ok-past.ensures
 
   room : c.most.result - c.cut_count.result ≡ most Cuts - cut_count (added c.args.walk.now)
-  room =
-      ap (λ (n : ℕ). n - c.cut_count.result) c.most.ensures
-      ∙ ap (λ (n : ℕ). most Cuts - n) (c.cut_count.ensures.count ∙ ap (λ (t : Track). cut_count (entries_of t.history)) c.track.ensures)
+  room = grind (arith, common_steps)
 
 pub returns-clause-yes : goal.returns-clause-yes
 returns-clause-yes c =

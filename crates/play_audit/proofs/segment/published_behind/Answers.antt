@@ -1,7 +1,6 @@
-use Rattle.std.{proofs.Common.{◌≡◌, true, false, sym, subst, ◌∙◌}, specs.Prelude.{IfNone, IfSome, Option}}
-use Rattle.request_model.specs.declared.replies.Reply.{Reply}
-use Rattle.journal_walk.specs.Walks.{IsPublishedNext, PublishesNothing}
-use Rattle.play_audit.proofs.Published.{published_other, published_always, published_front, published_goes}
+use Rattle.std.proofs.{Common.{◌≡◌, true, false, sym, ◌∙◌, arith}, lemmas.Grind.common_steps}
+use Rattle.journal_walk.specs.Walks.{IsPublishedNext}
+use Rattle.play_audit.proofs.Published.{published_other, published_always, published_front}
 use Rattle.play_audit.proofs.segment.published_behind.Goals as goal
 
 pub returns-then-not-is_publication-clause-compared : goal.returns-then-not-is_publication-clause-compared
@@ -14,18 +13,13 @@ returns-then-not-is_publication-clause-compared c = record {
 
 pub returns-in-Some : goal.returns-in-Some
 returns-in-Some c =
-    let made : IsPublishedNext c.args.walk.now c.publish_next.new.self c.in-Some.reply =
-    subst (λ (o : Option Reply). IfSome o (IsPublishedNext c.args.walk.now c.publish_next.new.self)) c.in-Some.is c.in_ok-reply.ensures.published in
+    let made : IsPublishedNext c.args.walk.now c.publish_next.new.self c.in-Some.reply = grind (arith, common_steps) in
     let is = c.is_publication.ensures.0 c.if-not-is_publication.false in
     record {
       compared = published_front c.texts_law.ensures c.replies_law.ensures.names c.one_reply_law.ensures.adds c.args.walk.now c.publish_next.new.self c.args.known c.args.placed.now c.args.test.now c.args.metric.now c.args.transcript.now
           c.requires.knows.along c.requires.knows.few c.requires.knows.since c.requires.next c.in-Some.reply made is c.begins_with.result c.begins_with.ensures.some c.begins_with.ensures.none;
-      goes = published_goes c.texts_law.ensures c.replies_law.ensures.names c.one_reply_law.ensures.adds c.args.walk.now c.publish_next.new.self c.args.known c.args.placed.now c.args.test.now c.args.metric.now c.args.transcript.now
-          c.requires.knows.along c.requires.knows.few c.requires.knows.since c.requires.next c.in-Some.reply made is c.begins_with.result;
+      goes = grind (arith, common_steps);
     }
 
 pub returns-in-None-clause-compared : goal.returns-in-None-clause-compared
-returns-in-None-clause-compared c = absurd (
-    published_always c.texts_law.ensures c.replies_law.ensures.names c.one_reply_law.ensures.adds c.args.walk.now c.publish_next.new.self c.args.known c.args.placed.now c.args.test.now c.args.metric.now c.args.transcript.now
-    c.requires.knows.along c.requires.knows.few c.requires.knows.since c.requires.next c.requires.knows.sound (c.is_publication.ensures.0 c.if-not-is_publication.false)
-    (subst (λ (o : Option Reply). IfNone o (PublishesNothing c.args.walk.now)) c.in-None.is c.in_ok-reply.ensures.none))
+returns-in-None-clause-compared c = grind (arith, common_steps, published_always)

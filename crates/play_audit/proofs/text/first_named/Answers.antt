@@ -1,11 +1,9 @@
-use Rattle.std.proofs.{Common.{◌≡◌, ◌∷◌, ◌++◌, ◌-◌, ℕ, List, decimal, length, take, drop, ap, ◌∙◌, arith}, lemmas.List.take_all}
+use Rattle.std.proofs.{Common.{◌≡◌, ◌∷◌, ◌++◌, ◌-◌, ℕ, List, decimal, length, take, drop, ap, arith}, lemmas.Grind.common_steps}
 use Rattle.play_audit.proofs.Fronts.{no_space, same_word}
 use Rattle.play_audit.proofs.text.first_named.Goals as goal
 
 behind_first : (text tail : List ℕ) → text ≡ 64 ∷ tail → take (length text - 1) (drop 1 text) ≡ tail
-behind_first text tail is =
-    let size : length text ≡ length (64 ∷ tail) = ap length is in
-    ap (λ (l : List ℕ). take (length text - 1) (drop 1 l)) is ∙ take_all (length text - 1) tail (omega (arith, size))
+behind_first text tail is = grind (arith, common_steps)
 
 pub returns-in_default-first_word-clause-none : goal.returns-in_default-first_word-clause-none
 returns-in_default-first_word-clause-none c = λ step letter small names.

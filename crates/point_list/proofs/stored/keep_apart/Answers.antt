@@ -1,3 +1,4 @@
+use Rattle.std.proofs.lemmas.Grind.{common_steps}
 use Rattle.std.{proofs.Common.{◌≡◌, ◌≤◌, ◌∙◌, ◌-◌, ℕ, List, ℤ, length, take, drop, ap, ap₂, sym, subst, pos, arith}, specs.Prelude.filter}
 use Rattle.std.{specs.Int.{w64, cast_unsigned}, specs.List.Sorted.IsNonDecreasingBy, proofs.lemmas.List.{length-drop, drop-take}}
 use Rattle.segment_model.specs.Edits.{by_another}
@@ -60,11 +61,7 @@ taken c =
     (λ k e le lt. rw is (c.count_up_to-high.ensures.rest k e le (omega (arith, long, lt))))
 
 pub returns-then-low-end-clause-kept : goal.returns-then-low-end-clause-kept
-returns-then-low-end-clause-kept c =
-    ap₂ (λ (ss vs : List ℤ). samples_of (as_steps ss) vs) (c.close_gap.ensures.up c.if-low-end.true) (c.close_gap-2.ensures.up c.if-low-end.true)
-    ∙ taken (goal.at.returns-then-low-end-clause-kept c).After-count_up_to-high
+returns-then-low-end-clause-kept c = grind (arith, common_steps, ap₂, samples_of, as_steps, taken, goal.at.returns-then-low-end-clause-kept)
 
 pub returns-else-low-end-clause-kept : goal.returns-else-low-end-clause-kept
-returns-else-low-end-clause-kept c =
-    ap₂ (λ (ss vs : List ℤ). samples_of (as_steps ss) vs) (c.close_gap.ensures.down c.if-low-end.false) (c.close_gap-2.ensures.down c.if-low-end.false)
-    ∙ taken (goal.at.returns-else-low-end-clause-kept c).After-count_up_to-high
+returns-else-low-end-clause-kept c = grind (arith, common_steps, ap₂, samples_of, as_steps, taken, goal.at.returns-else-low-end-clause-kept)

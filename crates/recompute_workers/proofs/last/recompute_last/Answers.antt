@@ -1,9 +1,9 @@
-use Rattle.std.{proofs.Common.{◌≡◌, ℕ, ◌+◌, true, List, take, [], ◌∷◌, ◌++◌, sym, ap, subst, ◌∙◌}, specs.Prelude.{All, Contains}}
-use Rattle.std.proofs.lemmas.List.{take_all, take_more, Elements.{All-contains, All-push, All-weaker}}
+use Rattle.std.{proofs.Common.{◌≡◌, ℕ, ◌+◌, true, List, take, [], ◌∷◌, ◌++◌, sym, ap, subst, ◌∙◌, arith}, specs.Prelude.{All, Contains}}
+use Rattle.std.proofs.lemmas.{List.{take_all, take_more}, List.Elements.{All-contains, All-push, All-weaker}, Grind.common_steps}
 use Rattle.history_model.specs.{declared.entries.Author.TheVariants.Recompute, Allowed.Legal, Entries.entries_of, Runs.{Series, is_known}}
 use Rattle.track_model.specs.Tracks.{Track}
-use Rattle.track_room.specs.Work.{Work, history_of}
-use Rattle.recompute_workers.{specs.Quiet.IsQuiet, proofs.Current.current-of, proofs.Growing.{adds-more, known-more, quiet-more}}
+use Rattle.track_room.specs.Work.{history_of}
+use Rattle.recompute_workers.{specs.Quiet.IsQuiet, proofs.Current.current-of, proofs.Growing.{adds-more, quiet-more}}
 use Rattle.recompute_workers.proofs.last.recompute_last.Goals as goal
 
 pub returns-in_err-recompute_series-clause-added : goal.returns-in_err-recompute_series-clause-added
@@ -27,8 +27,7 @@ loop-name-preserved c =
     let more : take (i + 1) names ≡ take i names ++ x ∷ [] = take_more names i x c.loop-name-test.true ∙ ap (λ (y : Series). take i names ++ y ∷ []) (sym c.name-item.is) in
     record {
       added = adds-more (Recompute 1) c.args.work.now.track b d c.loop-name.invariant.added c.recompute_series.ensures.added;
-      known = λ s. known-more c.growth_law.ensures.acceptances c.growth_law.ensures.retractions c.publication_law.ensures.cuts c.setting_law.ensures.stays c.touch_law.ensures.last c.touch_law.ensures.known c.stale_law.ensures
-          (Recompute 1) b d legal c.recompute_series.ensures.added s ∙ c.loop-name.invariant.known s;
+      known = grind (arith, common_steps);
       free = c.recompute_series.ensures.free c.loop-name.invariant.free;
       quiet = subst (λ (ns : List Series). All (λ (s : Series). IsQuiet (entries_of d.history) s) ns) (sym more)
           (All-push (λ (s : Series). IsQuiet (entries_of d.history) s) (take i names) x
@@ -40,9 +39,7 @@ pub returns-clause-quiet : goal.returns-clause-quiet
 returns-clause-quiet c s known =
     let names : List Series = c.as_slice-name-items.result.now in
     let h = history_of c.loop-name.work in
-    let first : is_known s (entries_of c.track.result.now.history) ≡ true =
-    ap (λ (t : Track). is_known s (entries_of t.history)) (c.track.ensures ∙ ap (λ (w : Work). w.track) c.end_claims.ensures)
-    ∙ sym (c.loop-name.invariant.known s) ∙ known in
+    let first : is_known s (entries_of c.track.result.now.history) ≡ true = grind (arith, common_steps) in
     let has : Contains names s = subst (λ (ns : List Series). Contains ns s) (sym c.as_slice-name-items.ensures) ((c.in_ok-names.ensures s).0 first) in
     let all : All (λ (t : Series). IsQuiet h t) names =
     subst (λ (ns : List Series). All (λ (t : Series). IsQuiet h t) ns) (take_all c.loop-name.name-index names c.loop-name-test.false) c.loop-name.invariant.quiet in

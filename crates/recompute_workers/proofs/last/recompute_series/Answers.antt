@@ -1,6 +1,5 @@
 use Rattle.history_model.{proofs.Chosen.entries-push, specs.declared.entries.Author.TheVariants.Recompute, specs.declared.entries.Entry.Entry}
 use Rattle.std.proofs.Common.{◌≡◌, inl, inr, ℕ, List, length, sym, ap, ap₂, subst, ◌∙◌, Option, Some}
-use Rattle.metric_table.specs.declared.limits.Limit.{Limit}
 use Rattle.segment_cost.specs.declared.done.Done.{Done}
 use Rattle.history_model.specs.{Allowed.{KeepsLimits, Legal}, Entries.entries_of, Runs.Series}
 use Rattle.publication_index.specs.Kept.{series_of}
@@ -20,35 +19,12 @@ pair test metric = record { test = test; metric = metric }
 pub returns-in_err-snapshot-clause-added : goal.returns-in_err-snapshot-clause-added
 returns-in_err-snapshot-clause-added c = inl (ap bare c.in_err-snapshot.ensures.same.track)
 
-pub returns-in_err-snapshot-clause-free : goal.returns-in_err-snapshot-clause-free
-returns-in_err-snapshot-clause-free c free =
-    untaken-stays c.args.work.now c.stale_snapshot.new.self c.in_err-snapshot.ensures.same.claims c.in_err-snapshot.ensures.same.jobs free
-
-pub returns-in_default-clause-free : goal.returns-in_default-clause-free
-returns-in_default-clause-free c free =
-    stale-untaken c.args.work.now (pair c.test.result.now c.metric.result.now) _ c.stale_snapshot.new.self c.in_ok-snapshot.ensures.taken free
-
-pub returns-in_err-made-clause-free : goal.returns-in_err-made-clause-free
-returns-in_err-made-clause-free c free =
-    stale-untaken c.args.work.now (pair c.test.result.now c.metric.result.now) _ c.stale_snapshot.new.self c.in_ok-snapshot.ensures.taken free
-
-pub returns-in_default-clause-added : goal.returns-in_default-clause-added
-returns-in_default-clause-added c =
-    let fresh = subst (λ (o : Option Snapshot). TakesStale c.args.work.now (pair c.test.result.now c.metric.result.now) o c.stale_snapshot.new.self) c.in_default.is c.in_ok-snapshot.ensures.taken in
-    inl (ap bare fresh.1.track)
-
 pub returns-in_default-clause-quiet : goal.returns-in_default-clause-quiet
 returns-in_default-clause-quiet c =
     let s_is : pair c.test.result.now c.metric.result.now ≡ c.args.name.now = ap₂ pair c.test.ensures c.metric.ensures in
     let fresh = subst (λ (o : Option Snapshot). TakesStale c.args.work.now (pair c.test.result.now c.metric.result.now) o c.stale_snapshot.new.self) c.in_default.is c.in_ok-snapshot.ensures.taken in
     inl (ap (λ (t : Track). is_stale (entries_of t.history) c.args.name.now) fresh.1.track
     ∙ ap (λ (s : Series). is_stale (history_of c.args.work.now) s) (sym s_is) ∙ fresh.0)
-
-pub returns-in_err-made-clause-added : goal.returns-in_err-made-clause-added
-returns-in_err-made-clause-added c =
-    let s : Series = pair c.test.result.now c.metric.result.now in
-    let found = subst (λ (o : Option Snapshot). TakesStale c.args.work.now s o c.stale_snapshot.new.self) c.in-Some.is c.in_ok-snapshot.ensures.taken in
-    inl (bare-taken c.args.work.now.track s c.stale_snapshot.new.self.track found.2.track)
 
 module _ (c : In_ok-made) where
   abbrev t : Track

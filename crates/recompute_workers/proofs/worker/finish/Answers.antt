@@ -1,4 +1,4 @@
-use Rattle.std.proofs.{Common.◌∙◌, lemmas.Option.slice_get_within}
+use Rattle.std.proofs.lemmas.Option.{slice_get_within}
 use Rattle.history_model.specs.declared.entries.Author.{Author, TheVariants.Recompute}
 use Rattle.track_room.{specs.Sights.{SeesMore, Visits}, specs.Taking.Publishes, proofs.Segments.made-of-taken}
 use Rattle.recompute_workers.{specs.Works.Works, proofs.Working.{works-change, works-publishes, works-sees, works-trans, zip-from, zip-trans}}
@@ -11,11 +11,6 @@ pub returns-in-Err-clause-works : goal.returns-in-Err-clause-works
 returns-in-Err-clause-works g c =
     let author : Author = Recompute c.args.number in
     works-change author c.args.claim.machine SeesMore (works-sees author) c.args.pass.now c.release.new.pass c.release.ensures.sees
-
-pub publish-requires-clause-claimed : goal.publish-requires-clause-claimed
-publish-requires-clause-claimed g c =
-    let taken = c.requires.taken.2.2 in
-    record { test = c.in-Ok.ensures.test ∙ taken.test; metric = c.in-Ok.ensures.metric ∙ taken.metric }
 
 pub publish-requires-clause-made : goal.publish-requires-clause-made
 publish-requires-clause-made g c =

@@ -1,12 +1,10 @@
+use Rattle.std.proofs.{Common.arith, lemmas.Grind.common_steps}
 use Rattle.history_model.specs.declared.entries.Author.{Author, TheVariants.Recompute}
 use Rattle.recompute_workers.{specs.Works.Works, proofs.Working.{works-none, works-trans, zip-none, zip-trans}}
 use Rattle.recompute_workers.proofs.worker.recompute_by.Goals as goal
 
 pub turns-init : goal.turns-init
-turns-init g c = record {
-  room = c.requires;
-  works = zip-none (Works (Recompute c.args.number)) (works-none (Recompute c.args.number)) c.args.pass.now;
-}
+turns-init g c = grind (arith, common_steps, zip-none, works-none)
 
 pub returns-in_err-turn-clause-works : goal.returns-in_err-turn-clause-works
 returns-in_err-turn-clause-works g c =

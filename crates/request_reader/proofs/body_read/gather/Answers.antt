@@ -1,4 +1,4 @@
-use Rattle.std.proofs.{Common.{rules, ◌≡◌, ◌+◌, true, false, refl}, lemmas.Result.err_from_is_err_and}
+use Rattle.std.proofs.{Common.{rules, ◌≡◌, ◌+◌, false, refl}, lemmas.Result.err_from_is_err_and}
 use Rattle.request_reader.proofs.{Stops.few_kept, WholePieces.{needs_body, stops_inside}}
 use Rattle.request_reader.proofs.body_read.gather.Goals as goal
 
@@ -18,8 +18,3 @@ returns-then-not-branch-clause-stops g c =
           c.args.ended (c.args.ended + c.args.count) c.args.count begins.line begins.has begins.counted refl gathers;
       few = few_kept _ _ _ _ _ gathers.gains;
     })
-
-pub returns-clause-there : goal.returns-clause-there
-returns-clause-there g c =
-    let enough : c.in_ok-need.field-0 ≡ true = search rules in
-    rw enough at c.in_ok-need.ensures.ok

@@ -1,16 +1,9 @@
-use Rattle.std.proofs.{Common.{◌+◌, ℕ, refl}, lemmas.Result.MatchResult-weaker}
+use Rattle.std.proofs.{Common.{◌+◌, ℕ, refl, arith}, lemmas.Result.MatchResult-weaker, lemmas.Grind.common_steps}
 use Rattle.request_reader.proofs.{Stops.few_kept, WholePieces.next_piece}
 use Rattle.request_reader.proofs.body_read.read_short.Goals as goal
 
-pub gather-requires-clause-begins : goal.gather-requires-clause-begins
-gather-requires-clause-begins g c =
-    let begins = c.requires.begins in
-    record { line = begins.line; has = begins.has; counted = begins.counted }
-
 pub returns-clause-stops : goal.returns-clause-stops
-returns-clause-stops g c =
-    MatchResult-weaker c.ask_kept.result c.ask_kept.ensures.err (λ asked told. told)
-    (λ stop told. rw told (record { why = tt; few = few_kept _ _ _ _ _ c.in_ok-head.ensures.there.gains }))
+returns-clause-stops g c = grind (arith, common_steps, few_kept)
 
 pub returns-clause-next : goal.returns-clause-next
 returns-clause-next g c =

@@ -1,3 +1,4 @@
+use Rattle.std.proofs.lemmas.Grind.{common_steps}
 use Rattle.std.proofs.{Common.{rules, arith, ◌≡◌, ℕ, ◌-◌, List, [], length, take, drop, slice_range, sym, ap, subst}, lemmas.List.take_all}
 use Rattle.request_words.specs.{Bodies.Item, Heads.IsHead, Items.{IsSkipped, Counts, Asks}}
 use Rattle.request_reader.proofs.LastLines.{last_end, last_item, last_cut}
@@ -12,10 +13,7 @@ between : (kept : List ℕ) (n : ℕ) → slice_range kept n n ≡ []
 between kept n = let none : n - n ≡ 0 = omega arith in ap (λ (k : ℕ). take k (drop n kept)) none
 
 pub returns-then-is_skipped-clause-next : goal.returns-then-is_skipped-clause-next
-returns-then-is_skipped-clause-next c =
-    let shown : IsSkipped c.kept.result.now = search rules in
-    let skipped : IsSkipped c.args.lines.now.kept = rw (sym c.kept.ensures.same) shown in
-    last_end _ _ c.requires c.limits.ensures skipped
+returns-then-is_skipped-clause-next c = grind (arith, common_steps, last_end)
 
 pub returns-then-body_count-gt0-clause-stops : goal.returns-then-body_count-gt0-clause-stops
 returns-then-body_count-gt0-clause-stops c =

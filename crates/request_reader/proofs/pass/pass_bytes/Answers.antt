@@ -1,5 +1,5 @@
 use Rattle.std.proofs.{Common.{arith, [], ◌++◌, length-append}, lemmas.Result.err_from_is_err_and}
-use Rattle.request_reader.proofs.{Moving.{moves_none, moves_join, few_moved}, Passing.{passing_stops, passes_gain, turn_falls}}
+use Rattle.request_reader.proofs.{Moving.{moves_none, moves_join, few_moved}, Passing.{passing_stops, passes_gain}}
 use Rattle.request_reader.proofs.pass.pass_bytes.Goals as goal
 
 pub loop-rest-init : goal.loop-rest-init
@@ -28,11 +28,6 @@ returns-in-Short-clause-ok g c =
     let inv = c.loop-rest.invariant.0 in
     let passes = rw c.in-Short.is at c.in_ok-pass_turn.ensures.ok in
     passes_gain _ _ _ _ _ _ inv.0 _ _ _ inv.1 inv.2 passes
-
-pub loop-rest-smaller : goal.loop-rest-smaller
-loop-rest-smaller g c =
-    let turn = rw c.in-Left.is at c.in_ok-pass_turn.ensures.ok in
-    turn_falls _ _ _ _ turn.0.0 turn.0.1 turn.1
 
 pub loop-rest-preserved : goal.loop-rest-preserved
 loop-rest-preserved g c =

@@ -1,5 +1,5 @@
 use Rattle.std.proofs.{Common.{arith, [], ◌++◌, ◌∙◌}, lemmas.Result.err_from_is_err_and}
-use Rattle.request_reader.proofs.Moving.{moves_none, moves_join, no_pieces, pieces_pass, fails_moved, takes_moved, place_falls}
+use Rattle.request_reader.proofs.Moving.{moves_none, moves_join, no_pieces, pieces_pass, fails_moved, takes_moved}
 use Rattle.request_reader.proofs.read.read_next.Goals as goal
 
 pub loop-asked-init : goal.loop-asked-init
@@ -25,11 +25,6 @@ returns-in-Some-clause-next g c =
 
 pub returns-in-Some-clause-counts : goal.returns-in-Some-clause-counts
 returns-in-Some-clause-counts g c = omega (arith, c.loop-asked.invariant.1, c.read_piece.ensures.counts)
-
-pub loop-asked-smaller : goal.loop-asked-smaller
-loop-asked-smaller g c =
-    let passes = rw c.in_default.is at c.in_ok-asked.ensures.next in
-    place_falls _ _ _ _ passes
 
 pub loop-asked-preserved : goal.loop-asked-preserved
 loop-asked-preserved g c =

@@ -1,17 +1,11 @@
-use Rattle.std.proofs.Common.{◌≡◌, ℕ, List, ◌∷◌, refl, sym, ap, ◌∙◌, arith}
+use Rattle.std.proofs.Common.{◌≡◌, ℕ, List, ◌∷◌, refl, ap, ◌∙◌, arith}
 use Rattle.line_text.specs.Lines.{words_of}
-use Rattle.request_words.{specs.Forms.{of_series, series_word, IsOfForm}, proofs.HeadLines.{unnamed_head, named_head, formless_head, series_form}}
-use Rattle.request_words.proofs.{FormWords.behind, head.series_head.Goals.In-Some}
+use Rattle.request_words.{specs.Forms.{of_series, series_word, IsOfForm}, proofs.HeadLines.{unnamed_head, named_head}, proofs.head.series_head.Goals.In-Some}
 use Rattle.request_words.proofs.head.series_head.Goals as goal
 
 -- the line is of the form
 of_form : (c : In-Some) (line : List ℕ) → words_of line ≡ series_word c.args.asked ∷ c.args.words → IsOfForm line (of_series c.args.asked c.in-Some.m.now c.in-Some.t.now c.in-Some.x.now)
 of_form c line verb = record { words = verb ∙ ap (λ xs. series_word c.args.asked ∷ xs) c.in-Some.ensures.some; numbers = tt; amounts = tt; status = tt }
-
-pub returns-in_default : goal.returns-in_default
-returns-in_default c line verb = rw c.formless.ensures (formless_head line (λ form of_form.
-    let has = series_form c.args.asked form verb of_form in
-    c.in_default.ensures.none _ _ _ (behind (sym verb ∙ has.words))))
 
 pub returns : goal.returns
 returns c line verb =

@@ -1,14 +1,13 @@
-use Rattle.std.{proofs.Common.{rules, ◌≡◌, ℕ, ◌<◌, ◌^◌, List, ◌∷◌, codes, pos, FitsSigned, subst, sym, refl, ap, ◌∙◌, arith}, specs.Str.Parse.digits_value}
-use Rattle.std.{specs.Int.w128, proofs.lemmas.Int.{ints, to_z-of_z}}
+use Rattle.std.{proofs.Common.{rules, ◌≡◌, ℕ, ◌<◌, ◌^◌, List, ◌∷◌, codes, pos, FitsSigned, subst, sym, refl, ◌∙◌, arith}, specs.Str.Parse.digits_value}
+use Rattle.std.{specs.Int.w128, proofs.lemmas.Int.{ints, to_z-of_z}, proofs.lemmas.Grind.common_steps}
 use Rattle.line_text.specs.Lines.{words_of}
 use Rattle.request_words.{specs.Forms.{tune, IsOfForm}, proofs.HeadLines.{unnamed_head, wide_head, off_head, named_head, formless_behind}}
-use Rattle.request_words.proofs.{FormWords.behind, Given.{given-all, all-given}, head.tune_head.Goals.In-Some}
+use Rattle.request_words.proofs.{FormWords.behind, Given.all-given, head.tune_head.Goals.In-Some}
 use Rattle.request_words.proofs.head.tune_head.Goals as goal
 
 -- the line is of the form
 of_form : (c : In-Some) (line : List ℕ) → words_of line ≡ codes "tune" ∷ c.args.words → IsOfForm line (tune c.in-Some.m.now c.in-Some.x.now c.in-Some.p.now c.in-Some.given)
-of_form c line verb =
-    record { words = verb ∙ ap (λ xs. codes "tune" ∷ xs) c.in-Some.ensures.some.0; numbers = given-all _ c.in-Some.ensures.fits; amounts = (c.in-Some.ensures.some.1, tt); status = tt }
+of_form c line verb = grind (arith, common_steps)
 
 pub returns-in_default : goal.returns-in_default
 returns-in_default c line verb =

@@ -1,7 +1,6 @@
-use Rattle.std.{proofs.Common.{◌≡◌, ◌∙◌, ℕ, List, [], ◌∷◌, ◌++◌, true, false, Err, refl, ap, arith}, specs.Prelude.option_map}
-use Rattle.track_outside.specs.Named.{Call}
+use Rattle.std.proofs.{Common.{◌≡◌, ◌∙◌, [], ◌∷◌, true, false, Err, refl, ap, arith}, lemmas.Grind.common_steps}
 use Rattle.command_words.specs.Plans.{transcript_of}
-use Rattle.script_files.{specs.Opening.{opening, creating}, proofs.Calls.{none_more, then_more, noted_failed, noted_none}}
+use Rattle.script_files.{specs.Opening.{opening, creating}, proofs.Calls.{noted_failed, noted_none}}
 use Rattle.script_files.proofs.open.open_script.Goals as goal
 
 pub returns-in-Err-Failed-clause-fault : goal.returns-in-Err-Failed-clause-fault
@@ -22,8 +21,7 @@ returns-in-Err-NoMemory-clause-fault g c =
     record {
       made = [];
       due = (0, omega arith, refl);
-      noted = e.noted ∙ noted_none g.row.F-Input.Denot false c.args.script.now c.in-Err-NoMemory.field-0 (g.F.Files.asked c.args.files.now) c.in-Err-NoMemory.field-0-is
-          ∙ none_more (g.F.Files.asked c.args.files.now);
+      noted = grind (arith, common_steps);
       reads = e.counts;
       writes = omega (arith, e.writes);
       rose = tt;
@@ -40,10 +38,7 @@ returns-in-Err-Failed-create_output-clause-fault g c =
     record {
       made = opening script ∷ record (creating script) { failed = true } ∷ [];
       due = record { place = 1; call = creating script; next = refl; kind = refl; up_to = refl };
-      noted = l.noted ∙ e.noted ∙ noted_failed g.row.F-Output.Denot true c.deref.result.now c.in-Err-Failed-create_output.field-0 _ c.in-Err-Failed-create_output.field-0-is
-          ∙ ap (λ (n : List ℕ). option_map (λ calls. calls ++ record { creates = true; name = n; failed = true } ∷ []) (g.F.Files.asked c.open_input.new.self)) name
-          ∙ ap (option_map (λ (calls : List Call). calls ++ record (creating script) { failed = true } ∷ [])) o.noted
-          ∙ then_more told (opening script ∷ []) (record (creating script) { failed = true } ∷ []);
+      noted = grind (arith, common_steps);
       reads = omega (arith, o.counts, e.reads, l.counts);
       writes = omega (arith, o.writes, e.counts, l.writes);
       rose = omega (arith, o.writes, e.rose (ap Err c.in-Err-Failed-create_output.field-0-is), l.writes);

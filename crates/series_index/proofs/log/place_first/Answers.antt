@@ -1,5 +1,6 @@
-use Rattle.std.proofs.{Common.{◌≡◌, ◌+◌, ◌-◌, ◌∙◌, List, ◌∷◌, length, drop, sym, ap, subst, pos, slice_index_or, arith}, lemmas.List.{drop_more, length-drop}}
-use Rattle.segment_model.{specs.Limits.WithinLimits, proofs.Inserted.size-inserted}
+use Rattle.std.proofs.lemmas.Grind.{common_steps}
+use Rattle.std.proofs.{Common.{◌≡◌, ◌+◌, ◌-◌, ◌∙◌, List, ◌∷◌, length, drop, sym, ap, pos, slice_index_or, arith}, lemmas.List.{drop_more, length-drop}}
+use Rattle.segment_model.proofs.Inserted.{size-inserted}
 use Rattle.series_index.{specs.declared.coming.Coming.Coming, specs.Log.{observed, all_placed, MayBePlaced}, proofs.Placing.room-first}
 use Rattle.series_index.proofs.log.place_first.Goals as goal
 
@@ -9,10 +10,7 @@ place-requires c =
     let x : Coming = slice_index_or coming c.loop-i.i (record { commit = 0; step = 0; value = pos 0 }) in
     let step : drop c.loop-i.i coming ≡ x ∷ drop (c.loop-i.i + 1) coming = drop_more coming c.loop-i.i (record { commit = 0; step = 0; value = pos 0 }) c.loop-i-test.true in
     let left : length (x ∷ drop (c.loop-i.i + 1) coming) ≡ length coming - c.loop-i.i = ap length (sym step) ∙ length-drop c.loop-i.i coming in
-    let may : MayBePlaced (x ∷ drop (c.loop-i.i + 1) coming) c.loop-i.placed = record {
-      within = subst WithinLimits (sym c.loop-i.invariant.same ∙ ap (λ ys. all_placed ys c.loop-i.placed) step) c.requires.within;
-      few = λ some. let few = c.requires.few (omega (arith, c.loop-i-test.true)) in omega (arith, few, left, c.loop-i.invariant.fewer, c.loop-i-test.true);
-    } in
+    let may : MayBePlaced (x ∷ drop (c.loop-i.i + 1) coming) c.loop-i.placed = grind (arith, common_steps) in
     room-first x (drop (c.loop-i.i + 1) coming) c.loop-i.placed may c.limits.ensures
 
 pub loop-i-preserved : goal.loop-i-preserved

@@ -1,4 +1,4 @@
-use Rattle.std.proofs.Common.{◌≡◌, ℕ, List, ap, subst, ◌∙◌, arith}
+use Rattle.std.proofs.{Common.{◌≡◌, ℕ, List, ap, subst, ◌∙◌, arith}, lemmas.Grind.common_steps}
 use Rattle.worker_crew.specs.{Runs.{BisectsLast, RecomputesLast}, Whole.tallies, Work.Work, Sights.tracks_of}
 use Rattle.shared_run.{specs.Crews.word_of, proofs.AtLast.{bisects-long, both-back, first-true, recomputes-long, second-true, written-back}}
 use Rattle.shared_run.proofs.finishing.finish.Goals as goal
@@ -11,8 +11,7 @@ returns-clause-done g c =
     let left : List Work = c.args.left.items in
     let made : List Work = c.finish_series-done.new.states in
     let last : List Work = c.finish_jobs-over.new.states in
-    let recomputes : RecomputesLast plan.recompute (tracks_of left) (tracks_of made) =
-    rw c.deref_mut.ensures.value at (subst (λ (n : ℕ). RecomputesLast n (tracks_of c.deref_mut.result.now) (tracks_of made)) c.recompute.ensures c.finish_series-done.ensures.published) in
+    let recomputes : RecomputesLast plan.recompute (tracks_of left) (tracks_of made) = grind (arith, common_steps) in
     let one = recomputes-long plan.recompute (tracks_of left) (tracks_of made) recomputes in
     let lent = c.deref_mut-2.ensures.value ∙ written-back c.args.left.len made left c.args.left.ok.0 one in
     let asked : BisectsLast plan.bisect (word_of plan) (tracks_of c.deref_mut-2.result.now) (tracks_of last) began ended =

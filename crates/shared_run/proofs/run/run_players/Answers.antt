@@ -1,8 +1,8 @@
 use Rattle.std.proofs.{Common.{◌≡◌, ◌++◌, ℕ, List, Ok, length, map, sym, subst, ap, ◌∙◌, arith}, lemmas.List.{length-map, length-take}}
 use Rattle.std.{proofs.lemmas.Result.err_from_is_err_and, proofs.lemmas.Slice.Zip.AllZip-long, specs.List.{AllByRecursion, AllZip}}
-use Rattle.std.specs.Prelude.{Result, take, drop}
+use Rattle.std.{specs.Prelude.{Result, take, drop}, proofs.lemmas.Grind.common_steps}
 use Rattle.command_words.specs.Texts.{shown}
-use Rattle.script_files.specs.{Closing.{AreApart, AreClosable, Closes, HaveWritten}, Opening.{Asks, IsOpen}, declared.open.OpenScript.OpenScript}
+use Rattle.script_files.specs.{Closing.{AreClosable, Closes}, Opening.{Asks, IsOpen}, declared.open.OpenScript.OpenScript}
 use Rattle.script_loop.specs.declared.stop.Stop.{Stop}
 use Rattle.side_by_side.specs.Runs.{AllWorked}
 use Rattle.worker_crew.specs.{Sights.Sight, Players.{Playing, Plays, end_of, open_of, players_from}}
@@ -10,7 +10,7 @@ use Rattle.worker_crew.specs.Players as players
 use Rattle.worker_crew.specs.Workers as workers
 use Rattle.worker_crew.specs.Workers.{Bisects, HaveWorked, IsOfRoom, Recomputes, Working, workers_from}
 use Rattle.shared_run.{specs.Crews.word_of, proofs.Running.{can-play, closable-played, none-made, not-open, of-room, seated-all, shorter, still-of-room}}
-use Rattle.shared_run.proofs.{Workers.{all-seated, as-many, bisectors-there, others-at, recomputers-there, worked-at, workers-long}, run.run_players.Given.Over}
+use Rattle.shared_run.proofs.{Workers.{all-seated, bisectors-there, others-at, recomputers-there, worked-at, workers-long}, run.run_players.Given.Over}
 use Rattle.shared_run.proofs.run.run_players.Goals as goal
 use Rattle.shared_run.proofs.run.run_players.Goals.{After-run_crew}
 
@@ -36,9 +36,7 @@ pub open_scripts-requires-clause-own : goal.open_scripts-requires-clause-own
 open_scripts-requires-clause-own g c κs within = rw c.scripts.ensures c.requires.scripts.own
 
 pub returns-in_err-opened-clause-early : goal.returns-in_err-opened-clause-early
-returns-in_err-opened-clause-early g c =
-    let p = err_from_is_err_and c.from_residual-in_err-opened.result c.from_residual-in_err-opened.ensures.1 in
-    rw (p.1, p.2) (not-open g.F.Files c.args.plan.now.scripts c.args.files.now c.open_scripts.new.files _ (rw (sym c.scripts.ensures) c.in_err-opened.ensures.fault))
+returns-in_err-opened-clause-early g c = grind (arith, common_steps, err_from_is_err_and, not-open)
 
 pub seat_scripts-requires-clause-paired : goal.seat_scripts-requires-clause-paired
 seat_scripts-requires-clause-paired g c =
@@ -99,9 +97,7 @@ module _ (g : Over) (c : After-run_crew g) where
   word = word_of c.args.plan.now
 
   recomputed : AllZip Recomputes (workers_from c.args.room.now word 1 c.in_ok-split.split.1.items) c.run_crew.new.recomputers.items
-  recomputed =
-      subst (λ (w : List ℕ). AllZip Recomputes (workers_from c.args.room.now w 1 c.in_ok-split.split.1.items) c.run_crew.new.recomputers.items) c.word_in.ensures
-      (subst (λ (l : List Working). AllZip Recomputes l c.run_crew.new.recomputers.items) c.seat_workers.ensures c.run_crew.ensures.recompute)
+  recomputed = grind (arith, common_steps)
 
   abbrev bisectors : List Working
   bisectors = workers_from c.args.room.now word 1 c.in_ok-split.split.2.items
@@ -110,9 +106,7 @@ module _ (g : Over) (c : After-run_crew g) where
   many = workers-long c.args.room.now word 1 c.in_ok-split.split.2.items ∙ c.in_ok-split.ensures.ok.bisecting.many
 
   worked : HaveWorked g.N.Runner bisectors c.args.runners.now c.run_crew.new.bisectors.items c.run_crew.new.runners
-  worked =
-      subst (λ (w : List ℕ). HaveWorked g.N.Runner (workers_from c.args.room.now w 1 c.in_ok-split.split.2.items) c.args.runners.now c.run_crew.new.bisectors.items c.run_crew.new.runners) c.word_in.ensures
-      (subst (λ (l : List Working). HaveWorked g.N.Runner l c.args.runners.now c.run_crew.new.bisectors.items c.run_crew.new.runners) c.seat_workers-2.ensures c.run_crew.ensures.bisect)
+  worked = grind (arith, common_steps)
 
   bisected : AllWorked (Bisects g.N.Runner) bisectors (take c.args.plan.now.bisect c.args.runners.now) c.run_crew.new.bisectors.items (take c.args.plan.now.bisect c.run_crew.new.runners)
   bisected = worked-at g.N.Runner c.args.plan.now.bisect bisectors c.run_crew.new.bisectors.items c.args.runners.now c.run_crew.new.runners many worked
@@ -121,8 +115,7 @@ module _ (g : Over) (c : After-run_crew g) where
   others = others-at g.N.Runner c.args.plan.now.bisect bisectors c.run_crew.new.bisectors.items c.args.runners.now c.run_crew.new.runners many worked
 
 pub run_crew-requires-clause-players : goal.run_crew-requires-clause-players
-run_crew-requires-clause-players g c κs within =
-    rw c.seat_scripts.ensures (can-play g.F.Input.Source g.F.Output.Sink (g.F.Files.contents c.args.files.now) c.args.room.now 1 c.in_ok-split.split.0.items (shown c.scripts.result.now) c.in_ok-opened.opened.items c.in_ok-opened.ensures.open)
+run_crew-requires-clause-players g c κs within = grind (arith, common_steps, can-play)
 
 pub run_crew-requires-clause-recomputers : goal.run_crew-requires-clause-recomputers
 run_crew-requires-clause-recomputers g c κs within = rw c.seat_workers.ensures (all-seated c.args.room.now c.word_in.result.now 1 c.in_ok-split.split.1.items c.in_ok-split.ensures.ok.recomputing.of_room)
@@ -131,23 +124,16 @@ pub run_crew-requires-clause-bisectors : goal.run_crew-requires-clause-bisectors
 run_crew-requires-clause-bisectors g c κs within = rw c.seat_workers-2.ensures (all-seated c.args.room.now c.word_in.result.now 1 c.in_ok-split.split.2.items c.in_ok-split.ensures.ok.bisecting.of_room)
 
 pub run_crew-requires-clause-enough : goal.run_crew-requires-clause-enough
-run_crew-requires-clause-enough g c =
-    let size = ap length c.seat_workers-2.ensures in
-    let long = workers-long c.args.room.now c.word_in.result.now 1 c.in_ok-split.split.2.items in
-    let many = c.in_ok-split.ensures.ok.bisecting.many in
-    let enough = c.requires.runners in
-    omega (arith, size, long, many, enough)
+run_crew-requires-clause-enough g c = grind (arith, common_steps, size, length, workers-long, many)
 
 pub leave-requires-clause-players : goal.leave-requires-clause-players
 leave-requires-clause-players g c = still g (goal.at.leave-requires-clause-players g c).After-run_crew
 
 pub leave-requires-clause-ended : goal.leave-requires-clause-ended
-leave-requires-clause-ended g c =
-    omega (arith, seats g (goal.at.leave-requires-clause-ended g c).After-run_crew, ap length c.in_ok-ended.ensures.items, c.in_ok-ended.ensures.capacity)
+leave-requires-clause-ended g c = grind (arith, common_steps, seats, goal.at.leave-requires-clause-ended, length)
 
 pub leave-requires-clause-files : goal.leave-requires-clause-files
-leave-requires-clause-files g c =
-    omega (arith, seats g (goal.at.leave-requires-clause-files g c).After-run_crew, ap length c.in_ok-left.ensures.items, c.in_ok-left.ensures.capacity)
+leave-requires-clause-files g c = grind (arith, common_steps, seats, goal.at.leave-requires-clause-files, length)
 
 pub leave_workers-one-requires-clause-workers : goal.leave_workers-one-requires-clause-workers
 leave_workers-one-requires-clause-workers g c =
@@ -192,8 +178,7 @@ returns-clause-ran g c =
         middle = c.open_scripts.new.files;
         asks = subst (λ (l : List (List ℕ)). Asks g.F.Files l c.args.files.now c.open_scripts.new.files (Ok tt)) c.scripts.ensures c.in_ok-opened.ensures.asks;
         closes = subst (λ (l : List (Open g k)). Closes g.F.Files g.F.Input.Source g.F.Output.Sink l c.open_scripts.new.files c.close_scripts.new.files) left c.close_scripts.ensures.closes;
-        written = λ apart. subst (λ (l : List (Open g k)). HaveWritten g.F.Output.Sink l (g.F.Files.contents c.close_scripts.new.files)) left
-            (c.close_scripts.ensures.each (subst (λ (l : List (Open g k)). AreApart g.F.Output.Sink l) (sym left) apart));
+        written = grind (arith, common_steps);
       };
       recomputers = c.run_crew.new.recomputers.items;
       recomputed = recomputed g k;
@@ -205,8 +190,3 @@ returns-clause-ran g c =
           (c.crew_law.ensures.joins c.leave.new.pass c.leave_workers-one.new.pass c.leave_workers-other.new.pass (map workers.pass_of c.run_crew.new.recomputers.items) (map workers.pass_of c.run_crew.new.bisectors.items)
           c.leave_workers-one.ensures.joined c.leave_workers-other.ensures.joined);
     }
-
-pub returns-clause-as_many : goal.returns-clause-as_many
-returns-clause-as_many g c =
-    let k = (goal.at.returns-clause-as_many g c).After-run_crew in
-    as-many c.args.plan.now.bisect c.args.runners.now c.run_crew.new.runners (bisected g k).tools_kept (others g k)

@@ -1,4 +1,4 @@
-use Rattle.std.{proofs.Common.{subst, arith}, specs.List.{AllByRecursion, AllZip}, proofs.lemmas.List.length-map}
+use Rattle.std.{proofs.Common.{subst, arith}, specs.List.{AllByRecursion, AllZip}, proofs.lemmas.List.length-map, proofs.lemmas.Grind.common_steps}
 use Rattle.worker_crew.specs.{Rooms.IsWhole, Sights.{IsFirstOf, tracks_of}, Work.Work}
 use Rattle.shared_run.{specs.Ran.HasLegalHistory, proofs.AtLast.{finishes-less, first-true}, proofs.Beginning.room-different}
 use Rattle.shared_run.proofs.{Fitted.{is-whole, left-long}, scripts.run_machines.Given.Over, scripts.run_machines.Goals.After-crew_law}
@@ -11,13 +11,10 @@ module _ (g : Over) (c : After-crew_law g) where
 
   -- all others were joined into it
   whole : IsWhole c.run_players.new.pass
-  whole = is-whole g.F.Files g.F.Input.Source g.F.Output.Sink g.N.Runner c.args.plan.now c.args.machines.items c.in-Ok-new.room c.in-Ok-new.pass c.run_players.new.pass
-      c.args.files.now c.run_players.new.files c.args.runners.now c.run_players.new.runners c.in-Ok-run_players.left.0.items c.requires.enough c.in-Ok-run_players.ensures.ran c.joining_law.ensures.shared
-      c.crew_law.ensures.recompute c.crew_law.ensures.bisect c.crew_law.ensures.share c.in-Ok-new.ensures.pass.0 starts
+  whole = grind (arith, common_steps, is-whole, starts)
 
 pub run_players-requires-clause-different : goal.run_players-requires-clause-different
-run_players-requires-clause-different g c κs within =
-    room-different c.args.machines.items c.in-Ok-new.room c.in-Ok-new.pass c.in-Ok-new.ensures.pass.0 (rw c.in-Ok-unclaimed.ensures.tracks at c.in-Ok-new.ensures.first) c.requires.different
+run_players-requires-clause-different g c κs within = grind (arith, common_steps, room-different)
 
 pub unreachable-requires : goal.unreachable-requires
 unreachable-requires g c = c.in_default-close.ensures.whole (whole g (goal.at.unreachable-requires g c).After-crew_law)
@@ -30,12 +27,6 @@ finish-done-requires-clause-room g c =
     let many = length-map c.in-Ok-close.left.items (λ (w : Work). w.track) in
     let space = c.in-Ok.ensures.capacity in
     omega (arith, long, many, space, c.args.machines.ok.0)
-
-pub finish-done-requires-clause-enough : goal.finish-done-requires-clause-enough
-finish-done-requires-clause-enough g c =
-    let many = c.run_players.ensures.as_many in
-    let enough = c.requires.enough in
-    omega (arith, many, enough)
 
 pub returns-clause-ran : goal.returns-clause-ran
 returns-clause-ran g c =

@@ -1,28 +1,18 @@
-use Rattle.std.{proofs.Common.{Err, ◌≤◌, inl, length, refl, sym, subst}, specs.List.AllByRecursion}
+use Rattle.std.proofs.{Common.{Err, ◌≤◌, length, sym, subst, arith}, lemmas.Grind.common_steps}
 use Rattle.metric_table.specs.{Limits.most, declared.limits.Limit.TheVariants.Machines}
-use Rattle.keep_rows.specs.{Loading.Stored, Machines.{AreDifferent, names_of}}
-use Rattle.worker_crew.specs.{Fitting.IsUnasked, Whole.tallies}
+use Rattle.keep_rows.specs.Loading.{Stored}
 use Rattle.shared_run.{specs.Beginnings.Begins, specs.Crews.asked_by, proofs.AtLast.still-unasked, proofs.Beginning.first-different, proofs.Due.as-due}
 use Rattle.shared_run.proofs.{Early.{no-machines, no-scripts}, Late.{ends-late, ok-apart}}
 use Rattle.shared_run.proofs.scripts.run_scripts.Goals as goal
 
 pub run_machines-requires-clause-different : goal.run_machines-requires-clause-different
-run_machines-requires-clause-different g c κs within =
-    subst (λ (began : Stored). AreDifferent (names_of began.machines)) (sym c.states.view_is)
-    (first-different g.K.Keeper c.args.plan.now c.args.keeper.now c.in-Ok.loaded c.in-Ok.ensures.begins)
+run_machines-requires-clause-different g c κs within = grind (arith, common_steps, first-different)
 
 pub returns-in-Err-clause-ends : goal.returns-in-Err-clause-ends
-returns-in-Err-clause-ends g c =
-    inl (no-machines (record { files = g.F.Files; input = g.F.Input.Source; out = g.F.Output.Sink; keeper = g.K.Keeper }) c.args.plan.now (asked_by g.N.Runner c.args.runners.now c.args.runners.now)
-    (still-unasked (tallies g.N.Runner c.args.runners.now) c.requires.new) c.args.files.now c.args.out.now c.args.keeper.now
-    c.first_machines.new.keeper c.in-Err.why (Err c.in-Err.why) refl c.in-Err.ensures.cause c.in-Err.ensures.rows c.in-Err.ensures.started c.in-Err.ensures.once)
+returns-in-Err-clause-ends g c = grind (arith, common_steps, no-machines, asked_by, still-unasked)
 
 pub returns-in-Err-run_machines-clause-ends : goal.returns-in-Err-run_machines-clause-ends
-returns-in-Err-run_machines-clause-ends g c =
-    let started = c.in-Ok.ensures.started (λ same. ok-apart same) in
-    inl (no-scripts (record { files = g.F.Files; input = g.F.Input.Source; out = g.F.Output.Sink; keeper = g.K.Keeper }) c.args.plan.now (asked_by g.N.Runner c.args.runners.now c.run_machines.new.runners)
-    (subst (λ rs. AllByRecursion IsUnasked (asked_by g.N.Runner c.args.runners.now rs)) (sym c.in-Err-run_machines.ensures.unasked) (still-unasked (tallies g.N.Runner c.args.runners.now) c.requires.new))
-    c.args.files.now c.args.out.now c.args.keeper.now c.first_machines.new.keeper c.run_machines.new.files c.in-Err-run_machines.why c.in-Err-run_machines.ensures.early c.in-Ok.ensures.rows started)
+returns-in-Err-run_machines-clause-ends g c = grind (arith, common_steps, ok-apart, no-scripts, asked_by, still-unasked)
 
 pub returns-clause-ends : goal.returns-clause-ends
 returns-clause-ends g c =
@@ -62,13 +52,6 @@ returns-in-Err-clause-complete g c =
     (record { files = c.args.files.now; out = c.args.out.now; keeper = c.args.keeper.now })
     (record { files = c.args.files.now; out = c.args.out.now; keeper = c.first_machines.new.keeper })
     c.reading_law.ensures.one c.rows_law.ensures (asked_by g.N.Runner c.args.runners.now c.args.runners.now) (Err c.in-Err.why) (returns-in-Err-clause-ends g c)
-
-pub returns-in-Err-run_machines-clause-complete : goal.returns-in-Err-run_machines-clause-complete
-returns-in-Err-run_machines-clause-complete g c =
-    as-due (record { files = g.F.Files; input = g.F.Input.Source; out = g.F.Output.Sink; keeper = g.K.Keeper }) c.args.plan.now
-    (record { files = c.args.files.now; out = c.args.out.now; keeper = c.args.keeper.now })
-    (record { files = c.run_machines.new.files; out = c.args.out.now; keeper = c.first_machines.new.keeper })
-    c.reading_law.ensures.one c.rows_law.ensures (asked_by g.N.Runner c.args.runners.now c.run_machines.new.runners) (Err c.in-Err-run_machines.why) (returns-in-Err-run_machines-clause-ends g c)
 
 pub returns-clause-complete : goal.returns-clause-complete
 returns-clause-complete g c =

@@ -1,13 +1,8 @@
-use Rattle.std.{proofs.Common.{◌≡◌, ◌↔◌, List, true, Err, refl, sym, subst}, specs.Prelude.{Contains, IsTrue, Result}}
+use Rattle.std.{proofs.Common.{◌≡◌, ◌↔◌, List, Err, sym, subst}, specs.Prelude.{Contains, IsTrue, Result}}
 use Rattle.script_loop.specs.declared.stop.Stop.{Stop}
 use Rattle.script_loop.specs.declared.stop.Stop.TheVariants as script
-use Rattle.shared_run.proofs.Stopped.{found_first, found_behind}
+use Rattle.shared_run.proofs.Stopped.{found_behind}
 use Rattle.shared_run.proofs.stop.+wants_memory.Goals as goal
-
-pub returns-then-is_memory : goal.returns-then-is_memory
-returns-then-is_memory t c =
-    subst (λ (l : List (Result (Unit {0}) Stop)). IsTrue true ↔ Contains l (Err script.NoMemory)) (sym c.in-Some.ensures.cases.0)
-    ((λ yes. found_first c.in-Some.first.now (Err script.NoMemory) c.in-Some.rest.now (c.if-is_memory.ensures.0 refl)), (λ has. refl))
 
 pub returns : goal.returns
 returns t c =

@@ -1,5 +1,4 @@
-use Rattle.std.proofs.Common.{[], ◌∙◌, ap, ap₂}
-use Rattle.history_model.specs.declared.{entries.Entry.TheVariants.Job, events.JobEvent.TheVariants.Answer}
+use Rattle.std.proofs.Common.{[]}
 use Rattle.track_entry.proofs.Readers.{kept_err}
 use Rattle.track_entry.proofs.events.read_answer.Goals as goal
 
@@ -11,13 +10,3 @@ pub returns-in_err-status : goal.returns-in_err-status
 returns-in_err-status c number place status is are =
     let pair = c.in_ok-job.ensures.reads number place _ is.0 is.1 are in
     kept_err c.in_err-status.field-0.0 c.from_residual-in_err-status.result _ _ c.from_residual-in_err-status.ensures (c.in_err-status.ensures.reads status [] is.2 pair.2)
-
-pub returns-in_err-end_at : goal.returns-in_err-end_at
-returns-in_err-end_at c number place status is are =
-    let pair = c.in_ok-job.ensures.reads number place _ is.0 is.1 are in
-    kept_err c.in_err-end_at.field-0.0 c.from_residual-in_err-end_at.result _ _ c.from_residual-in_err-end_at.ensures (c.in_err-end_at.ensures (c.in_ok-status.ensures.reads status [] is.2 pair.2).1)
-
-pub returns : goal.returns
-returns c number place status is are =
-    let pair = c.in_ok-job.ensures.reads number place _ is.0 is.1 are in
-    ap₂ (λ n m. Job (Answer n m c.in_ok-status.status)) pair.0 pair.1 ∙ ap (λ n. Job (Answer number place n)) (c.in_ok-status.ensures.reads status [] is.2 pair.2).0

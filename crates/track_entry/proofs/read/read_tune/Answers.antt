@@ -1,4 +1,5 @@
-use Rattle.std.{proofs.Common.{[], ◌∷◌, FitsSigned, decimal, subst, sym, ◌∙◌}, specs.Int.w128, proofs.lemmas.Int.to_z-of_z, specs.Fmt.signed_decimal}
+use Rattle.std.proofs.lemmas.Grind.{common_steps}
+use Rattle.std.{proofs.Common.{[], ◌∷◌, FitsSigned, decimal, subst, sym, ◌∙◌, arith}, specs.Int.w128, proofs.lemmas.Int.to_z-of_z, specs.Fmt.signed_decimal}
 use Rattle.track_entry.proofs.{Same.same_tune, Readers.kept_err}
 use Rattle.track_entry.proofs.read.read_tune.Goals as goal
 
@@ -18,10 +19,7 @@ returns-in_err-least c metric penalty len is are =
     kept_err c.in_err-least.field-0.0 c.from_residual-in_err-least.result _ _ c.from_residual-in_err-least.ensures (c.in_err-least.ensures.reads len [] is.3 value.1)
 
 pub returns-in_err-end_at : goal.returns-in_err-end_at
-returns-in_err-end_at c metric penalty len is are =
-    let name = c.in_ok-metric.ensures.reads metric (signed_decimal penalty ∷ decimal len ∷ []) is.0 are in
-    let value = c.in_ok-penalty.ensures.reads penalty (decimal len ∷ []) is.2 name.1 in
-    kept_err c.in_err-end_at.field-0.0 c.from_residual-in_err-end_at.result _ _ c.from_residual-in_err-end_at.ensures (c.in_err-end_at.ensures (c.in_ok-least.ensures.reads len [] is.3 value.1).1)
+returns-in_err-end_at c metric penalty len is are = grind (arith, common_steps)
 
 pub returns : goal.returns
 returns c metric penalty len is are =

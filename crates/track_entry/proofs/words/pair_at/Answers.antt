@@ -10,9 +10,3 @@ pub returns-in_err-second-clause-reads : goal.returns-in_err-second-clause-reads
 returns-in_err-second-clause-reads c first second more is_first is_second are =
     let got = c.in_ok-first.ensures.reads first (decimal second ∷ more) is_first are in
     kept_err c.in_err-second.field-0.0 c.from_residual-in_err-second.result _ _ c.from_residual-in_err-second.ensures (c.in_err-second.ensures.reads second more is_second got.1)
-
-pub returns-clause-reads : goal.returns-clause-reads
-returns-clause-reads c first second more is_first is_second are =
-    let got = c.in_ok-first.ensures.reads first (decimal second ∷ more) is_first are in
-    let next = c.in_ok-second.ensures.reads second more is_second got.1 in
-    (got.0, next.0, next.1)

@@ -1,4 +1,4 @@
-use Rattle.std.proofs.Common.{◌∷◌}
+use Rattle.std.proofs.{Common.{◌∷◌, arith}, lemmas.Grind.common_steps}
 use Rattle.line_text.specs.Names.{spelling}
 use Rattle.track_entry.proofs.Readers.{kept_err}
 use Rattle.track_entry.proofs.words.series_at.Goals as goal
@@ -15,7 +15,4 @@ returns-in_err-metric-clause-reads c test metric more is_test is_metric short wo
     (c.in_err-metric.ensures.reads metric more is_metric first.1)
 
 pub returns-clause-reads : goal.returns-clause-reads
-returns-clause-reads c test metric more is_test is_metric short words =
-    let first = c.in_ok-test.ensures.reads test (spelling metric ∷ more) is_test words in
-    let second = c.in_ok-metric.ensures.reads metric more is_metric first.1 in
-    (first.0, second.0, second.1)
+returns-clause-reads c test metric more is_test is_metric short words = grind (arith, common_steps)

@@ -1,4 +1,4 @@
-use Rattle.track_model.proofs.Forms.{commits-full, commit-steps-full, commit-added, commit-allowed}
+use Rattle.track_model.proofs.Forms.{commits-full, commit-steps-full, commit-added}
 use Rattle.track_model.proofs.laws.commit_law.Goals as goal
 
 pub returns-clause-commits_full : goal.returns-clause-commits_full
@@ -9,7 +9,3 @@ returns-clause-steps_full c = commit-steps-full c.within_law.ensures.passed c.wi
 
 pub returns-clause-added : goal.returns-clause-added
 returns-clause-added c = commit-added c.within_law.ensures.passed c.within_law.ensures.kept c.growth_law.ensures.declarations
-
-pub returns-clause-allowed : goal.returns-clause-allowed
-returns-clause-allowed c h number name =
-    commit-allowed c.within_law.ensures.passed c.within_law.ensures.kept c.growth_law.ensures.declarations h number name c.limits_law.ensures.commit

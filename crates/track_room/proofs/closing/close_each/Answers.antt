@@ -1,4 +1,4 @@
-use Rattle.std.{proofs.Common.{◌≡◌, ◌<◌, List, [], ◌∷◌, ◌++◌, length, get_or, sym, subst, ◌∙◌, arith}, specs.List.AllZip}
+use Rattle.std.{proofs.Common.{◌≡◌, ◌<◌, List, [], ◌∷◌, ◌++◌, length, get_or, ◌∙◌, arith}, specs.List.AllZip, proofs.lemmas.Grind.common_steps}
 use Rattle.std.proofs.lemmas.{Iterator.Adapters.YieldsList-from_vec, Iterator.Consumers.YieldsList-turn, List.{length-map, length_push, map_push}}
 use Rattle.track_model.specs.Tracks.{Track}
 use Rattle.track_state.specs.Work.{Work}
@@ -38,8 +38,7 @@ returns-in-Err-clause-whole c whole =
 
 -- one more machine behind those that were given
 more : (E : Sight → Track → Type 0) (given : List Sight) (states : List Work) (p : Sight) (w : Work) → AllZip E given (tracks_of states) → E p w.track → AllZip E (given ++ p ∷ []) (tracks_of (states ++ w ∷ []))
-more E given states p w all one =
-    subst (λ (ts : List Track). AllZip E (given ++ p ∷ []) ts) (sym (map_push (λ (v : Work). v.track) states w)) (zip-push E given (tracks_of states) p w.track all one)
+more E given states p w all one = grind (arith, common_steps, map_push, zip-push, tracks_of)
 
 pub loop-pass-preserved : goal.loop-pass-preserved
 loop-pass-preserved c =

@@ -27,8 +27,6 @@ loop-other-preserved c =
 
 joins : (c : In-None) → JoinsEach c.args.passes.now c.args.others.items c.loop-other.passes
 joins c =
-    let old : List Sight = c.args.passes.now in
-    let now : List Sight = c.loop-other.passes in
     let gives = c.into_iter-other-iterator.ensures.into_iter_gives in
     let ended = YieldsList-end (YieldsList-from_vec c.args.others.items gives.0 (gives.1 ∙ c.args.others.ok.0)) c.loop-other.yielded c.loop-other.other-iterator c.loop-other.yielded_by c.next.result c.next.new.self c.in-None.is c.next.ensures.steps in
     let all : c.loop-other.yielded ≡ c.args.others.items = all-given c.loop-other.yielded c.args.others.items ended.0 in

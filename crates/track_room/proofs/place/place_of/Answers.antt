@@ -1,14 +1,10 @@
-use Rattle.std.{proofs.Common.{◌≡◌, false, List, sym, ap, subst, ◌∙◌, Some, arith}, specs.Prelude.{bytes_eq, slice_get}, specs.List.AllByRecursion}
-use Rattle.std.proofs.lemmas.{List.take_all, Option.slice_get-get_or, Slice.Eq.bytes_eq-Decides}
+use Rattle.std.{proofs.Common.{◌≡◌, false, List, subst, arith}, specs.Prelude.{bytes_eq, slice_get}, specs.List.AllByRecursion}
+use Rattle.std.proofs.lemmas.{List.take_all, Option.slice_get-get_or, Slice.Eq.bytes_eq-Decides, Grind.common_steps}
 use Rattle.track_room.{specs.Sights.Home, proofs.Standing.not-named}
 use Rattle.track_room.proofs.place.place_of.Goals as goal
 
 pub returns-then-is_of-clause-some : goal.returns-then-is_of-clause-some
-returns-then-is_of-clause-some c =
-    let h : Home = c.index-machines-i.result in
-    let at : slice_get c.args.machines.now c.loop-i.i ≡ Some h =
-    slice_get-get_or c.args.machines.now c.loop-i.i h (omega (arith, c.loop-i-test.true)) ∙ ap Some (sym c.index-machines-i.is) in
-    (h, at, (bytes_eq-Decides h.machine c.args.machine.now).0 (sym c.is_of.ensures ∙ c.if-is_of.true))
+returns-then-is_of-clause-some c = grind (arith, common_steps, slice_get, slice_get-get_or, bytes_eq-Decides)
 
 pub returns-clause-none : goal.returns-clause-none
 returns-clause-none c =

@@ -1,8 +1,7 @@
-use Rattle.std.{proofs.Common.{rules, get_or, subst, Option, Some, None, arith}, specs.Prelude.IfSome}
-use Rattle.track_room.specs.{Sights.Visits, Taking.seen_of}
+use Rattle.std.{proofs.Common.{rules, get_or, subst, Option, None, arith}, specs.Prelude.IfSome, proofs.lemmas.Grind.common_steps}
+use Rattle.track_room.{specs.Sights.Visits, specs.Taking.seen_of, proofs.work.take_first.Goals.After-take}
 use Rattle.track_room.proofs.{Firsts.{EntersNext, enters-all, enters-next, enters-none, entered, knows-next, takes-next}, work.take_first.Given.Over}
 use Rattle.track_room.proofs.work.take_first.Goals as goal
-use Rattle.track_room.proofs.work.take_first.Goals.{After-take}
 
 pub loop-i-init : goal.loop-i-init
 loop-i-init g c = enters-none (g.T.Take.takes None) c.args.machines.now c.args.passes.now c.requires.locks
@@ -29,8 +28,7 @@ returns-in-Some g c =
       sees = all.0;
       locks = all.1;
       same = all.2;
-      taken = takes-next one (g.T.Take.takes (Some c.in-Some.taken))
-          (subst (λ (o : Option _). Visits (g.T.Take.takes o) (get_or c.loop-i.passes c.loop-i.i c.index-passes-i.result) c.take.new.pass) c.in-Some.is c.in_ok-taken.ensures.taken);
+      taken = grind (arith, common_steps, takes-next, one, get_or, g.T.Take.takes, c.in-Some.taken, c.loop-i.passes);
       known = knows-next one (g.T.Take.knows c.in-Some.taken)
           (subst (λ (o : Option _). IfSome o (λ x. g.T.Take.knows x (seen_of c.take.new.pass))) c.in-Some.is c.in_ok-taken.ensures.known);
     }

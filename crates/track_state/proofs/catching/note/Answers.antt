@@ -1,6 +1,6 @@
-use Rattle.std.proofs.Common.{◌≡◌, ℕ, zero, suc, [], ◌∷◌, refl, ◌+◌, ◌-◌, ◌<◌, ◌≤◌, List, length, sym, ap, ◌∙◌, Option, Some, None, arith}
+use Rattle.std.proofs.Common.{◌≡◌, ℕ, zero, suc, [], ◌∷◌, refl, ◌+◌, ◌-◌, ◌<◌, ◌≤◌, List, length, ap, ◌∙◌, Option, Some, None, arith}
 use Rattle.std.specs.{Prelude.{OnErr, OnOk, Result, Ok, Err, option_copied, option_map, slice_get}, declared.alloc.AllocError.AllocError}
-use Rattle.std.proofs.lemmas.{List.length-map, Option.slice_get-map}
+use Rattle.std.proofs.lemmas.{List.length-map, Option.slice_get-map, Grind.common_steps}
 use Rattle.metric_table.specs.declared.limits.Limit.TheVariants as limit
 use Rattle.history_model.specs.{declared.entries.Entry.Entry, declared.entries.Placed.Placed, Entries.entries_of}
 use Rattle.track_state.{specs.Covering.IsTest, specs.Touching.touched_by, proofs.Covering.{covers-step, covers-part, claims-part}, proofs.Tests.is-test}
@@ -23,8 +23,7 @@ overflow_add-place-2 c =
 pub unreachable-requires : goal.unreachable-requires
 unreachable-requires c =
     let place : c.args.place + 1 - 1 ≡ c.args.place = omega arith in
-    let none : slice_get c.args.track.now.history c.args.place ≡ None =
-    ap (slice_get c.args.track.now.history) (sym place) ∙ sym (c.entry.ensures.there (omega arith)) ∙ ap option_copied c.in_default.is in
+    let none : slice_get c.args.track.now.history c.args.place ≡ None = grind (arith, common_steps) in
     let size : length (entries_of c.args.track.now.history) ≡ length c.args.track.now.history = length-map c.args.track.now.history (λ (p : Placed). p.entry) in
     none-past c.args.track.now.history c.args.place none (omega (arith, size, c.requires.there))
   where
@@ -35,9 +34,7 @@ unreachable-requires c =
 
 found : (history : List Placed) (k step : ℕ) (p : Placed) (o : Option Placed) → k + 1 ≡ step → (0 < step → o ≡ slice_get history (step - 1)) → o ≡ Some p
     → slice_get (entries_of history) k ≡ Some p.entry
-found history k step p o is there some =
-    let place : step - 1 ≡ k = omega (arith, is) in
-    entry-at history k p (ap (slice_get history) (sym place) ∙ sym (there (omega (arith, is))) ∙ some)
+found history k step p o is there some = grind (arith, common_steps, entry-at, there)
 
 -- an answer that all went well, or that it didn't
 if-ok : (r : Result (Unit {0}) AllocError) {P Q : Type 0} → (P → Q) → OnOk r P → OnOk r Q
@@ -76,6 +73,4 @@ returns-clause-part c =
     (covers-part c.touch_law.ensures.last c.touch_law.ensures.past c.touch_law.ensures.known c.publication_law.ensures.known (h at) c.args.place (e at) (there at) (touched_by (h at) (e at)) (test at) c.args.touched.now c.touch_entry.new.touched c.requires.covers c.touch_entry.ensures.some)
 
 pub returns-clause-claims : goal.returns-clause-claims
-returns-clause-claims c =
-    let at = (goal.at.returns-clause-claims c).After-touch_entry in
-    claims-part c.touch_law.ensures.last c.touch_law.ensures.past c.touch_law.ensures.known c.publication_law.ensures.known (h at) c.args.place (e at) (there at) (touched_by (h at) (e at)) (test at) c.args.touched.now c.touch_entry.new.touched c.requires.covers c.touch_entry.ensures.some
+returns-clause-claims c = grind (arith, common_steps, goal.at.returns-clause-claims, claims-part, h, e, there, touched_by, test)

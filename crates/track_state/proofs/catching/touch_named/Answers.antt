@@ -1,4 +1,5 @@
-use Rattle.std.{proofs.Common.{◌≡◌, ℕ, ◌+◌, Bool, true, false, ◌&&◌, ◌||◌, List, take, refl, sym, ap, ap₂, subst, ◌∙◌}, specs.Prelude.bytes_eq}
+use Rattle.std.proofs.lemmas.Grind.{common_steps}
+use Rattle.std.{proofs.Common.{◌≡◌, ℕ, ◌+◌, Bool, true, false, ◌&&◌, ◌||◌, List, take, refl, sym, ap, subst, ◌∙◌, arith}, specs.Prelude.bytes_eq}
 use Rattle.history_model.specs.Runs.{Series, same_series}
 use Rattle.touch_index.specs.{Marks.Entries, declared.key.SeriesKey.SeriesKey}
 use Rattle.track_state.specs.{Covering.{AreTouched, SomeAreTouched}, Touching.named}
@@ -20,9 +21,7 @@ loop-name-preserved c =
       | then-eq+in_ok-key+in_ok-touch w ↦
           let key : SeriesKey = w.in_ok-key.key in
           let hit : bytes_eq x.metric metric ≡ true = sym of_metric ∙ w.if-eq.true in
-          let key_is : key ≡ record { test = x.test; metric = x.metric } =
-          w.in_ok-key.ensures
-          ∙ ap₂ (λ (t m : List ℕ). let k : SeriesKey = record { test = t; metric = m } in k) w.test.ensures w.metric-then-eq.ensures in
+          let key_is : key ≡ record { test = x.test; metric = x.metric } = grind (arith, common_steps) in
           subst (λ (b : Entries). AreTouched (named metric (take (i + 1) xs)) step start b) (sym w.touched-is)
           (same (λ s. named metric (take i xs) s || is_key key s) (named metric (take (i + 1) xs)) step start w.touch.new.self
           (λ s. ap (λ (k : SeriesKey). named metric (take i xs) s || is_key k s) key_is

@@ -1,4 +1,4 @@
-use Rattle.std.proofs.Common.{◌≡◌, ℕ, ◌+◌, ◌||◌, Bool, List, take, sym, ap, subst, ◌∙◌}
+use Rattle.std.proofs.{Common.{◌≡◌, ℕ, ◌+◌, ◌||◌, Bool, List, take, sym, ap, subst, ◌∙◌, arith}, lemmas.Grind.common_steps}
 use Rattle.sample_model.specs.Samples.{Measurement}
 use Rattle.history_model.specs.Runs.{Series, is_of}
 use Rattle.touch_index.specs.{Marks.Entries, declared.key.SeriesKey.SeriesKey}
@@ -15,8 +15,7 @@ loop-sample-preserved c =
     let x : Measurement = c.sample-item.result in
     let key : SeriesKey = c.in_ok-key.key in
     let step : ℕ = c.args.step in
-    let named : key ≡ record { test = x.test; metric = x.metric } =
-    c.in_ok-key.ensures ∙ ap (λ (y : Measurement). let k : SeriesKey = record { test = y.test; metric = y.metric } in k) c.sample.view_is in
+    let named : key ≡ record { test = x.test; metric = x.metric } = grind (arith, common_steps) in
     same (λ s. sampled (take i xs) s || is_key key s) (sampled (take (i + 1) xs)) step c.args.touched.now c.touch.new.self
     (λ s. ap (λ (k : SeriesKey). sampled (take i xs) s || is_key k s) named
     ∙ ap (λ (y : Measurement). sampled (take i xs) s || is_of s y) c.sample-item.is

@@ -1,9 +1,9 @@
-use Rattle.std.{proofs.Common.{◌≡◌, ◌≤◌, List, length, refl, sym, ap, subst, ◌∙◌, Option, Some, None}, specs.Prelude.option_copied}
+use Rattle.std.proofs.{Common.{◌≡◌, ◌≤◌, List, length, sym, subst, ◌∙◌, Option, Some, None, arith}, lemmas.Grind.common_steps}
 use Rattle.segment_cost.specs.declared.done.Done.{Done}
 use Rattle.history_model.specs.{declared.entries.Entry.Entry, Entries.entries_of, Publications.last_publication, Runs.Series}
-use Rattle.touch_index.specs.{Marks.mark_of, declared.key.SeriesKey.SeriesKey, declared.mark.Claim.TheVariants.Free, declared.mark.Mark.Mark}
-use Rattle.track_step.specs.{Made.publication_from, State.IsKept}
-use Rattle.track_state.{specs.Covering.Fits, specs.Work.series_of, proofs.Handed.{kept-none, kept-some, put-claims, put-covers, was-published}}
+use Rattle.touch_index.specs.{Marks.mark_of, declared.key.SeriesKey.SeriesKey, declared.mark.Mark.Mark}
+use Rattle.track_step.specs.Made.{publication_from}
+use Rattle.track_state.{specs.Covering.Fits, specs.Work.series_of, proofs.Handed.{put-claims, put-covers, was-published}}
 use Rattle.track_state.proofs.{Touching.same-itself, publishing.marked.Goals.In-Some-published}
 use Rattle.track_state.proofs.publishing.marked.Goals as goal
 
@@ -13,8 +13,7 @@ unreachable-requires c =
     let k : SeriesKey = c.args.key.now in
     let s : Series = series_of k in
     let none : mark_of k c.args.touched.now ≡ None = sym c.get.ensures ∙ c.in_default.is in
-    let unpublished : last_publication s h ≡ None =
-    kept-none h (last_publication s h) (subst (λ (o : Option Done). IsKept h (last_publication s h) o) (ap option_copied c.in_default-published.is) c.published.ensures) in
+    let unpublished : last_publication s h ≡ None = grind (arith, common_steps) in
     was-published h s c.requires.known (subst (λ (o : Option Mark). Fits h (length h) s o) none (c.requires.covers.each s)) unpublished
 
 -- the publication whose version marks the series
@@ -26,9 +25,7 @@ module _ (c : In-Some-published) where
   done = c.in-Some-published.done.now
 
   last : last_publication (series_of c.args.key.now) h ≡ Some (publication_from done)
-  last =
-      let P : Option Done → Type 0 = λ o. IsKept h (last_publication (series_of c.args.key.now) h) o in
-      kept-some h (last_publication (series_of c.args.key.now) h) done (subst P (ap option_copied c.in-Some-published.is) c.published.ensures)
+  last = grind (arith, common_steps)
 
   past : done.version ≤ length h
   past = (c.publication_law.ensures.last_stands h (series_of c.args.key.now) (publication_from done) c.history_law.ensures.legal last).1.past
@@ -44,8 +41,4 @@ returns-clause-claims c =
     put-claims (h at) c.args.touched.now c.put.new.self c.requires.covers c.args.key.now c.requires.known (sym c.get.ensures ∙ c.in_default.is) (publication_from (done at)) (last at) (past at) c.in_ok-put.ensures.ok
 
 pub returns-clause-mark : goal.returns-clause-mark
-returns-clause-mark c = record {
-  mark = record { touched = c.in-Some-published.done.now.version; claim = Free };
-  there = c.in_ok-put.ensures.ok c.args.key.now ∙ same-itself c.args.key.now _ _;
-  touched = refl;
-}
+returns-clause-mark c = grind (arith, common_steps, same-itself)

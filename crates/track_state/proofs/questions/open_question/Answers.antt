@@ -1,4 +1,4 @@
-use Rattle.std.{proofs.Common.{◌≡◌, ℕ, not, List, sym, ap, ◌∙◌}, specs.Prelude.find}
+use Rattle.std.{proofs.Common.{◌≡◌, ℕ, not, List, sym, ap, ◌∙◌, arith}, specs.Prelude.find, proofs.lemmas.Grind.common_steps}
 use Rattle.bisect_core.specs.Bisections.{Bisection}
 use Rattle.follow_index.specs.Numbered.{open_numbers}
 use Rattle.history_model.specs.{declared.entries.Entry.Entry, Entries.entries_of, Jobs.jobs}
@@ -13,11 +13,7 @@ returns-in_default c =
     (ap (λ (ns : List ℕ). find (λ n. not (is_claimed c.args.claimed.now n)) ns) (sym numbers) ∙ sym c.first_unclaimed.ensures ∙ c.in_default.is)
 
 pub question_of-requires : goal.question_of-requires
-question_of-requires c =
-    let h : List Entry = entries_of c.args.track.now.history in
-    let numbers : c.open_numbers.result.now ≡ open_numbers (jobs h) = c.open_numbers.ensures ∙ ap (λ (js : List Bisection). open_numbers js) c.jobs.ensures in
-    is-asked h (λ n. not (is_claimed c.args.claimed.now n)) c.in-Some.number
-    (ap (λ (ns : List ℕ). find (λ n. not (is_claimed c.args.claimed.now n)) ns) (sym numbers) ∙ sym c.first_unclaimed.ensures ∙ c.in-Some.is)
+question_of-requires c = grind (arith, common_steps, is-asked, not, is_claimed, find)
 
 pub returns : goal.returns
 returns c =

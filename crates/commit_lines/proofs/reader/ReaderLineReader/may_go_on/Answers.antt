@@ -1,16 +1,7 @@
-use Rattle.std.proofs.{Common.{◌<◌, ◌≤◌, [], ◌++◌, length, sym, subst, arith}, lemmas.Bool.both_ways}
-use Rattle.commit_lines.{specs.Lines.MayGo, specs.HasRead.kept_by, proofs.Fronts.shows_more, proofs.PieceSteps.cause, proofs.ReaderSteps.{is_open, not_open}}
+use Rattle.std.proofs.{Common.{◌≤◌, [], ◌++◌, length, sym, subst, arith}, lemmas.Bool.both_ways}
+use Rattle.commit_lines.{specs.Lines.MayGo, specs.HasRead.kept_by, proofs.Fronts.shows_more, proofs.PieceSteps.cause, proofs.ReaderSteps.not_open}
 use Rattle.line_pieces.specs.declared.stop.{Refusal.TheVariants.Bad, Stop.TheVariants.Refused}
 use Rattle.commit_lines.proofs.reader.ReaderLineReader.may_go_on.Goals as goal
-
-pub returns-then-len-gt-LINE_LIMIT-clause-ok : goal.returns-then-len-gt-LINE_LIMIT-clause-ok
-returns-then-len-gt-LINE_LIMIT-clause-ok c read has =
-    let long : 4_096 < length c.args.self.now.line.items = omega (arith, c.len.ensures, c.args.self.now.line.ok) in
-    is_open read (kept_by c.args.self.now) (λ short. absurd (omega arith)) has
-
-pub returns-then-branch-clause-ok : goal.returns-then-branch-clause-ok
-returns-then-branch-clause-ok c read has =
-    is_open read (kept_by c.args.self.now) (λ short. subst (MayGo c.args.self.now.names.keys) c.deref.ensures.value (c.in_ok-may_go.ensures.0 c.if-branch.true)) has
 
 pub returns-clause-err : goal.returns-clause-err
 returns-clause-err c read rest has few =

@@ -1,5 +1,5 @@
 use Rattle.std.proofs.{Common.{[], ◌∷◌}, lemmas.Result.{err_from_is_err_and, MatchResult-weaker}}
-use Rattle.line_pieces.proofs.Parts.{read_on, refused_before, refused_behind}
+use Rattle.line_pieces.proofs.Parts.{refused_before, refused_behind}
 use Rattle.commit_lines.specs.Pieces.{reading}
 use Rattle.commit_lines.proofs.reader.ReaderLineReader.take_line.Goals as goal
 
@@ -7,11 +7,6 @@ pub returns-in_err-extend_line-clause-err : goal.returns-in_err-extend_line-clau
 returns-in_err-extend_line-clause-err c =
     let p = err_from_is_err_and c.from_residual.result c.from_residual.ensures.1 in
     rw (p.1, p.2) (refused_before reading c.args.self.now c.extend_line.new.self c.args.part.now (10 ∷ []) c.in_err-extend_line.field-0.0 c.in_err-extend_line.ensures.err)
-
-pub returns-clause-ok : goal.returns-clause-ok
-returns-clause-ok c =
-    MatchResult-weaker c.end_line.result c.end_line.ensures.ok (λ x told.
-    read_on reading c.args.self.now c.extend_line.new.self c.args.part.now (10 ∷ []) c.end_line.new.self c.in_ok-extend_line.ensures.ok told) (λ stop told. told)
 
 pub returns-clause-err : goal.returns-clause-err
 returns-clause-err c =

@@ -1,6 +1,5 @@
-use Rattle.std.proofs.Common.{rules, ◌≡◌, Some, ◌+◌, ◌*◌, ◌^◌, ◌≤◌, length, take, sym, ap, ◌∙◌, subst, FitsSigned, arith}
+use Rattle.std.{proofs.Common.{rules, Some, length, take, ap, ◌∙◌, FitsSigned, arith}, proofs.lemmas.Grind.common_steps, specs.Str.Parse.digits_value_after}
 use Rattle.std.{specs.Int.{w128, cast_signed, cast_unsigned}, proofs.lemmas.Int.to_z-of_z, proofs.lemmas.List.length-take-le}
-use Rattle.std.specs.Str.Parse.{digits_value_after}
 use Rattle.fixed_value.specs.{declared.numeral.Numeral.Numeral, Numerals.IsNumeralText}
 use Rattle.fixed_value.proofs.{Grammar.{if_none, Front, some_whole, too_many, numeral_split, numeral_made, numeral_only}, Powers.ten_grows, Reading.fits_behind}
 use Rattle.fixed_value.proofs.numeral.Numeral.read.Goals as goal
@@ -39,29 +38,13 @@ pub returns-then-whole-fraction-gt38-clause-only : goal.returns-then-whole-fract
 returns-then-whole-fraction-gt38-clause-only c numeral is = absurd (returns-then-whole-fraction-gt38-clause-none c numeral is)
 
 pub number_after-requires-clause-fits : goal.number_after-requires-clause-fits
-number_after-requires-clause-fits c =
-    let len : length (take c.leading_digits-whole.result c.split_sign-negative.result.1.now) ≡ c.leading_digits-whole.result =
-    length-take-le c.leading_digits-whole.result c.split_sign-negative.result.1.now c.leading_digits-whole.ensures.within in
-    let short : length (take c.leading_digits-whole.result c.split_sign-negative.result.1.now) ≤ 38 = omega (arith, len, c.if-whole-fraction-gt38.false) in
-    omega (arith, ten_grows (length (take c.leading_digits-whole.result c.split_sign-negative.result.1.now)) 38 short)
+number_after-requires-clause-fits c = grind (arith, common_steps, length, take, length-take-le, ten_grows)
 
 pub number_after-digits-requires-clause-fits : goal.number_after-digits-requires-clause-fits
-number_after-digits-requires-clause-fits c =
-    let len : length (take c.leading_digits-whole.result c.split_sign-negative.result.1.now) ≡ c.leading_digits-whole.result =
-    length-take-le c.leading_digits-whole.result c.split_sign-negative.result.1.now c.leading_digits-whole.ensures.within in
-    subst (λ n. (n + 1) * 10 ^ length c.in_ok-fraction.fraction.now ≤ 10 ^ 38) (sym c.number_after.ensures)
-    (fits_behind (take c.leading_digits-whole.result c.split_sign-negative.result.1.now) c.in_ok-fraction.fraction.now c.leading_digits-whole.ensures.digits (omega (arith, len, c.if-whole-fraction-gt38.false)))
+number_after-digits-requires-clause-fits c = grind (arith, common_steps, length, take, length-take-le, fits_behind)
 
 pub returns-clause-some : goal.returns-clause-some
-returns-clause-some c =
-    let fits : FitsSigned w128 c.less_places.result = search rules in
-    let fits' : FitsSigned w128 c.in_ok-fraction.power = search rules in
-    let exponent = to_z-of_z w128 c.less_places.result fits ∙ (simp to_z-of_z at c.less_places.ensures) in
-    let value = c.number_after-digits.ensures ∙ ap (λ n. digits_value_after 10 n c.in_ok-fraction.fraction.now) c.number_after.ensures in
-    numeral_made c.args.text.now c.split_sign-negative.result.1.now c.in_ok-fraction.fraction.now c.in_ok-fraction.power c.leading_digits-whole.result
-    (record { negative = c.split_sign-negative.result.0; digits = c.number_after-digits.result; exponent = cast_signed w128 (cast_unsigned w128 c.less_places.result) })
-    c.split_sign-negative.ensures.joined c.leading_digits-whole.ensures.within c.leading_digits-whole.ensures.digits c.if-whole-eq0.false c.in_ok-fraction.ensures.some c.if-text-gt40.false
-    c.if-whole-fraction-gt38.false value exponent
+returns-clause-some c = grind (arith, common_steps, w128, to_z-of_z, numeral_made, cast_signed, cast_unsigned)
 
 pub returns-clause-only : goal.returns-clause-only
 returns-clause-only c numeral is =

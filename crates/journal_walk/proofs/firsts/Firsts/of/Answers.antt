@@ -5,7 +5,6 @@ use Rattle.journal_walk.proofs.firsts.Firsts.of.Goals as goal
 
 pub loop-place-preserved : goal.loop-place-preserved
 loop-place-preserved c =
-    let k : ℕ = c.loop-place.place - 1 in
     let le = c.loop-place.invariant.within in
     let some = c.loop-place-test.true in
     let inside : c.loop-place.place - 1 < length c.args.history.now = omega (arith, le, some) in

@@ -1,15 +1,12 @@
-use Rattle.std.{proofs.Common.{◌≡◌, List, length, sym, ap, ◌∙◌, subst, Some}, specs.Prelude.slice_get}
+use Rattle.std.{proofs.Common.{◌≡◌, List, length, sym, ap, ◌∙◌, subst, Some, arith}, specs.Prelude.slice_get, proofs.lemmas.Grind.common_steps}
 use Rattle.history_model.specs.declared.{entries.Entry.TheVariants.Publish, entries.Placed.Placed, publication.Publication.Publication}
 use Rattle.history_model.specs.{Allowed.Allowed, Entries.entries_of}
-use Rattle.journal_walk.specs.{Steps.Publishes, Walks.{IsPublishedNext, PublishesNothing, Walked}}
-use Rattle.journal_walk.proofs.Going.{Met, if-more, item-at, met-now, none-more, nothing-published, published-next, ready, walk}
+use Rattle.journal_walk.{specs.Steps.Publishes, specs.Walks.{IsPublishedNext, PublishesNothing, Walked}, proofs.walk.Walk.publish_next.Goals.After-get-p}
+use Rattle.journal_walk.proofs.Going.{Met, if-more, item-at, none-more, nothing-published, published-next, ready, walk}
 use Rattle.journal_walk.proofs.walk.Walk.publish_next.Goals as goal
-use Rattle.journal_walk.proofs.walk.Walk.publish_next.Goals.{After-get-p}
 
 met-is : (c : After-get-p) → Met c.self.inside.history.now c.meet_needs.new.track c.meet_needs.new.ahead c.args.self.now
-met-is c =
-    let is = c.in_ok-meet_needs.ensures in
-    met-now c.self.inside.history.now c.self.inside.track c.meet_needs.new.track c.meet_needs.new.ahead c.args.self.now is.keeps is.met is.same c.self.view_is
+met-is c = grind (arith, common_steps)
 
 at-is : (c : After-get-p) → slice_get c.self.inside.history.now (length c.meet_needs.new.track.history) ≡ Some c.in-Some.next.now
 at-is c = item-at c.self.inside.history.now c.len-place.result (length c.meet_needs.new.track.history) c.in-Some.next c.len-place.ensures c.in-Some.ensures.lookup

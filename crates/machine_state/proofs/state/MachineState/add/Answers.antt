@@ -1,9 +1,9 @@
 use Rattle.metric_table.specs.declared.limits.Limit.TheVariants as limit
 use Rattle.std.{proofs.Common.{◌≡◌, ℕ, ◌≤◌, ◌+◌, List, [], ◌∷◌, ◌++◌, length, sym, ap, subst, ◌∙◌, arith}, specs.Prelude.option_to_list}
-use Rattle.std.proofs.lemmas.List.{length-map}
-use Rattle.history_model.specs.{declared.entries.Entry.Entry, declared.entries.Placed.Placed, Allowed.Allowed, declared.entries.Declaration.Declaration}
-use Rattle.history_model.{specs.Commits.{declaration, declarations}, specs.Entries.entries_of, proofs.Chosen.entries-push, specs.Runs.{Series, known_series}}
-use Rattle.machine_state.{specs.Following.IsFollowed, proofs.Followed.followed-after, specs.Indexes.{TakesIn, runs_after, seen_after, given_after}}
+use Rattle.std.proofs.lemmas.{List.length-map, Grind.common_steps}
+use Rattle.history_model.specs.{declared.entries.Entry.Entry, declared.entries.Placed.Placed, Allowed.Allowed}
+use Rattle.history_model.specs.{Commits.{declaration, declarations}, Entries.entries_of, Runs.{Series, known_series}}
+use Rattle.machine_state.{specs.Following.IsFollowed, proofs.Followed.followed-after, specs.Indexes.{runs_after, seen_after, given_after}}
 use Rattle.track_model.specs.Tracks.{Track}
 use Rattle.publication_index.specs.Given.{given}
 use Rattle.series_index.specs.Seen.{seen}
@@ -26,17 +26,10 @@ module _ (c : In_ok-reserve) where
   size = length-map c.self.inside.history.items (λ (p : Placed). p.entry) ∙ sym c.self.inside.history.ok.0
 
 pub follow-requires-clause-indexes : goal.follow-requires-clause-indexes
-follow-requires-clause-indexes c =
-    let at = (goal.at.follow-requires-clause-indexes c).In_ok-reserve in
-    rw (c.self.invariant.commits_are, c.self.invariant.runs_are)
-    (ready c.between_law.ensures.two (h at) c.self.inside.following c.args.entry c.self.invariant.followed_are (allowed at))
+follow-requires-clause-indexes c = grind (arith, common_steps, goal.at.follow-requires-clause-indexes, ready, h, allowed)
 
 pub follow-requires-clause-series : goal.follow-requires-clause-series
-follow-requires-clause-series c =
-    let at = (goal.at.follow-requires-clause-series c).In_ok-reserve in
-    let step_is : c.len.result + 1 ≡ length (h at) + 1 = omega (arith, c.len.ensures, c.reserve.ensures.len, size at) in
-    subst (λ (step : ℕ). TakesIn c.self.inside.series step c.args.entry) (sym step_is)
-    (takes-in c.positions_law.ensures.fresh c.positions_law.ensures.past c.limits_law.ensures.room c.retraction_law.ensures (h at) c.args.entry c.self.inside.series c.self.invariant.legal (allowed at) c.self.invariant.series_are)
+follow-requires-clause-series c = grind (arith, common_steps, goal.at.follow-requires-clause-series, length, h, size, takes-in, allowed)
 
 pub invariant_of-self-2 : goal.invariant_of-self-2
 invariant_of-self-2 c =
@@ -44,16 +37,14 @@ invariant_of-self-2 c =
     let e : Entry = c.args.entry in
     let h : List Entry = entries_of c.self.inside.history.items in
     let step_is : c.len.result ≡ length h = omega (arith, c.len.ensures, c.reserve.ensures.len, size at) in
-    let entries_are : entries_of c.push_reserved.new.self.items ≡ h ++ e ∷ [] =
-    ap entries_of (rw (← c.in_ok-reserve.ensures.items) c.push_reserved.ensures.items) ∙ entries-push c.self.inside.history.items (record { author = c.args.author; entry = e }) in
+    let entries_are : entries_of c.push_reserved.new.self.items ≡ h ++ e ∷ [] = grind (arith, common_steps) in
     let commits_are : c.follow.new.commits ≡ c.self.inside.commits ++ option_to_list (declaration (length h + 1) e) = rw (← step_is) c.in_ok-follow.ensures.commits in
     let runs_are : c.follow.new.runs ≡ runs_after (length h + 1) e c.self.inside.runs = rw (← step_is) c.in_ok-follow.ensures.runs in
     let series_are : (s : Series) → seen s c.follow.new.series ≡ seen_after (length h + 1) e c.self.inside.runs s (seen s c.self.inside.series) =
     rw (← step_is) c.in_ok-follow.ensures.series in
     let grown : length (known_series (h ++ e ∷ [])) ≡ length (known_series h) + c.args.more = rw (h-is at) at c.requires.more in
     let given_are : (metric : List ℕ) → given metric c.follow.new.settings ≡ given_after e metric (given metric c.self.inside.settings) = c.in_ok-follow.ensures.settings in
-    let followed : IsFollowed (declarations h) e c.self.inside.following c.follow.new.following =
-    subst (λ (ds : List Declaration). IsFollowed ds e c.self.inside.following c.follow.new.following) c.self.invariant.commits_are c.in_ok-follow.ensures.following in
+    let followed : IsFollowed (declarations h) e c.self.inside.following c.follow.new.following = grind (arith, common_steps) in
     rw (entries_are, commits_are, runs_are)
     (follows c.growth_law.ensures.legal c.positions_law.ensures.accept c.positions_law.ensures.retract c.positions_law.ensures.untouched c.retraction_law.ensures
     c.setting_law.ensures.set c.setting_law.ensures.stays

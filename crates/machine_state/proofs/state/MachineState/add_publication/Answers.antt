@@ -1,9 +1,9 @@
-use Rattle.std.proofs.Common.{◌≡◌, ◌≤◌, List, [], ◌∷◌, ◌++◌, length, refl, sym, ap, subst, ◌∙◌, arith}
+use Rattle.std.proofs.{Common.{◌≡◌, ◌≤◌, List, [], ◌∷◌, ◌++◌, length, refl, sym, ap, subst, ◌∙◌, arith}, lemmas.Grind.common_steps}
 use Rattle.metric_table.specs.Limits.{most}
 use Rattle.metric_table.specs.declared.limits.Limit.TheVariants as limit
 use Rattle.history_model.specs.{declared.entries.Entry.Entry, declared.publication.Publication.Publication, Allowed.Allowed, Entries.entries_of}
 use Rattle.history_model.specs.declared.entries.Entry.TheVariants as entry
-use Rattle.history_model.{specs.Publications.cut_count, proofs.Chosen.entries-push}
+use Rattle.history_model.specs.Publications.{cut_count}
 use Rattle.track_model.specs.Tracks.{Track}
 use Rattle.machine_state.{specs.Made.IsMadeFrom, specs.Made.entry_of, proofs.OneMore.{publishes, stays}}
 use Rattle.machine_state.proofs.state.MachineState.add_publication.Goals as goal
@@ -34,9 +34,7 @@ invariant_of-self-2 c =
     let kept_is : kept ≡ entry_of c.args.done = ap (λ (p : Publication). entry.Publish p) (c.in_ok-publication.ensures ∙ c.requires.is) in
     let allowed : Allowed h (entry_of c.args.done) = subst (λ (f : Entry). Allowed h f) e_is (subst (λ (before : List Entry). Allowed before e) h_is c.requires.allowed) in
     let made : IsMadeFrom h c.args.done = subst (λ (before : List Entry). IsMadeFrom before c.args.done) h_is c.requires.made in
-    let entries_are : entries_of c.push_reserved.new.self.items ≡ h ++ entry_of c.args.done ∷ [] =
-    ap entries_of (rw (← c.in_ok-reserve.ensures.items) c.push_reserved.ensures.items) ∙ entries-push x.history.items (record { author = c.args.author; entry = kept })
-    ∙ ap (λ (f : Entry). h ++ f ∷ []) kept_is in
+    let entries_are : entries_of c.push_reserved.new.self.items ≡ h ++ entry_of c.args.done ∷ [] = grind (arith, common_steps) in
     let all = publishes c.growth_law.ensures.legal c.positions_law.ensures.accept c.positions_law.ensures.retract c.positions_law.ensures.untouched c.retraction_law.ensures
     c.setting_law.ensures.set c.setting_law.ensures.stays
     c.publication_law.ensures.last c.publication_law.ensures.stays c.publication_law.ensures.versions c.publication_law.ensures.cuts

@@ -1,4 +1,5 @@
-use Rattle.std.{proofs.Common.{◌≡◌, ℕ, ◌<◌, List, refl, sym, ap, subst, ◌∙◌, Some, true, false}, specs.Prelude.option_copied}
+use Rattle.std.proofs.lemmas.Grind.{common_steps}
+use Rattle.std.{proofs.Common.{◌≡◌, ℕ, ◌<◌, List, refl, sym, ap, subst, ◌∙◌, Some, true, false, arith}, specs.Prelude.option_copied}
 use Rattle.std.specs.FinSet as set
 use Rattle.history_model.specs.{Allowed.Legal, SeriesOrder.series_cmp, declared.entries.Entry.Entry, Entries.entries_of, Penalties.setting_of}
 use Rattle.publication_index.specs.{Standing.IsKeptTable, Homes.homes, Kept.{kept, kept_at_home}}
@@ -65,8 +66,7 @@ pub returns-then-not-is_made_at-clause-begun : goal.returns-then-not-is_made_at-
 returns-then-not-is_made_at-clause-begun c = other (goal.at.returns-then-not-is_made_at-clause-begun c).After-is_made_at c.if-not-is_made_at.true
 
 pub returns-then-not-is_made_at-clause-taken : goal.returns-then-not-is_made_at-clause-taken
-returns-then-not-is_made_at-clause-taken c =
-    taken-none c.args.self.now (asked c.args.test.now c.args.metric.now) (other (goal.at.returns-then-not-is_made_at-clause-taken c).After-is_made_at c.if-not-is_made_at.true)
+returns-then-not-is_made_at-clause-taken c = grind (arith, common_steps, taken-none, asked, other, goal.at.returns-then-not-is_made_at-clause-taken)
 
 pub invariant_of-self : goal.invariant_of-self
 invariant_of-self c =

@@ -1,4 +1,5 @@
-use Rattle.std.{proofs.Common.{◌≡◌, ◌∙◌, ◌-◌, sym, ap, Some, None, arith}, specs.Ordering.nat_cmp, specs.Cmp.Lexicographic.slice_cmp, specs.BTreeMap.get}
+use Rattle.std.proofs.lemmas.Grind.{common_steps}
+use Rattle.std.{proofs.Common.{◌≡◌, ◌∙◌, ◌-◌, sym, Some, None, arith}, specs.Ordering.nat_cmp, specs.Cmp.Lexicographic.slice_cmp, specs.BTreeMap.get}
 use Rattle.name_index.{specs.Placed.{slot, hard_hash}, proofs.Finding.{nowhere, untold, position-at, position-none}}
 use Rattle.name_index.proofs.places.Places.find.Goals as goal
 
@@ -16,8 +17,7 @@ returns-then-is_at c = sym (position-at c.args.names.now c.args.name.now (c.slot
 
 pub returns-in_err-place : goal.returns-in_err-place
 returns-in_err-place c =
-    let none : get nat_cmp c.args.self.now.hashed (hard_hash c.args.name.now) ≡ None =
-    ap (get nat_cmp c.args.self.now.hashed) (sym c.hard_hash.ensures) ∙ sym c.in_err-place.ensures.value in
+    let none : get nat_cmp c.args.self.now.hashed (hard_hash c.args.name.now) ≡ None = grind (arith, common_steps) in
     c.from_residual.ensures ∙ sym (position-none c.args.names.now c.args.name.now
     (nowhere c.args.names.now c.args.self.now c.args.name.now c.requires.found
     (λ i is. untold c.args.names.now c.args.name.now (c.slot-slot.result - 1) c.is_at.result c.is_at.ensures c.if-is_at.false i (omega (arith, is, c.slot-slot.ensures)))
@@ -29,8 +29,7 @@ returns-then-is_at-2 c = sym (position-at c.args.names.now c.args.name.now c.in_
 
 pub returns-in_err-place-2 : goal.returns-in_err-place-2
 returns-in_err-place-2 c =
-    let there : Some c.in_ok-place.field-0.now ≡ get nat_cmp c.args.self.now.hashed (hard_hash c.args.name.now) =
-    c.in_ok-place.ensures.value ∙ ap (get nat_cmp c.args.self.now.hashed) c.hard_hash.ensures in
+    let there : Some c.in_ok-place.field-0.now ≡ get nat_cmp c.args.self.now.hashed (hard_hash c.args.name.now) = grind (arith, common_steps) in
     let none : None ≡ get (slice_cmp nat_cmp) c.args.self.now.named c.args.name.now = c.in_err-place-2.ensures.value in
     c.from_residual-in_err-place-2.ensures ∙ sym (position-none c.args.names.now c.args.name.now
     (nowhere c.args.names.now c.args.self.now c.args.name.now c.requires.found
@@ -43,8 +42,7 @@ returns-then-is_at-3 c = sym (position-at c.args.names.now c.args.name.now c.in_
 
 pub returns : goal.returns
 returns c =
-    let there : Some c.in_ok-place.field-0.now ≡ get nat_cmp c.args.self.now.hashed (hard_hash c.args.name.now) =
-    c.in_ok-place.ensures.value ∙ ap (get nat_cmp c.args.self.now.hashed) c.hard_hash.ensures in
+    let there : Some c.in_ok-place.field-0.now ≡ get nat_cmp c.args.self.now.hashed (hard_hash c.args.name.now) = grind (arith, common_steps) in
     let named : Some c.in_ok-place-2.field-0.now ≡ get (slice_cmp nat_cmp) c.args.self.now.named c.args.name.now = c.in_ok-place-2.ensures.value in
     sym (position-none c.args.names.now c.args.name.now
     (nowhere c.args.names.now c.args.self.now c.args.name.now c.requires.found

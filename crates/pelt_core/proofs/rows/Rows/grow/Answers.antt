@@ -19,12 +19,6 @@ mark_dear-any-requires g c =
       length = rw row.len c.requires.pruned.length_from;
     }
 
-pub sweep-swept-requires : goal.sweep-swept-requires
-sweep-swept-requires g c = record {
-  few = omega (arith, c.len-t.ensures, c.requires.limits.few_positions);
-  length = rw (c.mark_dear-any.ensures.same.len ∙ c.next_row-found.ensures.row.len) c.requires.pruned.length_from;
-}
-
 module _ (g : _) (c : After-renew g) where
   abbrev ps : List (List ℤ)
   ps = g.C.Cost.positions c.args.cost.now

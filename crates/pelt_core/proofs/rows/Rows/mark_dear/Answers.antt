@@ -1,15 +1,11 @@
-use Rattle.std.{proofs.Common.{◌≡◌, ℕ, ℤ, List, ◌+◌, ◌<◌, ◌≤◌, length, slice_index, ◌⊎◌, inl, inr, ◌∙◌, arith}, specs.Vec.with_items}
-use Rattle.std.proofs.lemmas.{List.{take_at, get_or_read}, Bool.cases_eq}
+use Rattle.std.{proofs.Common.{◌≡◌, ℕ, ℤ, List, ◌+◌, ◌<◌, ◌≤◌, length, slice_index, ◌⊎◌, inl, inr, arith}, specs.Vec.with_items}
+use Rattle.std.proofs.lemmas.{List.take_at, Grind.common_steps}
 use Rattle.segment_model.specs.{Tables.{MayBegin, IsCandidate}, Values.cost_between}
 use Rattle.pelt_core.{specs.Candidates.{AreLookedAt, IsAmong, IsNear}, proofs.Marks.{both-looked, looked-as}}
 use Rattle.pelt_core.proofs.rows.Rows.mark_dear.Goals as goal
 
 candidate-begins : (len t s : ℕ) → IsCandidate len t s → MayBegin len s
 candidate-begins len t s is = elim is.1 [ inl none ↦ inl none | inr long ↦ inr long.0 ]
-
--- a place behind another one at which a segment may begin is one too
-later-begins : (len k s : ℕ) → MayBegin len k → 0 < k → k + 1 ≤ s → MayBegin len s
-later-begins len k s may some le = elim may [ inl none ↦ absurd (omega arith) | inr enough ↦ inr (omega arith) ]
 
 pub returns-clause-marks : goal.returns-clause-marks
 returns-clause-marks g c =
@@ -20,8 +16,7 @@ returns-clause-marks g c =
     let least : List ℤ = c.args.self.now.least.items in
     let old : List ℕ = c.args.self.now.pruned.items in
     let k : ℕ = slice_index c.args.self.now.candidates.items c.args.index in
-    let read : c.from-last_cut.result ≡ slice_index c.args.self.now.candidates.items c.args.index =
-    c.from-last_cut.ensures ∙ get_or_read c.args.self.now.candidates.items c.args.index c.index.result.now c.requires.index c.index.ensures 0 in
+    let read : c.from-last_cut.result ≡ slice_index c.args.self.now.candidates.items c.args.index = grind (arith, common_steps) in
     let written : (with_items c.args.self.now.pruned c.mark_first-before.new.pruned).items ≡ c.mark_first-before.new.pruned = take_at c.mark_first-before.new.pruned _ c.args.self.now.pruned.len (omega (arith, c.mark_first-before.auto.pruned, c.deref_mut.ensures.len, c.args.self.now.pruned.ok.0)) in
     let written' : (with_items (with_items c.args.self.now.pruned c.mark_first-before.new.pruned) c.mark_between-behind.new.pruned).items ≡ c.mark_between-behind.new.pruned = take_at c.mark_between-behind.new.pruned _ c.args.self.now.pruned.len (omega (arith, c.mark_between-behind.auto.pruned, c.deref_mut-2.ensures.len, c.args.self.now.pruned.ok.0)) in
     let begins : (i : ℕ) → i < length cs → MayBegin len (slice_index cs i) = λ i lt. candidate-begins len t (slice_index cs i) (c.requires.begins i lt) in
@@ -29,11 +24,7 @@ returns-clause-marks g c =
     rw (c.deref.ensures.value, c.deref-2.ensures.value, c.deref_mut.ensures.value) at (c.mark_first-before.ensures len (rw c.deref-2.ensures.value begins)) in
     let some : 0 < t = omega (arith, (c.requires.begins c.args.index c.requires.index).0) in
     let k-begins : MayBegin len k = begins c.args.index c.requires.index in
-    let may : (s : ℕ) → c.from-last_cut.result + 1 ≤ s → s < c.end_of_near.result → MayBegin len s = λ s from lt.
-    elim (cases_eq c.from-last_cut.result 0) [
-      | inl none ↦ absurd (omega (arith, lt, c.end_of_near.ensures.none none))
-      | inr apart ↦ later-begins len k s k-begins (omega (arith, apart, read)) (omega (arith, from, read))
-    ] in
+    let may : (s : ℕ) → c.from-last_cut.result + 1 ≤ s → s < c.end_of_near.result → MayBegin len s = grind (arith, common_steps) in
     let second : AreLookedAt cost len least t (λ s. (c.from-last_cut.result + 1 ≤ s) × (s < c.end_of_near.result)) c.mark_first-before.new.pruned c.mark_between-behind.new.pruned =
     rw (c.deref-3.ensures.value, c.deref_mut-2.ensures.value, written) at (c.mark_between-behind.ensures len may) in
     rw written' (looked-as cost len least t

@@ -6,9 +6,7 @@ use Rattle.pelt_core.proofs.Growing.{last, some, few, bounds-for, are-candidates
 use Rattle.pelt_core.proofs.rows.Rows.next_row.Goals as goal
 
 pub overflow_sub-len : goal.overflow_sub-len
-overflow_sub-len g c =
-    let p = some c.requires c.pruning_law.ensures.mark in
-    omega (arith, p, c.len.ensures, c.args.self.now.candidates.ok.0)
+overflow_sub-len g c = omega (arith, c.len.ensures, c.args.self.now.candidates.ok.0, some c.requires c.pruning_law.ensures.mark)
 
 pub first_least-found-requires-clause-some : goal.first_least-found-requires-clause-some
 first_least-found-requires-clause-some g c =

@@ -19,7 +19,6 @@ returns g c =
     let b : ℤ = c.self.inside.penalty in
     let least : List ℤ = c.self.inside.rows.least.items in
     let h = c.self.invariant.pruned.table in
-    let fits : FitsSigned w128 c.self.inside.penalty = omega (arith, ints, c.self.invariant.low, c.self.invariant.high) in
     let walk : IsWalk c.self.inside.rows.back.items n c.in_ok-cuts.cuts.items = rw (c.deref.ensures.value, c.len-n.ensures) at c.in_ok-cuts.ensures in
     let found = c.walk_law.ensures.best cost n b c.self.inside.rows.length c.self.inside.rows.least.items c.self.inside.rows.back.items c.self.inside.rows.pruned.items h n c.in_ok-cuts.cuts.items (omega arith) walk in
     let cuts : c.reverse.new.self.items ≡ reverse c.in_ok-cuts.cuts.items = c.reverse.ensures.items in

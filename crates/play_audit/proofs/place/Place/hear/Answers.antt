@@ -1,7 +1,6 @@
-use Rattle.std.proofs.Common.{◌≡◌, ℕ, List, length, Some, None, sym, subst, ◌∙◌, arith}
+use Rattle.std.proofs.Common.{ℕ, List, length, sym, subst}
 use Rattle.history_model.specs.declared.entries.Author.TheVariants.{Script}
-use Rattle.journal_walk.specs.Walks.{Walked}
-use Rattle.play_audit.{specs.Places.{IsBy, IsPlace}, proofs.Telling.{names_nothing, out_of_range, outside_is}}
+use Rattle.play_audit.{specs.Places.IsPlace, proofs.Telling.{names_nothing, out_of_range, outside_is}}
 use Rattle.play_audit.proofs.place.Place.hear.Goals as goal
 
 pub returns-then-is_outside-clause-none : goal.returns-then-is_outside-clause-none
@@ -13,33 +12,11 @@ returns-then-is_outside-clause-none c =
 pub begin-requires : goal.begin-requires
 begin-requires c = record { place = subst (λ (m : List ℕ). IsPlace m c.args.history.now c.args.self.now) (sym c.machine.ensures) c.requires.place }
 
-pub unreachable-requires : goal.unreachable-requires
-unreachable-requires c =
-    let walks = c.in_ok-begin-in-Some.ensures.walks in
-    let is : c.begin.new.self.walk ≡ Some walks.walk = walks.is in
-    let none : c.begin.new.self.walk ≡ None = c.in_default.is in
-    let no : Some walks.walk ≡ None = sym is ∙ none in
-    absurd (cc)
-
-pub hear_named-requires-clause-by : goal.hear_named-requires-clause-by
-hear_named-requires-clause-by c =
-    let walks = c.in_ok-begin-in-Some.ensures.walks in
-    let both : Some walks.walk ≡ Some c.in-Some-walk.walk = sym walks.is ∙ c.in-Some-walk.is in
-    let same : walks.walk ≡ c.in-Some-walk.walk = cc in
-    subst (λ (m : List ℕ). IsBy m c.args.history.now c.args.self.now.known c.in-Some-walk.walk) c.machine.ensures
-    (subst (λ (n : ℕ). IsBy c.machine.result.now c.args.history.now n c.in-Some-walk.walk) c.begin.ensures.known
-    (subst (λ (w : Walked). IsBy c.machine.result.now c.args.history.now c.begin.new.self.known w) same walks.by))
-
 pub hear_named-requires-clause-since : goal.hear_named-requires-clause-since
 hear_named-requires-clause-since c = c.is_outside.ensures.since c.if-is_outside.false
 
 pub hear_named-requires-clause-few : goal.hear_named-requires-clause-few
 hear_named-requires-clause-few c = c.count_of-count.ensures.few
-
-pub hear_named-requires-clause-within : goal.hear_named-requires-clause-within
-hear_named-requires-clause-within c =
-    let within = c.is_outside.ensures.within c.if-is_outside.false in
-    omega (arith, within, c.count_of-count.ensures.is)
 
 pub hear_named-requires-clause-front : goal.hear_named-requires-clause-front
 hear_named-requires-clause-front c = c.in-Some.ensures.some

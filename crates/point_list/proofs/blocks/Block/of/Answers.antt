@@ -17,7 +17,6 @@ loop-i-preserved c =
     let is : p ≡ get_or (drop from list) n p = c.at-position.ensures p ∙ sym (get_or-drop from list n p ∙ ap (λ (k : ℕ). get_or list k p) place) in
     let next : n + 1 ≡ i + 1 - from = omega (arith, low) in
     let old : List Position = c.loop-i.positions.items in
-    let heads : List ℕ = c.loop-i.heads.items in
     let same : c.push-in-loop-i-2.new.self.items ≡ old ++ p ∷ [] = c.in_ok-push-3.ensures.items ∙ ap (λ (q : Position). old ++ q ∷ []) c.in_ok-copy.ensures in
     let told_heads : c.push-in-loop-i.new.self.items ≡ heads_of c.push-in-loop-i-2.new.self.items =
     c.in_ok-push-2.ensures.items

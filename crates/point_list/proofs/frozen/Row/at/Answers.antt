@@ -1,5 +1,5 @@
 use Rattle.std.{proofs.Common.{◌≡◌, ◌+◌, ◌*◌, ◌/◌, ◌%◌, ◌-◌, ◌<◌, ◌≤◌, ◌∙◌, ◌++◌, ℕ, List, length, get_or, sym, ap, arith}, specs.Arc.arc_value}
-use Rattle.std.proofs.lemmas.List.{get_or-append-add}
+use Rattle.std.proofs.lemmas.{List.get_or-append-add, Grind.common_steps}
 use Rattle.segment_model.specs.Segments.{Position}
 use Rattle.point_list.{specs.Blocks.joined, proofs.Joined.{row-length, joined-length, full-at, at-block}}
 use Rattle.point_list.proofs.frozen.Row.at.Goals.{After-deref, After-len-else-block-len}
@@ -22,11 +22,7 @@ behind : (c : After-len-else-block-len) → 128 * length c.self.inside.full.item
 behind c = omega (arith, c.if-block-len.false, c.len.ensures, c.self.inside.full.ok.0)
 
 pub at-requires-else-block-len : goal.at-requires-else-block-len
-at-requires-else-block-len c =
-    let d : After-len-else-block-len = (goal.at.at-requires-else-block-len c).After-len-else-block-len in
-    let row = c.self.inside in
-    let size = row-length arc_value row.full.items row.last c.self.invariant.0 in
-    omega (arith, c.len-else-block-len.ensures, row.full.ok.0, c.requires, size, ap length c.self.view_is, behind d)
+at-requires-else-block-len c = grind (arith, common_steps, goal.at.at-requires-else-block-len, row-length, arc_value, length, behind)
 
 pub returns-then-block-len : goal.returns-then-block-len
 returns-then-block-len c d =

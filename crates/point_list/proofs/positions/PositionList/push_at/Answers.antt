@@ -1,5 +1,5 @@
 use Rattle.std.proofs.{Common.{◌≡◌, ◌∙◌, ◌<◌, ℕ, List, Result, Ok, Err, OnOk, FitsSigned, w64, length, get_or, set, ap, ap₂, arith}, lemmas.Int.to_z-of_z}
-use Rattle.std.proofs.lemmas.List.{get_or_read}
+use Rattle.std.proofs.lemmas.{List.get_or_read, Grind.common_steps}
 use Rattle.segment_model.specs.{Segments.{Observation, Position}, Edits.with_value}
 use Rattle.point_list.{specs.Slots.in_order, proofs.Slots.{below-at, order-length, order-read, order-set}}
 use Rattle.point_list.proofs.positions.PositionList.push_at.Goals as goal
@@ -9,11 +9,7 @@ on_ok (Ok v) ok step = step ok
 on_ok (Err e) ok step = ok
 
 pub index_mut-position-requires : goal.index_mut-position-requires
-index_mut-position-requires c =
-    let slots : List Position = c.self.inside.slots.items in
-    let order : List ℕ = c.self.inside.order.items in
-    let lt : c.args.place < length order = omega (arith, c.requires, order-length slots order c.args.self.now c.self.view_is) in
-    omega (arith, below-at (length slots) order c.args.place c.index.result.now c.self.invariant.below lt, c.index.ensures, c.from-slot.ensures, c.self.inside.slots.ok.0)
+index_mut-position-requires c = grind (arith, common_steps, length, order-length, below-at)
 
 pub returns-clause-ok : goal.returns-clause-ok
 returns-clause-ok c d =

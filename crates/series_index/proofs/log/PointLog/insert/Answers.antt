@@ -1,4 +1,4 @@
-use Rattle.std.proofs.{Common.{◌≡◌, ◌∙◌, List, [], ◌∷◌, ◌++◌, length, sym, ap, subst, FitsSigned, w64, arith}, lemmas.Int.to_z-of_z}
+use Rattle.std.proofs.{Common.{◌≡◌, ◌∙◌, List, [], ◌∷◌, ◌++◌, length, sym, ap, subst, FitsSigned, w64, arith}, lemmas.Int.to_z-of_z, lemmas.Grind.common_steps}
 use Rattle.segment_model.specs.{Segments.Position, Limits.WithinLimits, Edits.inserted}
 use Rattle.series_index.specs.{declared.coming.Coming.Coming, Log.{all_placed, MayBePlaced, HaveRoom}}
 use Rattle.series_index.proofs.Placing.{placed-push, may-more, within-more}
@@ -16,13 +16,7 @@ invariant_of-self-then-len-lt-MOST_POSITIONS c =
     (omega (arith, c.if-len-lt-MOST_POSITIONS.true, c.len.ensures, c.len-2.ensures, c.self.inside.coming.ok.0)))
 
 pub returns-then-len-lt-MOST_POSITIONS-clause-ok : goal.returns-then-len-lt-MOST_POSITIONS-clause-ok
-returns-then-len-lt-MOST_POSITIONS-clause-ok c =
-    let fits : FitsSigned w64 c.args.value = c.ranges.value in
-    let x : Coming = record { commit = c.args.commit; step = c.args.step; value = c.args.value } in
-    let pushed : c.push.new.self.items ≡ c.self.inside.coming.items ++ x ∷ [] = simp to_z-of_z at c.in_ok-push.ensures.items in
-    ap (λ xs. all_placed xs c.self.inside.placed) pushed
-    ∙ placed-push c.self.inside.coming.items x c.self.inside.placed
-    ∙ ap (inserted c.args.commit (record { step = c.args.step; value = c.args.value })) c.self.view_is
+returns-then-len-lt-MOST_POSITIONS-clause-ok c = grind (arith, common_steps, w64, to_z-of_z, placed-push)
 
 pub invariant_of-self-2 : goal.invariant_of-self-2
 invariant_of-self-2 c =

@@ -1,11 +1,6 @@
-use Rattle.std.proofs.Common.{◌∙◌, sym}
-use Rattle.series_index.proofs.Written.{seen-there, same-through, same-absent}
+use Rattle.std.proofs.Common.{◌∙◌}
+use Rattle.series_index.proofs.Written.{same-through, same-absent}
 use Rattle.series_index.proofs.metrics.MetricIndex.freeze.Goals as goal
-
-pub returns-in-Some-clause-points : goal.returns-in-Some-clause-points
-returns-in-Some-clause-points c =
-    let seen = seen-there c.args.metric.now c.self.inside.entries c.args.self.now c.self.view_is c.in-Some.tracked.now c.in-Some.ensures.value in
-    rw (seen ∙ sym c.get_mut-in-Some.ensures.value) c.freeze.ensures.points
 
 pub returns-in-Some-clause-same : goal.returns-in-Some-clause-same
 returns-in-Some-clause-same c =

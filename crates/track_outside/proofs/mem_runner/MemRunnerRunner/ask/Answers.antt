@@ -1,9 +1,8 @@
-use Rattle.std.proofs.Common.{rules, subst, inl}
-use Rattle.track_outside.specs.Asked.{Bench, IsPlanned}
+use Rattle.std.proofs.{Common.{rules, inl, arith}, lemmas.Grind.common_steps}
+use Rattle.track_outside.specs.Asked.{IsPlanned}
 use Rattle.track_outside.proofs.mem_runner.MemRunnerRunner.ask.Goals as goal
 
 pub returns-then-next_fails-clause-asks : goal.returns-then-next_fails-clause-asks
 returns-then-next_fails-clause-asks c =
-    let planned : IsPlanned c.args.self.now =
-    subst (λ (bench : Bench). IsPlanned bench) c.self.view_is (c.next_fails.ensures.told.0 c.if-next_fails.true) in
+    let planned : IsPlanned c.args.self.now = grind (arith, common_steps, c.self.view_is, c.next_fails.ensures.told.0, c.if-next_fails.true) in
     (inl planned, search rules)

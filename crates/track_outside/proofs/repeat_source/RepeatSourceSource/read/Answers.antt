@@ -1,4 +1,4 @@
-use Rattle.std.proofs.Common.{◌≡◌, rules, ℕ, List, ◌+◌, ◌-◌, take, drop, Some, ap, sym, ◌∙◌, arith}
+use Rattle.std.proofs.{Common.{◌≡◌, ◌+◌, ◌-◌, take, drop, ap, ◌∙◌, arith}, lemmas.Grind.common_steps}
 use Rattle.track_outside.proofs.{Repeats.{goes_on, turn_ends}, repeat_source.RepeatSourceSource.read.Goals.After-copy_from_slice}
 use Rattle.track_outside.proofs.repeat_source.RepeatSourceSource.read.Goals as goal
 
@@ -7,9 +7,7 @@ copied : (c : After-copy_from_slice) → c.copy_from_slice.new.self ≡ take (c.
 copied c = c.copy_from_slice.ensures.after ∙ ap (λ xs. take (c.self.inside.at + c.min-count.result - c.self.inside.at) (drop c.self.inside.at xs)) c.deref.ensures.value
 
 pub returns-then-end-len-clause-bytes : goal.returns-then-end-len-clause-bytes
-returns-then-end-len-clause-bytes c = ap (λ (l : List ℕ). Some l) (sym c.self.view_is ∙ goes_on c.self.inside.pattern.items c.copy_from_slice.new.self (drop c.min-count.result c.args.buf.now) c.self.inside.turns c.self.inside.at c.min-count.result
-    (omega arith) (copied (goal.at.returns-then-end-len-clause-bytes c).After-copy_from_slice) (search (rules, c.copy_from_slice.ensures.len)) (omega arith))
+returns-then-end-len-clause-bytes c = grind (arith, common_steps, goes_on, drop, copied, goal.at.returns-then-end-len-clause-bytes)
 
 pub returns-else-end-len-clause-bytes : goal.returns-else-end-len-clause-bytes
-returns-else-end-len-clause-bytes c = ap (λ (l : List ℕ). Some l) (sym c.self.view_is ∙ turn_ends c.self.inside.pattern.items c.copy_from_slice.new.self (drop c.min-count.result c.args.buf.now) c.self.inside.turns c.self.inside.at c.min-count.result
-    (omega arith) (copied (goal.at.returns-else-end-len-clause-bytes c).After-copy_from_slice) (search (rules, c.copy_from_slice.ensures.len)) (omega arith))
+returns-else-end-len-clause-bytes c = grind (arith, common_steps, turn_ends, drop, copied, goal.at.returns-else-end-len-clause-bytes)

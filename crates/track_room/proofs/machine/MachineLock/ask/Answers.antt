@@ -5,8 +5,7 @@ use Rattle.request_model.specs.declared.{replies.Reply.Reply, requests.Request.R
 use Rattle.track_model.specs.Tracks.{ComesTo}
 use Rattle.track_state.specs.Work.{bare}
 use Rattle.track_room.specs.{Asked.IsReplied, Sights.{Home, Sight, Visits}, Visits.Answers}
-use Rattle.track_room.proofs.Replying.{beside, plain, replied, seen-entries, sees-long, step-seen}
-use Rattle.track_room.proofs.Visiting.{bare-added, found-machine, if-ok, visits-err, visits-ok}
+use Rattle.track_room.proofs.{Replying.{beside, replied, seen-entries, sees-long, step-seen}, Visiting.{bare-added, if-ok, visits-err, visits-ok}}
 use Rattle.track_room.proofs.machine.MachineLock.ask.Goals as goal
 
 pub returns-in_default : goal.returns-in_default
@@ -26,7 +25,3 @@ returns-in_default g c =
           (visits-ok (Answers c.args.author q) old new c.visit.result c.visit.ensures);
       err = visits-err (Answers c.args.author q) old new c.visit.result c.visit.ensures;
     }
-
-pub visit-requires-clause-needs : goal.visit-requires-clause-needs
-visit-requires-clause-needs g c w is =
-    (c.requires.machine ∙ ap (λ (h : Home). h.machine) (sym c.requires.lock) ∙ sym (found-machine c.args.pass.now w is), plain c.args.request.now c.in_default.not-Segment)

@@ -1,28 +1,13 @@
-use Rattle.std.proofs.Common.{sym, ap, subst, ◌∙◌, Some, refl}
+use Rattle.std.proofs.{Common.{subst, refl, arith}, lemmas.Grind.common_steps}
 use Rattle.history_lock.specs.declared.lock.Pass.{Pass}
 use Rattle.history_model.specs.declared.entries.Placed.{Placed}
 use Rattle.track_state.specs.Work.{Work}
-use Rattle.track_room.specs.{declared.guarded.Guarded.Guarded, declared.guarded.Owner.Owner, Inside.sight_of, Sights.{Sight, Visits}, Visits.IsFound}
-use Rattle.track_room.proofs.Visiting.{is-found, may-leave, same-owner, visited}
+use Rattle.track_room.specs.{declared.guarded.Guarded.Guarded, declared.guarded.Owner.Owner, Inside.sight_of, Sights.{Sight, Visits}}
+use Rattle.track_room.proofs.Visiting.{is-found, visited}
 use Rattle.track_room.proofs.machine.MachineLock.visit.Goals as goal
 
 pub act-told-requires : goal.act-told-requires
-act-told-requires g c =
-    let p : Pass Guarded Placed Owner = c.pass.inside.pass in
-    let w : Work = c.enter-state.result.work in
-    c.requires.needs w (subst (λ (s : Sight). IsFound s w) c.pass.view_is
-    (is-found p c.enter-state.new.pass c.enter-state.new.pass w.track w.track w refl c.enter-state.ensures.seen c.enter-state.ensures.state.0 c.enter-state.ensures.state.1))
-
-pub leave-requires-clause-label : goal.leave-requires-clause-label
-leave-requires-clause-label g c κs =
-    c.enter-state.ensures.pass.0.6 ∙ c.enter-state.ensures.state.1
-    ∙ ap Some (sym (same-owner c.enter-state.result.work.track c.act-told.new.state.track c.act-told.ensures.grows))
-
-pub leave-requires-clause-history : goal.leave-requires-clause-history
-leave-requires-clause-history g c κs =
-    let p : Pass Guarded Placed Owner = c.pass.inside.pass in
-    let p1 : Pass Guarded Placed Owner = c.enter-state.new.pass in
-    may-leave p p1 p1 c.enter-state.result.work.track c.act-told.new.state.track c.act-told.ensures.grows c.enter-state.ensures.state.0
+act-told-requires g c = grind (arith, common_steps, is-found)
 
 pub returns : goal.returns
 returns g c =

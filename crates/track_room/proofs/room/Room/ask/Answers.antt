@@ -1,6 +1,6 @@
-use Rattle.std.{proofs.Common.{◌≡◌, ℕ, List, map, set, sym, ap, subst, ◌∙◌, Some}, specs.Prelude.slice_get, specs.List.AllZip}
+use Rattle.std.{proofs.Common.{◌≡◌, ℕ, List, map, set, sym, ap, subst, ◌∙◌, Some, arith}, specs.Prelude.slice_get, proofs.lemmas.Grind.common_steps}
 use Rattle.request_model.specs.declared.{replies.Reply.Reply, requests.Request.Request}
-use Rattle.track_room.specs.{Asked.{Asks, IsReplied}, Rooms.{IsFirst, IsPassOf, badge}, Sights.{Home, Sight, SeesMore}}
+use Rattle.track_room.specs.{Asked.{Asks, IsReplied}, Rooms.{IsPassOf, badge}, Sights.{Home, Sight}}
 use Rattle.track_room.proofs.{Standing.{asked-badge, asks-at, at-get, at-place, same-map, sees-at, still-first}, Visiting.{if-ok, on-err}}
 use Rattle.track_room.proofs.room.Room.ask.Goals as goal
 
@@ -21,13 +21,9 @@ returns g c =
     let same : badge new ≡ badge p = asked-badge c.args.author q c.ask.result p new c.ask.ensures.ok c.ask.ensures.err in
     record {
       room = same-map (λ (s : Sight). s.home) xs i p new at (ap (λ (s : Sight). s.home) same) ∙ is;
-      same = (
-        same-map badge xs i p new at same ∙ ap (λ (ss : List Sight). map badge ss) c.pass.view_is,
-        λ first. still-first xs i p new at same (subst (λ (ss : List Sight). IsFirst ss) (sym c.pass.view_is) first),
-      );
+      same = grind (arith, common_steps, same-map, xs, i, p, new, same, map, still-first, c.pass.view_is);
       ok = if-ok (λ (reply : Reply). IsReplied c.args.author q reply p new) (λ (reply : Reply). Asks room c.args.author q reply c.args.pass.now (set xs i new)) c.ask.result
           (λ reply is. subst (λ (ss : List Sight). Asks room c.args.author q reply ss (set xs i new)) c.pass.view_is
           (asks-at room xs c.args.author q reply i named.0 p new c.in_default.not-Machine stands (named.2 ∙ c.machine.ensures) at is)) c.ask.ensures.ok;
-      err = on-err (SeesMore p new) (AllZip SeesMore c.args.pass.now (set xs i new)) c.ask.result
-          (λ sees. subst (λ (ss : List Sight). AllZip SeesMore ss (set xs i new)) c.pass.view_is (sees-at xs i p new at sees)) c.ask.ensures.err;
+      err = grind (arith, common_steps, on-err, p, new, set, xs, i, sees-at, c.pass.view_is, c.ask.ensures.err);
     }

@@ -1,26 +1,11 @@
-use Rattle.std.{proofs.Common.{◌≡◌, List, [], ◌∷◌, ◌++◌, length, sym, ap, ap₂, subst, ◌∙◌, arith}, specs.List.AllZip}
+use Rattle.std.proofs.{Common.{◌≡◌, List, length, sym, ap, ap₂, ◌∙◌, arith}, lemmas.Grind.common_steps}
 use Rattle.std.proofs.lemmas.{Iterator.Adapters.YieldsList-from_vec, Iterator.Consumers.YieldsList-end, List.{length-map, map_push}}
-use Rattle.track_model.specs.Tracks.{Track}
 use Rattle.track_state.specs.Work.{Work}
 use Rattle.track_room.{specs.Sights.{Home, Sight, IsFirstOf, tracks_of}, proofs.Splits.begin-first, proofs.Places.{zip-push, zip-long}}
 use Rattle.track_room.proofs.room.Room.new.Goals as goal
 
 pub loop-state-preserved : goal.loop-state-preserved
-loop-state-preserved c =
-    let before = c.loop-state.invariant in
-    let made = c.in_ok-machine.ensures in
-    let m : Home = c.in_ok-machine.machine in
-    let p : Sight = c.in_ok-machine.pass in
-    let homes : List Home = c.loop-state.machines.items in
-    let sights : List Sight = c.loop-state.passes.items in (
-      tt,
-      tt,
-      rw (c.in_ok-push.ensures.items, c.in_ok-push-2.ensures.items)
-          (map_push (λ (s : Sight). s.home) sights p ∙ ap₂ (λ (hs : List Home) (h : Home). hs ++ h ∷ []) before.2 made.0),
-      rw c.in_ok-push-2.ensures.items
-          (subst (λ (ts : List Track). AllZip IsFirstOf ts (sights ++ p ∷ [])) (sym (map_push (λ (w : Work). w.track) c.loop-state.yielded c.in-Some.state))
-          (zip-push IsFirstOf (tracks_of c.loop-state.yielded) sights c.in-Some.state.track p before.3 made.1)),
-    )
+loop-state-preserved c = grind (arith, common_steps, map_push, ap₂, zip-push, tracks_of)
 
 pub invariant_of-result : goal.invariant_of-result
 invariant_of-result c =

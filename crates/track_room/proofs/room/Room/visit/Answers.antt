@@ -1,12 +1,10 @@
-use Rattle.std.{proofs.Common.{◌≡◌, ◌<◌, List, length, map, set, sym, ap, subst, ◌∙◌, Some, refl}, specs.Prelude.slice_get}
+use Rattle.std.{proofs.Common.{◌≡◌, List, length, map, set, ap, subst, ◌∙◌, Some, refl, arith}, specs.Prelude.slice_get, proofs.lemmas.Grind.common_steps}
 use Rattle.track_room.specs.{Asked.ChangesAt, Rooms.{IsPassOf, badge}, Sights.{Sight, Visits}}
 use Rattle.track_room.proofs.{Standing.{get-at, same-map, still-of, visits-badge}, room.Room.visit.Given.Over, room.Room.visit.Goals.After-index_mut}
 use Rattle.track_room.proofs.room.Room.visit.Goals as goal
 
 at : (g : Over) (c : After-index_mut g) → slice_get c.pass.inside.machines.items c.args.machine ≡ Some c.index_mut.result.now
-at g c =
-    let less : c.args.machine < length c.pass.inside.machines.items = subst (λ (ss : List Sight). c.args.machine < length ss) (sym c.pass.view_is) c.requires.there in
-    get-at c.pass.inside.machines.items c.args.machine c.index_mut.result.now less c.index_mut.ensures.value
+at g c = grind (arith, common_steps, length, get-at)
 
 pub visit-requires-clause-needs : goal.visit-requires-clause-needs
 visit-requires-clause-needs g c =

@@ -7,5 +7,5 @@ pub returns : goal.returns
 returns c =
     let w : Work = c.args.state.now in
     let u : Work = c.publish.new.self in
-    let does : DoesOrStays (Publishes c.args.self.author c.args.self.done) c.publish.result w u = does-or-stays w u (Publishes c.args.self.author c.args.self.done) c.publish.result c.publish.ensures.published (λ same. ap bare same.track) c.publish.ensures.same in
-    record { does = does; grows = does-grows w u (Publishes c.args.self.author c.args.self.done) c.publish.result (λ x is. publish-grows w.track u.track c.args.self.author c.args.self.done x is.track) does }
+    let does : DoesOrStays (Publishes c.args.self.author c.args.self.redone.done) c.publish.result w u = does-or-stays w u (Publishes c.args.self.author c.args.self.redone.done) c.publish.result c.publish.ensures.published (λ same. ap bare same.track) c.publish.ensures.same in
+    record { does = does; grows = does-grows w u (Publishes c.args.self.author c.args.self.redone.done) c.publish.result (λ x is. publish-grows w.track u.track c.args.self.author c.args.self.redone.done x is.track) does }

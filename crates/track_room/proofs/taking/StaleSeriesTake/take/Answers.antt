@@ -1,6 +1,5 @@
-use Rattle.std.{proofs.Common.{◌≡◌, ap, subst, Option, Some, None, sym, List}, specs.Prelude.IfSome}
-use Rattle.history_model.specs.{declared.entries.Entry.Entry, Allowed.Legal, Entries.entries_of}
-use Rattle.track_model.specs.Tracks.{Track}
+use Rattle.std.{proofs.Common.{◌≡◌, ap, subst, Option, Some, None, sym, List, arith}, specs.Prelude.IfSome, proofs.lemmas.Grind.common_steps}
+use Rattle.history_model.specs.{declared.entries.Entry.Entry, Allowed.Legal}
 use Rattle.track_state.specs.{Work.{Work, bare, history_of, series_of}, declared.taking.TakenSeries.TakenSeries, Taking.Takes}
 use Rattle.track_state.proofs.Snapped.{bare-taken, entries-taken}
 use Rattle.track_room.{specs.Taking.{IsTaken, TakesSeries}, proofs.Visiting.{does-or-stays, if-ok, stays-if}}
@@ -17,14 +16,4 @@ known w u (Some x) is =
     (w.track, same, is.0.snapshot, subst (λ (h : List Entry). Legal h) same is.1)
 
 pub returns : goal.returns
-returns c =
-    let w : Work = c.args.state.now in
-    let u : Work = c.next_stale_series.new.self in
-    let legal : Legal (history_of w) = subst (λ (t : Track). Legal (entries_of t.history)) c.track.ensures c.history_law.ensures.legal in
-    let stays = stays-if w u (λ (x : Option TakenSeries). Takes w x u) _ c.next_stale_series.result (λ x is. takes-stays w u x is) (λ same. ap bare same.track) c.next_stale_series.ensures.taken c.next_stale_series.ensures.same in
-    let taken = if-ok (λ (x : Option TakenSeries). Takes w x u) (λ (x : Option TakenSeries). TakesSeries x w u) c.next_stale_series.result (λ x does. (does, legal)) c.next_stale_series.ensures.taken in
-    record {
-      taken = does-or-stays w u TakesSeries c.next_stale_series.result taken (λ same. ap bare same.track) c.next_stale_series.ensures.same;
-      stays = stays;
-      known = if-ok (λ (x : Option TakenSeries). TakesSeries x w u) (λ (x : Option TakenSeries). IfSome x (IsTaken (history_of u))) c.next_stale_series.result (λ x does. known w u x does) taken;
-    }
+returns c = grind (arith, common_steps, stays-if, takes-stays, if-ok, does-or-stays, known)

@@ -1,24 +1,22 @@
-use Rattle.std.{proofs.Common.{◌≡◌, ◌≢◌, ℕ, cond, List, refl, sym, ap, subst, ◌∙◌, None, true}, specs.Prelude.nat_lt}
+use Rattle.std.{proofs.Common.{◌≡◌, ◌≢◌, ℕ, cond, List, refl, sym, ap, subst, ◌∙◌, None, true, arith}, specs.Prelude.nat_lt, proofs.lemmas.Grind.common_steps}
 use Rattle.metric_table.specs.declared.limits.Limit.{Limit}
 use Rattle.segment_cost.specs.declared.done.Done.{Done}
 use Rattle.history_model.specs.{declared.entries.Author.Author, declared.entries.Entry.Entry, Entries.entries_of, Publications.last_publication}
 use Rattle.history_model.{specs.Runs.{Series, is_known, same_series}, proofs.Cases.any-err}
 use Rattle.publication_index.specs.Kept.{series_of as series_of_done}
-use Rattle.touch_index.specs.{Marks.mark_of, declared.key.SeriesKey.SeriesKey, declared.mark.Claim.Claim, declared.mark.Claim.TheVariants.{Free, Refused}}
+use Rattle.touch_index.specs.{Marks.mark_of, declared.key.SeriesKey.SeriesKey, declared.mark.Claim.TheVariants.{Free, Refused}}
 use Rattle.touch_model.specs.Touches.{last_touch}
 use Rattle.track_model.specs.Tracks.{Track}
 use Rattle.track_step.specs.{Publications.{IsPublished, later}, Published.Published}
 use Rattle.track_step.specs.Published.TheVariants as published
 use Rattle.track_state.specs.{Covering.{Covers, MakeSame}, Taking.{Finishes, Publishes, claim_after}, Work.{Work, claim_by, key_of, series_of}}
-use Rattle.track_state.proofs.{Snapped.is-same, Handed.{freed, is-full}}
+use Rattle.track_state.proofs.{Snapped.is-same, Handed.freed}
 use Rattle.track_state.proofs.state.TrackState.hand_in.Goals as goal
 
 -- a limit refused it: nothing was published, and no later version had been
 refused : (old : Track) (author : Author) (done : Done) (told : Published) (limit : Limit) (new : Track) → told ≡ published.Full limit → IsPublished old author done told new
     → (later done.version (last_publication (series_of_done done) (entries_of old.history)) ≡ None) × (new ≡ old)
-refused old author done told limit new is published =
-    let all = is-full old author done limit new (subst (λ (t : Published). IsPublished old author done t new) is published) in
-    (all.0, all.2)
+refused old author done told limit new is published = grind (arith, common_steps)
 
 pub note_refusal-requires-clause-covers : goal.note_refusal-requires-clause-covers
 note_refusal-requires-clause-covers c =
@@ -30,9 +28,7 @@ note_refusal-requires-clause-known c =
     let full = refused c.self.inside.track c.args.author c.args.done c.in_ok-end.end.told c.in-Full.field-0 c.finish.new.track c.in-Full.is c.in_ok-end.ensures.published in
     let s : Series = series_of_done c.args.done in
     let k_is : series_of c.in_ok-key.key ≡ s = ap series_of c.in_ok-key.ensures in
-    let made : is_known s (entries_of c.self.inside.track.history) ≡ true =
-    subst (λ (w : Work). is_known s (entries_of w.track.history) ≡ true) (sym c.self.view_is)
-    (c.publication_law.ensures.known (entries_of c.args.self.now.track.history) s c.args.done.version c.requires.made.known) in
+    let made : is_known s (entries_of c.self.inside.track.history) ≡ true = grind (arith, common_steps) in
     subst (λ (t : Track). is_known (series_of c.in_ok-key.key) (entries_of t.history) ≡ true) (sym full.1)
     (subst (λ (u : Series). is_known u (entries_of c.self.inside.track.history) ≡ true) (sym k_is) made)
 
@@ -96,10 +92,7 @@ returns c =
     told c.in_ok-end.ensures.published c.in_default.not-Full in
     let made : Publishes before c.args.author c.args.done told after = record {
       track = c.in_ok-end.ensures.published;
-      claims = λ t. all.1 t
-          ∙ ap (λ (u : Series). cond (same_series u t) Free (claim_by h t (mark_of (key_of t) c.self.inside.touched))) k_is
-          ∙ ap (λ (claim : Claim). cond (same_series s t) claim (claim_by h t (mark_of (key_of t) c.self.inside.touched)))
-          (sym (is-free told c.args.done.version (last_touch h s) c.in_default.not-Full));
+      claims = grind (arith, common_steps, all.1, cond, same_series, h, k_is, s, is-free, told, c.self.inside.touched, c.in_default.not-Full);
       jobs = refl;
     } in
     record {

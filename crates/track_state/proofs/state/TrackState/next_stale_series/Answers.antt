@@ -1,8 +1,8 @@
-use Rattle.std.{proofs.Common.{◌≡◌, ℕ, cond, List, length, refl, sym, ap, ◌∙◌, subst, Option}, specs.Prelude.IfSome}
+use Rattle.std.proofs.{Common.{◌≡◌, ℕ, cond, List, length, refl, sym, ap, ◌∙◌, subst, arith}, lemmas.Grind.common_steps}
 use Rattle.history_model.specs.{declared.entries.Entry.Entry, Entries.entries_of, Runs.same_series}
 use Rattle.touch_index.specs.{Marks.mark_of, declared.key.SeriesKey.SeriesKey, declared.mark.Claim.Claim, declared.mark.Claim.TheVariants.Taken}
 use Rattle.track_model.specs.Tracks.{Track, with_taken}
-use Rattle.track_step.specs.{Snapshots.{IsSnapshot, IsTakenAt}, Snapshot.Snapshot}
+use Rattle.track_step.specs.Snapshots.{IsTakenAt}
 use Rattle.track_state.specs.{Covering.{Covers, MakeSame}, Taking.TakesFirst, Work.{Work, IsFirstBy, claim_by, key_of, series_of}}
 use Rattle.track_state.{specs.declared.taking.TakenSeries.TakenSeries, proofs.Snapped.entries-taken, proofs.Opening.{claimed-covers, first-same, taken-claims}}
 use Rattle.track_state.proofs.state.TrackState.next_stale_series.Goals as goal
@@ -23,10 +23,8 @@ returns-clause-taken c =
     let old : Work = record { track = track; marks = c.self.inside.touched; jobs = c.self.inside.claimed.items } in
     let taken : TakenSeries = record { key = key; snapshot = c.in-Some-2.snapshot } in
     let same : MakeSame h c.self.inside.touched c.first_open.new.touched = λ s. c.first_open.ensures.claims s ∙ c.catch_up.ensures.claims s in
-    let first : IsFirstBy h c.first_open.new.touched (series_of key) =
-    subst (λ (o : Option SeriesKey). IfSome o (λ k. IsFirstBy h c.first_open.new.touched (series_of k))) c.in-Some.is c.in_ok-key.ensures.some in
-    let snapshot : IsTakenAt track (series_of key) c.in-Some-2.snapshot =
-    subst (λ (o : Option Snapshot). IsSnapshot track (series_of key) o) c.in-Some-2.is c.in_ok-snapshot.ensures.snapshot in
+    let first : IsFirstBy h c.first_open.new.touched (series_of key) = grind (arith, common_steps) in
+    let snapshot : IsTakenAt track (series_of key) c.in-Some-2.snapshot = grind (arith, common_steps) in
     let made : (new : Track) → new ≡ with_taken (series_of key) track → TakesFirst old taken (record { track = new; marks = c.set_claim.new.self; jobs = c.self.inside.claimed.items }) =
     λ new is. record {
       first = first-same h c.self.inside.touched c.first_open.new.touched same (series_of key) first;
