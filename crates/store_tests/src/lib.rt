@@ -1,10 +1,9 @@
-//! Tests of the keeper of rows in a SQLite file, over files that they make, and of scripts that such a file keeps.
+//! Tests of the keeper of rows in a SQLite file, over files that they make. Scripts that such a file keeps are cases of the
+//! built program, in `tests/`.
 //!
-//! They call what `keep_sqlite` and `tracker_top` export and nothing else of them: tests in their own folders would prove
-//! them once more, and each program that has the kit's database takes two compilers minutes.
+//! They call what `keep_sqlite` exports and nothing else of it: tests in its own folder would prove it once more, and each
+//! program that has the kit's database takes two compilers minutes.
 #![tactic(auto)]
 
 #[cfg(test)]
 mod of_keep_sqlite;
-#[cfg(test)]
-mod of_tracker_top;

@@ -1,14 +1,11 @@
-//! What tests of several crates are given or compare with: the texts of worked paths, rows that a store can and can't go on
-//! with, and the states of a regression.
+//! What tests of several crates are given or compare with: the texts of worked paths, and the states of a regression.
 //!
 //! They are constants alone, so nothing here is proved, and no crate but those of tests stands on it. Stands on
 //! `regression_state`.
 #![tactic(auto)]
 
 mod paths;
-mod rows;
 mod states;
 
 pub use paths::{PATH_OF_FOUR, PATH_OF_NONE, PATH_OF_TEN};
-pub use rows::{GOOD_ROWS, NOT_AFTER};
 pub use states::STATES;

@@ -66,34 +66,19 @@ pub fn ends_over(alloc: Global, run: &Run<'_>, keeper: &mut MemKeeper) -> bool {
     }
 }
 
-/// The same on a source.
-pub fn ends_on<I: Source + Send + Drop>(
-    alloc: Global,
-    run: &Run<'_>,
-    source: &mut I,
-    keeper: &mut MemKeeper,
-) -> bool {
+// The same on a source.
+fn ends_on(alloc: Global, run: &Run<'_>, source: &mut MemSource, keeper: &mut MemKeeper) -> bool {
     match MemSink::new(alloc, 100_000, run.fails.writes) {
-        Ok(mut out) => {
-            tells_over(alloc, run, source, &mut out, keeper) && out.bytes() == run.out
-        }
+        Ok(mut out) => tells(alloc, run, source, &mut out, keeper) && out.bytes() == run.out,
         Err(_) => false,
     }
 }
 
-/// Whether the run ends at its status, with its line, on a source and an output over a new keeper.
-pub fn tells(alloc: Global, run: &Run<'_>, source: &mut MemSource, out: &mut MemSink) -> bool {
-    match MemKeeper::new(alloc, &[]) {
-        Ok(mut keeper) => tells_over(alloc, run, source, out, &mut keeper),
-        Err(_) => false,
-    }
-}
-
-// The same over a keeper.
-fn tells_over<I: Source + Send + Drop>(
+// Whether the run ends at its status, with its line.
+fn tells(
     alloc: Global,
     run: &Run<'_>,
-    source: &mut I,
+    source: &mut MemSource,
     out: &mut MemSink,
     keeper: &mut MemKeeper,
 ) -> bool {

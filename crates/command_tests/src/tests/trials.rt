@@ -1,8 +1,6 @@
-//! Trials: the script of a number is answered, and the replies about segmentations are told.
-use crate::tests::run::{Fails, NO_FAILS, READ_FAILS, Run, WRITE_FAILS, ends, tells};
-use series_gen::put_script;
+//! A trial whose input or output fails.
+use crate::tests::run::{Fails, READ_FAILS, Run, WRITE_FAILS, ends};
 use std::alloc::Global;
-use track_outside::{MemSink, MemSource};
 use tracker_top::Status;
 
 // What is told of the script of 7, by a plain model written apart from the program.
@@ -32,86 +30,4 @@ fn is_tried(alloc: Global, fails: &Fails, status: Status, out: &str, err: &str) 
         err,
     };
     ends(alloc, &run)
-}
-
-// `apply` follows the script of 7: of its replies those are about segmentations.
-#[test]
-fn a_drawn_series_is_followed(rt: HostRuntime) {
-    assert!(rt; is_part_of(rt.alloc(), 7, SEVEN.as_bytes()));
-}
-
-// Whether what is told is the part about segmentations of the replies to the script of the number.
-fn is_part_of(alloc: Global, number: u64, told: &[u8]) -> bool {
-    match MemSink::new(alloc, 1_000_000, &[]) {
-        Ok(mut out) => is_applied(alloc, number, &mut out) && is_part(told, out.bytes()),
-        Err(_) => false,
-    }
-}
-
-// Whether the script of the number is answered to its end.
-fn is_applied(alloc: Global, number: u64, out: &mut MemSink) -> bool {
-    let mut script = Vec::new(alloc);
-    match put_script(alloc, &mut script, number) {
-        Ok(()) => is_done(alloc, "apply", &script, out),
-        Err(_) => false,
-    }
-}
-
-// Whether the words on the input come to the end, at status 0.
-fn is_done<'a>(alloc: Global, words: &'a str, input: &'a [u8], out: &mut MemSink) -> bool {
-    let run = Run {
-        words,
-        input,
-        fails: NO_FAILS,
-        status: Status::Done,
-        out: b"",
-        err: "",
-    };
-    match MemSource::new(alloc, input, &[]) {
-        Ok(mut source) => tells(alloc, &run, &mut source, out),
-        Err(_) => false,
-    }
-}
-
-// Whether the lines about segmentations are these; those behind the first line of a reply don't begin with its step.
-fn is_part(told: &[u8], replies: &[u8]) -> bool {
-    let mut left = told;
-    let Ok(text) = str::from_utf8(replies) else {
-        return false;
-    };
-    for line in text.lines() {
-        if is_told(line) {
-            match behind_line(left, line.as_bytes()) {
-                Some(more) => left = more,
-                None => return false,
-            }
-        }
-    }
-    left.is_empty()
-}
-
-fn is_told(line: &str) -> bool {
-    !line.starts_with("@")
-        || line.contains(" segmented version ")
-        || line.contains(" changes version ")
-}
-
-// What stands behind a line.
-fn behind_line<'a>(text: &'a [u8], line: &[u8]) -> Option<&'a [u8]> {
-    text.strip_prefix(line)?.strip_prefix(b"\n")
-}
-
-#[test]
-fn a_trial_prints_a_part_of_the_replies(rt: HostRuntime) {
-    assert!(rt; tells_a_part(rt.alloc()));
-}
-
-// Whether the trial of 1 prints the part of the replies to its script.
-fn tells_a_part(alloc: Global) -> bool {
-    match MemSink::new(alloc, 100_000, &[]) {
-        Ok(mut out) => {
-            is_done(alloc, "trial 1", b"", &mut out) && is_part_of(alloc, 1, out.bytes())
-        }
-        Err(_) => false,
-    }
 }

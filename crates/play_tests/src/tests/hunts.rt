@@ -1,10 +1,9 @@
-//! `hunt`: what it prints, how it ends, what was asked of which runner, and each call of its objects failing in turn.
+//! `hunt`: a test that can't be run, what was asked of which runner, and each call of its objects failing in turn.
 ghost use Rattle.std.specs.Prelude.{◌≡◌, ◌≤◌, [], All, length};
 ghost use Rattle.track_outside.specs.Asked.{Bench};
 
 use crate::tests::run::{eight, texts_of};
-use line_text::put_u64;
-use std::alloc::{AllocError, Global};
+use std::alloc::Global;
 use std::sync::Wait;
 use std::thread::Threads;
 use track_outside::{MemFiles, MemRunner, MemSink, MemSource};
@@ -42,130 +41,15 @@ const HUNT: Hunted = Hunted {
     err: "",
 };
 
-// Inputs, statuses of commits, and the line that is printed.
-const LINES: [(&[u8], &[(u64, u8)], &str); 7] = [
-    (
-        NINE,
-        &[(2, 0), (4, 0), (6, 125), (5, 1), (7, 1)],
-        "found c4 c5 skipped 0 rounds 2\n",
-    ),
-    (
-        NINE,
-        &[(2, 0), (4, 0), (6, 125), (5, 125), (7, 1)],
-        "found c4 c7 skipped 2 rounds 2\n",
-    ),
-    (
-        NINE,
-        &[(2, 0), (4, 200), (6, 125)],
-        "undecided c4 200 rounds 1\n",
-    ),
-    (NINE, &[(2, 0), (6, 125)], "faulted c4 rounds 1\n"),
-    (b"c0\nc1", &[], "found c0 c1 skipped 0 rounds 0\n"),
-    (
-        b"# a comment of words\n\n  %63%30  \nc1\nb%2Cd",
-        &[(1, 1)],
-        "found c0 c1 skipped 0 rounds 1\n",
-    ),
-    (
-        b"c0\nc1\nb%2Cd\n",
-        &[(1, 0)],
-        "found c1 b%2Cd skipped 0 rounds 1\n",
-    ),
-];
-
+// A commit whose test can't be run.
 #[test]
-fn hunts_come_to_a_line(rt: HostRuntime) {
-    for (input, answers, out) in &LINES {
-        let run = Hunted {
-            input,
-            answers,
-            out,
-            ..HUNT
-        };
-        assert!(rt; ends(&rt, rt.alloc(), &run), "{out}");
-    }
-}
-
-// Inputs that are refused, the status and its line.
-const REFUSED: [(&[u8], Status, &str); 9] = [
-    (b"", Status::TooFew(0), "too few commits: 0\n"),
-    (b"# c0\n\n", Status::TooFew(0), "too few commits: 0\n"),
-    (b"c0", Status::TooFew(1), "too few commits: 1\n"),
-    (b"c0\nc1 c2\n", Status::BadLine(2), "bad line: 2\n"),
-    (b"c0\nc1\nc0\n", Status::BadLine(3), "bad line: 3\n"),
-    (b"c0\nc1\n%63%30\n", Status::BadLine(3), "bad line: 3\n"),
-    (b"c0\n%zz", Status::BadLine(2), "bad line: 2\n"),
-    (b" # c0\nc1\n", Status::BadLine(1), "bad line: 1\n"),
-    (b"c0\nc1\nx y", Status::BadLine(3), "bad line: 3\n"),
-];
-
-#[test]
-fn hunts_stop(rt: HostRuntime) {
-    for (input, status, err) in &REFUSED {
-        let run = Hunted {
-            input,
-            status: *status,
-            out: "",
-            err,
-            ..HUNT
-        };
-        assert!(rt; ends(&rt, rt.alloc(), &run), "{err}");
-    }
-}
-
-// Words of `hunt` that are no command.
-const NO_COMMANDS: [&[&str]; 5] = [
-    &["hunt"],
-    &["hunt", "3"],
-    &["hunt", "0", "--test", "t"],
-    &["hunt", "9", "--test", "t"],
-    &["hunt", "3", "--test="],
-];
-
-#[test]
-fn words_of_hunt_are_refused(rt: HostRuntime) {
-    for words in &NO_COMMANDS {
-        let run = Hunted {
-            words,
-            status: Status::BadWords,
-            out: "",
-            err: "bad words\n",
-            ..HUNT
-        };
-        assert!(rt; ends(&rt, rt.alloc(), &run));
-    }
-}
-
-// 65,537 commits.
-#[test]
-fn commits_are_too_many(rt: HostRuntime) {
-    assert!(rt; is_full(&rt, rt.alloc()));
-}
-
-fn is_full<R: Threads + Wait + Sync>(rt: &R, alloc: Global) -> bool {
-    match many(alloc) {
-        Ok(input) => {
-            let run = Hunted {
-                input: &input,
-                status: Status::Full(65_537),
-                out: "",
-                err: "full: 65537\n",
-                ..HUNT
-            };
-            ends(rt, alloc, &run)
-        }
-        Err(_) => false,
-    }
-}
-
-fn many(alloc: Global) -> Result<Vec<u8>, AllocError> {
-    let mut text = Vec::new(alloc);
-    for number in 0..65_537 {
-        text.push(b'c')?;
-        put_u64(alloc, &mut text, number)?;
-        text.push(b'\n')?;
-    }
-    Ok(text)
+fn a_hunt_is_faulted(rt: HostRuntime) {
+    let run = Hunted {
+        answers: &[(2, 0), (6, 125)],
+        out: "faulted c4 rounds 1\n",
+        ..HUNT
+    };
+    assert!(rt; ends(&rt, rt.alloc(), &run));
 }
 
 // The worked hunt with each read failing in turn, and each write, until a run meets no failure.

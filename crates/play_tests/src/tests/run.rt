@@ -81,52 +81,26 @@ fn have(files: &MemFiles, left: &[File<'_>]) -> bool {
 
 /// Whether the run ends so, over a new keeper.
 pub fn plays<R: Threads + Wait + Sync>(rt: &R, alloc: Global, run: &Played<'_>) -> bool {
-    plays_one_of(rt, alloc, &[*run])
-}
-
-/// Whether the first run ends as one of these, over a new keeper.
-pub fn plays_one_of<R: Threads + Wait + Sync>(rt: &R, alloc: Global, ends: &[Played<'_>]) -> bool {
     match MemKeeper::new(alloc, &[]) {
-        Ok(mut keeper) => ends_as(rt, alloc, ends, &mut keeper),
+        Ok(mut keeper) => plays_over(rt, alloc, run, &mut keeper),
         Err(_) => false,
     }
 }
 
-/// Whether the run ends so over a keeper.
+/// Whether it ends so over a keeper.
 pub fn plays_over<R: Threads + Wait + Sync>(
     rt: &R,
     alloc: Global,
     run: &Played<'_>,
     keeper: &mut MemKeeper,
 ) -> bool {
-    ends_as(rt, alloc, &[*run], keeper)
-}
-
-fn ends_as<R: Threads + Wait + Sync>(
-    rt: &R,
-    alloc: Global,
-    ends: &[Played<'_>],
-    keeper: &mut MemKeeper,
-) -> bool {
-    let Some(run) = ends.first() else {
-        return false;
-    };
     match Objects::of(alloc, run) {
         Some(mut objects) => {
             status_of(rt, alloc, run.words, &mut objects, keeper) == Some(run.status)
-                && is_one_of(&objects, ends)
+                && objects.are_left(run)
         }
         None => false,
     }
-}
-
-fn is_one_of(objects: &Objects, ends: &[Played<'_>]) -> bool {
-    for end in ends {
-        if objects.are_left(end) {
-            return true;
-        }
-    }
-    false
 }
 
 /// The status of the words on these objects; none where there is no memory for the words, or the first of them isn't `play`.
