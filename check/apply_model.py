@@ -1,7 +1,7 @@
 """A plain model of `lnttrack apply`, written apart from it by docs/FORMATS.md, to compare with (see `agree`).
 
-    bench/apply_model.py < SCRIPT              writes the replies, and ends with the status
-    bench/apply_model.py ROWS < SCRIPT         goes on from the rows of that file, one a line, and appends the new ones
+    check/apply_model.py < SCRIPT              writes the replies, and ends with the status
+    check/apply_model.py ROWS < SCRIPT         goes on from the rows of that file, one a line, and appends the new ones
 """
 import json
 import os
