@@ -57,6 +57,9 @@ def opened(name):
     """The store of that name."""
     if not os.path.isfile(name):
         raise Wrong(f"there is no store {name}")
+    with open(name, "rb") as file:
+        if file.read(16) != b"SQLite format 3\0":
+            raise Wrong(f"{name} is no store: file is not a database")
     with tempfile.TemporaryDirectory() as folder:
         copy = os.path.join(folder, "store")
         with open(name + ".lock", "a") as lock:
